@@ -1,0 +1,12 @@
+pub mod Frame
+pub mod Ethernet
+pub mod Ipv4
+pub mod Tcp
+pub mod Udp
+pub mod Vxlan
+pub mod Shape
+pub mod Fits
+pub mod Spelling
+pub mod Fault
+pub mod Room
+pub mod Six

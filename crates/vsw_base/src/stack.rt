@@ -1,0 +1,171 @@
+//! Stacks: the headers of a frame.
+
+ghost use Rattle.std.specs.Prelude.{◌≡◌, ◌↔◌, ◌*◌, ◌≤◌, Ok, Err, IsTrue, length, if◌then◌else◌};
+ghost use Rattle.vsw_base.specs.Shape.{is_stack, encaps, inner};
+ghost use Rattle.vsw_base.specs.Shape as shape;
+
+use crate::header::Header;
+use crate::headers::Headers;
+use std::marker::Model;
+
+/// The headers aren't of the shape of a stack.
+#[derive(Clone, Copy, Debug, PartialEq, Eq)]
+pub struct BadShape;
+
+/// The headers of a frame, outermost first: at most two VXLAN encapsulations of three headers each
+/// (Ethernet, IPv4, VXLAN), then Ethernet, IPv4 where the type says so, and ports where the packet is
+/// unfragmented TCP or UDP.
+#[derive(Clone, Copy, PartialEq, Eq, Hash)]
+pub struct Stack {
+    headers: Headers,
+}
+
+impl Model for Stack {
+    ghost use Rattle.std.specs.Prelude.{List, IsTrue};
+    ghost use Rattle.vsw_base.specs.declared.header.Header.{Header};
+    ghost use Rattle.vsw_base.specs.Shape.{is_stack};
+
+    ghost Value = { List Header };
+
+    ghost view = { λ s. s.headers };
+
+    ghost invariant = { λ s. IsTrue (is_stack s.headers) };
+
+    ghost inverse = { λ hs. record { headers = hs } };
+}
+
+fn is_shape(headers: &[Header]) -> bool
+    ensures { result ≡ is_stack headers.now }
+{
+    is_plain(headers)
+        || headers.len() >= 3
+            && is_encap(&headers[..3])
+            && (is_plain(&headers[3..])
+                || headers.len() >= 6 && is_encap(&headers[3..6]) && is_plain(&headers[6..]))
+}
+
+fn is_plain(headers: &[Header]) -> bool
+    ensures { result ≡ shape.is_plain headers.now }
+{
+    match headers {
+        [Header::Ether { kind: 0x0800, .. }, rest @ ..] => is_packet(rest),
+        [Header::Ether { .. }] => true,
+        _ => false,
+    }
+}
+
+fn is_packet(headers: &[Header]) -> bool
+    ensures { result ≡ shape.is_packet headers.now }
+{
+    match headers {
+        [
+            Header::Ip {
+                proto,
+                part: false,
+                ..
+            },
+            rest @ ..,
+        ] if *proto == 6 || *proto == 17 => {
+            matches!(rest, [Header::Ports { proto: p, .. }] if p == proto)
+        }
+        [Header::Ip { .. }] => true,
+        _ => false,
+    }
+}
+
+fn is_encap(headers: &[Header]) -> bool
+    ensures { result ≡ shape.is_encap headers.now }
+{
+    match headers {
+        [
+            Header::Ether { kind: 0x0800, .. },
+            Header::Ip {
+                proto: 17,
+                part: false,
+                ..
+            },
+            Header::Vxlan { vni },
+        ] => *vni < 0x100_0000,
+        _ => false,
+    }
+}
+
+fn count(headers: &[Header]) -> u8
+    requires { length headers.now ≤ 9 }
+    ensures value { result ≡ encaps headers.now }
+    ensures few { result ≤ length headers.now }
+{
+    match headers {
+        [] => 0,
+        [Header::Vxlan { .. }, rest @ ..] => count(rest) + 1,
+        [_, rest @ ..] => count(rest),
+    }
+}
+
+fn copied(headers: &[Header]) -> Headers
+    requires { length headers.now ≤ 9 }
+    ensures { result ≡ headers.now }
+{
+    let mut copy = Headers::new();
+    for header in headers {
+        copy.push(*header);
+    }
+    copy
+}
+
+impl Stack {
+    /// The stack of these headers.
+    #[tactic(auto, using(crate::proofs::Stacks::stack_short))]
+    pub fn of(headers: &[Header]) -> Result<Stack, BadShape>
+        ensures { result ≡ (if is_stack headers.now then Ok headers.now else Err (record {})) }
+    {
+        if !is_shape(headers) {
+            return Err(BadShape);
+        }
+        Ok(Stack {
+            headers: copied(headers),
+        })
+    }
+
+    /// The stack of headers that are known to be of its shape.
+    pub fn new(headers: Headers) -> Stack
+        requires { IsTrue (is_stack headers) }
+        ensures { result ≡ headers }
+    {
+        Stack { headers }
+    }
+
+    /// The headers, outermost first.
+    pub fn headers(&self) -> &[Header]
+        ensures all { result.now ≡ self.now }
+        ensures shape { IsTrue (is_stack result.now) }
+        ensures room { length result.now ≤ 9 }
+    {
+        self.headers.as_slice()
+    }
+
+    /// The number of encapsulations, 0 to 2. Three headers stand for each, before the inner ones.
+    #[tactic(auto, using(crate::proofs::Stacks::in_front))]
+    pub fn encaps(&self) -> u8
+        ensures count { result ≡ encaps self.now }
+        ensures few { result ≤ 2 }
+        ensures before { 3 * result ≤ length self.now }
+    {
+        count(self.headers())
+    }
+
+    /// The inner headers, which stand behind the encapsulations: Ethernet, IPv4 and ports, or as many
+    /// of these as there are.
+    pub fn inner(&self) -> &[Header]
+        ensures { result.now ≡ inner self.now }
+    {
+        &self.headers()[3 * usize::from(self.encaps())..]
+    }
+
+    /// Whether two stacks are the same.
+    pub fn is_same(&self, other: &Stack) -> bool
+        ensures { IsTrue result ↔ (self.now ≡ other.now) }
+    {
+        *self == *other
+    }
+}

@@ -1,0 +1,11 @@
+//! The walk of a packet through the layers of its port, so far of one layer without state.
+#![tactic(auto)]
+
+mod layer;
+mod matching;
+mod port;
+mod walk;
+
+pub use layer::{PlainCond, PlainField, PlainGroup, PlainLayer, PlainRule};
+pub use port::direction;
+pub use walk::verdict;

@@ -1,0 +1,7 @@
+//! Bytes as lower-case hexadecimal text, sixteen at a time.
+#![tactic(auto)]
+
+mod block;
+mod text;
+
+pub use text::append_hex;

@@ -1,0 +1,83 @@
+-- The text of the report. Every line ends with a line feed; numbers are decimal without leading zeros.
+use Rattle.std.specs.Prelude.{◌≡◌, ℕ, List, ◌++◌, Bool, true, false, Result, Ok, Err, codes, decimal, ⊤}
+use Rattle.std.specs.List.{flat_map}
+use Rattle.hex.specs.Hex.{encode_lower}
+use Rattle.vsw_base.specs.Fault.{fault_number, fault_name}
+use Rattle.vsw_base.specs.declared.fault.NoMemory.{NoMemory}
+use Rattle.vsw_base.specs.declared.fault.BadFrame.{BadFrame}
+use Rattle.vsw_base.specs.declared.packet.Dir.{Dir}
+use Rattle.vsw_base.specs.declared.packet.Dir.TheVariants.{Out, In}
+use Rattle.vsw_base.specs.declared.fate.Cause.{Cause}
+use Rattle.vsw_base.specs.declared.fate.Cause.TheVariants.{Rule, Default, Long, Full, Taken, Memory}
+use Rattle.vsw_base.specs.declared.fate.Fate.{Fate}
+use Rattle.vsw_base.specs.declared.fate.Fate.TheVariants.{Pass, Drop}
+use Rattle.vsw_report.specs.declared.round.Round.{Round}
+use Rattle.vsw_report.specs.declared.round.PortRound.{PortRound}
+use Rattle.vsw_report.specs.declared.round.PacketLine.{PacketLine}
+use Rattle.vsw_report.specs.declared.round.Loose.{Loose}
+use Rattle.vsw_report.specs.declared.round.LooseCause.{LooseCause}
+use Rattle.vsw_report.specs.declared.round.LooseCause.TheVariants.{Snapped, Malformed, NoPort}
+
+-- the first line of every report
+abbrev pub head_line : List ℕ
+head_line = codes "vsw report 1\n"
+
+-- two numbers with a slash between: a controller and its layer, or a group and its rule
+unfoldable pub layer_text : ℕ → ℕ → List ℕ
+layer_text controller layer = decimal controller ++ codes "/" ++ decimal layer
+
+unfoldable pub dir_text : Dir → List ℕ
+dir_text Out = codes " out"
+dir_text In = codes " in"
+
+-- why a packet was dropped
+abbrev pub cause_text : Cause → List ℕ
+cause_text (Rule controller layer group rule) = codes "rule " ++ layer_text controller layer ++ codes "/" ++ layer_text group rule
+cause_text (Default controller layer dir) = codes "default " ++ layer_text controller layer ++ dir_text dir
+cause_text Long = codes "long"
+cause_text (Full controller layer) = codes "full " ++ layer_text controller layer
+cause_text (Taken controller layer pair) = codes "taken " ++ layer_text controller layer ++ codes " " ++ decimal pair
+cause_text Memory = codes "memory"
+
+-- a pass with its length and its bytes in hexadecimal, or a drop with its cause
+abbrev pub fate_text : Fate → List ℕ → List ℕ
+fate_text (Pass len) bytes = codes "pass " ++ decimal len ++ codes " " ++ encode_lower bytes
+fate_text (Drop cause) bytes = codes "drop " ++ cause_text cause
+
+-- before the count: an entry, or a read
+abbrev pub mark_text : Bool → List ℕ
+mark_text true = codes " +"
+mark_text false = codes " @"
+
+-- a packet's line: its worker, its number, its count and its fate
+abbrev pub line_text : PacketLine → List ℕ
+line_text l = codes "w" ++ decimal l.worker ++ codes " " ++ decimal l.packet ++ mark_text l.entry ++ decimal l.count ++ codes " " ++ fate_text l.fate l.bytes ++ codes "\n"
+
+-- the end of a malformed packet's line
+unfoldable pub fault_text : BadFrame → List ℕ
+fault_text fault = codes " malformed " ++ decimal (fault_number fault) ++ codes " " ++ fault_name fault ++ codes "\n"
+
+abbrev pub loose_cause_text : LooseCause → List ℕ
+loose_cause_text Snapped = codes " snapped\n"
+loose_cause_text (Malformed fault) = fault_text fault
+loose_cause_text NoPort = codes " noport\n"
+
+-- a loose packet's line: its number, and why it reached no port
+abbrev pub loose_text : Loose → List ℕ
+loose_text l = decimal l.packet ++ loose_cause_text l.what
+
+-- a port's line: its number, and its counts of entries before and after the round
+unfoldable pub port_line : PortRound → List ℕ
+port_line p = codes "port " ++ decimal p.port ++ codes " " ++ decimal p.before ++ codes " " ++ decimal p.after ++ codes "\n"
+
+abbrev pub port_text : PortRound → List ℕ
+port_text p = port_line p ++ flat_map line_text p.told
+
+-- a round: its first packet, its ports, and its loose packets
+abbrev pub round_text : Round → List ℕ
+round_text r = codes "round " ++ decimal r.first ++ codes "\n" ++ flat_map port_text r.ports ++ codes "loose\n" ++ flat_map loose_text r.loose
+
+-- all of a text was appended, or nothing where there was no memory
+abbrev pub Appended : List ℕ → List ℕ → List ℕ → Result ⊤ NoMemory → Type 0
+Appended old new text (Ok u) = new ≡ old ++ text
+Appended old new text (Err e) = new ≡ old

@@ -1,0 +1,69 @@
+//! A frame that was read.
+
+ghost use Rattle.std.specs.Prelude.{◌≡◌};
+
+use vsw_base::{Control, Sizes, Stack};
+
+/// What is left of a frame without its first encapsulations, and those bytes of it that no length
+/// covers.
+#[derive(Clone, Copy, Debug)]
+pub struct Level<'a> {
+    /// From the Ethernet header on.
+    pub bytes: &'a [u8],
+    /// After the IPv4 total length.
+    pub trailer: &'a [u8],
+    /// After the UDP length, within the IPv4 total length.
+    pub slack: &'a [u8],
+}
+
+/// A frame that was read. It borrows the bytes.
+#[derive(Clone, Copy)]
+pub struct Frame<'a> {
+    pub(crate) stack: Stack,
+    pub(crate) control: Control,
+    pub(crate) sizes: Sizes,
+    pub(crate) first: Level<'a>,
+    pub(crate) second: Option<Level<'a>>,
+    pub(crate) third: Option<Level<'a>>,
+    pub(crate) payload: &'a [u8],
+}
+
+impl<'a> Frame<'a> {
+    ghost use Rattle.vsw_base.specs.Frame.{sizes_of};
+    ghost use Rattle.vsw_frame.specs.Seen.{parts, sizes};
+
+    /// The headers.
+    pub fn stack(&self) -> &Stack
+        ensures { result.now ≡ (parts self.now).stack }
+    {
+        &self.stack
+    }
+
+    /// What the flags of an unfragmented innermost TCP header ask for.
+    pub fn control(&self) -> Control
+        ensures { result ≡ (parts self.now).control }
+    {
+        self.control
+    }
+
+    /// Bytes of the frame, and without its first one and two encapsulations.
+    pub fn sizes(&self) -> Sizes
+        ensures { result ≡ sizes self.now }
+    {
+        self.sizes
+    }
+
+    /// All bytes of the frame.
+    pub fn bytes(&self) -> &'a [u8]
+        ensures { result.now ≡ self.now.first.bytes.now }
+    {
+        self.first.bytes
+    }
+
+    /// What follows the last header that was read.
+    pub fn payload(&self) -> &'a [u8]
+        ensures { result.now ≡ (parts self.now).payload }
+    {
+        self.payload
+    }
+}

@@ -1,0 +1,9 @@
+//! Whole frames: any bytes are read as a frame, or refused with their first fault.
+#![tactic(auto)]
+
+mod frame;
+mod level;
+mod read;
+
+pub use frame::{Frame, Level};
+pub use read::read_frame;

@@ -16,12 +16,13 @@ pub struct Level<'a> {
     pub slack: &'a [u8],
 }
 
-/// A frame that was read. It borrows the bytes.
-#[derive(Clone, Copy)]
+/// A frame that was read. It borrows the frame's bytes.
+#[derive(Drop)]
 pub struct Frame<'a> {
     pub(crate) stack: Stack,
     pub(crate) control: Control,
     pub(crate) sizes: Sizes,
+    /// The levels, outermost first.
     pub(crate) first: Level<'a>,
     pub(crate) second: Option<Level<'a>>,
     pub(crate) third: Option<Level<'a>>,
@@ -29,8 +30,7 @@ pub struct Frame<'a> {
 }
 
 impl<'a> Frame<'a> {
-    ghost use Rattle.vsw_base.specs.Frame.{sizes_of};
-    ghost use Rattle.vsw_frame.specs.Seen.{parts, sizes};
+    ghost use Rattle.vsw_frame.specs.Frame.{parts};
 
     /// The headers.
     pub fn stack(&self) -> &Stack
@@ -46,9 +46,9 @@ impl<'a> Frame<'a> {
         self.control
     }
 
-    /// Bytes of the frame, and without its first one and two encapsulations.
+    /// Bytes of the frame, and of what is left without its first one and two encapsulations.
     pub fn sizes(&self) -> Sizes
-        ensures { result ≡ sizes self.now }
+        ensures { result ≡ self.now.sizes }
     {
         self.sizes
     }

@@ -1,9 +1,8 @@
 //! Whole frames: any bytes are read as a frame, or refused with their first fault.
 #![tactic(auto)]
 
+mod found;
 mod frame;
-mod level;
-mod read;
+mod opened;
 
 pub use frame::{Frame, Level};
-pub use read::read_frame;

@@ -1,0 +1,17 @@
+-- What a frame that was read says.
+use Rattle.std.specs.Prelude.{◌≡◌, ℕ, List, ◌∷◌, ◌++◌, Result, Ok, Err}
+use Rattle.vsw_base.specs.declared.fault.BadFrame.{BadFrame}
+use Rattle.vsw_base.specs.Frame as definition
+use Rattle.vsw_frame.specs.Seen.{level_fields, more_levels}
+use Rattle.vsw_frame.specs.declared.frame.Frame.{Frame}
+
+abbrev pub parts : Frame → definition.Parts
+parts f = record { stack = f.stack; control = f.control; levels = level_fields f.first ∷ (more_levels f.second ++ more_levels f.third); payload = f.payload.now }
+
+abbrev pub seen : Result Frame BadFrame → Result definition.Parts BadFrame
+seen (Ok f) = Ok (parts f)
+seen (Err e) = Err e
+
+-- the frame's own bytes are its first level's, and its sizes are its levels'
+abbrev pub IsOf : List ℕ → Frame → Type 0
+IsOf bytes f = (f.first.bytes.now ≡ bytes) × (f.sizes ≡ definition.sizes_of (parts f).levels)

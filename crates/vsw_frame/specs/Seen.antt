@@ -1,0 +1,63 @@
+-- What the reader's values say, in the words of the definition of a frame.
+use Rattle.std.specs.Prelude.{◌≡◌, ◌≤◌, ◌<◌, ◌||◌, ◌&&◌, ℕ, zero, suc, Bool, List, [], ◌∷◌, ◌++◌, length, take, drop, Option, Some, None, IfSome, Result, Ok, Err}
+use Rattle.vsw_base.specs.declared.fault.BadFrame.{BadFrame}
+use Rattle.vsw_base.specs.Frame as frame
+use Rattle.vsw_l4.specs.Tcp.{tcp_fields}
+use Rattle.vsw_l4.specs.Udp.{udp_fields}
+use Rattle.vsw_frame.specs.declared.opened.End.{End}
+use Rattle.vsw_frame.specs.declared.opened.End.TheVariants.{Rest, OverTcp, OverUdp}
+use Rattle.vsw_frame.specs.declared.opened.Opened.{Opened}
+use Rattle.vsw_frame.specs.declared.opened.Inner.{Inner}
+use Rattle.vsw_frame.specs.declared.found.Found.{Found}
+use Rattle.vsw_frame.specs.declared.frame.Level.{Level}
+use Rattle.vsw_base.specs.declared.header.Header.{Header}
+use Rattle.vsw_base.specs.Shape.{is_plain, is_encap}
+
+abbrev pub end_fields : End → frame.End
+end_fields (Rest payload) = frame.Rest payload.now
+end_fields (OverTcp t) = frame.OverTcp (tcp_fields t)
+end_fields (OverUdp u) = frame.OverUdp (udp_fields u)
+
+abbrev pub end_seen : Result End BadFrame → Result frame.End BadFrame
+end_seen (Ok end) = Ok (end_fields end)
+end_seen (Err e) = Err e
+
+abbrev pub opened_fields : Opened → frame.Opened
+opened_fields o = record { front = o.front; trailer = o.trailer.now; end = end_fields o.end }
+
+abbrev pub opened_seen : Result Opened BadFrame → Result frame.Opened BadFrame
+opened_seen (Ok o) = Ok (opened_fields o)
+opened_seen (Err e) = Err e
+
+abbrev pub level_fields : Level → frame.Level
+level_fields l = record { bytes = l.bytes.now; trailer = l.trailer.now; slack = l.slack.now }
+
+abbrev pub more_levels : Option Level → List frame.Level
+more_levels None = []
+more_levels (Some l) = level_fields l ∷ []
+
+-- what was found in a frame
+abbrev pub found_parts : Found → frame.Parts
+found_parts f = record { stack = f.headers; control = f.control; levels = level_fields f.first ∷ (more_levels f.second ++ more_levels f.third); payload = f.payload.now }
+
+abbrev pub found_seen : Result Found BadFrame → Result frame.Parts BadFrame
+found_seen (Ok f) = Ok (found_parts f)
+found_seen (Err e) = Err e
+
+-- an encapsulation that was found
+abbrev pub inner_seen : Option Inner → Option (ℕ × List ℕ)
+inner_seen None = None
+inner_seen (Some i) = Some (i.vni, i.frame.now)
+
+-- the levels that a frame has in which so many encapsulations were looked for
+abbrev pub HasLevels : ℕ → Found → Type 0
+HasLevels depth f = (depth < 2 → f.third ≡ None) × (depth < 1 → f.second ≡ None)
+
+-- no level is longer than this
+abbrev pub AreWithin : ℕ → Found → Type 0
+AreWithin n f = (length f.first.bytes.now ≤ n) × IfSome f.second (λ l. length l.bytes.now ≤ n) × IfSome f.third (λ l. length l.bytes.now ≤ n)
+
+-- a plain frame in at most so many encapsulations
+abbrev pub is_within : ℕ → List Header → Bool
+is_within zero hs = is_plain hs
+is_within (suc n) hs = is_plain hs || (is_encap (take 3 hs) && is_within n (drop 3 hs))

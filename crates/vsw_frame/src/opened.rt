@@ -1,0 +1,153 @@
+//! The headers of one frame, as far as its ports.
+
+ghost use Rattle.std.specs.Prelude.{◌≡◌, ◌≤◌, ◌<◌, ◌^◌, ◌++◌, ◌∷◌, [], IfOk, IfSome, IsTrue, length, option_map};
+ghost use Rattle.vsw_base.specs.Shape.{is_plain, is_packet};
+ghost use Rattle.vsw_base.specs.declared.header.Header.TheVariants.{Ip};
+ghost use Rattle.vsw_base.specs.Frame.{opened_of, end_of, within, ports, control_in, payload_in, slack_in, ether_header};
+ghost use Rattle.vsw_frame.specs.Seen.{end_seen, end_fields, opened_seen, inner_seen};
+ghost use Rattle.vsw_ipv4.specs.Ip.{ip_fields};
+
+use vsw_base::{BadFrame, Control, Header, Headers};
+use vsw_ipv4::{IpPart, read_ip};
+use vsw_l4::{TcpPart, UdpPart, read_tcp, read_udp, read_vxlan};
+use vsw_link::{EtherPart, read_ether};
+
+/// The Ethernet type of IPv4 (RFC 894).
+const IPV4: u16 = 0x0800;
+
+/// IPv4's protocol numbers of TCP and UDP.
+const TCP: u8 = 6;
+
+const UDP: u8 = 17;
+
+/// The UDP port of VXLAN, and bytes of its header (RFC 7348, section 5).
+const VXLAN_PORT: u16 = 4789;
+
+const VXLAN_LEN: usize = 8;
+
+/// What follows Ethernet and IPv4.
+#[derive(Clone, Copy)]
+pub enum End<'a> {
+    /// Of another Ethernet type, a fragment, or neither TCP nor UDP: carried unread.
+    Rest(&'a [u8]),
+    OverTcp(TcpPart<'a>),
+    OverUdp(UdpPart<'a>),
+}
+
+/// One frame, opened as far as its ports.
+#[derive(Drop)]
+pub struct Opened<'a> {
+    /// Ethernet, and IPv4 where the type says so.
+    pub front: Headers,
+    /// After the IPv4 total length.
+    pub trailer: &'a [u8],
+    pub end: End<'a>,
+}
+
+/// An encapsulation's VNI and inner frame.
+#[derive(Clone, Copy)]
+pub struct Inner<'a> {
+    pub vni: u32,
+    pub frame: &'a [u8],
+}
+
+/// Looks for an encapsulation: UDP to VXLAN's port with a VXLAN header.
+pub fn look_within<'a>(end: &End<'a>) -> Option<Inner<'a>>
+    ensures found { inner_seen result ≡ within (end_fields end.now) }
+    ensures fit { IfSome result (λ i. i.vni < 2 ^ 24) }
+    ensures short { IfSome result (λ i. length i.frame.now ≤ length (payload_in (end_fields end.now))) }
+{
+    let End::OverUdp(udp) = end else {
+        return None;
+    };
+    if udp.dst != VXLAN_PORT {
+        return None;
+    }
+    let vni = read_vxlan(udp.payload)?;
+    Some(Inner {
+        vni,
+        frame: &udp.payload[VXLAN_LEN..],
+    })
+}
+
+fn read_end<'a>(ip: &IpPart<'a>) -> Result<End<'a>, BadFrame>
+    ensures fields { end_seen result ≡ end_of (ip_fields ip.now) }
+    ensures short { IfOk result (λ end. length (payload_in (end_fields end)) ≤ length ip.now.payload.now) }
+    ensures shape { IfOk result (λ end. IsTrue (is_packet (Ip ip.now.src ip.now.dst ip.now.proto ip.now.part ∷ ports (end_fields end)))) }
+{
+    if ip.part {
+        return Ok(End::Rest(ip.payload));
+    }
+    match ip.proto {
+        TCP => match read_tcp(ip.payload) {
+            Ok(tcp) => Ok(End::OverTcp(tcp)),
+            Err(fault) => Err(fault),
+        },
+        UDP => match read_udp(ip.payload) {
+            Ok(udp) => Ok(End::OverUdp(udp)),
+            Err(fault) => Err(fault),
+        },
+        _ => Ok(End::Rest(ip.payload)),
+    }
+}
+
+fn one(header: Header) -> Headers
+    ensures { result ≡ header ∷ [] }
+{
+    let mut headers = Headers::new();
+    headers.push(header);
+    headers
+}
+
+fn two(first: Header, second: Header) -> Headers
+    ensures { result ≡ first ∷ second ∷ [] }
+{
+    let mut headers = Headers::new();
+    headers.push(first);
+    headers.push(second);
+    headers
+}
+
+/// Opens a frame.
+pub fn read_headers<'a>(bytes: &'a [u8]) -> Result<Opened<'a>, BadFrame>
+    ensures fields { opened_seen result ≡ opened_of bytes.now }
+    ensures shape { IfOk result (λ o. IsTrue (is_plain (o.front ++ ports (end_fields o.end)))) }
+    ensures room { IfOk result (λ o. length o.front ≤ 2) }
+    ensures short { IfOk result (λ o. length (payload_in (end_fields o.end)) ≤ length bytes.now) }
+{
+    let ether = match read_ether(bytes) {
+        Ok(ether) => ether,
+        Err(fault) => return Err(fault),
+    };
+    let first = Header::Ether {
+        dst: ether.dst,
+        src: ether.src,
+        kind: ether.kind,
+    };
+    if ether.kind != IPV4 {
+        return Ok(Opened {
+            front: one(first),
+            trailer: &[],
+            end: End::Rest(ether.rest),
+        });
+    }
+    let ip = match read_ip(ether.rest) {
+        Ok(ip) => ip,
+        Err(fault) => return Err(fault),
+    };
+    let end = match read_end(&ip) {
+        Ok(end) => end,
+        Err(fault) => return Err(fault),
+    };
+    let second = Header::Ip {
+        src: ip.src,
+        dst: ip.dst,
+        proto: ip.proto,
+        part: ip.part,
+    };
+    Ok(Opened {
+        front: two(first, second),
+        trailer: ip.trailer,
+        end,
+    })
+}

@@ -1,5 +1,5 @@
 -- What the reader's values say, in the words of the definition of a frame.
-use Rattle.std.specs.Prelude.{◌≡◌, ◌≤◌, ◌<◌, ◌||◌, ◌&&◌, ℕ, zero, suc, Bool, List, [], ◌∷◌, ◌++◌, length, take, drop, Option, Some, None, IfSome, Result, Ok, Err}
+use Rattle.std.specs.Prelude.{◌≡◌, ◌≤◌, ◌+◌, ◌*◌, true, ◌<◌, ◌||◌, ◌&&◌, ℕ, zero, suc, Bool, List, [], ◌∷◌, ◌++◌, length, take, drop, Option, Some, None, Result, Ok, Err}
 use Rattle.vsw_base.specs.declared.fault.BadFrame.{BadFrame}
 use Rattle.vsw_base.specs.Frame as frame
 use Rattle.vsw_l4.specs.Tcp.{tcp_fields}
@@ -49,15 +49,28 @@ abbrev pub inner_seen : Option Inner → Option (ℕ × List ℕ)
 inner_seen None = None
 inner_seen (Some i) = Some (i.vni, i.frame.now)
 
--- the levels that a frame has in which so many encapsulations were looked for
-abbrev pub HasLevels : ℕ → Found → Type 0
-HasLevels depth f = (depth < 2 → f.third ≡ None) × (depth < 1 → f.second ≡ None)
-
--- no level is longer than this
-abbrev pub AreWithin : ℕ → Found → Type 0
-AreWithin n f = (length f.first.bytes.now ≤ n) × IfSome f.second (λ l. length l.bytes.now ≤ n) × IfSome f.third (λ l. length l.bytes.now ≤ n)
-
 -- a plain frame in at most so many encapsulations
 abbrev pub is_within : ℕ → List Header → Bool
 is_within zero hs = is_plain hs
 is_within (suc n) hs = is_plain hs || (is_encap (take 3 hs) && is_within n (drop 3 hs))
+
+-- a level of at most so many bytes, where it is there
+abbrev pub IsShort : ℕ → Option Level → Type 0
+IsShort n None = Unit {0}
+IsShort n (Some l) = length l.bytes.now ≤ n
+
+-- what is known of a frame in whose bytes so many encapsulations were looked for
+pub record Finds (depth : ℕ) (bytes : List ℕ) (f : Found) : Type 0 where
+  pub shape : is_within depth f.headers ≡ true
+  pub room : length f.headers ≤ 3 * depth + 3
+  pub whole : f.first.bytes.now ≡ bytes
+  pub second : depth < 1 → f.second ≡ None
+  pub third : depth < 2 → f.third ≡ None
+  pub in_order : f.second ≡ None → f.third ≡ None
+  pub second_short : IsShort (length bytes) f.second
+  pub third_short : IsShort (length bytes) f.third
+
+-- bytes of a level, 0 where it isn't there
+abbrev pub size_of : Option Level → ℕ
+size_of None = 0
+size_of (Some l) = length l.bytes.now

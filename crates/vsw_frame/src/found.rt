@@ -4,7 +4,7 @@ ghost use Rattle.std.specs.Prelude.{◌≡◌, ◌≤◌, ◌<◌, ◌^◌, ◌+
 ghost use Rattle.vsw_base.specs.Shape.{is_plain, is_encap};
 ghost use Rattle.vsw_base.specs.declared.header.Header.TheVariants.{Vxlan};
 ghost use Rattle.vsw_base.specs.Frame.{frame_in, plain_parts, encap_parts, ports, control_in, payload_in, slack_in};
-ghost use Rattle.vsw_frame.specs.Seen.{end_fields, opened_fields, found_parts, found_seen, level_fields, HasLevels, AreWithin, is_within};
+ghost use Rattle.vsw_frame.specs.Seen.{end_fields, opened_fields, found_parts, found_seen, level_fields, Finds};
 
 use crate::frame::Level;
 use crate::opened::{End, Inner, Opened, look_within, read_headers};
@@ -76,6 +76,7 @@ fn slack<'a>(end: &End<'a>) -> &'a [u8]
 fn plain<'a>(bytes: &'a [u8], opened: &Opened<'a>) -> Found<'a>
     requires { length opened.now.front ≤ 2 }
     ensures parts { found_parts result ≡ plain_parts bytes.now (opened_fields opened.now) }
+    ensures first { result.first.bytes.now ≡ bytes.now }
     ensures single { (result.second ≡ None) × (result.third ≡ None) }
 {
     Found {
@@ -127,5 +128,27 @@ fn encapsulated<'a>(bytes: &'a [u8], opened: &Opened<'a>, vni: u32, inner: &Foun
         second: Some(inner.first),
         third: inner.second,
         payload: inner.payload,
+    }
+}
+
+/// What a frame says in which so many encapsulations are looked for.
+pub fn find<'a>(depth: u8, bytes: &'a [u8]) -> Result<Found<'a>, BadFrame>
+    requires { depth ≤ 2 }
+    ensures parts { found_seen result ≡ frame_in depth bytes.now }
+    ensures finds { IfOk result (Finds depth bytes.now) }
+{
+    let opened = match read_headers(bytes) {
+        Ok(opened) => opened,
+        Err(fault) => return Err(fault),
+    };
+    if depth == 0 {
+        return Ok(plain(bytes, &opened));
+    }
+    let Some(inner) = look_within(&opened.end) else {
+        return Ok(plain(bytes, &opened));
+    };
+    match find(depth - 1, inner.frame) {
+        Ok(found) => Ok(encapsulated(bytes, &opened, inner.vni, &found)),
+        Err(fault) => Err(fault),
     }
 }

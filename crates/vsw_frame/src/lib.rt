@@ -4,5 +4,7 @@
 mod found;
 mod frame;
 mod opened;
+mod read;
 
 pub use frame::{Frame, Level};
+pub use read::read_frame;

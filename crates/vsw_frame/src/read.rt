@@ -1,0 +1,66 @@
+//! Reading whole frames.
+
+ghost use Rattle.std.specs.Prelude.{◌≡◌, ◌≤◌, IfOk, OnOk, IsTrue, length};
+ghost use Rattle.vsw_base.specs.Frame.{frame_of};
+ghost use Rattle.vsw_frame.specs.Frame.{parts, seen, IsOf};
+ghost use Rattle.vsw_frame.specs.Seen.{Finds, IsShort, found_parts, size_of};
+
+use crate::found::{Found, find};
+use crate::frame::{Frame, Level};
+use vsw_base::{BadFrame, Sizes, Stack};
+
+/// Bytes of the longest frame that is read.
+const FRAME_MAX: usize = 65_600;
+
+/// Encapsulations that are looked for.
+const ENCAPS_MAX: u8 = 2;
+
+fn size(level: &Option<Level<'_>>) -> u32
+    requires { IsShort 65600 level.now }
+    ensures { result ≡ size_of level.now }
+{
+    match level {
+        None => 0,
+        Some(level) => level.bytes.len() as u32,
+    }
+}
+
+#[tactic(auto, using(crate::proofs::Finds::sizes_are, crate::proofs::Within::within_stack, crate::proofs::Finds::shorter))]
+fn framed<'a>(bytes: &'a [u8], found: &Found<'a>) -> Frame<'a>
+    requires finds { Finds 2 bytes.now found.now }
+    requires short { length bytes.now ≤ 65600 }
+    ensures same { parts result ≡ found_parts found.now }
+    ensures of { IsOf bytes.now result }
+{
+    Frame {
+        stack: Stack::new(found.headers),
+        control: found.control,
+        sizes: Sizes {
+            whole: found.first.bytes.len() as u32,
+            one: size(&found.second),
+            two: size(&found.third),
+        },
+        first: found.first,
+        second: found.second,
+        third: found.third,
+        payload: found.payload,
+    }
+}
+
+/// Reads a frame, or names its first fault: at most two VXLAN encapsulations outermost, then Ethernet,
+/// IPv4 where the type says so, and the ports of an unfragmented TCP or UDP packet. UDP to port 4789
+/// with at least 8 bytes of payload and the I flag is VXLAN; beyond the second encapsulation it is
+/// plain UDP. Checksums aren't looked at.
+pub fn read_frame<'a>(bytes: &'a [u8]) -> Result<Frame<'a>, BadFrame>
+    ensures parts { seen result ≡ frame_of bytes.now }
+    ensures of { IfOk result (IsOf bytes.now) }
+    ensures short { OnOk result (length bytes.now ≤ 65600) }
+{
+    if bytes.len() > FRAME_MAX {
+        return Err(BadFrame::TooLong);
+    }
+    match find(ENCAPS_MAX, bytes) {
+        Ok(found) => Ok(framed(bytes, &found)),
+        Err(fault) => Err(fault),
+    }
+}

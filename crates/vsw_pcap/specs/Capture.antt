@@ -2,7 +2,7 @@
 -- the version's two numbers (2 each), 12 bytes that aren't read, and the link type (4). The magic tells
 -- the order of the bytes of every number, and what fractions of seconds count. Records follow: seconds,
 -- fraction, captured length and original length (4 bytes each), and then the captured bytes.
-use Rattle.std.specs.Prelude.{◌≡◌, ◌<◌, ◌≤◌, ℕ, ◌+◌, ◌*◌, ◌/◌, ◌==◌, ◌&&◌, Bool, not, List, [], ◌∷◌, length, take, drop, nat_lt, if◌then◌else◌, Option, Some, None, option_map, Result, Ok, Err}
+use Rattle.std.specs.Prelude.{◌≡◌, ◌<◌, ◌≤◌, ℕ, ◌+◌, ◌*◌, ◌/◌, ◌==◌, ◌&&◌, not, List, [], ◌∷◌, length, take, drop, nat_lt, if◌then◌else◌, Option, Some, None, option_map, Result, Ok, Err}
 use Rattle.byteorder.specs.Endian.{little_number, big_number}
 use Rattle.vsw_pcap.specs.declared.capture.Order.{Order}
 use Rattle.vsw_pcap.specs.declared.capture.Order.TheVariants.{Little, Big}

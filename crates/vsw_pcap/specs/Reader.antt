@@ -3,54 +3,58 @@ use Rattle.std.specs.Prelude.{◌≡◌, ◌<◌, ◌≤◌, ℕ, ◌+◌, ◌==
 use Rattle.vsw_pcap.specs.Capture.{header_of, front_of, record_of, Splits, Stops, IsCapture}
 use Rattle.vsw_pcap.specs.Progress.{Progress}
 use Rattle.vsw_pcap.specs.declared.capture.Form.{Form}
+use Rattle.vsw_pcap.specs.declared.capture.Front.{Front}
 use Rattle.vsw_pcap.specs.declared.capture.Front.TheVariants.{Whole, Part, Oversize}
 use Rattle.vsw_pcap.specs.declared.capture.Record.{Record}
+use Rattle.vsw_pcap.specs.declared.fault.BadTrace.{BadTrace}
 use Rattle.vsw_pcap.specs.declared.fault.BadTrace.TheVariants.{Cut, Huge}
 use Rattle.vsw_pcap.specs.declared.reader.Start.{Start}
 use Rattle.vsw_pcap.specs.declared.reader.Start.TheVariants.{Records, Unknown, Refused}
 use Rattle.vsw_pcap.specs.declared.reader.Next.{Next}
 use Rattle.vsw_pcap.specs.declared.reader.Next.TheVariants as next
 
--- where the next record begins: after the header, while that is still in hand
+-- the records begin after an accepted header
+abbrev pub after_header : Result Form BadTrace → Start
+after_header (Ok form) = Records form 24
+after_header (Err bad) = Refused bad
+
+-- where the next record begins: at the front, once a record was given, and else after the header
+abbrev pub start_in : Option Form → List ℕ → Bool → Start
+start_in (Some form) left finished = Records form 0
+start_in None left finished = if nat_lt (length left) 24 && not finished then Unknown else after_header (header_of left)
+
 abbrev pub start_of : Progress → Start
-start_of p = elim p.form [
-  | Some form ↦ Records form 0
-  | None ↦ if nat_lt (length p.left) 24 && not p.finished then Unknown
-      else elim (header_of p.left) [ Ok form ↦ Records form 24 | Err bad ↦ Refused bad ]
-]
+start_of p = start_in p.form p.left p.finished
 
--- the answer where these bytes are left, from byte `at` of the capture on
-abbrev pub answer_of : Form → ℕ → List ℕ → Bool → Next
-answer_of form at left finished = elim (front_of form left) [
-  | Whole captured ↦ next.Record (record_of form left captured)
-  | Oversize ↦ next.Bad (Huge at)
-  | Part ↦ if not finished then next.More else if length left == 0 then next.End else next.Bad (Cut at)
-]
+-- the answer where this stands at the front of the bytes that are left, which begin at byte `at`
+abbrev pub answer_at : Front → Form → ℕ → List ℕ → Bool → Next
+answer_at (Whole captured) form at left finished = next.Record (record_of form left captured)
+answer_at Oversize form at left finished = next.Bad (Huge at)
+answer_at Part form at left finished = if not finished then next.More else if length left == 0 then next.End else next.Bad (Cut at)
 
--- what stands next
+abbrev pub next_from : Start → Progress → Next
+next_from (Records form header) p = answer_at (front_of form (drop header p.left)) form (p.at + header) (drop header p.left) p.finished
+next_from Unknown p = next.More
+next_from (Refused bad) p = next.Bad bad
+
+-- what the reader answers next
 abbrev pub next_of : Progress → Next
-next_of p = elim (start_of p) [
-  | Records form header ↦ answer_of form (p.at + header) (drop header p.left) p.finished
-  | Unknown ↦ next.More
-  | Refused bad ↦ next.Bad bad
-]
+next_of p = next_from (start_of p) p
 
--- so many bytes of records in this form were consumed
-abbrev pub consumed : Form → ℕ → Progress → Progress
-consumed form n p = record p { form = Some form; at = p.at + n; left = drop n p.left }
+-- a record takes its bytes, with those of a header that stands before it; nothing else takes any
+abbrev pub past : Front → Form → ℕ → Progress → Progress
+past (Whole captured) form header p = record p { form = Some form; at = p.at + (header + (16 + captured)); left = drop (header + (16 + captured)) p.left }
+past Oversize form header p = p
+past Part form header p = p
 
--- the reader after its next answer: a record takes its bytes, with a header that stands before it, and no
--- other answer changes anything
+abbrev pub after_from : Start → Progress → Progress
+after_from (Records form header) p = past (front_of form (drop header p.left)) form header p
+after_from Unknown p = p
+after_from (Refused bad) p = p
+
+-- what the reader holds after that answer
 abbrev pub after_next : Progress → Progress
-after_next p = elim (start_of p) [
-  | Records form header ↦ elim (front_of form (drop header p.left)) [
-    | Whole captured ↦ consumed form (header + (16 + captured)) p
-    | Oversize ↦ p
-    | Part ↦ p
-  ]
-  | Unknown ↦ p
-  | Refused bad ↦ p
-]
+after_next p = after_from (start_of p) p
 
 -- where the next record begins, its header within the bytes in hand
 abbrev pub BeginsIn : Start → ℕ → Type 0

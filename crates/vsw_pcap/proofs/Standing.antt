@@ -63,7 +63,7 @@ told_at p form n bytes rs Oversize w e = record { form = form; rest = drop n p.l
 told_at p form n bytes rs Part w e = told_part p form n bytes rs p.finished (length (drop n p.left) == 0) w e refl refl
 
 -- a refused header has one of the first three faults
-refused_is : (bytes : List ℕ) (rs : List Record) (bad : BadTrace) → header_of bytes ≡ Err bad → rs ≡ [] → IsCapture bytes rs (Some bad)
+pub refused_is : (bytes : List ℕ) (rs : List Record) (bad : BadTrace) → header_of bytes ≡ Err bad → rs ≡ [] → IsCapture bytes rs (Some bad)
 refused_is bytes rs NotPcap h e = (h, e)
 refused_is bytes rs Version h e = (h, e)
 refused_is bytes rs LinkType h e = (h, e)

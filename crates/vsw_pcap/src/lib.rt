@@ -3,9 +3,11 @@
 #![tactic(auto)]
 
 mod capture;
+mod cutting;
 mod fault;
 mod reader;
 
 pub use capture::Record;
+pub use cutting::cuttings_agree;
 pub use fault::BadTrace;
 pub use reader::{Next, Reader};

@@ -1,0 +1,5 @@
+pub mod Format
+pub mod Standing
+pub mod Unique
+pub mod Every
+pub mod Runs

@@ -1,0 +1,5 @@
+pub mod Capture
+pub mod Reader
+pub mod Cutting
+pub mod Progress
+pub mod Fault

@@ -1,0 +1,204 @@
+//! The reader of a capture that comes in pieces.
+
+ghost use Rattle.std.specs.Prelude.{◌≡◌, ◌<◌, ◌≤◌, ◌^◌, ◌+◌, ℕ, List, length, drop, ◌++◌, [], false, true, Ok, OnOk, OnErr, IfOk};
+ghost use Rattle.vsw_pcap.specs.Reader.{start_of, next_of, after_next, unfed, fed_with, finished_at, BeginsIn, Moves, Stands, Tells};
+ghost use Rattle.vsw_pcap.specs.declared.capture.Record.{Record};
+ghost use Rattle.vsw_pcap.specs.declared.fault.BadTrace.{BadTrace};
+
+use crate::capture::{
+    Form, Front, HEADER_LEN, RECORD_LEN, Record, read_front, read_header, read_record,
+};
+use crate::fault::BadTrace;
+use std::alloc::Global;
+use std::marker::Model;
+use vsw_base::NoMemory;
+
+/// What a reader finds next.
+#[derive(Drop)]
+pub enum Next {
+    Record(Record),
+    /// The bytes in hand don't tell; more may follow.
+    More,
+    /// The capture ended after its last record.
+    End,
+    /// The capture is refused. Each later answer is the same.
+    Bad(BadTrace),
+}
+
+/// Where the next record begins.
+enum Start {
+    /// After so many bytes of header, in a capture of this form.
+    Records(Form, usize),
+    /// The header isn't whole yet.
+    Unknown,
+    /// The header was refused.
+    Refused(BadTrace),
+}
+
+/// A reader of a capture, which takes the capture's bytes in pieces of any lengths.
+///
+/// Consumed bytes are given back when a piece is fed and they are at least as many as the bytes left.
+/// So each byte is moved a constant number of times on average, and the buffer never holds more
+/// than twice the bytes that were in hand at once.
+#[derive(Drop)]
+pub struct Reader {
+    alloc: Global,
+    buffer: Vec<u8>,
+    /// Bytes of the buffer that are consumed.
+    from: usize,
+    /// Bytes of the capture that are consumed.
+    at: u64,
+    /// The form, once a record was given.
+    form: Option<Form>,
+    finished: bool,
+}
+
+impl Model for Reader {
+    ghost use Rattle.std.specs.Prelude.{◌<◌, ◌≤◌, ◌+◌, ◌^◌, length, drop};
+    ghost use Rattle.vsw_pcap.specs.Progress.{Progress};
+
+    ghost Value = { Progress };
+
+    ghost view = { λ r. record { form = r.form; at = r.at; left = drop r.from r.buffer.items; finished = r.finished } };
+
+    ghost invariant = { λ r. (r.from ≤ length r.buffer.items) × (r.at + length (drop r.from r.buffer.items) < 2 ^ 64) };
+}
+
+/// Takes the first `count` bytes off the front.
+fn drop_front(buffer: &mut Vec<u8>, count: usize)
+    requires { count ≤ length buffer.old.items }
+    ensures { buffer.new.items ≡ drop count buffer.old.items }
+{
+    let left = buffer.len() - count;
+    buffer.copy_within(count.., 0);
+    buffer.truncate(left);
+}
+
+/// Appends a piece; where there is no memory for it, nothing changes.
+fn append(buffer: &mut Vec<u8>, piece: &[u8]) -> Result<(), NoMemory>
+    ensures ok { OnOk result (buffer.new.items ≡ buffer.old.items ++ piece.now) }
+    ensures err { OnErr result (buffer.new.items ≡ buffer.old.items) }
+{
+    match buffer.extend_from_slice(piece) {
+        Ok(()) => Ok(()),
+        Err(_) => Err(NoMemory),
+    }
+}
+
+impl Reader {
+    /// A reader that was fed nothing.
+    pub fn new(alloc: Global) -> Reader
+        ensures value { result ≡ unfed }
+        ensures stands { Stands result [] [] }
+    {
+        Reader {
+            alloc,
+            buffer: Vec::new(alloc),
+            from: 0,
+            at: 0,
+            form: None,
+            finished: false,
+        }
+    }
+
+    /// Takes the next bytes of the capture.
+    pub fn feed(&mut self, piece: &[u8]) -> Result<(), NoMemory>
+        requires open { self.old.finished ≡ false }
+        requires room { self.old.at + length self.old.left + length piece.now < 2 ^ 64 }
+        ensures ok { OnOk result (self.new ≡ fed_with piece.now self.old) }
+        ensures err { OnErr result (self.new ≡ self.old) }
+
+        // The same in the words of the bytes fed and the records given; and a refused capture stays refused.
+        ensures stands { OnOk result ((bytes : List ℕ) (records : List Record) → Stands self.old bytes records → Stands self.new (bytes ++ piece.now) records) }
+        ensures refused { OnOk result ((bad : BadTrace) → next_of self.old ≡ Next.Bad bad → next_of self.new ≡ Next.Bad bad) }
+    {
+        self.give_back();
+        append(&mut self.buffer, piece)
+    }
+
+    /// Says that no byte follows.
+    pub fn finish(&mut self)
+        ensures value { self.new ≡ finished_at self.old }
+        ensures stands { (bytes : List ℕ) (records : List Record) → Stands self.old bytes records → Stands self.new bytes records }
+        ensures refused { (bad : BadTrace) → next_of self.old ≡ Next.Bad bad → next_of self.new ≡ Next.Bad bad }
+    {
+        self.finished = true;
+    }
+
+    /// What stands next in the capture. Where there is no memory for a record, nothing changes, and
+    /// the next call tries again.
+    pub fn next(&mut self) -> Result<Next, NoMemory>
+        ensures answer { IfOk result (λ answer. answer ≡ next_of self.old) }
+        ensures after { OnOk result (self.new ≡ after_next self.old) }
+        ensures err { OnErr result (self.new ≡ self.old) }
+
+        // The same in the words of the bytes fed and the records given.
+        ensures moves { IfOk result (λ answer. Moves self.old self.new answer) }
+        ensures tells { IfOk result (λ answer. (bytes : List ℕ) (records : List Record) → Stands self.old bytes records → Tells self.new bytes records answer) }
+    {
+        self.take_next()
+    }
+
+    /// Gives back the consumed bytes, where they are at least as many as the bytes left.
+    fn give_back(&mut self)
+        ensures { self.new ≡ self.old }
+    {
+        if self.from >= self.buffer.len() - self.from {
+            drop_front(&mut self.buffer, self.from);
+            self.from = 0;
+        }
+    }
+
+    /// Where the next record begins.
+    fn start(&self) -> Start
+        ensures value { result ≡ start_of self.now }
+        ensures within { BeginsIn result (length self.now.left) }
+    {
+        if let Some(form) = self.form {
+            return Start::Records(form, 0);
+        }
+        let left = &self.buffer[self.from..];
+        if left.len() < HEADER_LEN && !self.finished {
+            return Start::Unknown;
+        }
+        match read_header(left) {
+            Ok(form) => Start::Records(form, HEADER_LEN),
+            Err(bad) => Start::Refused(bad),
+        }
+    }
+
+    /// What stands next, computed.
+    fn take_next(&mut self) -> Result<Next, NoMemory>
+        ensures answer { IfOk result (λ answer. answer ≡ next_of self.old) }
+        ensures after { OnOk result (self.new ≡ after_next self.old) }
+        ensures err { OnErr result (self.new ≡ self.old) }
+    {
+        let (form, header) = match self.start() {
+            Start::Records(form, header) => (form, header),
+            Start::Unknown => return Ok(Next::More),
+            Start::Refused(bad) => return Ok(Next::Bad(bad)),
+        };
+        let left = &self.buffer[self.from + header..];
+        let at = self.at + header as u64;
+        match read_front(form, left) {
+            Front::Whole(captured) => {
+                let record = read_record(self.alloc, form, left, captured)?;
+                let len = header + RECORD_LEN + captured;
+                self.form = Some(form);
+                self.from += len;
+                self.at += len as u64;
+                Ok(Next::Record(record))
+            }
+            Front::Oversize => Ok(Next::Bad(BadTrace::Huge { at })),
+            Front::Part => {
+                if !self.finished {
+                    Ok(Next::More)
+                } else if left.is_empty() {
+                    Ok(Next::End)
+                } else {
+                    Ok(Next::Bad(BadTrace::Cut { at }))
+                }
+            }
+        }
+    }
+}

@@ -1,0 +1,74 @@
+-- A run of `vsw forward`: what it opened and read, what it put, and what it complained.
+use Rattle.std.specs.Prelude.{◌≡◌, ◌≢◌, ℕ, List, [], ◌∷◌, ◌++◌, length, take, Bool, true, false, Option, Some, None}
+use Rattle.vsw_host.specs.Outside.{Opened, Inputs, Outside, OpensSince, Grows}
+use Rattle.vsw_config.specs.declared.policy.PlainPolicy.{PlainPolicy}
+use Rattle.vsw_app.specs.declared.ending.Status.{Status}
+use Rattle.vsw_app.specs.declared.ending.Ending.{Ending}
+use Rattle.vsw_app.specs.declared.ending.Ending.TheVariants.{Usage}
+use Rattle.vsw_app.specs.Words.{Names, names_of}
+use Rattle.vsw_app.specs.Ending.{status_of, complaint, Complains}
+use Rattle.vsw_app.specs.Files.{read_whole, OpensAtMost, HoldsPolicy, StopsAtPolicy, StopsAtCommands, StopsAtTrace}
+use Rattle.vsw_app.specs.Trace.{Puts}
+
+-- the policy is read and judged first: where it isn't read or isn't built, no other file is opened
+pub record EndsAtPolicy (names : Names) (old new : Inputs) (before after : Option (List ℕ)) (ending : Ending) : Type 0 where
+  pub opens : OpensAtMost old new [] names.policy
+  pub why : StopsAtPolicy names.policy old ending
+  pub nothing : Grows before after []
+
+-- then the commands
+pub record EndsAtCommands (names : Names) (old new : Inputs) (before after : Option (List ℕ)) (ending : Ending) : Type 0 where
+  pub policy : PlainPolicy
+  pub holds : HoldsPolicy old names.policy policy
+  pub opens : OpensAtMost old new (read_whole names.policy holds.bytes ∷ []) names.commands
+  pub why : StopsAtCommands names.commands old ending
+  pub nothing : Grows before after []
+
+-- the two files that are read before the trace
+abbrev pub judged : Names → List ℕ → List Opened
+judged names policy_bytes = read_whole names.policy policy_bytes ∷ read_whole names.commands [] ∷ []
+
+-- then the trace, of which nothing may be read, or not enough memory be there to read it
+pub record EndsBeforeTrace (names : Names) (old new : Inputs) (before after : Option (List ℕ)) (ending : Ending) : Type 0 where
+  pub policy : PlainPolicy
+  pub holds : HoldsPolicy old names.policy policy
+  pub no_commands : old.files names.commands ≡ Some []
+  pub why : StopsAtTrace old new (judged names holds.bytes) names.trace ending
+  pub nothing : Grows before after []
+
+-- and else the bytes of the trace that were read decide: all of them, or those before a fault
+pub record EndsByTrace (names : Names) (old new : Inputs) (before after : Option (List ℕ)) (ending : Ending) : Type 0 where
+  pub policy : PlainPolicy
+  pub holds : HoldsPolicy old names.policy policy
+  pub no_commands : old.files names.commands ≡ Some []
+  pub trace_bytes : List ℕ
+  pub held : old.files names.trace ≡ Some trace_bytes
+  pub read : ℕ
+  pub opens : OpensSince old new (judged names holds.bytes ++ record { name = names.trace; bytes = trace_bytes; read = read } ∷ [])
+  pub whole : Bool
+  pub all : whole ≡ true → read ≡ length trace_bytes
+  pub puts : Puts policy (take read trace_bytes) whole before after ending
+
+pub data Leaves (names : Names) (old new : Inputs) (before after : Option (List ℕ)) (ending : Ending) : Type 0 where
+  AtPolicy : EndsAtPolicy names old new before after ending → Leaves names old new before after ending
+  AtCommands : EndsAtCommands names old new before after ending → Leaves names old new before after ending
+  BeforeTrace : EndsBeforeTrace names old new before after ending → Leaves names old new before after ending
+  ByTrace : EndsByTrace names old new before after ending → Leaves names old new before after ending
+
+-- words outside the grammar open nothing and put nothing
+abbrev pub LeavesBy : Option Names → Inputs → Inputs → Option (List ℕ) → Option (List ℕ) → Ending → Type 0
+LeavesBy None old new before after ending = (ending ≡ Usage) × (new ≡ old) × Grows before after []
+LeavesBy (Some names) old new before after ending = Leaves names old new before after ending
+
+-- where the host tells its files; what was put is told where the host tells it
+abbrev pub LeavesTold : Option Names → Option Inputs → Option Inputs → Option (List ℕ) → Option (List ℕ) → Ending → Type 0
+LeavesTold names None new before after ending = Unit {0}
+LeavesTold names (Some a) None before after ending = ⊥
+LeavesTold names (Some a) (Some b) before after ending = LeavesBy names a b before after ending
+
+-- what a run of these words left, by its status
+pub record IsRun (words : List (List ℕ)) (old new : Outside) (status : Status) : Type 0 where
+  pub ending : Ending
+  pub status_is : status ≡ status_of ending
+  pub leaves : LeavesTold (names_of words) old.inputs new.inputs old.put new.put ending
+  pub complains : Complains old new (complaint ending)

@@ -1,0 +1,72 @@
+-- What the reading of each file leaves.
+use Rattle.std.specs.Prelude.{◌≡◌, ◌⊎◌, ℕ, List, [], ◌∷◌, length, take, Bool, true, false, Option, Some, None, Result, Ok, Err, IfOk, ⊤}
+use Rattle.vsw_host.specs.Outside.{Opened, Inputs, Outside, OpensSince, SameOutputs, Rose}
+use Rattle.vsw_config.specs.declared.policy.PlainPolicy.{PlainPolicy}
+use Rattle.vsw_config.specs.Policy.{IsPolicy}
+use Rattle.vsw_app.specs.declared.ending.Ending.{Ending}
+use Rattle.vsw_app.specs.declared.ending.Ending.TheVariants.{Done, Usage, ReadFault, WriteFault, Refused, Records, NotBuilt, Memory}
+use Rattle.vsw_app.specs.declared.files.TraceBytes.{TraceBytes}
+use Rattle.vsw_app.specs.Files.{read_whole, OpensAtMost, HoldsPolicy, StopsAtPolicy, StopsAtCommands, StopsAtTrace}
+
+-- a run ends by a read fault only where the host counted one
+abbrev pub RisesAt : Outside → Outside → Ending → Type 0
+RisesAt old new ending = ending ≡ ReadFault → Rose old.input_faults new.input_faults
+
+abbrev pub Rises : {T : Type 0} → Outside → Outside → Result T Ending → Type 0
+Rises old new (Ok x) = Unit {0}
+Rises old new (Err ending) = RisesAt old new ending
+
+-- what the judging of a policy's bytes says
+abbrev pub Judges : List ℕ → Result PlainPolicy Ending → Type 0
+Judges bytes (Ok p) = IsPolicy bytes p
+Judges bytes (Err NotBuilt) = (p : PlainPolicy) → ¬ (IsPolicy bytes p)
+Judges bytes (Err Memory) = Unit {0}
+Judges bytes (Err ReadFault) = ⊥
+Judges bytes (Err Done) = ⊥
+Judges bytes (Err Usage) = ⊥
+Judges bytes (Err WriteFault) = ⊥
+Judges bytes (Err (Refused bad)) = ⊥
+Judges bytes (Err Records) = ⊥
+
+abbrev pub PolicySays : Inputs → Inputs → List ℕ → Result PlainPolicy Ending → Type 0
+PolicySays old new file_name (Ok p) = (holds : HoldsPolicy old file_name p) × OpensSince old new (read_whole file_name holds.bytes ∷ [])
+PolicySays old new file_name (Err ending) = OpensAtMost old new [] file_name × StopsAtPolicy file_name old ending
+
+abbrev pub CommandsSay : Inputs → Inputs → List ℕ → Result ⊤ Ending → Type 0
+CommandsSay old new file_name (Ok u) = (old.files file_name ≡ Some []) × OpensSince old new (read_whole file_name [] ∷ [])
+CommandsSay old new file_name (Err ending) = OpensAtMost old new [] file_name × StopsAtCommands file_name old ending
+
+-- what was read of the trace: all of it, or as much as came before a fault
+pub record IsRead (old new : Inputs) (file_name : List ℕ) (t : TraceBytes) : Type 0 where
+  pub bytes : List ℕ
+  pub read : ℕ
+  pub held : old.files file_name ≡ Some bytes
+  pub since : OpensSince old new (record { name = file_name; bytes = bytes; read = read } ∷ [])
+  pub got : t.bytes.items ≡ take read bytes
+  pub all : t.whole ≡ true → read ≡ length bytes
+
+abbrev pub TraceSays : Inputs → Inputs → List ℕ → Result TraceBytes Ending → Type 0
+TraceSays old new file_name (Ok t) = IsRead old new file_name t
+TraceSays old new file_name (Err ending) = StopsAtTrace old new [] file_name ending
+
+-- where the host tells its files
+abbrev pub Told : (Inputs → Inputs → Type 0) → Option Inputs → Option Inputs → Type 0
+Told P None new = Unit {0}
+Told P (Some a) None = ⊥
+Told P (Some a) (Some b) = P a b
+
+pub record ReadsPolicy (old new : Outside) (file_name : List ℕ) (r : Result PlainPolicy Ending) : Type 0 where
+  pub outputs : SameOutputs old new
+  pub rises : Rises old new r
+  pub told : Told (λ a b. PolicySays a b file_name r) old.inputs new.inputs
+
+pub record ReadsCommands (old new : Outside) (file_name : List ℕ) (r : Result ⊤ Ending) : Type 0 where
+  pub outputs : SameOutputs old new
+  pub rises : Rises old new r
+  pub told : Told (λ a b. CommandsSay a b file_name r) old.inputs new.inputs
+
+pub record ReadsTrace (old new : Outside) (file_name : List ℕ) (r : Result TraceBytes Ending) : Type 0 where
+  pub outputs : SameOutputs old new
+  pub rises : Rises old new r
+  pub fault : IfOk r (λ t. t.whole ≡ false → Rose old.input_faults new.input_faults)
+  pub told : Told (λ a b. TraceSays a b file_name r) old.inputs new.inputs

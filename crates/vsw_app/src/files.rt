@@ -1,0 +1,77 @@
+//! Reading and judging the files of a run, in the order of the words.
+
+ghost use Rattle.std.specs.Prelude.{◌≡◌};
+ghost use Rattle.vsw_app.specs.Reads.{Judges, ReadsPolicy, ReadsCommands, ReadsTrace};
+
+use crate::ending::Ending;
+use std::alloc::Global;
+use vsw_config::{PlainPolicy, PolicyFault, read_policy};
+use vsw_host::{Host, ReadEnd, read_file};
+
+/// Bytes of the longest policy file.
+const POLICY_MAX: u64 = 65_536;
+
+/// Bytes of the longest commands file: no command is built yet.
+const COMMANDS_MAX: u64 = 0;
+
+/// What was read of the trace.
+#[derive(Drop)]
+pub struct TraceBytes {
+    pub bytes: Vec<u8>,
+    /// Whether these are all of its bytes; else a read failed after them.
+    pub whole: bool,
+}
+
+/// The policy in these bytes, or how the run ends.
+fn judged(alloc: Global, bytes: &[u8]) -> Result<PlainPolicy, Ending>
+    ensures { Judges bytes.now result }
+{
+    match read_policy(alloc, bytes) {
+        Ok(policy) => Ok(policy),
+        Err(PolicyFault::NotBuilt) => Err(Ending::NotBuilt),
+        Err(PolicyFault::Memory) => Err(Ending::Memory),
+    }
+}
+
+/// Reads the policy file of this name.
+pub fn open_policy<H: Host>(alloc: Global, host: &mut H, name: &str) -> Result<PlainPolicy, Ending>
+    ensures { ReadsPolicy (H.outside host.old) (H.outside host.new) name.now result }
+{
+    let mut bytes = Vec::new(alloc);
+    match read_file(host, name, POLICY_MAX, &mut bytes) {
+        ReadEnd::Whole => judged(alloc, &bytes),
+        ReadEnd::Fault => Err(Ending::ReadFault),
+        ReadEnd::Long => Err(Ending::NotBuilt),
+        ReadEnd::Memory => Err(Ending::Memory),
+    }
+}
+
+/// Reads the commands file of this name, which is to have no bytes.
+pub fn open_commands<H: Host>(alloc: Global, host: &mut H, name: &str) -> Result<(), Ending>
+    ensures { ReadsCommands (H.outside host.old) (H.outside host.new) name.now result }
+{
+    let mut bytes = Vec::new(alloc);
+    match read_file(host, name, COMMANDS_MAX, &mut bytes) {
+        ReadEnd::Whole => Ok(()),
+        ReadEnd::Fault => Err(Ending::ReadFault),
+        ReadEnd::Long => Err(Ending::NotBuilt),
+        ReadEnd::Memory => Err(Ending::Memory),
+    }
+}
+
+/// Reads the trace of this name, or as much of it as comes before a fault.
+pub fn open_trace<H: Host>(alloc: Global, host: &mut H, name: &str) -> Result<TraceBytes, Ending>
+    ensures { ReadsTrace (H.outside host.old) (H.outside host.new) name.now result }
+{
+    let mut bytes = Vec::new(alloc);
+    match read_file(host, name, u64::MAX, &mut bytes) {
+        ReadEnd::Whole => Ok(TraceBytes { bytes, whole: true }),
+        ReadEnd::Fault if bytes.is_empty() => Err(Ending::ReadFault),
+        ReadEnd::Fault => Ok(TraceBytes {
+            bytes,
+            whole: false,
+        }),
+        // No list has as many bytes as the limit.
+        ReadEnd::Long | ReadEnd::Memory => Err(Ending::Memory),
+    }
+}

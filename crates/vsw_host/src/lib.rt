@@ -1,0 +1,8 @@
+//! The outside of the program: what it reads, puts and complains, and how a file is read whole.
+#![tactic(auto)]
+
+mod host;
+mod reading;
+
+pub use host::{Failed, Host};
+pub use reading::{ReadEnd, read_file};

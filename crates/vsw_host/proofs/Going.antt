@@ -50,24 +50,34 @@ slice_get-append_seam : (xs : List Opened) (x : Opened) → slice_get (xs ++ x �
 slice_get-append_seam [] x = refl
 slice_get-append_seam (y ∷ ys) x = slice_get-append_seam ys x
 
--- what a reading step knows of the file, which was opened last
+-- the file that a step reads is the one that was opened last
+pub file-Partly : (a b c : Inputs) (name : List ℕ) (number : ℕ) (got buffer : List ℕ) (n : ℕ) (p : Partly a b name number got) (r : ReadsOn b c number buffer n) → r.file ≡ record { name = name; bytes = p.bytes; read = length got }
+file-Partly a b c name number got buffer n p r =
+    let file : Opened = record { name = name; bytes = p.bytes; read = length got } in
+    let found : slice_get b.opened number ≡ Some file = rw (p.since.opened, p.next) (slice_get-append_seam a.opened file) in
+    cc (r.found, found)
+
+-- a step leaves it read so far, as the last
+pub since-Partly : (a b c : Inputs) (name : List ℕ) (number : ℕ) (got buffer : List ℕ) (n : ℕ) (p : Partly a b name number got) (r : ReadsOn b c number buffer n) → OpensSince a c (record { name = name; bytes = p.bytes; read = length got + n } ∷ [])
+since-Partly a b c name number got buffer n p r =
+    let at : ℕ → Opened = λ k. record { name = name; bytes = p.bytes; read = k } in
+    let moved : c.opened ≡ slice_set (a.opened ++ at (length got) ∷ []) (length a.opened) (at (length got + n)) = r.opened ∙ rw (file-Partly a b c name number got buffer n p r, p.since.opened, p.next) refl in
+    record { files = r.files ∙ p.since.files; opened = moved ∙ set-append_seam a.opened (at (length got)) [] (at (length got + n)) }
+
 partly_on : (a b c : Inputs) (name : List ℕ) (number : ℕ) (got buffer : List ℕ) (n : ℕ) → n ≤ length buffer → Partly a b name number got → ReadsOn b c number buffer n → Partly a c name number (got ++ take n buffer)
 partly_on a b c name number got buffer n le p r =
-    let at : ℕ → Opened = λ k. record { name = name; bytes = p.bytes; read = k } in
-    let found : slice_get b.opened number ≡ Some (at (length got)) = rw (p.since.opened, p.next) (slice_get-append_seam a.opened (at (length got))) in
-    let file_is : r.file ≡ at (length got) = cc (r.found, found) in
-    let read_is : r.file.read ≡ length got = ap (λ (o : Opened). o.read) file_is in
-    let bytes_is : r.file.bytes ≡ p.bytes = ap (λ (o : Opened). o.bytes) file_is in
+    let file_is = file-Partly a b c name number got buffer n p r in
+    let front : take n buffer ≡ take n (drop (length got) p.bytes) = r.front ∙ rw file_is refl in
+    let inside : length got + n ≤ length p.bytes = rw file_is at r.inside in
     let longer : length (got ++ take n buffer) ≡ length got + n = omega (arith, length-append got (take n buffer), length-take n buffer) in
-    let moved : c.opened ≡ slice_set (a.opened ++ at (length got) ∷ []) (length a.opened) (at (length got + n)) = r.opened ∙ rw (file_is, p.since.opened, p.next) refl in
-    let front : got ++ take n buffer ≡ take (length got + n) p.bytes = ap (λ (t : List ℕ). t ++ take n buffer) p.front ∙ ap (λ (t : List ℕ). take (length got) p.bytes ++ t) (r.front ∙ rw (file_is) refl) ∙ sym (take-add (length got) n p.bytes) in
+    let joined : got ++ take n buffer ≡ take (length got + n) p.bytes = ap (λ (t : List ℕ). t ++ take n buffer) p.front ∙ ap (λ (t : List ℕ). take (length got) p.bytes ++ t) front ∙ sym (take-add (length got) n p.bytes) in
     record {
       bytes = p.bytes;
       held = p.held;
-      since = record { files = r.files ∙ p.since.files; opened = moved ∙ set-append_seam a.opened (at (length got)) [] (at (length got + n)) ∙ ap (λ (k : ℕ). a.opened ++ at k ∷ []) (sym longer) };
+      since = rw longer (since-Partly a b c name number got buffer n p r);
       next = p.next;
-      inside = omega (arith, r.inside, read_is, longer, ap (λ (t : List ℕ). length t) bytes_is);
-      front = front ∙ ap (λ (k : ℕ). take k p.bytes) (sym longer);
+      inside = omega (arith, inside, longer);
+      front = joined ∙ ap (λ (k : ℕ). take k p.bytes) (sym longer);
     }
 
 told_on : (a b c : Option Inputs) (name : List ℕ) (number : ℕ) (got buffer : List ℕ) (n : ℕ) → n ≤ length buffer → TellsPartly a b name number got → TellsRead b c number buffer (Ok n) → TellsPartly a c name number (got ++ take n buffer)

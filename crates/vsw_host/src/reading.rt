@@ -1,9 +1,10 @@
 //! Reading a file whole.
 
-ghost use Rattle.std.specs.Prelude.{◌≡◌, []};
+ghost use Rattle.std.specs.Prelude.{◌≡◌, [], IfOk, vec_len};
 ghost use Rattle.vsw_host.specs.Reading.{ReadsFile};
 
 use crate::host::Host;
+use std::alloc::{AllocError, Global};
 
 /// Bytes that are asked for at a time.
 const PIECE: usize = 65_536;
@@ -21,6 +22,13 @@ pub enum ReadEnd {
     Memory,
 }
 
+/// So many zero bytes.
+fn zeros(alloc: Global, count: usize) -> Result<Vec<u8>, AllocError>
+    ensures { IfOk result (λ v. vec_len v ≡ count) }
+{
+    vec![in alloc; 0; count]
+}
+
 /// Reads the file of this name, up to a limit in bytes, and appends what was read to `got`.
 pub fn read_file<H: Host>(host: &mut H, name: &str, limit: u64, got: &mut Vec<u8>) -> ReadEnd
     requires empty { got.old.items ≡ [] }
@@ -29,11 +37,12 @@ pub fn read_file<H: Host>(host: &mut H, name: &str, limit: u64, got: &mut Vec<u8
     let Ok(file) = host.open(name) else {
         return ReadEnd::Fault;
     };
-    let Ok(mut buffer) = vec![in *got.allocator(); 0; PIECE] else {
+    let Ok(mut room) = zeros(*got.allocator(), PIECE) else {
         return ReadEnd::Memory;
     };
+    let buffer = room.as_mut_slice();
     while got.len() as u64 <= limit {
-        let Ok(count) = host.read(file, &mut buffer) else {
+        let Ok(count) = host.read(file, buffer) else {
             return ReadEnd::Fault;
         };
         if count == 0 {

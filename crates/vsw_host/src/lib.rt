@@ -13,3 +13,6 @@ pub use memory_file::{MemoryFile, are_distinct};
 pub use memory_host::MemoryHost;
 pub use reading::{ReadEnd, read_file};
 pub use real_host::RealHost;
+
+#[cfg(test)]
+mod tests;

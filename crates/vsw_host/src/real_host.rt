@@ -96,3 +96,31 @@ impl Host for RealHost {
         written
     }
 }
+
+#[cfg(test)]
+mod tests {
+    use super::*;
+    use std::process;
+    use std::test::Fail;
+
+    #[test]
+    fn a_file_is_read_and_a_missing_one_counted(rt: HostRuntime) -> Result<(), Fail> {
+        let alloc = rt.alloc();
+        let path = format!(in alloc; "/tmp/vsw_host_{}", process::id(rt.process()))?;
+        fs::write(&rt, path.as_str(), b"12345")?;
+        let mut host = RealHost::new(alloc, rt.clone()?);
+        let mut buffer = [0; 3];
+        assert_eq!(rt; host.open(path.as_str()), Ok(0));
+        assert_eq!(rt; host.read(0, &mut buffer), Ok(3));
+        assert_eq!(rt; buffer, *b"123");
+        assert_eq!(rt; host.read(0, &mut buffer), Ok(2));
+        assert_eq!(rt; host.read(0, &mut buffer), Ok(0));
+        fs::remove_file(&rt, path.as_str())?;
+        assert!(rt; host.open(path.as_str()).is_err());
+        assert_eq!(rt; host.input_faults, 1);
+        assert!(rt; host.put(b"put\n").is_ok());
+        assert!(rt; host.complain(b"complained\n").is_ok());
+        assert_eq!(rt; (host.put_faults, host.complain_faults), (0, 0));
+        Ok(())
+    }
+}

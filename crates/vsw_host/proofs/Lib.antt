@@ -1,0 +1,5 @@
+pub mod Going
+pub mod Ends
+pub mod Held
+pub mod MemoryCalls
+pub mod Written

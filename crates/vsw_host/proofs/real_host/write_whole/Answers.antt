@@ -1,0 +1,12 @@
+use Rattle.std.proofs.Common.{rules, sym}
+use Rattle.vsw_host.proofs.Written.{cut, more, kept, prefix, whole}
+use Rattle.vsw_host.proofs.real_host.write_whole.Goals as goal
+
+pub returns-in_default : goal.returns-in_default
+returns-in_default g c = prefix _ _ _ _ (kept _ _ _ _ _ c.loop-rest.invariant c.in_default.ensures.bytes)
+
+pub returns-then-count-eq0 : goal.returns-then-count-eq0
+returns-then-count-eq0 g c = prefix _ _ _ _ (more _ _ _ _ _ _ c.loop-rest.invariant c.in-Ok.ensures.bytes)
+
+pub loop-rest-preserved : goal.loop-rest-preserved
+loop-rest-preserved g c = rw (cut c.loop-rest.rest.now c.in-Ok.count) (more _ _ _ _ _ _ c.loop-rest.invariant c.in-Ok.ensures.bytes)

@@ -14,7 +14,7 @@ use Rattle.vsw_pcap.proofs.Unique.{captures_are_unique}
 
 -- no answer ends the bytes or takes their end back
 same_end : (p q : Progress) (answer : Next) → Moves p q answer → q.finished ≡ p.finished
-same_end p q (next.Record r) m = m.0
+same_end p q (next.Record r) m = m.finished
 same_end p q next.More m = ap (λ (t : Progress). t.finished) m
 same_end p q next.End m = ap (λ (t : Progress). t.finished) m
 same_end p q (next.Bad bad) m = ap (λ (t : Progress). t.finished) m

@@ -104,7 +104,9 @@ told p bytes rs s = told_from p bytes rs (start_of p) (knows p p.form bytes rs s
 moves_at : (p : Progress) (form : Form) (n : ℕ) (f : Front) → front_of form (drop n p.left) ≡ f → Moves p (past f form n p) (answer_at f form (p.at + n) (drop n p.left) p.finished)
 moves_at p form n (Whole captured) e =
     let fits = whole_is form (drop n p.left) captured e in
-    (refl, omega (arith, fits.0, length-drop n p.left, length-drop (n + (16 + captured)) p.left))
+    let some : n ≤ length p.left = omega (arith, fits.0, length-drop n p.left) in
+    let gone = length-drop (n + (16 + captured)) p.left in
+    record { shorter = omega (arith, fits.0, length-drop n p.left, gone); place = omega (arith, fits.0, length-drop n p.left, gone); finished = refl }
 moves_at p form n Oversize e = refl
 moves_at p form n Part e = moves_part p form n p.finished (length (drop n p.left) == 0)
   where

@@ -87,9 +87,16 @@ pub record Stands (p : Progress) (bytes : List ℕ) (records : List Record) : Ty
 abbrev pub Waits : List ℕ → List Record → Type 0
 Waits bytes records = ((length bytes < 24) × (records ≡ [])) ⊎ ((at : ℕ) × Stops bytes records at Part)
 
--- a record takes at least the 16 bytes of its header, and no other answer changes the reader
+-- some of the bytes in hand were consumed
+pub record Advances (old new : Progress) : Type 0 where
+  -- at least the 16 of a record's header
+  pub shorter : length new.left + 16 ≤ length old.left
+  pub place : new.at + length new.left ≡ old.at + length old.left
+  pub finished : new.finished ≡ old.finished
+
+-- a record is consumed, and no other answer changes the reader
 abbrev pub Moves : Progress → Progress → Next → Type 0
-Moves old new (next.Record r) = (new.finished ≡ old.finished) × (length new.left + 16 ≤ length old.left)
+Moves old new (next.Record r) = Advances old new
 Moves old new next.More = new ≡ old
 Moves old new next.End = new ≡ old
 Moves old new (next.Bad bad) = new ≡ old

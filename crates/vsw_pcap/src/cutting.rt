@@ -8,5 +8,4 @@ pub fn cuttings_agree()
     ensures each { EachIsACapture }
     ensures unique { CapturesAreUnique }
     ensures agree { CuttingsAgree }
-{
-}
+{}

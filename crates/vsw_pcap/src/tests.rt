@@ -1,0 +1,163 @@
+//! Captures as tcpdump writes them, read whole and byte by byte.
+
+ghost use Rattle.std.specs.Prelude.{◌≡◌, ◌+◌, ◌<◌, ◌≤◌, length, OnOk};
+
+use super::*;
+use std::alloc::Global;
+use std::test::Fail;
+use vsw_base::Moment;
+
+/// A header in little-endian order and microseconds: version 2.4, snap length 262,144, link type 1.
+const LITTLE: &[u8; 24] =
+    b"\xd4\xc3\xb2\xa1\x02\x00\x04\x00\x00\x00\x00\x00\x00\x00\x00\x00\x00\x00\x04\x00\x01\x00\x00\x00";
+
+/// The same in big-endian order and nanoseconds.
+const BIG_NANOS: &[u8; 24] =
+    b"\xa1\xb2\x3c\x4d\x00\x02\x00\x04\x00\x00\x00\x00\x00\x00\x00\x00\x00\x04\x00\x00\x00\x00\x00\x01";
+
+/// The header of a record of 44 bytes at moment 0, and the same one second and 999,999,999
+/// nanoseconds later, in big-endian order.
+const AT_START: &[u8; 16] = b"\x00\x00\x00\x00\x00\x00\x00\x00\x2c\x00\x00\x00\x2c\x00\x00\x00";
+
+const LATER_NANOS: &[u8; 16] = b"\x00\x00\x00\x01\x3b\x9a\xc9\xff\x00\x00\x00\x2c\x00\x00\x00\x2c";
+
+/// The header of a record at 1,000 microseconds, of whose 94 bytes 12 were captured.
+const SNAPPED: &[u8; 16] = b"\x00\x00\x00\x00\xe8\x03\x00\x00\x0c\x00\x00\x00\x5e\x00\x00\x00";
+
+/// UDP from 10.0.0.5, port 1234, to 10.0.0.9, port 53.
+const QUERY: &[u8; 44] = b"\x02\x00\x00\x00\x00\x99\x02\x00\x00\x00\x00\x01\x08\x00\
+\x45\x00\x00\x1e\x00\x00\x40\x00\x40\x11\x26\xc2\x0a\x00\x00\x05\x0a\x00\x00\x09\
+\x04\xd2\x00\x35\x00\x0a\x7e\x5c\x68\x69";
+
+/// What a reader gave, and the fault that it came to, if there was one.
+#[derive(Drop)]
+struct Transcript {
+    records: Vec<Record>,
+    fault: Option<BadTrace>,
+}
+
+/// Takes the records that are in hand, and answers what comes instead of the next one.
+fn drain(reader: &mut Reader, records: &mut Vec<Record>) -> Result<Next, Fail>
+    ensures finished { reader.new.finished ≡ reader.old.finished }
+    ensures place { reader.new.at + length reader.new.left ≡ reader.old.at + length reader.old.left }
+{
+    loop {
+        match reader.next()? {
+            Next::Record(record) => records.push(record)?,
+            other => return Ok(other),
+        }
+    }
+}
+
+/// Reads a capture that is fed in pieces of so many bytes.
+fn read_by(alloc: Global, size: usize, capture: &[u8]) -> Result<Transcript, Fail>
+    requires { 0 < size }
+{
+    let mut reader = Reader::new(alloc);
+    let mut records = Vec::new(alloc);
+    let mut at = 0;
+    while at < capture.len() {
+        let end = at + size.min(capture.len() - at);
+        reader.feed(&capture[at..end])?;
+        at = end;
+        drain(&mut reader, &mut records)?;
+    }
+    reader.finish();
+    let fault = match drain(&mut reader, &mut records)? {
+        Next::Bad(bad) => Some(bad),
+        _ => None,
+    };
+    Ok(Transcript { records, fault })
+}
+
+/// One slice after the other.
+fn joined(alloc: Global, parts: &[&[u8]]) -> Result<Vec<u8>, Fail> {
+    let mut whole = Vec::new(alloc);
+    for part in parts {
+        whole.extend_from_slice(part)?;
+    }
+    Ok(whole)
+}
+
+#[test]
+fn two_records_are_read_however_they_are_fed(rt: HostRuntime) -> Result<(), Fail> {
+    let alloc = rt.alloc();
+    let capture = joined(alloc, &[LITTLE, AT_START, QUERY, SNAPPED, &QUERY[..12]])?;
+    for size in [1, 7, 60, 4_096] {
+        let read = read_by(alloc, size, &capture)?;
+        assert_eq!(rt; read.fault, None, "in pieces of {size}");
+        assert_eq!(rt; read.records.len(), 2, "in pieces of {size}");
+        assert_eq!(rt; read.records[0].moment, Moment::of(0));
+        assert_eq!(rt; read.records[0].original, 44);
+        assert_eq!(rt; read.records[0].bytes.as_slice(), QUERY.as_slice());
+        assert_eq!(rt; read.records[1].moment, Moment::of(1_000));
+        assert_eq!(rt; read.records[1].original, 94);
+        assert_eq!(rt; read.records[1].bytes.as_slice(), &QUERY[..12]);
+    }
+    Ok(())
+}
+
+#[test]
+fn nanoseconds_in_the_other_order_are_rounded_down(rt: HostRuntime) -> Result<(), Fail> {
+    let alloc = rt.alloc();
+    let read = read_by(alloc, 1, &joined(alloc, &[BIG_NANOS, LATER_NANOS, QUERY])?)?;
+    assert_eq!(rt; read.fault, None);
+    assert_eq!(rt; read.records.len(), 1);
+    assert_eq!(rt; read.records[0].moment, Moment::of(1_999_999));
+    assert_eq!(rt; read.records[0].original, 44);
+    assert_eq!(rt; read.records[0].bytes.as_slice(), QUERY.as_slice());
+    Ok(())
+}
+
+/// A header in little-endian order with another version, or another link type.
+const OLDER: &[u8; 24] =
+    b"\xd4\xc3\xb2\xa1\x02\x00\x03\x00\x00\x00\x00\x00\x00\x00\x00\x00\x00\x00\x04\x00\x01\x00\x00\x00";
+
+const RAW_IP: &[u8; 24] =
+    b"\xd4\xc3\xb2\xa1\x02\x00\x04\x00\x00\x00\x00\x00\x00\x00\x00\x00\x00\x00\x04\x00\x65\x00\x00\x00";
+
+/// The headers of records of 262,144 and 262,145 captured bytes.
+const LONGEST: &[u8; 16] = b"\x00\x00\x00\x00\x00\x00\x00\x00\x00\x00\x04\x00\x00\x00\x04\x00";
+
+const TOO_LONG: &[u8; 16] = b"\x00\x00\x00\x00\x00\x00\x00\x00\x01\x00\x04\x00\x01\x00\x04\x00";
+
+/// The fault of a capture in these parts, fed in pieces of so many bytes.
+fn fault_of(alloc: Global, size: usize, parts: &[&[u8]]) -> Result<Option<BadTrace>, Fail>
+    requires { 0 < size }
+{
+    let capture = joined(alloc, parts)?;
+    let read = read_by(alloc, size, &capture)?;
+    Ok(read.fault)
+}
+
+#[test]
+fn headers_are_refused(rt: HostRuntime) -> Result<(), Fail> {
+    let alloc = rt.alloc();
+    for size in [1, 4_096] {
+        assert_eq!(rt;
+            fault_of(alloc, size, &[&LITTLE[..23]])?,
+            Some(BadTrace::NotPcap)
+        );
+        assert_eq!(rt; fault_of(alloc, size, &[QUERY])?, Some(BadTrace::NotPcap));
+        assert_eq!(rt; fault_of(alloc, size, &[OLDER])?, Some(BadTrace::Version));
+        assert_eq!(rt; fault_of(alloc, size, &[RAW_IP])?, Some(BadTrace::LinkType));
+        assert_eq!(rt; fault_of(alloc, size, &[LITTLE])?, None);
+    }
+    Ok(())
+}
+
+#[test]
+fn cut_and_huge_records_are_told_by_their_byte(rt: HostRuntime) -> Result<(), Fail> {
+    let alloc = rt.alloc();
+    for size in [1, 4_096] {
+        let cut = fault_of(alloc, size, &[LITTLE, AT_START, QUERY, &SNAPPED[..3]])?;
+        assert_eq!(rt; cut, Some(BadTrace::Cut { at: 84 }));
+        let long = fault_of(alloc, size, &[LITTLE, LONGEST, QUERY])?;
+        assert_eq!(rt; long, Some(BadTrace::Cut { at: 24 }));
+        let huge = fault_of(alloc, size, &[LITTLE, TOO_LONG])?;
+        assert_eq!(rt; huge, Some(BadTrace::Huge { at: 24 }));
+    }
+    assert_eq!(rt; BadTrace::Cut { at: 84 }.number(), 4);
+    assert_eq!(rt; BadTrace::Huge { at: 24 }.name(), "Huge");
+    Ok(())
+}

@@ -32,7 +32,7 @@ abbrev pub group_words : List Word
 group_words = word.Group ∷ word.Dir ∷ word.When ∷ word.Rules ∷ []
 
 -- a group; only groups without conditions are built
-abbrev pub group_of : Data → Option PlainGroup
+unfoldable pub group_of : Data → Option PlainGroup
 group_of d = do
   o ← object_among group_words d
   number ← read_in word.Group o short_of
@@ -56,7 +56,7 @@ abbrev pub listed_number : ℕ → Data → Option ℕ
 listed_number listed d = short_of d >>= (λ n. if n == listed then Some n else None)
 
 -- a layer of the listed controller; only layers of one group are built
-abbrev pub layer_of : ℕ → Data → Option PlainLayer
+unfoldable pub layer_of : ℕ → Data → Option PlainLayer
 layer_of listed d = do
   o ← object_among layer_words d
   controller ← read_in word.Controller o (listed_number listed)
@@ -74,7 +74,7 @@ abbrev pub rows_of : Data → Option ℕ
 rows_of d = number_from 8 16384 d
 
 -- a port and its number, address, rows and layer; only ports of one layer are built
-abbrev pub port_of : ℕ → Data → Option PlainPolicy
+unfoldable pub port_of : ℕ → Data → Option PlainPolicy
 port_of listed d = do
   o ← object_among (word.Port ∷ word.Mac ∷ word.Rows ∷ word.Layers ∷ []) d
   port ← read_in word.Port o short_of
@@ -91,7 +91,7 @@ abbrev pub controllers_of : Data → Option ℕ
 controllers_of d = only short_of d
 
 -- a policy file; only policies of one controller and one port are built
-abbrev pub policy_of : Data → Option PlainPolicy
+unfoldable pub policy_of : Data → Option PlainPolicy
 policy_of d = do
   o ← object_among (word.Version ∷ word.Controllers ∷ word.Ports ∷ []) d
   version ← read_in word.Version o version_of

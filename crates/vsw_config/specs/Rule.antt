@@ -26,7 +26,7 @@ only_prefix d = do
   prefix_of text
 
 -- a condition: the field lies in the prefix
-abbrev pub cond_of : Data → Option PlainCond
+unfoldable pub cond_of : Data → Option PlainCond
 cond_of d = do
   o ← object_among (Field ∷ Any ∷ []) d
   field ← read_in Field o field_of
@@ -45,7 +45,7 @@ abbrev pub rule_words : List Word
 rule_words = Rule ∷ Priority ∷ When ∷ Action ∷ Stateful ∷ Last ∷ []
 
 -- a rule, behind these in its group; only rules without state and mark are built
-abbrev pub rule_of : List PlainRule → Data → Option PlainRule
+unfoldable pub rule_of : List PlainRule → Data → Option PlainRule
 rule_of done d = do
   o ← object_among rule_words d
   number ← read_in Rule o (fresh_number done)

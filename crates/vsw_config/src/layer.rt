@@ -35,6 +35,7 @@ fn dir(value: &Value) -> Option<Dir>
     choice("out", Dir::Out, "in", Dir::In, value)
 }
 
+#[tactic(auto, unfolding(crate::specs::Policy::group_of))]
 fn group(alloc: Global, value: &Value) -> Result<PlainGroup, PolicyFault>
     ensures { Says result (group_of (view value.now)) }
 {
@@ -71,6 +72,7 @@ fn pairs(value: &Value) -> Option<u32>
 }
 
 /// A layer of the listed controller.
+#[tactic(auto, unfolding(crate::specs::Policy::layer_of))]
 pub fn layer(alloc: Global, controller: u16, value: &Value) -> Result<PlainLayer, PolicyFault>
     ensures { Says result (layer_of controller (view value.now)) }
 {

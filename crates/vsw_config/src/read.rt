@@ -31,6 +31,7 @@ fn rows(value: &Value) -> Option<u32>
     number(8, 16384, value)
 }
 
+#[tactic(auto, unfolding(crate::specs::Policy::port_of))]
 fn port(alloc: Global, controller: u16, value: &Value) -> Result<PlainPolicy, PolicyFault>
     ensures { Says result (port_of controller (view value.now)) }
 {
@@ -62,6 +63,7 @@ fn controllers(value: &Value) -> Option<u16>
     short(only(value)?)
 }
 
+#[tactic(auto, unfolding(crate::specs::Policy::policy_of))]
 fn policy(alloc: Global, value: &Value) -> Result<PlainPolicy, PolicyFault>
     ensures { Says result (policy_of (view value.now)) }
 {

@@ -29,6 +29,7 @@ fn prefix(value: &Value) -> Option<Prefix>
     Prefix::read(text.as_bytes()).ok()
 }
 
+#[tactic(auto, unfolding(crate::specs::Rule::cond_of))]
 fn cond(value: &Value) -> Option<PlainCond>
     ensures { result ≡ cond_of (view value.now) }
 {
@@ -78,6 +79,7 @@ const RULE_WORDS: [Word; 6] = [
     Word::Last,
 ];
 
+#[tactic(auto, unfolding(crate::specs::Rule::rule_of))]
 fn rule(alloc: Global, done: &[PlainRule], value: &Value) -> Result<PlainRule, PolicyFault>
     ensures { Says result (rule_of done.now (view value.now)) }
 {

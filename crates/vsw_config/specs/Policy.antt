@@ -18,7 +18,7 @@ use Rattle.vsw_config.specs.Value.{number_from, short_of, choice_of, allow_of, i
 use Rattle.vsw_config.specs.Rule.{rules_of}
 
 abbrev pub dir_of : Data → Option Dir
-dir_of d = choice_of (codes "out") Out (codes "in") In d
+dir_of d = choice_of ((codes "out", Out) ∷ (codes "in", In) ∷ []) d
 
 -- a text that spells an Ethernet address
 abbrev pub mac_in : Data → Option ℕ

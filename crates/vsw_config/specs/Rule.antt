@@ -16,7 +16,7 @@ use Rattle.vsw_config.specs.Value.{short_of, choice_of, allow_of, items_to, only
 
 -- a field of the inner IPv4 header
 abbrev pub field_of : Data → Option PlainField
-field_of d = choice_of (codes "src_ip") SrcIp (codes "dst_ip") DstIp d
+field_of d = choice_of ((codes "src_ip", SrcIp) ∷ (codes "dst_ip", DstIp) ∷ []) d
 
 -- a list of one item, the text of a prefix
 abbrev pub only_prefix : Data → Option Prefix

@@ -6,11 +6,22 @@ use Rattle.vsw_base.specs.Spelling.{◌>>=◌}
 use Rattle.vsw_config.specs.declared.policy.PolicyFault.{PolicyFault}
 use Rattle.vsw_config.specs.declared.policy.PolicyFault.TheVariants.{NotBuilt, Memory}
 
--- what an answer says of the value that was asked for, memory sufficing
+-- the answer is the value where there is one, and else that it isn't built
+abbrev pub Gives : {A : Type 0} → Result A PolicyFault → Option A → Type 0
+Gives (Ok x) value = value ≡ Some x
+Gives (Err NotBuilt) value = value ≡ None
+Gives (Err Memory) value = ⊥
+
+-- the same, where memory sufficed
 abbrev pub Says : {A : Type 0} → Result A PolicyFault → Option A → Type 0
 Says (Ok x) value = value ≡ Some x
 Says (Err NotBuilt) value = value ≡ None
 Says (Err Memory) value = Unit {0}
+
+-- an answer that lies in the tree, seen
+abbrev pub seen : {A B : Type 0} → (A → B) → Result A PolicyFault → Result B PolicyFault
+seen f (Ok x) = Ok (f x)
+seen f (Err fault) = Err fault
 
 -- the item was appended, or there was no memory
 abbrev pub Grows : {A : Type 0} → Result ⊤ PolicyFault → List A → List A → A → Type 0
@@ -28,13 +39,18 @@ number_from low high d = do
 abbrev pub short_of : Data → Option ℕ
 short_of d = number_from 0 65535 d
 
--- the value `x` for the text `s`, and `y` for the text `t`
-abbrev pub choice_of : {A : Type 0} → List ℕ → A → List ℕ → A → Data → Option A
-choice_of s x t y d = as_str d >>= (λ text. if bytes_eq text s then Some x else if bytes_eq text t then Some y else None)
+-- what stands beside this text in a table
+abbrev pub value_for : {A : Type 0} → List (List ℕ × A) → List ℕ → Option A
+value_for [] text = None
+value_for (row ∷ rows) text = if bytes_eq text row.0 then Some row.1 else value_for rows text
+
+-- one of the texts of a table
+abbrev pub choice_of : {A : Type 0} → List (List ℕ × A) → Data → Option A
+choice_of table d = as_str d >>= value_for table
 
 -- whether what it is said of passes
 abbrev pub allow_of : Data → Option Bool
-allow_of d = choice_of (codes "allow") true (codes "drop") false d
+allow_of d = choice_of ((codes "allow", true) ∷ (codes "drop", false) ∷ []) d
 
 abbrev pub list_of : Items → List Data
 list_of no_items = []

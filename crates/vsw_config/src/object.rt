@@ -1,11 +1,13 @@
 //! The members of an object.
 
-ghost use Rattle.std.specs.Prelude.{◌≡◌, string_bytes, option_map};
+ghost use Rattle.std.specs.Prelude.{◌≡◌, string_bytes};
 ghost use Rattle.std.specs.List.{list_all};
 ghost use Rattle.std.specs.BTreeMap.{keys};
 ghost use Rattle.serde_json.specs.View.{view, members_view};
 ghost use Rattle.vsw_config.specs.Object.{is_among, are_among, has_names_among, object_among, found};
+ghost use Rattle.vsw_config.specs.Value.{Gives, seen};
 
+use crate::policy::PolicyFault::{self, NotBuilt};
 use crate::word::{Word, is_known};
 use serde_json::{Map, Value};
 
@@ -31,19 +33,19 @@ fn is_object_among(words: &[Word], value: &Value) -> bool
 }
 
 /// The value itself, if it is an object with no other members than these.
-pub fn object_in<'a>(words: &[Word], value: &'a Value) -> Option<&'a Value>
-    ensures { option_map (λ v. view v.now) result ≡ object_among words.now (view value.now) }
+pub fn object_in<'a>(words: &[Word], value: &'a Value) -> Result<&'a Value, PolicyFault>
+    ensures { Gives (seen (λ v. view v.now) result) (object_among words.now (view value.now)) }
 {
     if is_object_among(words, value) {
-        Some(value)
+        Ok(value)
     } else {
-        None
+        Err(NotBuilt)
     }
 }
 
 /// The value of an object's member.
-pub fn value_in(object: &Value, word: Word) -> Option<&Value>
-    ensures { option_map (λ v. view v.now) result ≡ found word (view object.now) }
+pub fn value_in(object: &Value, word: Word) -> Result<&Value, PolicyFault>
+    ensures { Gives (seen (λ v. view v.now) result) (found word (view object.now)) }
 {
-    object.get(word.text())
+    object.get(word.text()).ok_or(NotBuilt)
 }

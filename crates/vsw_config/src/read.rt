@@ -3,14 +3,14 @@
 ghost use Rattle.std.specs.Prelude.{◌≡◌, IfOk};
 ghost use Rattle.serde_json.specs.View.{view};
 ghost use Rattle.vsw_config.specs.declared.policy.PlainPolicy.{PlainPolicy};
-ghost use Rattle.vsw_config.specs.Value.{Says};
+ghost use Rattle.vsw_config.specs.Value.{Gives, Says};
 ghost use Rattle.vsw_config.specs.Policy.{mac_in, rows_of, port_of, version_of, controllers_of, policy_of, IsPolicy, Answers};
 
 use crate::layer::layer;
 use crate::object::{object_in, value_in};
 use crate::policy::PlainPolicy;
 use crate::policy::PolicyFault::{self, NotBuilt};
-use crate::value::{number, only, short};
+use crate::value::{number, only, short, text};
 use crate::word::Word;
 use serde_json::Value;
 use std::alloc::Global;
@@ -19,14 +19,14 @@ use vsw_base::Mac;
 /// Bytes of the longest policy file that is read.
 const MOST_BYTES: usize = 65536;
 
-fn mac(value: &Value) -> Option<Mac>
-    ensures { result ≡ mac_in (view value.now) }
+fn mac(value: &Value) -> Result<Mac, PolicyFault>
+    ensures { Gives result (mac_in (view value.now)) }
 {
-    Mac::read(value.as_str()?.as_bytes()).ok()
+    Mac::read(text(value)?.as_bytes()).map_err(|_| NotBuilt)
 }
 
-fn rows(value: &Value) -> Option<u32>
-    ensures { result ≡ rows_of (view value.now) }
+fn rows(value: &Value) -> Result<u32, PolicyFault>
+    ensures { Gives result (rows_of (view value.now)) }
 {
     number(8, 16384, value)
 }
@@ -36,12 +36,11 @@ fn port(alloc: Global, controller: u16, value: &Value) -> Result<PlainPolicy, Po
     ensures { Says result (port_of controller (view value.now)) }
 {
     let words = [Word::Port, Word::Mac, Word::Rows, Word::Layers];
-    let object = object_in(&words, value).ok_or(NotBuilt)?;
-    let port = value_in(object, Word::Port).and_then(short).ok_or(NotBuilt)?;
-    let mac = value_in(object, Word::Mac).and_then(mac).ok_or(NotBuilt)?;
-    let rows = value_in(object, Word::Rows).and_then(rows).ok_or(NotBuilt)?;
-    let layers = value_in(object, Word::Layers).ok_or(NotBuilt)?;
-    let layer = layer(alloc, controller, only(layers).ok_or(NotBuilt)?)?;
+    let object = object_in(&words, value)?;
+    let port = short(value_in(object, Word::Port)?)?;
+    let mac = mac(value_in(object, Word::Mac)?)?;
+    let rows = rows(value_in(object, Word::Rows)?)?;
+    let layer = layer(alloc, controller, only(value_in(object, Word::Layers)?)?)?;
     Ok(PlainPolicy {
         controller,
         port,
@@ -51,14 +50,14 @@ fn port(alloc: Global, controller: u16, value: &Value) -> Result<PlainPolicy, Po
     })
 }
 
-fn version(value: &Value) -> Option<u32>
-    ensures { result ≡ version_of (view value.now) }
+fn version(value: &Value) -> Result<u32, PolicyFault>
+    ensures { Gives result (version_of (view value.now)) }
 {
     number(1, 1, value)
 }
 
-fn controllers(value: &Value) -> Option<u16>
-    ensures { result ≡ controllers_of (view value.now) }
+fn controllers(value: &Value) -> Result<u16, PolicyFault>
+    ensures { Gives result (controllers_of (view value.now)) }
 {
     short(only(value)?)
 }
@@ -68,13 +67,10 @@ fn policy(alloc: Global, value: &Value) -> Result<PlainPolicy, PolicyFault>
     ensures { Says result (policy_of (view value.now)) }
 {
     let words = [Word::Version, Word::Controllers, Word::Ports];
-    let object = object_in(&words, value).ok_or(NotBuilt)?;
-    value_in(object, Word::Version).and_then(version).ok_or(NotBuilt)?;
-    let controller = value_in(object, Word::Controllers).and_then(controllers);
-    let controller = controller.ok_or(NotBuilt)?;
-    let ports = value_in(object, Word::Ports).ok_or(NotBuilt)?;
-    let policy = port(alloc, controller, only(ports).ok_or(NotBuilt)?)?;
-    Ok(policy)
+    let object = object_in(&words, value)?;
+    version(value_in(object, Word::Version)?)?;
+    let controller = controllers(value_in(object, Word::Controllers)?)?;
+    port(alloc, controller, only(value_in(object, Word::Ports)?)?)
 }
 
 /// Reads a policy file: a JSON value of at most 65,536 bytes.
@@ -92,3 +88,6 @@ pub fn read_policy(alloc: Global, bytes: &[u8]) -> Result<PlainPolicy, PolicyFau
         Err(_) => Err(NotBuilt),
     }
 }
+
+#[cfg(test)]
+mod tests;

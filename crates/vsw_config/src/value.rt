@@ -1,79 +1,86 @@
 //! Numbers, texts and lists.
 
-ghost use Rattle.std.specs.Prelude.{◌≡◌, ◌<◌, ◌^◌, ◌≤◌, map, length, codes, option_map, OnOk};
+ghost use Rattle.std.specs.Prelude.{◌≡◌, map};
 ghost use Rattle.serde_json.specs.View.{view};
-ghost use Rattle.vsw_config.specs.Value.{number_from, short_of, choice_of, allow_of, items_in, items_to, only_item};
+ghost use Rattle.serde_json.specs.Find.{as_bool, as_str};
+ghost use Rattle.vsw_config.specs.Value.{Gives, seen, number_from, short_of, allow_of, items_in, items_to, only_item};
 
+use crate::policy::PolicyFault::{self, NotBuilt};
 use serde_json::Value;
 
 /// A whole number from `low` to `high`.
-pub fn number(low: u32, high: u32, value: &Value) -> Option<u32>
-    ensures { result ≡ number_from low high (view value.now) }
+pub fn number(low: u32, high: u32, value: &Value) -> Result<u32, PolicyFault>
+    ensures { Gives result (number_from low high (view value.now)) }
 {
-    let number = value.as_u64()?;
+    let number = value.as_u64().ok_or(NotBuilt)?;
     if u64::from(low) <= number && number <= u64::from(high) {
-        u32::try_from(number).ok()
+        u32::try_from(number).map_err(|_| NotBuilt)
     } else {
-        None
+        Err(NotBuilt)
     }
 }
 
 /// A number that an author may choose as a name or a place.
-pub fn short(value: &Value) -> Option<u16>
-    ensures { result ≡ short_of (view value.now) }
+pub fn short(value: &Value) -> Result<u16, PolicyFault>
+    ensures { Gives result (short_of (view value.now)) }
 {
-    u16::try_from(value.as_u64()?).ok()
+    let number = value.as_u64().ok_or(NotBuilt)?;
+    u16::try_from(number).map_err(|_| NotBuilt)
 }
 
-/// The value `x` for the text `s`, and `y` for the text `t`.
-pub fn choice<T: Copy>(s: &str, x: T, t: &str, y: T, value: &Value) -> Option<T>
-    ensures { result ≡ choice_of s.now x t.now y (view value.now) }
+/// A truth value.
+pub fn truth(value: &Value) -> Result<bool, PolicyFault>
+    ensures { Gives result (as_bool (view value.now)) }
 {
-    let text = value.as_str()?;
-    if text == s {
-        Some(x)
-    } else if text == t {
-        Some(y)
-    } else {
-        None
-    }
+    value.as_bool().ok_or(NotBuilt)
+}
+
+/// A text.
+pub fn text(value: &Value) -> Result<&str, PolicyFault>
+    ensures { Gives (seen (λ s. s.now) result) (as_str (view value.now)) }
+{
+    value.as_str().ok_or(NotBuilt)
 }
 
 /// Whether what it is said of passes.
-pub fn allow(value: &Value) -> Option<bool>
-    ensures { result ≡ allow_of (view value.now) }
+pub fn allow(value: &Value) -> Result<bool, PolicyFault>
+    ensures { Gives result (allow_of (view value.now)) }
 {
-    choice("allow", true, "drop", false, value)
+    match text(value)? {
+        "allow" => Ok(true),
+        "drop" => Ok(false),
+        _ => Err(NotBuilt),
+    }
 }
 
 #[tactic(auto, using(crate::proofs::Views::listed_again))]
-fn items(value: &Value) -> Option<&[Value]>
-    ensures { option_map (λ vs. map view vs.now) result ≡ items_in (view value.now) }
+fn items(value: &Value) -> Result<&[Value], PolicyFault>
+    ensures { Gives (seen (λ vs. map view vs.now) result) (items_in (view value.now)) }
 {
     match value.as_array() {
-        Some(values) => Some(values.as_slice()),
-        None => None,
+        Some(values) => Ok(values.as_slice()),
+        None => Err(NotBuilt),
     }
 }
 
 /// The items of a list of so many at most.
-pub fn items_up_to(most: usize, value: &Value) -> Option<&[Value]>
-    ensures { option_map (λ vs. map view vs.now) result ≡ items_to most (view value.now) }
+pub fn items_up_to(most: usize, value: &Value) -> Result<&[Value], PolicyFault>
+    ensures { Gives (seen (λ vs. map view vs.now) result) (items_to most (view value.now)) }
 {
     let values = items(value)?;
     if values.len() <= most {
-        Some(values)
+        Ok(values)
     } else {
-        None
+        Err(NotBuilt)
     }
 }
 
 /// The item of a list of one.
-pub fn only(value: &Value) -> Option<&Value>
-    ensures { option_map (λ v. view v.now) result ≡ only_item (view value.now) }
+pub fn only(value: &Value) -> Result<&Value, PolicyFault>
+    ensures { Gives (seen (λ v. view v.now) result) (only_item (view value.now)) }
 {
     match items(value)? {
-        [item] => Some(item),
-        _ => None,
+        [item] => Ok(item),
+        _ => Err(NotBuilt),
     }
 }

@@ -3,12 +3,15 @@
 ghost use Rattle.std.specs.Prelude.{◌≡◌};
 ghost use Rattle.serde_json.specs.View.{view};
 ghost use Rattle.vsw_config.specs.Value.{Gives, Says};
-ghost use Rattle.vsw_config.specs.Policy.{dir_of, group_words, group_of, listed_number, layer_words, pairs_of, seconds_of, layer_of};
+ghost use Rattle.vsw_config.specs.Object.{read_in};
+ghost use Rattle.vsw_config.specs.declared.word.Word.{Word};
+ghost use Rattle.vsw_config.specs.declared.word.Word.TheVariants as word;
+ghost use Rattle.vsw_config.specs.Policy.{only, dir_of, group_words, group_of, listed_number, layer_words, pairs_of, seconds_of, layer_of};
 
 use crate::object::{object_in, value_in};
 use crate::policy::PolicyFault::{self, NotBuilt};
 use crate::rule::rules;
-use crate::value::{allow, items_up_to, number, only, short, text};
+use crate::value::{allow_in, items_up_to, number, only, short_in, text};
 use crate::word::Word;
 use serde_json::Value;
 use std::alloc::Global;
@@ -29,10 +32,10 @@ const LAYER_WORDS: [Word; 9] = [
     Word::Groups,
 ];
 
-fn dir(value: &Value) -> Result<Dir, PolicyFault>
-    ensures { Gives result (dir_of (view value.now)) }
+fn dir(object: &Value) -> Result<Dir, PolicyFault>
+    ensures { Gives result (read_in word.Dir (view object.now) dir_of) }
 {
-    match text(value)? {
+    match text(value_in(object, Word::Dir)?)? {
         "out" => Ok(Dir::Out),
         "in" => Ok(Dir::In),
         _ => Err(NotBuilt),
@@ -44,17 +47,24 @@ fn group(alloc: Global, value: &Value) -> Result<PlainGroup, PolicyFault>
     ensures { Says result (group_of (view value.now)) }
 {
     let object = object_in(&GROUP_WORDS, value)?;
-    let number = short(value_in(object, Word::Group)?)?;
-    let dir = dir(value_in(object, Word::Dir)?)?;
+    let number = short_in(object, Word::Group)?;
+    let dir = dir(object)?;
     items_up_to(0, value_in(object, Word::When)?)?;
-    let rules = rules(alloc, value_in(object, Word::Rules)?)?;
+    let rules = rules(alloc, object)?;
     Ok(PlainGroup { number, dir, rules })
 }
 
-fn listed(controller: u16, value: &Value) -> Result<u16, PolicyFault>
-    ensures { Gives result (listed_number controller (view value.now)) }
+fn only_group(alloc: Global, object: &Value) -> Result<PlainGroup, PolicyFault>
+    ensures { Says result (read_in word.Groups (view object.now) (only group_of)) }
 {
-    let number = short(value)?;
+    let group = group(alloc, only(value_in(object, Word::Groups)?)?)?;
+    Ok(group)
+}
+
+fn listed(controller: u16, object: &Value) -> Result<u16, PolicyFault>
+    ensures { Gives result (read_in word.Controller (view object.now) (listed_number controller)) }
+{
+    let number = short_in(object, Word::Controller)?;
     if number == controller {
         Ok(number)
     } else {
@@ -62,16 +72,16 @@ fn listed(controller: u16, value: &Value) -> Result<u16, PolicyFault>
     }
 }
 
-fn pairs(value: &Value) -> Result<u32, PolicyFault>
-    ensures { Gives result (pairs_of (view value.now)) }
+fn pairs(object: &Value) -> Result<u32, PolicyFault>
+    ensures { Gives result (read_in word.Pairs (view object.now) pairs_of) }
 {
-    number(0, 65536, value)
+    number(0, 65536, value_in(object, Word::Pairs)?)
 }
 
-fn seconds(value: &Value) -> Result<u32, PolicyFault>
-    ensures { Gives result (seconds_of (view value.now)) }
+fn seconds_in(object: &Value, word: Word) -> Result<u32, PolicyFault>
+    ensures { Gives result (read_in word (view object.now) seconds_of) }
 {
-    number(1, 86400, value)
+    number(1, 86400, value_in(object, word)?)
 }
 
 /// A layer of the listed controller.
@@ -80,15 +90,15 @@ pub fn layer(alloc: Global, controller: u16, value: &Value) -> Result<PlainLayer
     ensures { Says result (layer_of controller (view value.now)) }
 {
     let object = object_in(&LAYER_WORDS, value)?;
-    let controller = listed(controller, value_in(object, Word::Controller)?)?;
-    let layer = short(value_in(object, Word::Layer)?)?;
-    let order = short(value_in(object, Word::Order)?)?;
-    let allow_out = allow(value_in(object, Word::DefaultOut)?)?;
-    let allow_in = allow(value_in(object, Word::DefaultIn)?)?;
-    let pairs = pairs(value_in(object, Word::Pairs)?)?;
-    let idle = seconds(value_in(object, Word::Idle)?)?;
-    let linger = seconds(value_in(object, Word::Linger)?)?;
-    let group = group(alloc, only(value_in(object, Word::Groups)?)?)?;
+    let controller = listed(controller, object)?;
+    let layer = short_in(object, Word::Layer)?;
+    let order = short_in(object, Word::Order)?;
+    let allow_out = allow_in(object, Word::DefaultOut)?;
+    let allow_in = allow_in(object, Word::DefaultIn)?;
+    let pairs = pairs(object)?;
+    let idle = seconds_in(object, Word::Idle)?;
+    let linger = seconds_in(object, Word::Linger)?;
+    let group = only_group(alloc, object)?;
     Ok(PlainLayer {
         controller,
         layer,

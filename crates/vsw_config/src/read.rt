@@ -4,13 +4,15 @@ ghost use Rattle.std.specs.Prelude.{◌≡◌, IfOk};
 ghost use Rattle.serde_json.specs.View.{view};
 ghost use Rattle.vsw_config.specs.declared.policy.PlainPolicy.{PlainPolicy};
 ghost use Rattle.vsw_config.specs.Value.{Gives, Says};
+ghost use Rattle.vsw_config.specs.Object.{read_in};
+ghost use Rattle.vsw_config.specs.declared.word.Word.TheVariants as word;
 ghost use Rattle.vsw_config.specs.Policy.{mac_in, rows_of, port_of, version_of, controllers_of, policy_of, IsPolicy, Answers};
 
 use crate::layer::layer;
 use crate::object::{object_in, value_in};
 use crate::policy::PlainPolicy;
 use crate::policy::PolicyFault::{self, NotBuilt};
-use crate::value::{number, only, short, text};
+use crate::value::{number, only, short, short_in, text};
 use crate::word::Word;
 use serde_json::Value;
 use std::alloc::Global;
@@ -19,16 +21,17 @@ use vsw_base::Mac;
 /// Bytes of the longest policy file that is read.
 const MOST_BYTES: usize = 65536;
 
-fn mac(value: &Value) -> Result<Mac, PolicyFault>
-    ensures { Gives result (mac_in (view value.now)) }
+fn mac(object: &Value) -> Result<Mac, PolicyFault>
+    ensures { Gives result (read_in word.Mac (view object.now) mac_in) }
 {
-    Mac::read(text(value)?.as_bytes()).map_err(|_| NotBuilt)
+    let text = text(value_in(object, Word::Mac)?)?;
+    Mac::read(text.as_bytes()).map_err(|_| NotBuilt)
 }
 
-fn rows(value: &Value) -> Result<u32, PolicyFault>
-    ensures { Gives result (rows_of (view value.now)) }
+fn rows(object: &Value) -> Result<u32, PolicyFault>
+    ensures { Gives result (read_in word.Rows (view object.now) rows_of) }
 {
-    number(8, 16384, value)
+    number(8, 16384, value_in(object, Word::Rows)?)
 }
 
 #[tactic(auto, unfolding(crate::specs::Policy::port_of))]
@@ -37,9 +40,9 @@ fn port(alloc: Global, controller: u16, value: &Value) -> Result<PlainPolicy, Po
 {
     let words = [Word::Port, Word::Mac, Word::Rows, Word::Layers];
     let object = object_in(&words, value)?;
-    let port = short(value_in(object, Word::Port)?)?;
-    let mac = mac(value_in(object, Word::Mac)?)?;
-    let rows = rows(value_in(object, Word::Rows)?)?;
+    let port = short_in(object, Word::Port)?;
+    let mac = mac(object)?;
+    let rows = rows(object)?;
     let layer = layer(alloc, controller, only(value_in(object, Word::Layers)?)?)?;
     Ok(PlainPolicy {
         controller,

@@ -4,32 +4,34 @@ ghost use Rattle.std.specs.Prelude.{◌≡◌, ◌==◌, codes};
 ghost use Rattle.std.specs.List.{list_any};
 ghost use Rattle.serde_json.specs.View.{view};
 ghost use Rattle.vsw_config.specs.Value.{Gives, Says};
+ghost use Rattle.vsw_config.specs.Object.{read_in};
+ghost use Rattle.vsw_config.specs.declared.word.Word.TheVariants as word;
 ghost use Rattle.vsw_config.specs.Rule.{field_of, only_prefix, cond_of, conds_of, fresh_number, rule_words, rule_of, rules_of};
 
 use crate::list::{Listed, list};
 use crate::object::{object_in, value_in};
 use crate::policy::PolicyFault::{self, NotBuilt};
-use crate::value::{allow, items_up_to, only, short, text, truth};
+use crate::value::{allow_in, items_up_to, only, short_in, text, truth_in};
 use crate::word::Word;
 use serde_json::Value;
 use std::alloc::Global;
 use vsw_base::{Items, Prefix};
 use vsw_walk::{PlainCond, PlainField, PlainRule};
 
-fn field(value: &Value) -> Result<PlainField, PolicyFault>
-    ensures { Gives result (field_of (view value.now)) }
+fn field(object: &Value) -> Result<PlainField, PolicyFault>
+    ensures { Gives result (read_in word.Field (view object.now) field_of) }
 {
-    match text(value)? {
+    match text(value_in(object, Word::Field)?)? {
         "src_ip" => Ok(PlainField::SrcIp),
         "dst_ip" => Ok(PlainField::DstIp),
         _ => Err(NotBuilt),
     }
 }
 
-fn prefix(value: &Value) -> Result<Prefix, PolicyFault>
-    ensures { Gives result (only_prefix (view value.now)) }
+fn prefix(object: &Value) -> Result<Prefix, PolicyFault>
+    ensures { Gives result (read_in word.Any (view object.now) only_prefix) }
 {
-    let text = text(only(value)?)?;
+    let text = text(only(value_in(object, Word::Any)?)?)?;
     Prefix::read(text.as_bytes()).map_err(|_| NotBuilt)
 }
 
@@ -38,8 +40,8 @@ fn cond(value: &Value) -> Result<PlainCond, PolicyFault>
     ensures { Gives result (cond_of (view value.now)) }
 {
     let object = object_in(&[Word::Field, Word::Any], value)?;
-    let field = field(value_in(object, Word::Field)?)?;
-    let prefix = prefix(value_in(object, Word::Any)?)?;
+    let field = field(object)?;
+    let prefix = prefix(object)?;
     Ok(PlainCond { field, prefix })
 }
 
@@ -51,10 +53,10 @@ impl Listed for PlainCond {
     }
 }
 
-fn conds(alloc: Global, value: &Value) -> Result<Items<PlainCond>, PolicyFault>
-    ensures { Says result (conds_of (view value.now)) }
+fn conds(alloc: Global, object: &Value) -> Result<Items<PlainCond>, PolicyFault>
+    ensures { Says result (read_in word.When (view object.now) conds_of) }
 {
-    list(alloc, items_up_to(16, value)?)
+    list(alloc, items_up_to(16, value_in(object, Word::When)?)?)
 }
 
 fn is_taken(number: u16, rules: &[PlainRule]) -> bool
@@ -63,10 +65,10 @@ fn is_taken(number: u16, rules: &[PlainRule]) -> bool
     rules.iter().any(|rule| rule.number == number)
 }
 
-fn fresh(done: &[PlainRule], value: &Value) -> Result<u16, PolicyFault>
-    ensures { Gives result (fresh_number done.now (view value.now)) }
+fn fresh(done: &[PlainRule], object: &Value) -> Result<u16, PolicyFault>
+    ensures { Gives result (read_in word.Rule (view object.now) (fresh_number done.now)) }
 {
-    let number = short(value)?;
+    let number = short_in(object, Word::Rule)?;
     if is_taken(number, done) {
         Err(NotBuilt)
     } else {
@@ -88,12 +90,12 @@ fn rule(alloc: Global, done: &[PlainRule], value: &Value) -> Result<PlainRule, P
     ensures { Says result (rule_of done.now (view value.now)) }
 {
     let object = object_in(&RULE_WORDS, value)?;
-    let number = fresh(done, value_in(object, Word::Rule)?)?;
-    let priority = short(value_in(object, Word::Priority)?)?;
-    let when = conds(alloc, value_in(object, Word::When)?)?;
-    let allow = allow(value_in(object, Word::Action)?)?;
-    let stateful = truth(value_in(object, Word::Stateful)?)?;
-    let last = truth(value_in(object, Word::Last)?)?;
+    let number = fresh(done, object)?;
+    let priority = short_in(object, Word::Priority)?;
+    let when = conds(alloc, object)?;
+    let allow = allow_in(object, Word::Action)?;
+    let stateful = truth_in(object, Word::Stateful)?;
+    let last = truth_in(object, Word::Last)?;
     if stateful || last {
         return Err(NotBuilt);
     }
@@ -114,8 +116,8 @@ impl Listed for PlainRule {
 }
 
 /// The rules of a group.
-pub fn rules(alloc: Global, value: &Value) -> Result<Items<PlainRule>, PolicyFault>
-    ensures { Says result (rules_of (view value.now)) }
+pub fn rules(alloc: Global, object: &Value) -> Result<Items<PlainRule>, PolicyFault>
+    ensures { Says result (read_in word.Rules (view object.now) rules_of) }
 {
-    list(alloc, items_up_to(1024, value)?)
+    list(alloc, items_up_to(1024, value_in(object, Word::Rules)?)?)
 }

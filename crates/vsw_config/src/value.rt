@@ -3,9 +3,13 @@
 ghost use Rattle.std.specs.Prelude.{◌≡◌, map};
 ghost use Rattle.serde_json.specs.View.{view};
 ghost use Rattle.serde_json.specs.Find.{as_bool, as_str};
+ghost use Rattle.vsw_config.specs.Object.{read_in};
+ghost use Rattle.vsw_config.specs.declared.word.Word.{Word};
 ghost use Rattle.vsw_config.specs.Value.{Gives, seen, number_from, short_of, allow_of, items_in, items_to, only_item};
 
+use crate::object::value_in;
 use crate::policy::PolicyFault::{self, NotBuilt};
+use crate::word::Word;
 use serde_json::Value;
 
 /// A whole number from `low` to `high`.
@@ -28,11 +32,18 @@ pub fn short(value: &Value) -> Result<u16, PolicyFault>
     u16::try_from(number).map_err(|_| NotBuilt)
 }
 
-/// A truth value.
-pub fn truth(value: &Value) -> Result<bool, PolicyFault>
-    ensures { Gives result (as_bool (view value.now)) }
+/// A member's truth value.
+pub fn truth_in(object: &Value, word: Word) -> Result<bool, PolicyFault>
+    ensures { Gives result (read_in word (view object.now) as_bool) }
 {
-    value.as_bool().ok_or(NotBuilt)
+    value_in(object, word)?.as_bool().ok_or(NotBuilt)
+}
+
+/// A member's number that an author may choose as a name or a place.
+pub fn short_in(object: &Value, word: Word) -> Result<u16, PolicyFault>
+    ensures { Gives result (read_in word (view object.now) short_of) }
+{
+    short(value_in(object, word)?)
 }
 
 /// A text.
@@ -42,11 +53,11 @@ pub fn text(value: &Value) -> Result<&str, PolicyFault>
     value.as_str().ok_or(NotBuilt)
 }
 
-/// Whether what it is said of passes.
-pub fn allow(value: &Value) -> Result<bool, PolicyFault>
-    ensures { Gives result (allow_of (view value.now)) }
+/// Whether what a member is said of passes.
+pub fn allow_in(object: &Value, word: Word) -> Result<bool, PolicyFault>
+    ensures { Gives result (read_in word (view object.now) allow_of) }
 {
-    match text(value)? {
+    match text(value_in(object, word)?)? {
         "allow" => Ok(true),
         "drop" => Ok(false),
         _ => Err(NotBuilt),

@@ -1,0 +1,4 @@
+pub mod Policy
+pub mod Rule
+pub mod Object
+pub mod Value

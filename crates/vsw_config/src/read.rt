@@ -1,0 +1,96 @@
+//! Reading a policy file.
+
+ghost use Rattle.std.specs.Prelude.{◌≡◌, IfOk};
+ghost use Rattle.serde_json.specs.View.{view};
+ghost use Rattle.vsw_config.specs.declared.policy.PlainPolicy.{PlainPolicy};
+ghost use Rattle.vsw_config.specs.Value.{Gives, Says};
+ghost use Rattle.vsw_config.specs.Object.{read_in};
+ghost use Rattle.vsw_config.specs.declared.word.Word.TheVariants as word;
+ghost use Rattle.vsw_config.specs.Policy.{mac_in, rows_of, port_of, version_of, controllers_of, policy_of, IsPolicy, Answers};
+
+use crate::layer::layer;
+use crate::object::{object_in, value_in};
+use crate::policy::PlainPolicy;
+use crate::policy::PolicyFault::{self, NotBuilt};
+use crate::value::{number, only, short, short_in, text};
+use crate::word::Word;
+use serde_json::Value;
+use std::alloc::Global;
+use vsw_base::Mac;
+
+/// Bytes of the longest policy file that is read.
+const MOST_BYTES: usize = 65536;
+
+fn mac(object: &Value) -> Result<Mac, PolicyFault>
+    ensures { Gives result (read_in word.Mac (view object.now) mac_in) }
+{
+    let text = text(value_in(object, Word::Mac)?)?;
+    Mac::read(text.as_bytes()).map_err(|_| NotBuilt)
+}
+
+fn rows(object: &Value) -> Result<u32, PolicyFault>
+    ensures { Gives result (read_in word.Rows (view object.now) rows_of) }
+{
+    number(8, 16384, value_in(object, Word::Rows)?)
+}
+
+#[tactic(auto, unfolding(crate::specs::Policy::port_of))]
+fn port(alloc: Global, controller: u16, value: &Value) -> Result<PlainPolicy, PolicyFault>
+    ensures { Says result (port_of controller (view value.now)) }
+{
+    let words = [Word::Port, Word::Mac, Word::Rows, Word::Layers];
+    let object = object_in(&words, value)?;
+    let port = short_in(object, Word::Port)?;
+    let mac = mac(object)?;
+    let rows = rows(object)?;
+    let layer = layer(alloc, controller, only(value_in(object, Word::Layers)?)?)?;
+    Ok(PlainPolicy {
+        controller,
+        port,
+        mac,
+        rows,
+        layer,
+    })
+}
+
+fn version(value: &Value) -> Result<u32, PolicyFault>
+    ensures { Gives result (version_of (view value.now)) }
+{
+    number(1, 1, value)
+}
+
+fn controllers(value: &Value) -> Result<u16, PolicyFault>
+    ensures { Gives result (controllers_of (view value.now)) }
+{
+    short(only(value)?)
+}
+
+#[tactic(auto, unfolding(crate::specs::Policy::policy_of))]
+fn policy(alloc: Global, value: &Value) -> Result<PlainPolicy, PolicyFault>
+    ensures { Says result (policy_of (view value.now)) }
+{
+    let words = [Word::Version, Word::Controllers, Word::Ports];
+    let object = object_in(&words, value)?;
+    version(value_in(object, Word::Version)?)?;
+    let controller = controllers(value_in(object, Word::Controllers)?)?;
+    port(alloc, controller, only(value_in(object, Word::Ports)?)?)
+}
+
+/// Reads a policy file: a JSON value of at most 65,536 bytes.
+#[tactic(auto, using(crate::proofs::Alone::policy_alone))]
+pub fn read_policy(alloc: Global, bytes: &[u8]) -> Result<PlainPolicy, PolicyFault>
+    ensures answer { Answers bytes.now result }
+    ensures alone { IfOk result (λ p. (q : PlainPolicy) → IsPolicy bytes.now q → q ≡ p) }
+{
+    if bytes.len() > MOST_BYTES {
+        return Err(NotBuilt);
+    }
+    match Value::from_slice(alloc, bytes) {
+        Ok(value) => policy(alloc, &value),
+        Err(error) if error.is_memory() => Err(PolicyFault::Memory),
+        Err(_) => Err(NotBuilt),
+    }
+}
+
+#[cfg(test)]
+mod tests;

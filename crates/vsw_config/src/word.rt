@@ -1,0 +1,81 @@
+//! The names of members.
+
+ghost use Rattle.std.specs.Prelude.{◌≡◌};
+ghost use Rattle.vsw_config.specs.Object.{word_text, is_among};
+
+/// The name of a member, in the order of the objects' table in docs/FORMATS.md.
+#[derive(Clone, Copy, Debug, PartialEq, Eq)]
+pub enum Word {
+    Version,
+    Controllers,
+    Ports,
+    Port,
+    Mac,
+    Rows,
+    Layers,
+    Controller,
+    Layer,
+    Order,
+    DefaultOut,
+    DefaultIn,
+    Pairs,
+    Idle,
+    Linger,
+    Groups,
+    Group,
+    Dir,
+    When,
+    Rules,
+    Rule,
+    Priority,
+    Action,
+    Stateful,
+    Last,
+    Field,
+    Any,
+}
+
+impl Word {
+    /// The name as it stands in the file.
+    #[tactic(auto, unfolding(crate::specs::Object::word_text))]
+    pub fn text(self) -> &'static str
+        ensures { result.now ≡ word_text self }
+    {
+        match self {
+            Word::Version => "version",
+            Word::Controllers => "controllers",
+            Word::Ports => "ports",
+            Word::Port => "port",
+            Word::Mac => "mac",
+            Word::Rows => "rows",
+            Word::Layers => "layers",
+            Word::Controller => "controller",
+            Word::Layer => "layer",
+            Word::Order => "order",
+            Word::DefaultOut => "default_out",
+            Word::DefaultIn => "default_in",
+            Word::Pairs => "pairs",
+            Word::Idle => "idle",
+            Word::Linger => "linger",
+            Word::Groups => "groups",
+            Word::Group => "group",
+            Word::Dir => "dir",
+            Word::When => "when",
+            Word::Rules => "rules",
+            Word::Rule => "rule",
+            Word::Priority => "priority",
+            Word::Action => "action",
+            Word::Stateful => "stateful",
+            Word::Last => "last",
+            Word::Field => "field",
+            Word::Any => "any",
+        }
+    }
+}
+
+/// Whether a name is one of these.
+pub fn is_known(words: &[Word], name: &str) -> bool
+    ensures { result ≡ is_among words.now name.now }
+{
+    words.iter().any(|word| word.text() == name)
+}

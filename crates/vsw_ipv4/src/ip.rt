@@ -2,14 +2,15 @@
 //! (1), total length (2), id (2), flags and fragment offset (2), time to live (1), protocol (1), checksum
 //! (2), source (4), destination (4), options. Numbers have their highest byte first.
 
-ghost use Rattle.std.specs.Prelude.{◌≡◌, IfOk};
+ghost use Rattle.std.specs.Prelude.{◌≡◌, ◌≤◌, IfOk, drop, length, take};
 ghost use Rattle.vsw_base.specs.Ipv4.{ip_of};
 ghost use Rattle.vsw_base.specs.Fits.{IsFit};
 ghost use Rattle.vsw_base.specs.declared.header.Header.TheVariants.{Ip};
-ghost use Rattle.vsw_ipv4.specs.Ip.{ip_seen};
+ghost use Rattle.vsw_ipv4.specs.Ip.{ip_bytes, ip_seen, pushed_ip_bytes};
 
 use byteorder::{BigEndian, ByteOrder};
 use vsw_base::{BadFrame, Ip4};
+use vsw_sum::fresh;
 
 /// Bytes of an IPv4 header without options.
 const IP_LEN: usize = 20;
@@ -67,4 +68,29 @@ pub fn read_ip<'a>(bytes: &'a [u8]) -> Result<IpPart<'a>, BadFrame>
         payload: &bytes[..total][header..],
         trailer: &bytes[total..],
     })
+}
+
+/// The bytes of a header in front of an encapsulation: version 4, header length 5 words, service 0, id 0, don't
+/// fragment, time to live 64, UDP.
+fn header(src: Ip4, dst: Ip4, total: u16, checksum: u16) -> [u8; IP_LEN]
+    ensures bytes { result ≡ ip_bytes src dst total checksum }
+    ensures len { length result ≡ 20 }
+{
+    let [t0, t1] = total.to_be_bytes();
+    let [c0, c1] = checksum.to_be_bytes();
+    let [s0, s1, s2, s3] = src.number().to_be_bytes();
+    let [d0, d1, d2, d3] = dst.number().to_be_bytes();
+    [
+        0x45, 0, t0, t1, 0, 0, 0x40, 0, 64, 17, c0, c1, s0, s1, s2, s3, d0, d1, d2, d3,
+    ]
+}
+
+/// Writes the header of an encapsulation at the front; `total` is its bytes with all that follows.
+pub fn write_ip(out: &mut [u8], src: Ip4, dst: Ip4, total: u16)
+    requires { 20 ≤ length out.old }
+    ensures front { take 20 out.new ≡ pushed_ip_bytes src dst total }
+    ensures rest { drop 20 out.new ≡ drop 20 out.old }
+{
+    let checksum = fresh(&header(src, dst, total, 0));
+    out[..IP_LEN].copy_from_slice(&header(src, dst, total, checksum));
 }

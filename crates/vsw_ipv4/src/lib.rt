@@ -2,5 +2,7 @@
 #![tactic(auto)]
 
 mod ip;
+mod law;
 
-pub use ip::{IpPart, read_ip};
+pub use ip::{IpPart, read_ip, write_ip};
+pub use law::laws;

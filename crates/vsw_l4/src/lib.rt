@@ -1,10 +1,12 @@
 //! TCP, UDP and VXLAN headers.
 #![tactic(auto)]
 
+mod law;
 mod tcp;
 mod udp;
 mod vxlan;
 
+pub use law::laws;
 pub use tcp::{TcpPart, read_tcp};
 pub use udp::{UdpPart, read_udp};
-pub use vxlan::read_vxlan;
+pub use vxlan::{read_vxlan, write_udp_vxlan};

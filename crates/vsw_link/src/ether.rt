@@ -1,12 +1,12 @@
 //! The Ethernet header (RFC 894): destination (6 bytes), source (6), type (2). Numbers have their
 //! highest byte first.
 
-ghost use Rattle.std.specs.Prelude.{◌≡◌, ◌≤◌, IfOk, length};
+ghost use Rattle.std.specs.Prelude.{◌≡◌, ◌≤◌, IfOk, drop, length, take};
 ghost use Rattle.byteorder.specs.Endian.{big_number};
 ghost use Rattle.vsw_base.specs.Ethernet.{ether_of};
 ghost use Rattle.vsw_base.specs.Fits.{IsFit};
 ghost use Rattle.vsw_base.specs.declared.header.Header.TheVariants.{Ether};
-ghost use Rattle.vsw_link.specs.Ether.{ether_seen};
+ghost use Rattle.vsw_link.specs.Ether.{ether_bytes, ether_seen};
 
 use byteorder::{BigEndian, ByteOrder};
 use vsw_base::{BadFrame, Mac};
@@ -50,4 +50,24 @@ pub fn read_ether<'a>(bytes: &'a [u8]) -> Result<EtherPart<'a>, BadFrame>
         kind: BigEndian::read_u16(&bytes[KIND..]),
         rest: &bytes[ETHER_LEN..],
     })
+}
+
+/// The bytes of a header.
+fn header(dst: Mac, src: Mac, kind: u16) -> [u8; ETHER_LEN]
+    ensures bytes { result ≡ ether_bytes dst src kind }
+    ensures len { length result ≡ 14 }
+{
+    let [_, _, d0, d1, d2, d3, d4, d5] = dst.number().to_be_bytes();
+    let [_, _, s0, s1, s2, s3, s4, s5] = src.number().to_be_bytes();
+    let [k0, k1] = kind.to_be_bytes();
+    [d0, d1, d2, d3, d4, d5, s0, s1, s2, s3, s4, s5, k0, k1]
+}
+
+/// Writes a header at the front.
+pub fn write_ether(out: &mut [u8], dst: Mac, src: Mac, kind: u16)
+    requires { 14 ≤ length out.old }
+    ensures front { take 14 out.new ≡ ether_bytes dst src kind }
+    ensures rest { drop 14 out.new ≡ drop 14 out.old }
+{
+    out[..ETHER_LEN].copy_from_slice(&header(dst, src, kind));
 }

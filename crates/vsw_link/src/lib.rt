@@ -2,5 +2,7 @@
 #![tactic(auto)]
 
 mod ether;
+mod law;
 
-pub use ether::{EtherPart, read_ether};
+pub use ether::{EtherPart, read_ether, write_ether};
+pub use law::laws;

@@ -1,0 +1,17 @@
+use Rattle.vsw_sum.proofs.Changed.{checks, ignores_same, keeps_unchanged, stays_right, stays_written}
+use Rattle.vsw_sum.proofs.law.laws.Goals as goal
+
+pub returns-clause-checks : goal.returns-clause-checks
+returns-clause-checks c = checks
+
+pub returns-clause-right : goal.returns-clause-right
+returns-clause-right c = stays_right
+
+pub returns-clause-written : goal.returns-clause-written
+returns-clause-written c = stays_written
+
+pub returns-clause-same : goal.returns-clause-same
+returns-clause-same c = ignores_same
+
+pub returns-clause-unchanged : goal.returns-clause-unchanged
+returns-clause-unchanged c = keeps_unchanged

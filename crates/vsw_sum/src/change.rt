@@ -1,0 +1,31 @@
+//! Checksums after words changed (RFC 1624).
+
+ghost use Rattle.std.specs.Prelude.{◌≡◌, ◌+◌, length, sum, ◌∷◌, []};
+ghost use Rattle.vsw_sum.specs.Fold.{fold_of};
+ghost use Rattle.vsw_sum.specs.Update.{changes, update_of};
+
+use crate::sum::{complement, plus};
+
+/// The sum after a word changed.
+fn changed(total: u64, from: u16, to: u16) -> u64
+    ensures { fold_of result ≡ fold_of (total + sum (changes (from ∷ []) (to ∷ []))) }
+{
+    if from == to {
+        total
+    } else {
+        plus(total, u64::from(!from) + u64::from(to))
+    }
+}
+
+/// The checksum `old` after the words `from` became `to`, place by place; where they are the same, so is the
+/// checksum.
+pub fn update(old: u16, from: &[u16], to: &[u16]) -> u16
+    requires { length from.now ≡ length to.now }
+    ensures { result ≡ update_of old from.now to.now }
+{
+    let mut sum = u64::from(!old);
+    for i in 0..from.len() {
+        sum = changed(sum, from[i], to[i]);
+    }
+    complement(sum)
+}

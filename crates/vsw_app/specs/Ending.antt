@@ -1,6 +1,7 @@
 -- How a run ends: its status, and the words that are complained.
-use Rattle.std.specs.Prelude.{◌≡◌, ℕ, List, [], ◌++◌, take, ◌⊎◌, codes, decimal}
-use Rattle.vsw_host.specs.Outside.{Outside, Rose, Grows}
+use Rattle.std.specs.Prelude.{◌≡◌, ◌≤◌, ℕ, List, [], ◌++◌, take, ◌⊎◌, Result, Ok, Err, ⊤, codes, decimal}
+use Rattle.vsw_host.specs.Outside.{Outside, Rose, Grows, SameInputs}
+use Rattle.vsw_host.specs.declared.host.Failed.{Failed}
 use Rattle.vsw_pcap.specs.Fault.{trace_name}
 use Rattle.vsw_pcap.specs.declared.fault.BadTrace.{BadTrace}
 use Rattle.vsw_pcap.specs.declared.fault.BadTrace.TheVariants.{NotPcap, Version, LinkType, Cut, Huge}
@@ -33,7 +34,7 @@ complaint Done = []
 complaint Usage = codes "vsw: usage\n"
 complaint ReadFault = codes "vsw: read fault\n"
 complaint WriteFault = codes "vsw: write fault\n"
-complaint (Refused bad) = codes "vsw: refused trace " ++ trace_name bad ++ byte_text bad ++ codes "\n"
+complaint (Refused bad) = codes "vsw: refused trace " ++ (trace_name bad ++ (byte_text bad ++ codes "\n"))
 complaint Records = codes "vsw: limit records\n"
 complaint NotBuilt = codes "vsw: not built\n"
 complaint Memory = codes "vsw: memory\n"
@@ -46,3 +47,14 @@ Complains old new words = Grows old.complained new.complained words ⊎ ((n : �
 pub record KeepsPut (old new : Outside) : Type 0 where
   pub put : new.put ≡ old.put
   pub put_faults : new.put_faults ≡ old.put_faults
+
+-- a piece of the words was complained, or a front of it where the host counted a fault
+abbrev pub Says : Outside → Outside → List ℕ → Result ⊤ Failed → Type 0
+Says old new words (Ok u) = Grows old.complained new.complained words
+Says old new words (Err e) = (n : ℕ) × Grows old.complained new.complained (take n words) × Rose old.complain_faults new.complain_faults
+
+pub record Speaks (old new : Outside) (words : List ℕ) (result : Result ⊤ Failed) : Type 0 where
+  pub says : Says old new words result
+  pub later : old.complain_faults ≤ new.complain_faults
+  pub inputs : SameInputs old new
+  pub put : KeepsPut old new

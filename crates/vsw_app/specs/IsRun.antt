@@ -1,5 +1,5 @@
 -- A run of `vsw forward`: what it opened and read, what it put, and what it complained.
-use Rattle.std.specs.Prelude.{◌≡◌, ◌≢◌, ℕ, List, [], ◌∷◌, ◌++◌, length, take, Bool, true, false, Option, Some, None}
+use Rattle.std.specs.Prelude.{◌≡◌, ℕ, List, [], ◌∷◌, ◌++◌, length, take, Bool, true, Option, Some, None}
 use Rattle.vsw_host.specs.Outside.{Opened, Inputs, Outside, OpensSince, Grows}
 use Rattle.vsw_config.specs.declared.policy.PlainPolicy.{PlainPolicy}
 use Rattle.vsw_app.specs.declared.ending.Status.{Status}

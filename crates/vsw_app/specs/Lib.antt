@@ -5,3 +5,6 @@ pub mod Files
 pub mod Rounds
 pub mod Trace
 pub mod Reads
+pub mod Round
+pub mod Going
+pub mod Unheaded

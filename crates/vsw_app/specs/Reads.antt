@@ -1,6 +1,6 @@
 -- What the reading of each file leaves.
-use Rattle.std.specs.Prelude.{◌≡◌, ◌⊎◌, ℕ, List, [], ◌∷◌, length, take, Bool, true, false, Option, Some, None, Result, Ok, Err, IfOk, ⊤}
-use Rattle.vsw_host.specs.Outside.{Opened, Inputs, Outside, OpensSince, SameOutputs, Rose}
+use Rattle.std.specs.Prelude.{◌≡◌, ℕ, List, [], ◌∷◌, length, take, true, false, Option, Some, None, Result, Ok, Err, IfOk, ⊤}
+use Rattle.vsw_host.specs.Outside.{Inputs, Outside, OpensSince, SameOutputs, Rose}
 use Rattle.vsw_config.specs.declared.policy.PlainPolicy.{PlainPolicy}
 use Rattle.vsw_config.specs.Policy.{IsPolicy}
 use Rattle.vsw_app.specs.declared.ending.Ending.{Ending}

@@ -3,3 +3,4 @@ pub mod Standing
 pub mod Unique
 pub mod Every
 pub mod Runs
+pub mod Decided

@@ -3,3 +3,4 @@ pub mod Reader
 pub mod Cutting
 pub mod Progress
 pub mod Fault
+pub mod Decides

@@ -139,6 +139,13 @@ impl Reader {
         self.take_next()
     }
 
+    /// Bytes in hand that no record has taken.
+    pub fn left(&self) -> usize
+        ensures { result ≡ length self.now.left }
+    {
+        self.buffer.len() - self.from
+    }
+
     /// Gives back the consumed bytes, where they are at least as many as the bytes left.
     fn give_back(&mut self)
         ensures { self.new ≡ self.old }

@@ -1,9 +1,12 @@
 -- A run in the midst of its rounds.
-use Rattle.std.specs.Prelude.{◌≡◌, ◌≤◌, ℕ, ◌+◌, ◌*◌, List, length, Option, Result, Ok, Err, ⊤, take}
+use Rattle.std.specs.Prelude.{◌⊎◌, Some, None, ◌≡◌, ◌≤◌, ℕ, ◌+◌, ◌*◌, List, length, Option, Result, Ok, Err, ⊤, take}
 use Rattle.vsw_host.specs.Outside.{Outside, SameInputs, Grows, Rose}
 use Rattle.vsw_config.specs.declared.policy.PlainPolicy.{PlainPolicy}
 use Rattle.vsw_pcap.specs.Capture.{header_of}
 use Rattle.vsw_pcap.specs.Progress.{Progress}
+use Rattle.vsw_pcap.specs.Reader.{Stands}
+use Rattle.vsw_app.specs.Unheaded.{ended}
+use Rattle.vsw_app.specs.declared.round.Stop.{Stop}
 use Rattle.vsw_pcap.specs.declared.capture.Form.{Form}
 use Rattle.vsw_pcap.specs.declared.capture.Record.{Record}
 use Rattle.vsw_report.specs.declared.round.Round.{Round}
@@ -57,3 +60,9 @@ PutsText old new text (Err Usage) = ⊥
 PutsText old new text (Err NotBuilt) = ⊥
 PutsText old new text (Err (Refused bad)) = ⊥
 PutsText old new text (Err Records) = ⊥
+
+-- the next round was read, which begins after `number` rounds and one; or the run ends where that one stopped, or
+-- for want of memory
+abbrev pub Follows : PlainPolicy → Progress → Progress → ℕ → Stop → Result RoundRead Ending → Type 0
+Follows policy old new number stop (Ok next) = (ended stop ≡ None) × ((bytes : List ℕ) (given : List Record) → Stands old bytes given → length given ≡ (number + 1) * round_size → ReadsRound policy new bytes given next)
+Follows policy old new number stop (Err ending) = (ended stop ≡ Some ending) ⊎ ((ended stop ≡ None) × (ending ≡ Memory))

@@ -5,8 +5,8 @@ ghost use Rattle.vsw_host.specs.Outside.{DoesPut};
 ghost use Rattle.vsw_pcap.specs.Reader.{Stands};
 ghost use Rattle.vsw_report.specs.Print.{round_text, head_line};
 ghost use Rattle.vsw_app.specs.Trace.{Puts};
-ghost use Rattle.vsw_app.specs.Going.{Going, GoesOn, OnlyPuts, WriteRises, EndRises, PutsText};
-ghost use Rattle.vsw_app.specs.Unheaded.{StandsIn, unheaded_of, ended};
+ghost use Rattle.vsw_app.specs.Going.{Going, GoesOn, OnlyPuts, WriteRises, EndRises, PutsText, Follows};
+ghost use Rattle.vsw_app.specs.Unheaded.{StandsIn, unheaded_of, ended, is_put_of, text_put, past_limit_of};
 
 use crate::ending::Ending;
 use crate::files::TraceBytes;
@@ -84,4 +84,100 @@ fn fed(alloc: Global, trace: &TraceBytes) -> Result<Reader, NoMemory>
         reader.finish();
     }
     Ok(reader)
+}
+
+/// Whether a round is put: it has packets, or it is the first of a trace that ended cleanly.
+fn is_put(number: u32, count: u32, stop: Stop) -> bool
+    ensures { result ≡ is_put_of number count stop }
+{
+    count != 0 || number == 0 && matches!(stop, Stop::End)
+}
+
+/// Puts a round that was read, the `number`th from 0. A round without packets is put only where it is the
+/// first of a trace that ended cleanly.
+fn put_one<H: Host>(alloc: Global, host: &mut H, number: u32, round: &RoundRead) -> Result<(), Ending>
+    ensures puts { PutsText (H.outside host.old) (H.outside host.new) (text_put number round.now) result }
+    ensures rises { EndRises (H.outside host.old) (H.outside host.new) result }
+    ensures only { OnlyPuts (H.outside host.old) (H.outside host.new) }
+{
+    if is_put(number, round.count, round.stop) {
+        put_round(alloc, host, &round.round)
+    } else {
+        Ok(())
+    }
+}
+
+/// Reads the round after the `number`th, or ends the run where that one stopped.
+fn next_round(
+    alloc: Global,
+    policy: &PlainPolicy,
+    reader: &mut Reader,
+    number: u32,
+    stop: Stop,
+) -> Result<RoundRead, Ending>
+    requires { number < 1024 }
+    ensures goes { Follows policy.now reader.old reader.new number stop result }
+    ensures finished { reader.new.finished ≡ reader.old.finished }
+{
+    match ending(stop) {
+        Some(ending) => Err(ending),
+        None => match read_round(alloc, policy, reader, (number + 1) * ROUND_SIZE) {
+            Ok(next) => Ok(next),
+            Err(_) => Err(Ending::Memory),
+        },
+    }
+}
+
+/// Puts a round that was read and reads the next one, or ends the run.
+fn run_round<H: Host>(
+    alloc: Global,
+    host: &mut H,
+    policy: &PlainPolicy,
+    reader: &mut Reader,
+    number: u32,
+    round: &RoundRead,
+) -> Result<RoundRead, Ending>
+    requires { number < 1024 }
+    ensures goes { (bytes : List ℕ) (before : Option (List ℕ)) → Going policy.now bytes before (H.outside host.old).put reader.old number round.now → GoesOn policy.now bytes before (H.outside host.new).put reader.new number result }
+    ensures finished { reader.new.finished ≡ reader.old.finished }
+    ensures rises { EndRises (H.outside host.old) (H.outside host.new) result }
+    ensures only { OnlyPuts (H.outside host.old) (H.outside host.new) }
+{
+    match put_one(alloc, host, number, round) {
+        Ok(()) => next_round(alloc, policy, reader, number, round.stop),
+        Err(ending) => Err(ending),
+    }
+}
+
+/// How a run ends that put as many whole rounds as there may be, where `round` is what was read after them.
+fn past_limit(reader: &Reader, round: &RoundRead) -> Ending
+    ensures { result ≡ past_limit_of round.now reader.now }
+{
+    match round.stop {
+        Stop::End if round.count == 0 => Ending::Done,
+        Stop::More if round.count == 0 && reader.left() == 0 => Ending::ReadFault,
+        _ => Ending::Records,
+    }
+}
+
+/// Puts the rounds of a trace, of which the first was read, until the trace ends.
+fn run_rounds<H: Host>(
+    alloc: Global,
+    host: &mut H,
+    policy: &PlainPolicy,
+    reader: &mut Reader,
+    first: RoundRead,
+) -> Ending
+    ensures puts { (bytes : List ℕ) (before : Option (List ℕ)) → Going policy.now bytes before (H.outside host.old).put reader.old 0 first → Puts policy.now bytes reader.old.finished before (H.outside host.new).put result }
+    ensures rises { WriteRises (H.outside host.old) (H.outside host.new) result }
+    ensures only { OnlyPuts (H.outside host.old) (H.outside host.new) }
+{
+    let mut round = first;
+    for number in 0..ROUNDS_MAX {
+        match run_round(alloc, host, policy, reader, number, &round) {
+            Ok(next) => round = next,
+            Err(ending) => return ending,
+        }
+    }
+    past_limit(reader, &round)
 }

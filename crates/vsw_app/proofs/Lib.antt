@@ -5,3 +5,5 @@ pub mod Splitting
 pub mod Rounding
 pub mod Showing
 pub mod Putting
+pub mod Past
+pub mod Heading

@@ -51,4 +51,4 @@ judged_rises old new got (Err Records) j = absurd j
 pub policy_whole : (limit : ℕ) (old new : Outside) (name got bytes : List ℕ) (r : Result PlainPolicy Ending) → ReadsFile limit old new name got ends.Whole → bytes ≡ got → Judges bytes r → ReadsPolicy old new name r
 policy_whole limit old new name got bytes r reads e j =
     let k : Judges got r = same_bytes (λ t. Judges t r) bytes got e j in
-    record { outputs = reads.outputs; rises = judged_rises old new got r k; told = policy_told old.inputs new.inputs name got r reads.told k }
+    record { outputs = reads.outputs; rises = judged_rises old new got r k; later = reads.later; told = policy_told old.inputs new.inputs name got r reads.told k }

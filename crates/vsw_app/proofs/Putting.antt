@@ -49,7 +49,7 @@ front_of_round policy bytes p number round olds before now after n h f g t =
       grows = front_more before after (report f.rounds) c.more k part;
     }
 
-finished_as : (policy : PlainPolicy) (bytes : List ℕ) (a b : Bool) (before after : Option (List ℕ)) (e : Ending) → b ≡ a → Puts policy bytes a before after e → Puts policy bytes b before after e
+pub finished_as : (policy : PlainPolicy) (bytes : List ℕ) (a b : Bool) (before after : Option (List ℕ)) (e : Ending) → b ≡ a → Puts policy bytes a before after e → Puts policy bytes b before after e
 finished_as policy bytes a b before after e same q = let P : Bool → Type 0 = λ x. Puts policy bytes x before after e in subst P (sym same) q
 
 -- where a round could not be put, or there was no memory for its text

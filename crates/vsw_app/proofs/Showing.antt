@@ -237,11 +237,11 @@ empty_shows policy bytes false form total rounds h s a few some = record {
   }));
 }
 
-part_shows : (policy : PlainPolicy) (bytes : List ℕ) (finished : Bool) (at : ℕ) (total : List Record) (rounds : List Round) → Stops bytes total at Part → at < length bytes → AreRounds policy 0 total rounds → length total < most_records → Shown policy bytes finished (report rounds)
+pub part_shows : (policy : PlainPolicy) (bytes : List ℕ) (finished : Bool) (at : ℕ) (total : List Record) (rounds : List Round) → Stops bytes total at Part → at < length bytes → AreRounds policy 0 total rounds → length total < most_records → Shown policy bytes finished (report rounds)
 part_shows policy bytes true at total rounds s m a few = record { ending = Refused (Cut at); shows = (refl, record { records = total; refused = (s, m); few = few; reports = record { rounds = rounds; are = a; text_is = refl } }) }
 part_shows policy bytes false at total rounds s m a few = record { ending = ReadFault; shows = (refl, inr (record { records = total; at = at; stops = s; few = omega (arith, few); last = λ e. absurd (omega (arith, e, few)); reports = record { rounds = rounds; are = a; text_is = refl } })) }
 
-short_shows : (policy : PlainPolicy) (bytes : List ℕ) (finished : Bool) (form : Form) (total : List Record) (rounds : List Round) (rest : List ℕ) (front : Front) → header_of bytes ≡ Ok form → Splits form (drop 24 bytes) total rest → AreRounds policy 0 total rounds → length total < most_records → 0 < length rest → front_of form rest ≡ front → NotWhole front → Shown policy bytes finished (report rounds)
+pub short_shows : (policy : PlainPolicy) (bytes : List ℕ) (finished : Bool) (form : Form) (total : List Record) (rounds : List Round) (rest : List ℕ) (front : Front) → header_of bytes ≡ Ok form → Splits form (drop 24 bytes) total rest → AreRounds policy 0 total rounds → length total < most_records → 0 < length rest → front_of form rest ≡ front → NotWhole front → Shown policy bytes finished (report rounds)
 short_shows policy bytes finished form total rounds rest (Whole c) h s a few some e w = absurd w
 short_shows policy bytes finished form total rounds rest Part h s a few some e w = part_shows policy bytes finished (length bytes - length rest) total rounds (stops_at bytes form total rest Part h s e) (omega (arith, some, splits_shorter form (drop 24 bytes) total rest s, length-drop 24 bytes)) a few
 short_shows policy bytes finished form total rounds rest Oversize h s a few some e w = record { ending = Refused (Huge (length bytes - length rest)); shows = record { records = total; refused = stops_at bytes form total rest Oversize h s e; few = few; reports = record { rounds = rounds; are = a; text_is = refl } } }
@@ -260,7 +260,7 @@ rest_shows policy bytes finished form total rounds rest h s a few some left (inr
   | false ↦ λ t. let full : length total ≡ most_records = grind (arith, common_steps) in limit_shows policy bytes finished form total rounds rest h s a full left
 ] refl
 
-end_shows : (policy : PlainPolicy) (bytes : List ℕ) (finished : Bool) (form : Form) (total : List Record) (rounds : List Round) (rest : List ℕ) → header_of bytes ≡ Ok form → Splits form (drop 24 bytes) total rest → AreRounds policy 0 total rounds → length total ≤ most_records → 0 < length total → (length total ≡ most_records) ⊎ NotWhole (front_of form rest) → Shown policy bytes finished (report rounds)
+pub end_shows : (policy : PlainPolicy) (bytes : List ℕ) (finished : Bool) (form : Form) (total : List Record) (rounds : List Round) (rest : List ℕ) → header_of bytes ≡ Ok form → Splits form (drop 24 bytes) total rest → AreRounds policy 0 total rounds → length total ≤ most_records → 0 < length total → (length total ≡ most_records) ⊎ NotWhole (front_of form rest) → Shown policy bytes finished (report rounds)
 end_shows policy bytes finished form total rounds [] h s a few some last = empty_shows policy bytes finished form total rounds h s a few some
 end_shows policy bytes finished form total rounds (x ∷ xs) h s a few some last = rest_shows policy bytes finished form total rounds (x ∷ xs) h s a few some (omega arith) last
 

@@ -8,3 +8,4 @@ pub mod Reads
 pub mod Round
 pub mod Going
 pub mod Unheaded
+pub mod Forward

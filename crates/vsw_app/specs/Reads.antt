@@ -1,5 +1,5 @@
 -- What the reading of each file leaves.
-use Rattle.std.specs.Prelude.{◌≡◌, ℕ, List, [], ◌∷◌, length, take, true, false, Option, Some, None, Result, Ok, Err, IfOk, ⊤}
+use Rattle.std.specs.Prelude.{◌≡◌, ◌≤◌, ℕ, List, [], ◌∷◌, length, take, true, false, Option, Some, None, Result, Ok, Err, IfOk, ⊤}
 use Rattle.vsw_host.specs.Outside.{Inputs, Outside, OpensSince, SameOutputs, Rose}
 use Rattle.vsw_config.specs.declared.policy.PlainPolicy.{PlainPolicy}
 use Rattle.vsw_config.specs.Policy.{IsPolicy}
@@ -58,15 +58,18 @@ Told P (Some a) (Some b) = P a b
 pub record ReadsPolicy (old new : Outside) (file_name : List ℕ) (r : Result PlainPolicy Ending) : Type 0 where
   pub outputs : SameOutputs old new
   pub rises : Rises old new r
+  pub later : old.input_faults ≤ new.input_faults
   pub told : Told (λ a b. PolicySays a b file_name r) old.inputs new.inputs
 
 pub record ReadsCommands (old new : Outside) (file_name : List ℕ) (r : Result ⊤ Ending) : Type 0 where
   pub outputs : SameOutputs old new
   pub rises : Rises old new r
+  pub later : old.input_faults ≤ new.input_faults
   pub told : Told (λ a b. CommandsSay a b file_name r) old.inputs new.inputs
 
 pub record ReadsTrace (old new : Outside) (file_name : List ℕ) (r : Result TraceBytes Ending) : Type 0 where
   pub outputs : SameOutputs old new
   pub rises : Rises old new r
+  pub later : old.input_faults ≤ new.input_faults
   pub fault : IfOk r (λ t. t.whole ≡ false → Rose old.input_faults new.input_faults)
   pub told : Told (λ a b. TraceSays a b file_name r) old.inputs new.inputs

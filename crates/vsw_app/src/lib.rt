@@ -4,8 +4,10 @@
 mod ending;
 mod files;
 mod round;
+mod run;
 mod trace;
 mod words;
 
 pub use ending::{Ending, Status};
+pub use run::run_words;
 pub use words::Word;

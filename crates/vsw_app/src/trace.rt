@@ -5,6 +5,7 @@ ghost use Rattle.vsw_host.specs.Outside.{DoesPut};
 ghost use Rattle.vsw_pcap.specs.Reader.{Stands};
 ghost use Rattle.vsw_report.specs.Print.{round_text, head_line};
 ghost use Rattle.vsw_app.specs.Trace.{Puts};
+ghost use Rattle.vsw_app.specs.Round.{ReadsRound};
 ghost use Rattle.vsw_app.specs.Going.{Going, GoesOn, OnlyPuts, WriteRises, EndRises, PutsText, Follows};
 ghost use Rattle.vsw_app.specs.Unheaded.{StandsIn, unheaded_of, ended, is_put_of, text_put, past_limit_of};
 
@@ -180,4 +181,47 @@ fn run_rounds<H: Host>(
         }
     }
     past_limit(reader, &round)
+}
+
+/// Runs a trace of which the first round was read, of so many bytes.
+fn run_headed<H: Host>(
+    alloc: Global,
+    host: &mut H,
+    policy: &PlainPolicy,
+    reader: &mut Reader,
+    first: RoundRead,
+    size: usize,
+) -> Ending
+    ensures puts { (bytes : List ℕ) → length bytes ≡ size → ReadsRound policy.now reader.old bytes [] first → Puts policy.now bytes reader.old.finished (H.outside host.old).put (H.outside host.new).put result }
+    ensures rises { WriteRises (H.outside host.old) (H.outside host.new) result }
+    ensures only { OnlyPuts (H.outside host.old) (H.outside host.new) }
+{
+    if let Some(ending) = unheaded(first.stop, size) {
+        return ending;
+    }
+    match put_text(host, HEAD_LINE) {
+        Ok(()) => run_rounds(alloc, host, policy, reader, first),
+        Err(ending) => ending,
+    }
+}
+
+/// Runs what was read of a trace. Nothing is put before the trace's header was accepted.
+pub fn run_trace<H: Host>(
+    alloc: Global,
+    host: &mut H,
+    policy: &PlainPolicy,
+    trace: &TraceBytes,
+) -> Ending
+    ensures puts { Puts policy.now trace.now.bytes.items trace.now.whole (H.outside host.old).put (H.outside host.new).put result }
+    ensures rises { WriteRises (H.outside host.old) (H.outside host.new) result }
+    ensures only { OnlyPuts (H.outside host.old) (H.outside host.new) }
+{
+    let mut reader = match fed(alloc, trace) {
+        Ok(reader) => reader,
+        Err(_) => return Ending::Memory,
+    };
+    match read_round(alloc, policy, &mut reader, 0) {
+        Ok(first) => run_headed(alloc, host, policy, &mut reader, first, trace.bytes.len()),
+        Err(_) => Ending::Memory,
+    }
 }

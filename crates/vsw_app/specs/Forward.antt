@@ -1,0 +1,45 @@
+-- What the files of a run leave, one after another.
+use Rattle.std.specs.Prelude.{◌≡◌, ◌≢◌, ◌≤◌, ◌⊎◌, ℕ, List, [], ◌∷◌, ◌++◌, length, take, Bool, true, false, Option, Some, None, Result, Ok, Err}
+use Rattle.vsw_host.specs.Outside.{Opened, Inputs, Outside, OpensSince, SameOutputs, SameInputs, Rose, Grows}
+use Rattle.vsw_config.specs.declared.policy.PlainPolicy.{PlainPolicy}
+use Rattle.vsw_app.specs.declared.ending.Ending.{Ending}
+use Rattle.vsw_app.specs.declared.ending.Ending.TheVariants.{Usage, ReadFault, WriteFault}
+use Rattle.vsw_app.specs.Words.{Names}
+use Rattle.vsw_app.specs.Files.{read_whole, OpensAtMost, HoldsPolicy, StopsAtPolicy, StopsAtCommands, StopsAtTrace}
+use Rattle.vsw_app.specs.Trace.{Puts}
+use Rattle.vsw_app.specs.IsRun.{Leaves, LeavesTold, judged}
+use Rattle.vsw_app.specs.Reads.{Told, Rises, RisesAt}
+use Rattle.vsw_app.specs.Going.{WriteRises}
+
+-- the policy and the commands were read, or one of them ends the run
+abbrev pub JudgeSays : Inputs → Inputs → List ℕ → List ℕ → Result PlainPolicy Ending → Type 0
+JudgeSays old new policy_name commands_name (Ok p) = (holds : HoldsPolicy old policy_name p) × (old.files commands_name ≡ Some []) × OpensSince old new (read_whole policy_name holds.bytes ∷ read_whole commands_name [] ∷ [])
+JudgeSays old new policy_name commands_name (Err ending) = (OpensAtMost old new [] policy_name × StopsAtPolicy policy_name old ending)
+    ⊎ ((p : PlainPolicy) × (holds : HoldsPolicy old policy_name p) × OpensAtMost old new (read_whole policy_name holds.bytes ∷ []) commands_name × StopsAtCommands commands_name old ending)
+
+pub record Judged (old new : Outside) (policy_name commands_name : List ℕ) (r : Result PlainPolicy Ending) : Type 0 where
+  pub outputs : SameOutputs old new
+  pub rises : Rises old new r
+  pub later : old.input_faults ≤ new.input_faults
+  pub told : Told (λ a b. JudgeSays a b policy_name commands_name r) old.inputs new.inputs
+
+-- the trace was run, or not read
+abbrev pub ReplaySays : Inputs → Inputs → Option (List ℕ) → Option (List ℕ) → PlainPolicy → List ℕ → Ending → Type 0
+ReplaySays old new before after policy trace_name ending = (StopsAtTrace old new [] trace_name ending × Grows before after [])
+    ⊎ ((bytes : List ℕ) × (read : ℕ) × (whole : Bool) × (old.files trace_name ≡ Some bytes) × OpensSince old new (record { name = trace_name; bytes = bytes; read = read } ∷ []) × (whole ≡ true → read ≡ length bytes) × Puts policy (take read bytes) whole before after ending)
+
+pub record Replays (old new : Outside) (policy : PlainPolicy) (trace_name : List ℕ) (ending : Ending) : Type 0 where
+  pub complained : new.complained ≡ old.complained
+  pub complain_faults : new.complain_faults ≡ old.complain_faults
+  pub rises : RisesAt old new ending
+  pub write_rises : WriteRises old new ending
+  pub no_usage : ending ≢ Usage
+  pub told : Told (λ a b. ReplaySays a b old.put new.put policy trace_name ending) old.inputs new.inputs
+
+pub record Forwards (old new : Outside) (names : Names) (ending : Ending) : Type 0 where
+  pub complained : new.complained ≡ old.complained
+  pub complain_faults : new.complain_faults ≡ old.complain_faults
+  pub rises : RisesAt old new ending
+  pub write_rises : WriteRises old new ending
+  pub no_usage : ending ≢ Usage
+  pub leaves : LeavesTold (Some names) old.inputs new.inputs old.put new.put ending

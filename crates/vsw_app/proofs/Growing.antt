@@ -42,7 +42,7 @@ same_inputs a b c p q = record { inputs = q.inputs ∙ p.inputs; opens = q.opens
 keeps_put : (a b c : Outside) → KeepsPut a b → KeepsPut b c → KeepsPut a c
 keeps_put a b c p q = record { put = q.put ∙ p.put; put_faults = q.put_faults ∙ p.put_faults }
 
-rose_from : (a b c : ℕ) → a ≤ b → Rose b c → Rose a c
+pub rose_from : (a b c : ℕ) → a ≤ b → Rose b c → Rose a c
 rose_from a b c h r = omega (arith, h, r)
 
 says_then : (a b c : Outside) (xs ys : List ℕ) (r : Result ⊤ Failed) → Grows a.complained b.complained xs → a.complain_faults ≤ b.complain_faults → Says b c ys r → Says a c (xs ++ ys) r

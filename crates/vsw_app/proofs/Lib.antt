@@ -7,3 +7,4 @@ pub mod Showing
 pub mod Putting
 pub mod Past
 pub mod Heading
+pub mod Running

@@ -8,7 +8,7 @@ use Rattle.vsw_config.specs.Policy.{IsPolicy}
 use Rattle.vsw_app.specs.declared.ending.Ending.{Ending}
 use Rattle.vsw_app.specs.declared.ending.Ending.TheVariants.{Done, Usage, ReadFault, WriteFault, Refused, Records, NotBuilt, Memory}
 use Rattle.vsw_app.specs.Files.{read_whole, OpensAtMost}
-use Rattle.vsw_app.specs.Reads.{Told, Judges, PolicySays, ReadsPolicy, Rises}
+use Rattle.vsw_app.specs.Reads.{Told, Judges, PolicySays, ReadsPolicy, Rises, EndsEarly}
 
 at_most_one : (a b : Inputs) (file_name : List ℕ) (file : Opened) → file.name ≡ file_name → OpensSince a b (file ∷ []) → OpensAtMost a b [] file_name
 at_most_one a b file_name file e s = record { more = file ∷ []; since = s; last = inr (file, e, refl) }
@@ -47,8 +47,19 @@ judged_rises old new got (Err WriteFault) j = absurd j
 judged_rises old new got (Err (Refused bad)) j = absurd j
 judged_rises old new got (Err Records) j = absurd j
 
+judged_early : (got : List ℕ) (r : Result PlainPolicy Ending) → Judges got r → EndsEarly r
+judged_early got (Ok p) j = tt
+judged_early got (Err NotBuilt) j = tt
+judged_early got (Err Memory) j = tt
+judged_early got (Err ReadFault) j = tt
+judged_early got (Err Done) j = absurd j
+judged_early got (Err Usage) j = absurd j
+judged_early got (Err WriteFault) j = absurd j
+judged_early got (Err (Refused bad)) j = absurd j
+judged_early got (Err Records) j = absurd j
+
 -- a policy file that was read whole and judged
 pub policy_whole : (limit : ℕ) (old new : Outside) (name got bytes : List ℕ) (r : Result PlainPolicy Ending) → ReadsFile limit old new name got ends.Whole → bytes ≡ got → Judges bytes r → ReadsPolicy old new name r
 policy_whole limit old new name got bytes r reads e j =
     let k : Judges got r = same_bytes (λ t. Judges t r) bytes got e j in
-    record { outputs = reads.outputs; rises = judged_rises old new got r k; later = reads.later; told = policy_told old.inputs new.inputs name got r reads.told k }
+    record { outputs = reads.outputs; rises = judged_rises old new got r k; early = judged_early got r k; later = reads.later; told = policy_told old.inputs new.inputs name got r reads.told k }

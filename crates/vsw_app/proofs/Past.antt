@@ -1,27 +1,26 @@
 -- As many records as a trace may have.
-use Rattle.std.proofs.Common.{◌≡◌, ℕ, zero, suc, ◌+◌, ◌-◌, ◌*◌, ◌≤◌, ◌<◌, ◌==◌, ◌&&◌, ◌⊎◌, inl, inr, List, [], ◌∷◌, ◌++◌, Bool, true, false, not, nat_lt, if◌then◌else◌, Option, Some, None, Result, Ok, Err, length, take, drop, refl, sym, ◌∙◌, ap, subst, arith, append-nil, length-append, length-drop}
+use Rattle.std.proofs.Common.{◌≡◌, ℕ, zero, suc, ◌-◌, ◌*◌, ◌<◌, inr, List, [], ◌∷◌, ◌++◌, Option, Some, None, Ok, length, drop, refl, sym, ◌∙◌, ap, subst, arith, append-nil, length-append, length-drop}
 use Rattle.std.proofs.lemmas.Grind.{common_steps}
 use Rattle.vsw_config.specs.declared.policy.PlainPolicy.{PlainPolicy}
-use Rattle.vsw_pcap.specs.Capture.{header_of, front_of, Splits, Stops, IsCapture}
+use Rattle.vsw_pcap.specs.Capture.{header_of, front_of, Splits, IsCapture}
 use Rattle.vsw_pcap.specs.Progress.{Progress}
-use Rattle.vsw_pcap.specs.Reader.{Stands, Waits}
+use Rattle.vsw_pcap.specs.Reader.{Stands}
 use Rattle.vsw_pcap.specs.declared.capture.Form.{Form}
-use Rattle.vsw_pcap.specs.declared.capture.Front.{Front}
 use Rattle.vsw_pcap.specs.declared.capture.Front.TheVariants.{Whole, Part, Oversize}
 use Rattle.vsw_pcap.specs.declared.capture.Record.{Record}
 use Rattle.vsw_pcap.specs.declared.fault.BadTrace.{BadTrace}
 use Rattle.vsw_pcap.specs.declared.fault.BadTrace.TheVariants.{NotPcap, Version, LinkType, Cut, Huge}
 use Rattle.vsw_report.specs.declared.round.Round.{Round}
 use Rattle.vsw_app.specs.declared.ending.Ending.{Ending}
-use Rattle.vsw_app.specs.declared.ending.Ending.TheVariants.{Done, ReadFault, Records}
+use Rattle.vsw_app.specs.declared.ending.Ending.TheVariants.{Records}
 use Rattle.vsw_app.specs.declared.round.RoundRead.{RoundRead}
 use Rattle.vsw_app.specs.declared.round.Stop.{Stop}
 use Rattle.vsw_app.specs.declared.round.Stop.TheVariants as stop
 use Rattle.vsw_app.specs.Rounds.{AreRounds, report, round_size}
-use Rattle.vsw_app.specs.Trace.{most_records, Shows, ShowsLimit, ShowsRead, ShowsAll, Puts}
+use Rattle.vsw_app.specs.Trace.{most_records, Shows, ShowsLimit, ShowsRead, Puts}
 use Rattle.vsw_app.specs.Unheaded.{past_limit_of, past_limit_at}
 use Rattle.vsw_app.specs.Going.{Going}
-use Rattle.vsw_app.proofs.Splitting.{splits_at, splits_shorter, stops_at, stands_passed, header_long}
+use Rattle.vsw_app.proofs.Splitting.{splits_at, splits_shorter, stops_at, stands_passed}
 use Rattle.vsw_app.proofs.Rounding.{are_all}
 use Rattle.vsw_app.proofs.Putting.{puts_all}
 

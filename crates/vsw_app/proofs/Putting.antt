@@ -1,22 +1,21 @@
 -- What is put, as the run goes on and where it ends.
-use Rattle.std.proofs.Common.{◌≡◌, ℕ, zero, suc, ◌+◌, ◌-◌, ◌*◌, ◌≤◌, ◌<◌, ◌⊎◌, inl, inr, List, [], ◌∷◌, ◌++◌, Bool, true, false, Option, Some, None, Result, Ok, Err, length, take, min, refl, sym, ◌∙◌, ap, subst, arith}
+use Rattle.std.proofs.Common.{◌≡◌, ℕ, ◌+◌, ◌<◌, inl, inr, List, ◌++◌, Bool, Option, Result, Ok, Err, length, take, min, sym, ap, subst, arith}
 use Rattle.std.proofs.Math.Seq.{take-append_seam}
 use Rattle.vsw_host.specs.Outside.{Outside, Grows}
 use Rattle.vsw_config.specs.declared.policy.PlainPolicy.{PlainPolicy}
 use Rattle.vsw_pcap.specs.Progress.{Progress}
-use Rattle.vsw_pcap.specs.declared.fault.BadTrace.{BadTrace}
 use Rattle.vsw_report.specs.declared.round.Round.{Round}
 use Rattle.vsw_app.specs.declared.ending.Ending.{Ending}
 use Rattle.vsw_app.specs.declared.ending.Ending.TheVariants.{Done, Usage, ReadFault, WriteFault, Refused, Records, NotBuilt, Memory}
 use Rattle.vsw_app.specs.declared.round.RoundRead.{RoundRead}
 use Rattle.vsw_app.specs.declared.round.Stop.{Stop}
 use Rattle.vsw_app.specs.declared.round.Stop.TheVariants as stop
-use Rattle.vsw_app.specs.Rounds.{report, round_size}
+use Rattle.vsw_app.specs.Rounds.{report}
 use Rattle.vsw_app.specs.Trace.{Shows, Puts, PutsFront}
-use Rattle.vsw_app.specs.Unheaded.{ended, text_put}
+use Rattle.vsw_app.specs.Unheaded.{text_put}
 use Rattle.vsw_app.specs.Going.{Going, GoesOn, Follows, PutsText}
 use Rattle.vsw_app.proofs.Growing.{grows_then, grows_is, front_then, front_more}
-use Rattle.vsw_app.proofs.Showing.{Further, further, complete, shows_stop, RoundsFor, IsAsLong}
+use Rattle.vsw_app.proofs.Showing.{Further, further, complete, shows_stop}
 
 -- such a text was put
 pub puts_all : (policy : PlainPolicy) (bytes : List ℕ) (whole : Bool) (before after : Option (List ℕ)) (e : Ending) (text : List ℕ) → Shows policy bytes whole e text → Grows before after text → Puts policy bytes whole before after e

@@ -1,5 +1,5 @@
 -- What is shown of a trace, round by round.
-use Rattle.std.proofs.Common.{◌≡◌, ℕ, zero, suc, ◌+◌, ◌-◌, ◌*◌, ◌≤◌, ◌<◌, ◌==◌, ◌⊎◌, inl, inr, List, [], ◌∷◌, ◌++◌, Bool, true, false, not, Option, Some, None, Result, Ok, Err, length, take, drop, nat_lt, if◌then◌else◌, refl, sym, ◌∙◌, ap, subst, arith, length-append, length-drop, append-nil, append_assoc}
+use Rattle.std.proofs.Common.{◌≡◌, ℕ, zero, suc, ◌+◌, ◌-◌, ◌*◌, ◌≤◌, ◌<◌, ◌⊎◌, inl, inr, List, [], ◌∷◌, ◌++◌, Bool, true, false, Option, Some, Ok, length, drop, nat_lt, if◌then◌else◌, refl, sym, ◌∙◌, ap, subst, arith, length-append, length-drop, append-nil}
 use Rattle.std.specs.List.{flat_map}
 use Rattle.std.proofs.lemmas.Grind.{common_steps}
 use Rattle.vsw_config.specs.declared.policy.PlainPolicy.{PlainPolicy}
@@ -16,16 +16,16 @@ use Rattle.vsw_pcap.specs.declared.fault.BadTrace.TheVariants.{NotPcap, Version,
 use Rattle.vsw_report.specs.declared.round.Round.{Round}
 use Rattle.vsw_report.specs.Print.{round_text}
 use Rattle.vsw_app.specs.declared.ending.Ending.{Ending}
-use Rattle.vsw_app.specs.declared.ending.Ending.TheVariants.{Done, Usage, ReadFault, WriteFault, Refused, Records, NotBuilt, Memory}
+use Rattle.vsw_app.specs.declared.ending.Ending.TheVariants.{Done, ReadFault, Refused, Records}
 use Rattle.vsw_app.specs.declared.round.RoundRead.{RoundRead}
 use Rattle.vsw_app.specs.declared.round.Stop.{Stop}
 use Rattle.vsw_app.specs.declared.round.Stop.TheVariants as stop
 use Rattle.vsw_app.specs.Rounds.{AreRounds, AreAllRounds, round_of, round_size, report}
-use Rattle.vsw_app.specs.Round.{StopSays, ReadsRound}
-use Rattle.vsw_app.specs.Trace.{most_records, Shows, ShowsAll, ShowsRefused, ShowsLimit, ShowsRead, ShowsNothing, ShowsBadRecord, Reports}
+use Rattle.vsw_app.specs.Round.{StopSays}
+use Rattle.vsw_app.specs.Trace.{most_records, Shows, ShowsRefused, ShowsRead}
 use Rattle.vsw_app.specs.Unheaded.{ended, is_end, is_put_of, text_put}
 use Rattle.vsw_app.specs.Going.{Going}
-use Rattle.vsw_app.proofs.Splitting.{splits_append, splits_shorter, NotWhole, Ends, ends_within, header_long, stops_at, Passed, stands_passed}
+use Rattle.vsw_app.proofs.Splitting.{splits_append, splits_shorter, NotWhole, ends_within, header_long, stops_at, stands_passed}
 use Rattle.vsw_app.proofs.Rounding.{rounds_append, rounds_push, rounds_within, report_append, report_push, are_all, are_none}
 
 -- the rounds of what was read so far, by why the last one stopped

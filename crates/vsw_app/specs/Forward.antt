@@ -1,14 +1,14 @@
 -- What the files of a run leave, one after another.
-use Rattle.std.specs.Prelude.{◌≡◌, ◌≢◌, ◌≤◌, ◌⊎◌, ℕ, List, [], ◌∷◌, ◌++◌, length, take, Bool, true, false, Option, Some, None, Result, Ok, Err}
-use Rattle.vsw_host.specs.Outside.{Opened, Inputs, Outside, OpensSince, SameOutputs, SameInputs, Rose, Grows}
+use Rattle.std.specs.Prelude.{◌≡◌, ◌≢◌, ◌≤◌, ◌⊎◌, ℕ, List, [], ◌∷◌, length, take, Bool, true, Option, Some, Result, Ok, Err}
+use Rattle.vsw_host.specs.Outside.{Inputs, Outside, OpensSince, SameOutputs, Grows}
 use Rattle.vsw_config.specs.declared.policy.PlainPolicy.{PlainPolicy}
 use Rattle.vsw_app.specs.declared.ending.Ending.{Ending}
-use Rattle.vsw_app.specs.declared.ending.Ending.TheVariants.{Usage, ReadFault, WriteFault}
+use Rattle.vsw_app.specs.declared.ending.Ending.TheVariants.{Usage}
 use Rattle.vsw_app.specs.Words.{Names}
 use Rattle.vsw_app.specs.Files.{read_whole, OpensAtMost, HoldsPolicy, StopsAtPolicy, StopsAtCommands, StopsAtTrace}
 use Rattle.vsw_app.specs.Trace.{Puts}
-use Rattle.vsw_app.specs.IsRun.{Leaves, LeavesTold, judged}
-use Rattle.vsw_app.specs.Reads.{Told, Rises, RisesAt}
+use Rattle.vsw_app.specs.IsRun.{LeavesTold}
+use Rattle.vsw_app.specs.Reads.{Told, Rises, RisesAt, EndsEarly}
 use Rattle.vsw_app.specs.Going.{WriteRises}
 
 -- the policy and the commands were read, or one of them ends the run
@@ -20,6 +20,7 @@ JudgeSays old new policy_name commands_name (Err ending) = (OpensAtMost old new 
 pub record Judged (old new : Outside) (policy_name commands_name : List ℕ) (r : Result PlainPolicy Ending) : Type 0 where
   pub outputs : SameOutputs old new
   pub rises : Rises old new r
+  pub early : EndsEarly r
   pub later : old.input_faults ≤ new.input_faults
   pub told : Told (λ a b. JudgeSays a b policy_name commands_name r) old.inputs new.inputs
 

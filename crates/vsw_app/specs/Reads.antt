@@ -28,6 +28,21 @@ Judges bytes (Err WriteFault) = ⊥
 Judges bytes (Err (Refused bad)) = ⊥
 Judges bytes (Err Records) = ⊥
 
+-- how a run can end before its trace is judged
+abbrev pub IsEarly : Ending → Type 0
+IsEarly ReadFault = Unit {0}
+IsEarly NotBuilt = Unit {0}
+IsEarly Memory = Unit {0}
+IsEarly Done = ⊥
+IsEarly Usage = ⊥
+IsEarly WriteFault = ⊥
+IsEarly (Refused bad) = ⊥
+IsEarly Records = ⊥
+
+abbrev pub EndsEarly : {T : Type 0} → Result T Ending → Type 0
+EndsEarly (Ok x) = Unit {0}
+EndsEarly (Err ending) = IsEarly ending
+
 abbrev pub PolicySays : Inputs → Inputs → List ℕ → Result PlainPolicy Ending → Type 0
 PolicySays old new file_name (Ok p) = (holds : HoldsPolicy old file_name p) × OpensSince old new (read_whole file_name holds.bytes ∷ [])
 PolicySays old new file_name (Err ending) = OpensAtMost old new [] file_name × StopsAtPolicy file_name old ending
@@ -58,18 +73,21 @@ Told P (Some a) (Some b) = P a b
 pub record ReadsPolicy (old new : Outside) (file_name : List ℕ) (r : Result PlainPolicy Ending) : Type 0 where
   pub outputs : SameOutputs old new
   pub rises : Rises old new r
+  pub early : EndsEarly r
   pub later : old.input_faults ≤ new.input_faults
   pub told : Told (λ a b. PolicySays a b file_name r) old.inputs new.inputs
 
 pub record ReadsCommands (old new : Outside) (file_name : List ℕ) (r : Result ⊤ Ending) : Type 0 where
   pub outputs : SameOutputs old new
   pub rises : Rises old new r
+  pub early : EndsEarly r
   pub later : old.input_faults ≤ new.input_faults
   pub told : Told (λ a b. CommandsSay a b file_name r) old.inputs new.inputs
 
 pub record ReadsTrace (old new : Outside) (file_name : List ℕ) (r : Result TraceBytes Ending) : Type 0 where
   pub outputs : SameOutputs old new
   pub rises : Rises old new r
+  pub early : EndsEarly r
   pub later : old.input_faults ≤ new.input_faults
   pub fault : IfOk r (λ t. t.whole ≡ false → Rose old.input_faults new.input_faults)
   pub told : Told (λ a b. TraceSays a b file_name r) old.inputs new.inputs

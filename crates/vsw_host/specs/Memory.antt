@@ -1,6 +1,6 @@
 -- What a host in memory is to its callers, and what each call makes of it. Calls are numbered together
 -- from 1, and those whose numbers stand in `failing` fail. A fault reads, opens and appends nothing.
-use Rattle.std.specs.Prelude.{ℕ, ◌+◌, ◌-◌, ◌^◌, ◌==◌, ◌&&◌, min, List, [], ◌∷◌, ◌++◌, length, slice_get, slice_set, Bool, not, nat_le, nat_lt, Option, Some, is_some, unwrap_or, Result, Ok, Err, ⊤}
+use Rattle.std.specs.Prelude.{ℕ, ◌+◌, ◌-◌, ◌^◌, ◌==◌, ◌&&◌, min, List, [], ◌∷◌, ◌++◌, length, slice_get, slice_set, Bool, not, nat_le, nat_lt, Some, is_some, unwrap_or, Result, Ok, Err, ⊤}
 use Rattle.std.specs.List.{list_any}
 use Rattle.std.specs.Option.{option_map_or}
 use Rattle.vsw_host.specs.Outside.{Opened, Outside}

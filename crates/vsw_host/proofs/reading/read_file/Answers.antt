@@ -1,5 +1,5 @@
-use Rattle.std.proofs.Common.{◌≡◌, ◌≤◌, ◌<◌, ◌+◌, ◌++◌, length, take, arith, refl, sym, ◌∙◌, ap, subst, List, ℕ, length-append, length-take, rules}
-use Rattle.vsw_host.proofs.Going.{Going, start, onward}
+use Rattle.std.proofs.Common.{◌≡◌, ◌≤◌, ◌<◌, ◌++◌, length, take, arith, ◌∙◌, ap, List, ℕ, length-append, length-take, rules}
+use Rattle.vsw_host.proofs.Going.{onward}
 use Rattle.vsw_host.proofs.Ends.{long, fault, memory, whole}
 use Rattle.vsw_host.proofs.reading.read_file.Goals as goal
 

@@ -23,7 +23,7 @@ loop-buffer-preserved g c =
     let more = onward _ _ _ _ _ _ _ _ c.loop-buffer.invariant.going c.in-Ok-read.ensures.reads in
     let added : c.extend_from_slice.new.self.items ≡ c.loop-buffer.got.items ++ take c.in-Ok-read.count c.read.new.buffer = (search rules) in
     let longer = ap (λ (t : List ℕ). length t) added ∙ length-append c.loop-buffer.got.items (take c.in-Ok-read.count c.read.new.buffer) in
-    record { going = rw added more; short = omega (arith, longer, length-take c.in-Ok-read.count c.read.new.buffer); room = omega arith }
+    record { going = rw added more; short = omega (arith, longer, length-take c.in-Ok-read.count c.read.new.buffer); sized = omega arith }
 
 pub returns : goal.returns
 returns g c = record { reads = long _ _ _ _ _ _ c.loop-buffer.invariant.going (omega arith) c.loop-buffer.invariant.short }

@@ -1,6 +1,6 @@
 -- The calls of a host in memory, from its fields.
-use Rattle.std.proofs.Common.{◌≡◌, ℕ, ◌+◌, ◌-◌, ◌≤◌, min, true, false, List, Some, Ok, refl, sym, ◌∙◌, subst, arith, inl, inr, length, take, drop, length-append}
-use Rattle.std.specs.Prelude.{◌&&◌, not, slice_get, nat_lt, Vec}
+use Rattle.std.proofs.Common.{◌≡◌, ◌<◌, ℕ, ◌+◌, ◌-◌, ◌≤◌, min, true, false, List, Some, Ok, refl, sym, ◌∙◌, subst, arith, inl, inr, length, take, drop, length-append}
+use Rattle.std.specs.Prelude.{◌&&◌, not, IsSome, slice_get, nat_lt, Vec}
 use Rattle.std.specs.declared.alloc.Global.{Global}
 use Rattle.std.proofs.Math.ListN.{length-set}
 use Rattle.std.proofs.Math.Bool.{and-false}
@@ -29,6 +29,11 @@ may_open-refused s name (inl none) = rw (held-unplaced s.files.items name none) 
 may_open-refused s name (inr full) =
     let room : nat_lt (length (all_opened s.files.items s.opened.items)) openings ≡ false = grind (arith, nat_tests, length-all_opened s, full) in
     rw room (and_left (not (fails (seen s)) && false) _ (and-false _))
+
+-- a file that is held, and for which there is room, isn't refused
+pub unrefused : (s : Inside) (name : List ℕ) → OpensNone s.files.items s.opened.items name → length (seen s).opened < openings → IsSome (held s.files.items name) → ⊥
+unrefused s name (inl none) few here = let never = rw (held-unplaced s.files.items name none) at here in cc
+unrefused s name (inr full) few here = omega (arith, length-all_opened s)
 
 -- a file was opened
 pub seen-open : (s : Inside) (new : Vec Opening Global) (calls : ℕ) (name : List ℕ) (n : ℕ) → calls ≡ raised s.calls → OpensNext s.files.items s.opened.items new.items name n → seen (record s { opened = new; calls = calls }) ≡ after_open (seen s) name (Ok n)

@@ -1,12 +1,13 @@
 -- The ends of a reading.
-use Rattle.std.proofs.Common.{◌≡◌, ℕ, ◌+◌, ◌<◌, ◌≤◌, List, [], ◌∷◌, ◌++◌, Option, Some, None, Result, Ok, Err, refl, sym, ◌∙◌, ap, subst, length, take, drop, arith, inr, length-append, add-zero, append_assoc}
+use Rattle.std.proofs.Common.{◌≡◌, ℕ, ◌+◌, ◌<◌, ◌≤◌, List, ◌++◌, Option, Some, None, Ok, Err, refl, sym, ◌∙◌, ap, subst, length, take, drop, arith, inr, length-append, add-zero, append_assoc}
 use Rattle.std.proofs.Math.Seq.{take-append_seam, take-length}
 use Rattle.std.proofs.lemmas.List.{take-append-drop}
 use Rattle.vsw_host.specs.Outside.{Inputs, Outside, DoesRead, TellsRead}
 use Rattle.vsw_host.specs.Reading.{piece, ReadsFile, TellsFile}
 use Rattle.vsw_host.specs.declared.host.Failed.{Failed}
 use Rattle.vsw_host.specs.declared.reading.ReadEnd.TheVariants.{Whole, Fault, Long, Memory}
-use Rattle.vsw_host.proofs.Going.{Partly, TellsPartly, Going, SameOutputs-trans, file-Partly, since-Partly, onward}
+use Rattle.vsw_host.proofs.CallerLemmas.{SameOutputs-trans}
+use Rattle.vsw_host.proofs.Going.{Partly, TellsPartly, Going, file-Partly, since-Partly, onward}
 
 told_long : (a b : Option Inputs) (name : List ℕ) (number : ℕ) (got : List ℕ) → TellsPartly a b name number got → TellsFile a b name got Long
 told_long None b name number got g = tt

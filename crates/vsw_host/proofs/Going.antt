@@ -1,12 +1,9 @@
 -- A file that is being read.
-use Rattle.std.proofs.Common.{◌≡◌, ℕ, ◌+◌, ◌<◌, ◌≤◌, List, [], ◌∷◌, ◌++◌, Option, Some, None, Result, Ok, Err, refl, sym, ◌∙◌, ap, subst, length, take, drop, arith, inl, inr, length-append, length-take, take_all, add-zero}
+use Rattle.std.proofs.Common.{◌≡◌, ℕ, ◌+◌, ◌<◌, ◌≤◌, List, [], ◌∷◌, ◌++◌, Option, Some, None, Ok, refl, sym, ◌∙◌, ap, length, take, drop, arith, length-append, length-take}
 use Rattle.std.specs.Prelude.{slice_get, slice_set}
 use Rattle.std.proofs.Math.Seq.{take-add, set-append_seam}
-use Rattle.vsw_host.specs.Outside.{Opened, Inputs, Outside, OpensSince, OpensFile, ReadsOn, SameOutputs, DoesOpen, DoesRead, TellsOpen, TellsRead}
-use Rattle.vsw_host.specs.Reading.{piece, Gets, ReadsOne, ReadsNone, ReadsFile, TellsFile}
-use Rattle.vsw_host.specs.declared.host.Failed.{Failed}
-use Rattle.vsw_host.specs.declared.reading.ReadEnd.{ReadEnd}
-use Rattle.vsw_host.specs.declared.reading.ReadEnd.TheVariants.{Whole, Fault, Long, Memory}
+use Rattle.vsw_host.specs.Outside.{Opened, Inputs, Outside, OpensSince, ReadsOn, SameOutputs, DoesOpen, DoesRead, TellsOpen, TellsRead}
+use Rattle.vsw_host.proofs.CallerLemmas.{SameOutputs-trans}
 
 -- a file of this name was opened since, as the last, and what was got is all that was read of it
 pub record Partly (old now : Inputs) (file_name : List ℕ) (number : ℕ) (got : List ℕ) : Type 0 where
@@ -28,9 +25,6 @@ pub record Going (old now : Outside) (name : List ℕ) (number : ℕ) (got : Lis
   pub opens : old.opens ≤ now.opens
   pub later : old.input_faults ≤ now.input_faults
   pub outputs : SameOutputs old now
-
-pub SameOutputs-trans : (a b c : Outside) → SameOutputs a b → SameOutputs b c → SameOutputs a c
-SameOutputs-trans a b c p q = record { put = q.put ∙ p.put; complained = q.complained ∙ p.complained; put_faults = q.put_faults ∙ p.put_faults; complain_faults = q.complain_faults ∙ p.complain_faults }
 
 told_start : (a b : Option Inputs) (name : List ℕ) (number : ℕ) → TellsOpen a b name (Ok number) → TellsPartly a b name number []
 told_start None b name number h = tt

@@ -1,6 +1,6 @@
 -- Files that are found by their names, and openings of them.
-use Rattle.std.proofs.Common.{◌≡◌, ℕ, ◌+◌, ◌-◌, ◌<◌, ◌≤◌, Bool, true, false, List, [], ◌∷◌, ◌++◌, Option, Some, None, refl, sym, ◌∙◌, ap, subst, arith, map, get_or, length, take, drop}
-use Rattle.std.specs.Prelude.{slice_get, slice_set, option_map, find, position, bytes_eq, nat_lt, unwrap_or, cond}
+use Rattle.std.proofs.Common.{◌≡◌, ℕ, ◌≤◌, List, [], ◌∷◌, ◌++◌, Some, None, refl, ◌∙◌, ap, arith, get_or, length}
+use Rattle.std.specs.Prelude.{slice_get, slice_set, option_map, nat_lt, unwrap_or, cond}
 use Rattle.std.specs.List.{position_or_len}
 use Rattle.std.proofs.lemmas.List.Folds.{find_at}
 use Rattle.std.proofs.lemmas.List.Quantifiers.{position-Some}

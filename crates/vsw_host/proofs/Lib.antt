@@ -3,3 +3,4 @@ pub mod Ends
 pub mod Held
 pub mod MemoryCalls
 pub mod Written
+pub mod CallerLemmas

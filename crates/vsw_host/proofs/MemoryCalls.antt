@@ -1,19 +1,19 @@
 -- The calls of a host in memory, from its fields.
-use Rattle.std.proofs.Common.{◌≡◌, ◌⊎◌, ℕ, ◌+◌, ◌-◌, ◌<◌, ◌≤◌, min, Bool, true, false, List, [], ◌∷◌, ◌++◌, Option, Some, None, Ok, Err, refl, sym, ◌∙◌, ap, subst, arith, inl, inr, length, take, drop, length-append}
-use Rattle.std.specs.Prelude.{◌&&◌, not, slice_get, slice_set, nat_lt, Vec}
+use Rattle.std.proofs.Common.{◌≡◌, ◌<◌, ℕ, ◌+◌, ◌-◌, ◌≤◌, min, true, false, List, Some, Ok, refl, sym, ◌∙◌, subst, arith, inl, inr, length, take, drop, length-append}
+use Rattle.std.specs.Prelude.{◌&&◌, not, IsSome, slice_get, nat_lt, Vec}
 use Rattle.std.specs.declared.alloc.Global.{Global}
 use Rattle.std.proofs.Math.ListN.{length-set}
 use Rattle.std.proofs.Math.Bool.{and-false}
 use Rattle.std.proofs.lemmas.Bool.{lt-ltb, and_left}
 use Rattle.std.proofs.lemmas.Bool.Decides.{nat_tests}
 use Rattle.std.proofs.lemmas.List.{length-map}
-use Rattle.vsw_host.specs.Outside.{Opened, Inputs, Outside, DoesOpen, DoesRead}
+use Rattle.vsw_host.specs.Outside.{Opened, DoesOpen, DoesRead}
 use Rattle.vsw_host.specs.Files.{held}
-use Rattle.vsw_host.specs.Memory.{Memory, outside, openings, raised, fails, may_open, next_count, read_on, after_open, after_read}
+use Rattle.vsw_host.specs.Memory.{Memory, outside, openings, raised, fails, may_open, next_count, after_open, after_read}
 use Rattle.vsw_host.specs.MemoryInside.{seen, opened_of, all_opened, OpensNext, OpensNone, ReadsNext}
 use Rattle.vsw_host.specs.declared.opening.Opening.{Opening}
 use Rattle.vsw_host.specs.declared.memory_host.MemoryHost.TheInside.{Inside}
-use Rattle.vsw_host.proofs.Held.{Placed, placed, held-unplaced, all_opened-append, slice_get-all_opened, all_opened-set}
+use Rattle.vsw_host.proofs.Held.{placed, held-unplaced, all_opened-append, slice_get-all_opened, all_opened-set}
 
 length-all_opened : (s : Inside) → length (all_opened s.files.items s.opened.items) ≡ length s.opened.items
 length-all_opened s = length-map s.opened.items (λ (o : Opening). opened_of (slice_get s.files.items o.file) o.read)
@@ -29,6 +29,11 @@ may_open-refused s name (inl none) = rw (held-unplaced s.files.items name none) 
 may_open-refused s name (inr full) =
     let room : nat_lt (length (all_opened s.files.items s.opened.items)) openings ≡ false = grind (arith, nat_tests, length-all_opened s, full) in
     rw room (and_left (not (fails (seen s)) && false) _ (and-false _))
+
+-- a file that is held, and for which there is room, isn't refused
+pub unrefused : (s : Inside) (name : List ℕ) → OpensNone s.files.items s.opened.items name → length (seen s).opened < openings → IsSome (held s.files.items name) → ⊥
+unrefused s name (inl none) few here = let never = rw (held-unplaced s.files.items name none) at here in cc
+unrefused s name (inr full) few here = omega (arith, length-all_opened s)
 
 -- a file was opened
 pub seen-open : (s : Inside) (new : Vec Opening Global) (calls : ℕ) (name : List ℕ) (n : ℕ) → calls ≡ raised s.calls → OpensNext s.files.items s.opened.items new.items name n → seen (record s { opened = new; calls = calls }) ≡ after_open (seen s) name (Ok n)

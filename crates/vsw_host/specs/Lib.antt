@@ -4,3 +4,4 @@ pub mod Memory
 pub mod Files
 pub mod MemoryInside
 pub mod Real
+pub mod Told

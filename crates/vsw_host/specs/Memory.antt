@@ -1,6 +1,6 @@
 -- What a host in memory is to its callers, and what each call makes of it. Calls are numbered together
 -- from 1, and those whose numbers stand in `failing` fail. A fault reads, opens and appends nothing.
-use Rattle.std.specs.Prelude.{ℕ, ◌+◌, ◌-◌, ◌^◌, ◌==◌, ◌&&◌, min, List, [], ◌∷◌, ◌++◌, length, slice_get, slice_set, Bool, not, nat_le, nat_lt, Option, Some, is_some, unwrap_or, Result, Ok, Err, ⊤}
+use Rattle.std.specs.Prelude.{ℕ, ◌+◌, ◌-◌, ◌^◌, ◌==◌, ◌&&◌, min, List, [], ◌∷◌, ◌++◌, length, slice_get, slice_set, Bool, not, nat_le, nat_lt, Some, is_some, unwrap_or, Result, Ok, Err, ⊤}
 use Rattle.std.specs.List.{list_any}
 use Rattle.std.specs.Option.{option_map_or}
 use Rattle.vsw_host.specs.Outside.{Opened, Outside}
@@ -64,6 +64,7 @@ fails m = contains m.failing (raised m.calls)
 abbrev pub openings : ℕ
 openings = 16
 
+-- the next call opens the file of this name: it isn't to fail, and there are such a file and room for it
 abbrev pub may_open : Memory → List ℕ → Bool
 may_open m name = not (fails m) && nat_lt (length m.opened) openings && is_some (held m.files name)
 
@@ -75,7 +76,7 @@ after_open m name (Ok n) = record m { calls = raised m.calls; opened = m.opened 
 abbrev pub next_count : Memory → ℕ → ℕ → ℕ
 next_count m number size = option_map_or (λ (file : Opened). min size (length file.bytes - file.read)) (slice_get m.opened number) 0
 
--- so many more bytes of the file of this number are read
+-- so many more bytes of the file of this number were read
 abbrev pub read_on : List Opened → ℕ → ℕ → List Opened
 read_on opened number n = option_map_or (λ (file : Opened). slice_set opened number (record file { read = file.read + n })) (slice_get opened number) opened
 
@@ -83,7 +84,7 @@ abbrev pub after_read : Memory → ℕ → Result ℕ Failed → Memory
 after_read m number (Err e) = record m { calls = raised m.calls; input_faults = raised m.input_faults }
 after_read m number (Ok n) = record m { calls = raised m.calls; opened = read_on m.opened number n }
 
--- bytes may be appended to those that were written
+-- the next call appends these bytes to those that were written: it isn't to fail, and they fit the room
 abbrev pub may_write : Memory → List ℕ → List ℕ → Bool
 may_write m written bytes = not (fails m) && nat_le (length written + length bytes) m.room
 

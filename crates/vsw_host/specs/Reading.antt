@@ -1,6 +1,6 @@
 -- What the reading of a file leaves: what was got, what the host has read of the file, and how it ended.
 use Rattle.std.specs.Prelude.{◌≡◌, ℕ, ◌+◌, ◌≤◌, ◌<◌, ◌⊎◌, List, [], ◌∷◌, length, take, Option, Some, None}
-use Rattle.vsw_host.specs.Outside.{Opened, Inputs, Outside, OpensSince, Rose, SameOutputs}
+use Rattle.vsw_host.specs.Outside.{Inputs, Outside, OpensSince, Rose, SameOutputs}
 use Rattle.vsw_host.specs.declared.reading.ReadEnd.{ReadEnd}
 use Rattle.vsw_host.specs.declared.reading.ReadEnd.TheVariants.{Whole, Fault, Long, Memory}
 

@@ -12,7 +12,8 @@ pub trait Host {
 
     ghost outside: { Self → Outside };
 
-    /// Opens a file to read it from its first byte, and answers its number.
+    /// Opens a file to read it from its first byte, and answers its number. Files that are opened are
+    /// numbered from 0, and none is closed.
     fn open(&mut self, name: &str) -> Result<u32, Failed>
         ensures opens { DoesOpen (outside self.old) (outside self.new) name.now result };
 

@@ -1,9 +1,12 @@
 //! A host in memory.
 
-ghost use Rattle.std.specs.Prelude.{◌≡◌, ◌≤◌, ◌<◌, ◌+◌, ◌++◌, length, nat_le, not, ◌&&◌, if◌then◌else◌, IfOk, IsErr, IsTrue, is_ok, vec_capacity};
-ghost use Rattle.vsw_host.specs.Files.{are_distinct};
+ghost use Rattle.std.specs.Prelude.{◌≡◌, [], IsSome, ◌≤◌, ◌<◌, ◌+◌, ◌++◌, length, nat_le, not, ◌&&◌, if◌then◌else◌, is_ok};
+ghost use Rattle.std.specs.Prelude.{IfOk, IsErr, IsTrue, vec_capacity};
+ghost use Rattle.vsw_host.specs.Files.{are_distinct, held};
 ghost use Rattle.vsw_host.specs.Outside.{DoesOpen, DoesRead, DoesPut, DoesComplain};
-ghost use Rattle.vsw_host.specs.Memory.{made, outside, raised, contains, fails, may_open, after_open, next_count, after_read, may_write, after_put, after_complain};
+ghost use Rattle.vsw_host.specs.Memory.{made, openings, outside, raised, contains, fails};
+ghost use Rattle.vsw_host.specs.Memory.{may_open, after_open, next_count, after_read};
+ghost use Rattle.vsw_host.specs.Memory.{may_write, after_put, after_complain};
 
 use crate::host::{Failed, Host};
 use crate::memory_file::MemoryFile;
@@ -112,7 +115,8 @@ fn failed<T>(faults: &mut u64) -> Result<T, Failed>
 fn append(room: usize, written: &mut Vec<u8>, bytes: &[u8]) -> bool
     requires room { room ≤ vec_capacity written.old }
     ensures fits { result ≡ nat_le (length written.old.items + length bytes.now) room }
-    ensures written { written.new.items ≡ (if result then written.old.items ++ bytes.now else written.old.items) }
+    ensures written { written.new.items
+        ≡ (if result then written.old.items ++ bytes.now else written.old.items) }
     ensures room { room ≤ vec_capacity written.new }
 {
     written.len() <= room
@@ -126,6 +130,8 @@ impl Host for MemoryHost {
     fn open(&mut self, name: &str) -> Result<u32, Failed>
         ensures opens { DoesOpen (outside self.old) (outside self.new) name.now result }
         ensures succeeds { is_ok result ≡ may_open self.old name.now }
+        ensures quiet { self.old.failing ≡ [] → IsSome (held self.old.files name.now)
+            → length self.old.opened < openings → self.new.input_faults ≡ self.old.input_faults }
         ensures after { self.new ≡ after_open self.old name.now result }
     {
         if next_fails(&mut self.calls, &self.failing) {
@@ -141,6 +147,7 @@ impl Host for MemoryHost {
         requires is_open { file < (outside self.old).opens }
         ensures reads { DoesRead (outside self.old) (outside self.new) file buffer.new result }
         ensures succeeds { is_ok result ≡ not (fails self.old) }
+        ensures quiet { self.old.failing ≡ [] → self.new.input_faults ≡ self.old.input_faults }
         ensures count { IfOk result (λ n. n ≡ next_count self.old file (length buffer.old)) }
         ensures after { self.new ≡ after_read self.old file result }
     {
@@ -153,6 +160,8 @@ impl Host for MemoryHost {
     fn put(&mut self, bytes: &[u8]) -> Result<(), Failed>
         ensures puts { DoesPut (outside self.old) (outside self.new) bytes.now result }
         ensures succeeds { is_ok result ≡ may_write self.old self.old.put bytes.now }
+        ensures quiet { self.old.failing ≡ [] → length self.old.put + length bytes.now ≤ self.old.room
+            → self.new.put_faults ≡ self.old.put_faults }
         ensures after { self.new ≡ after_put self.old bytes.now result }
     {
         if next_fails(&mut self.calls, &self.failing) {
@@ -168,6 +177,9 @@ impl Host for MemoryHost {
     fn complain(&mut self, bytes: &[u8]) -> Result<(), Failed>
         ensures complains { DoesComplain (outside self.old) (outside self.new) bytes.now result }
         ensures succeeds { is_ok result ≡ may_write self.old self.old.complained bytes.now }
+        ensures quiet { self.old.failing ≡ []
+            → length self.old.complained + length bytes.now ≤ self.old.room
+            → self.new.complain_faults ≡ self.old.complain_faults }
         ensures after { self.new ≡ after_complain self.old bytes.now result }
     {
         if next_fails(&mut self.calls, &self.failing) {

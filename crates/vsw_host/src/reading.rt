@@ -29,7 +29,8 @@ fn zeros(alloc: Global, count: usize) -> Result<Vec<u8>, AllocError>
     vec![in alloc; 0; count]
 }
 
-/// Reads the file of this name, up to a limit in bytes, and appends what was read to `got`.
+/// Reads the file of this name into `got`, up to a limit in bytes. It takes memory for one piece, and
+/// for what it gets.
 pub fn read_file<H: Host>(host: &mut H, name: &str, limit: u64, got: &mut Vec<u8>) -> ReadEnd
     requires empty { got.old.items ≡ [] }
     ensures reads { ReadsFile limit (H.outside host.old) (H.outside host.new) name.now got.new.items result }
@@ -37,10 +38,10 @@ pub fn read_file<H: Host>(host: &mut H, name: &str, limit: u64, got: &mut Vec<u8
     let Ok(file) = host.open(name) else {
         return ReadEnd::Fault;
     };
-    let Ok(mut room) = zeros(*got.allocator(), PIECE) else {
+    let Ok(mut piece) = zeros(*got.allocator(), PIECE) else {
         return ReadEnd::Memory;
     };
-    let buffer = room.as_mut_slice();
+    let buffer = piece.as_mut_slice();
     while got.len() as u64 <= limit {
         let Ok(count) = host.read(file, buffer) else {
             return ReadEnd::Fault;

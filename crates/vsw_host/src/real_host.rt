@@ -109,18 +109,22 @@ mod tests {
         let path = format!(in alloc; "/tmp/vsw_host_{}", process::id(rt.process()))?;
         fs::write(&rt, path.as_str(), b"12345")?;
         let mut host = RealHost::new(alloc, rt.clone()?);
-        let mut buffer = [0; 3];
-        assert_eq!(rt; host.open(path.as_str()), Ok(0));
-        assert_eq!(rt; host.read(0, &mut buffer), Ok(3));
-        assert_eq!(rt; buffer, *b"123");
-        assert_eq!(rt; host.read(0, &mut buffer), Ok(2));
-        assert_eq!(rt; host.read(0, &mut buffer), Ok(0));
+        let file = host.open(path.as_str()).expect(&rt, "it was written");
+        let mut buffer = [0; 8];
+        let counts = [host.read(file, &mut buffer), host.read(file, &mut [0])];
         fs::remove_file(&rt, path.as_str())?;
-        assert!(rt; host.open(path.as_str()).is_err());
-        assert_eq!(rt; host.input_faults, 1);
-        assert!(rt; host.put(b"put\n").is_ok());
-        assert!(rt; host.complain(b"complained\n").is_ok());
-        assert_eq!(rt; (host.put_faults, host.complain_faults), (0, 0));
+        assert_eq!(rt; counts, [Ok(5), Ok(0)]);
+        assert_eq!(rt; buffer, *b"12345\0\0\0");
+        let answers = [
+            host.open(path.as_str()).is_ok(),
+            host.put(b"put\n").is_ok(),
+            host.complain(b"complained\n").is_ok(),
+        ];
+        assert_eq!(rt; answers, [false, true, true]);
+        assert_eq!(rt;
+            [host.input_faults, host.put_faults, host.complain_faults],
+            [1, 0, 0]
+        );
         Ok(())
     }
 }

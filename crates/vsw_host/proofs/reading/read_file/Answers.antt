@@ -1,5 +1,5 @@
-use Rattle.std.proofs.Common.{◌≡◌, ◌≤◌, ◌<◌, ◌+◌, ◌++◌, length, take, arith, refl, sym, ◌∙◌, ap, subst, List, ℕ, length-append, length-take, rules}
-use Rattle.vsw_host.proofs.Going.{Going, start, onward}
+use Rattle.std.proofs.Common.{◌≡◌, ◌≤◌, ◌<◌, ◌++◌, length, take, arith, ◌∙◌, ap, List, ℕ, length-append, length-take, rules}
+use Rattle.vsw_host.proofs.Going.{onward}
 use Rattle.vsw_host.proofs.Ends.{long, fault, memory, whole}
 use Rattle.vsw_host.proofs.reading.read_file.Goals as goal
 
@@ -23,7 +23,7 @@ loop-buffer-preserved g c =
     let more = onward _ _ _ _ _ _ _ _ c.loop-buffer.invariant.going c.in-Ok-read.ensures.reads in
     let added : c.extend_from_slice.new.self.items ≡ c.loop-buffer.got.items ++ take c.in-Ok-read.count c.read.new.buffer = (search rules) in
     let longer = ap (λ (t : List ℕ). length t) added ∙ length-append c.loop-buffer.got.items (take c.in-Ok-read.count c.read.new.buffer) in
-    record { going = rw added more; short = omega (arith, longer, length-take c.in-Ok-read.count c.read.new.buffer); room = omega arith }
+    record { going = rw added more; short = omega (arith, longer, length-take c.in-Ok-read.count c.read.new.buffer); sized = omega arith }
 
 pub returns : goal.returns
 returns g c = record { reads = long _ _ _ _ _ _ c.loop-buffer.invariant.going (omega arith) c.loop-buffer.invariant.short }

@@ -7,7 +7,7 @@ abbrev pub invariant-loop-buffer : goal.invariant-loop-buffer
 invariant-loop-buffer g l = record {
   going : Going (g.H.Host.outside l.fn.host) (g.H.Host.outside l.host) l.name l.file l.got.items;
   short : length l.got.items ≤ l.limit + piece;
-  room : length l.buffer ≡ piece;
+  sized : length l.buffer ≡ piece;
 }
 
 abbrev pub decreases-loop-buffer : goal.decreases-loop-buffer

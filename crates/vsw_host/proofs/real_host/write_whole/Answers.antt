@@ -1,5 +1,4 @@
-use Rattle.std.proofs.Common.{rules, sym}
-use Rattle.vsw_host.proofs.Written.{cut, more, kept, prefix, whole}
+use Rattle.vsw_host.proofs.Written.{cut, more, kept, prefix}
 use Rattle.vsw_host.proofs.real_host.write_whole.Goals as goal
 
 pub returns-in_default : goal.returns-in_default

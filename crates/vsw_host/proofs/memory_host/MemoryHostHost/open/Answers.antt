@@ -1,7 +1,7 @@
 use Rattle.std.proofs.Common.{rules, sym, ◌∙◌, ◌≡◌, false}
 use Rattle.vsw_host.specs.Memory.{fails}
 use Rattle.vsw_host.specs.MemoryInside.{seen}
-use Rattle.vsw_host.proofs.MemoryCalls.{may_open-opened, may_open-refused, seen-open, opens-seen}
+use Rattle.vsw_host.proofs.MemoryCalls.{may_open-opened, may_open-refused, unrefused, seen-open, opens-seen}
 use Rattle.vsw_host.proofs.memory_host.MemoryHostHost.open.Goals as goal
 
 pub returns-in-Some-clause-opens : goal.returns-in-Some-clause-opens
@@ -24,3 +24,8 @@ pub returns-in-None-clause-succeeds : goal.returns-in-None-clause-succeeds
 returns-in-None-clause-succeeds c =
     let why = rw c.deref-2.ensures.value at c.in-None.ensures.why in
     rw (← c.self.view_is) ((search rules) ∙ sym (may_open-refused c.self.inside _ why))
+
+pub returns-in-None-clause-quiet : goal.returns-in-None-clause-quiet
+returns-in-None-clause-quiet c =
+    let why = rw c.deref-2.ensures.value at c.in-None.ensures.why in
+    rw (← c.self.view_is) (λ spared here few. absurd (unrefused c.self.inside _ why few here))

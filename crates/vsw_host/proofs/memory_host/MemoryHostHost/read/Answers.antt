@@ -1,4 +1,4 @@
-use Rattle.std.proofs.Common.{arith, ◌≡◌, ◌∙◌, ap, length, ℕ, sym}
+use Rattle.std.proofs.Common.{arith, ◌≡◌, ◌∙◌, ap, length, ℕ}
 use Rattle.std.specs.Vec.{with_items}
 use Rattle.std.proofs.lemmas.List.{with_items_is}
 use Rattle.vsw_host.specs.Memory.{next_count}

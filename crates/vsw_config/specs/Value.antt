@@ -1,7 +1,7 @@
 -- Numbers, texts and lists.
-use Rattle.std.specs.Prelude.{◌≡◌, ℕ, ◌^◌, ◌==◌, ◌&&◌, List, [], ◌∷◌, ◌++◌, length, Bool, true, false, nat_le, nat_lt, Option, Some, None, option_and_then, option_map, Result, Ok, Err, ⊤, codes, bytes_eq, if◌then◌else◌}
+use Rattle.std.specs.Prelude.{◌≡◌, ℕ, ◌&&◌, List, [], ◌∷◌, ◌++◌, length, Bool, true, false, nat_le, Option, Some, None, option_map, Result, Ok, Err, ⊤, codes, bytes_eq, if◌then◌else◌}
 use Rattle.serde_json.specs.Data.{Data, Items, no_items, item}
-use Rattle.serde_json.specs.Find.{as_number, as_u64, as_array, as_str, as_bool}
+use Rattle.serde_json.specs.Find.{as_number, as_u64, as_array, as_str}
 use Rattle.vsw_base.specs.Spelling.{◌>>=◌}
 use Rattle.vsw_config.specs.declared.policy.PolicyFault.{PolicyFault}
 use Rattle.vsw_config.specs.declared.policy.PolicyFault.TheVariants.{NotBuilt, Memory}
@@ -49,8 +49,8 @@ abbrev pub choice_of : {A : Type 0} → List (List ℕ × A) → Data → Option
 choice_of table d = as_str d >>= value_for table
 
 -- whether what it is said of passes
-abbrev pub allow_of : Data → Option Bool
-allow_of d = choice_of ((codes "allow", true) ∷ (codes "drop", false) ∷ []) d
+abbrev pub allows_of : Data → Option Bool
+allows_of d = choice_of ((codes "allow", true) ∷ (codes "drop", false) ∷ []) d
 
 abbrev pub list_of : Items → List Data
 list_of no_items = []

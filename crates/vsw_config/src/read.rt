@@ -6,13 +6,13 @@ ghost use Rattle.vsw_config.specs.declared.policy.PlainPolicy.{PlainPolicy};
 ghost use Rattle.vsw_config.specs.Value.{Gives, Says};
 ghost use Rattle.vsw_config.specs.Object.{read_in};
 ghost use Rattle.vsw_config.specs.declared.word.Word.TheVariants as word;
-ghost use Rattle.vsw_config.specs.Policy.{mac_in, rows_of, port_of, version_of, controllers_of, policy_of, IsPolicy, Answers};
+ghost use Rattle.vsw_config.specs.Policy.{address_of, rows_of, port_of, version_of, controllers_of, policy_of, IsPolicy, AreDistinct, Answers};
 
 use crate::layer::layer;
 use crate::object::{object_in, value_in};
 use crate::policy::PlainPolicy;
 use crate::policy::PolicyFault::{self, NotBuilt};
-use crate::value::{number, only, short, short_in, text};
+use crate::value::{number, only_item, short, short_in, text};
 use crate::word::Word;
 use serde_json::Value;
 use std::alloc::Global;
@@ -21,8 +21,12 @@ use vsw_base::Mac;
 /// Bytes of the longest policy file that is read.
 const MOST_BYTES: usize = 65536;
 
+const FILE_WORDS: [Word; 3] = [Word::Version, Word::Controllers, Word::Ports];
+
+const PORT_WORDS: [Word; 4] = [Word::Port, Word::Mac, Word::Rows, Word::Layers];
+
 fn mac(object: &Value) -> Result<Mac, PolicyFault>
-    ensures { Gives result (read_in word.Mac (view object.now) mac_in) }
+    ensures { Gives result (read_in word.Mac (view object.now) address_of) }
 {
     let text = text(value_in(object, Word::Mac)?)?;
     Mac::read(text.as_bytes()).map_err(|_| NotBuilt)
@@ -38,12 +42,15 @@ fn rows(object: &Value) -> Result<u32, PolicyFault>
 fn port(alloc: Global, controller: u16, value: &Value) -> Result<PlainPolicy, PolicyFault>
     ensures { Says result (port_of controller (view value.now)) }
 {
-    let words = [Word::Port, Word::Mac, Word::Rows, Word::Layers];
-    let object = object_in(&words, value)?;
+    let object = object_in(&PORT_WORDS, value)?;
     let port = short_in(object, Word::Port)?;
     let mac = mac(object)?;
     let rows = rows(object)?;
-    let layer = layer(alloc, controller, only(value_in(object, Word::Layers)?)?)?;
+    let layer = layer(
+        alloc,
+        controller,
+        only_item(value_in(object, Word::Layers)?)?,
+    )?;
     Ok(PlainPolicy {
         controller,
         port,
@@ -62,24 +69,28 @@ fn version(value: &Value) -> Result<u32, PolicyFault>
 fn controllers(value: &Value) -> Result<u16, PolicyFault>
     ensures { Gives result (controllers_of (view value.now)) }
 {
-    short(only(value)?)
+    short(only_item(value)?)
 }
 
 #[tactic(auto, unfolding(crate::specs::Policy::policy_of))]
 fn policy(alloc: Global, value: &Value) -> Result<PlainPolicy, PolicyFault>
     ensures { Says result (policy_of (view value.now)) }
 {
-    let words = [Word::Version, Word::Controllers, Word::Ports];
-    let object = object_in(&words, value)?;
+    let object = object_in(&FILE_WORDS, value)?;
     version(value_in(object, Word::Version)?)?;
     let controller = controllers(value_in(object, Word::Controllers)?)?;
-    port(alloc, controller, only(value_in(object, Word::Ports)?)?)
+    port(
+        alloc,
+        controller,
+        only_item(value_in(object, Word::Ports)?)?,
+    )
 }
 
 /// Reads a policy file: a JSON value of at most 65,536 bytes.
-#[tactic(auto, using(crate::proofs::Alone::policy_alone))]
+#[tactic(auto, using(crate::proofs::Laws::policy_alone, crate::proofs::Laws::policy_distinct))]
 pub fn read_policy(alloc: Global, bytes: &[u8]) -> Result<PlainPolicy, PolicyFault>
     ensures answer { Answers bytes.now result }
+    ensures distinct { IfOk result (λ p. AreDistinct p.layer.group.rules) }
     ensures alone { IfOk result (λ p. (q : PlainPolicy) → IsPolicy bytes.now q → q ≡ p) }
 {
     if bytes.len() > MOST_BYTES {

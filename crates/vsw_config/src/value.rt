@@ -5,7 +5,7 @@ ghost use Rattle.serde_json.specs.View.{view};
 ghost use Rattle.serde_json.specs.Find.{as_bool, as_str};
 ghost use Rattle.vsw_config.specs.Object.{read_in};
 ghost use Rattle.vsw_config.specs.declared.word.Word.{Word};
-ghost use Rattle.vsw_config.specs.Value.{Gives, seen, number_from, short_of, allow_of, items_in, items_to, only_item};
+ghost use Rattle.vsw_config.specs.Value.{Gives, seen, number_from, short_of, allows_of, items_in, items_to, only_item};
 
 use crate::object::value_in;
 use crate::policy::PolicyFault::{self, NotBuilt};
@@ -54,8 +54,8 @@ pub fn text(value: &Value) -> Result<&str, PolicyFault>
 }
 
 /// Whether what a member is said of passes.
-pub fn allow_in(object: &Value, word: Word) -> Result<bool, PolicyFault>
-    ensures { Gives result (read_in word (view object.now) allow_of) }
+pub fn allows_in(object: &Value, word: Word) -> Result<bool, PolicyFault>
+    ensures { Gives result (read_in word (view object.now) allows_of) }
 {
     match text(value_in(object, word)?)? {
         "allow" => Ok(true),
@@ -87,7 +87,7 @@ pub fn items_up_to(most: usize, value: &Value) -> Result<&[Value], PolicyFault>
 }
 
 /// The item of a list of one.
-pub fn only(value: &Value) -> Result<&Value, PolicyFault>
+pub fn only_item(value: &Value) -> Result<&Value, PolicyFault>
     ensures { Gives (seen (λ v. view v.now) result) (only_item (view value.now)) }
 {
     match items(value)? {

@@ -25,7 +25,7 @@ rules_distinct d rules rest =
     items_distinct [] ds rules none_distinct rest
 
 group_distinct : (d : Data) (group : PlainGroup) → group_of d ≡ Some group → AreDistinct group.rules
-unfolding group_of
+unfolding group_of read_in
 group_distinct d group rest =
     let (o, _, rest) = both (object_among group_words d) _ group rest in
     let (number, _, rest) = both (read_in Group o short_of) _ group rest in
@@ -36,7 +36,7 @@ group_distinct d group rest =
     subst (λ (g : PlainGroup). AreDistinct g.rules) (same_value _ group rest) (rules_distinct place rules value)
 
 layer_distinct : (listed : ℕ) (d : Data) (layer : PlainLayer) → layer_of listed d ≡ Some layer → AreDistinct layer.group.rules
-unfolding layer_of
+unfolding layer_of read_in
 layer_distinct listed d layer rest =
     let (o, _, rest) = both (object_among layer_words d) _ layer rest in
     let (controller, _, rest) = both (read_in Controller o (listed_number listed)) _ layer rest in
@@ -53,7 +53,7 @@ layer_distinct listed d layer rest =
     subst (λ (l : PlainLayer). AreDistinct l.group.rules) (same_value _ layer rest) (group_distinct item group value)
 
 port_distinct : (listed : ℕ) (d : Data) (p : PlainPolicy) → port_of listed d ≡ Some p → AreDistinct p.layer.group.rules
-unfolding port_of
+unfolding port_of read_in
 port_distinct listed d p rest =
     let (o, _, rest) = both (object_among port_words d) _ p rest in
     let (port, _, rest) = both (read_in Port o short_of) _ p rest in
@@ -65,7 +65,7 @@ port_distinct listed d p rest =
     subst (λ (q : PlainPolicy). AreDistinct q.layer.group.rules) (same_value _ p rest) (layer_distinct listed item layer value)
 
 pub policy_distinct : (d : Data) (p : PlainPolicy) → policy_of d ≡ Some p → AreDistinct p.layer.group.rules
-unfolding policy_of
+unfolding policy_of read_in
 policy_distinct d p rest =
     let (o, _, rest) = both (object_among file_words d) _ p rest in
     let (version, _, rest) = both (read_in Version o version_of) _ p rest in

@@ -34,7 +34,7 @@ fresh_number_apart done d n h =
     rw (← same) apart
 
 pub rule_apart : (done : List PlainRule) (d : Data) (r : PlainRule) → rule_of done d ≡ Some r → list_any (λ s. s.number == r.number) done ≡ false
-unfolding rule_of
+unfolding rule_of read_in
 rule_apart done d r rest =
     let (o, _, rest) = both (object_among rule_words d) _ r rest in
     let (number, here, rest) = both (read_in Rule o (fresh_number done)) _ r rest in

@@ -1,4 +1,5 @@
 //! Layers and their groups.
+#![tactic(auto, unfolding(crate::specs::Object::read_in))]
 
 ghost use Rattle.std.specs.Prelude.{◌≡◌};
 ghost use Rattle.serde_json.specs.View.{view};
@@ -49,7 +50,7 @@ fn group(alloc: Global, value: &Value) -> Result<PlainGroup, PolicyFault>
     let object = object_in(&GROUP_WORDS, value)?;
     let number = short_in(object, Word::Group)?;
     let dir = dir(object)?;
-    items_up_to(0, value_in(object, Word::When)?)?;
+    items_up_to(0, object, Word::When)?;
     let rules = rules(alloc, object)?;
     Ok(PlainGroup { number, dir, rules })
 }
@@ -57,7 +58,7 @@ fn group(alloc: Global, value: &Value) -> Result<PlainGroup, PolicyFault>
 fn only_group(alloc: Global, object: &Value) -> Result<PlainGroup, PolicyFault>
     ensures { Says result (read_in word.Groups (view object.now) (only group_of)) }
 {
-    let group = group(alloc, only_item(value_in(object, Word::Groups)?)?)?;
+    let group = group(alloc, only_item(object, Word::Groups)?)?;
     Ok(group)
 }
 

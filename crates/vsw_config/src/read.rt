@@ -1,4 +1,5 @@
 //! Reading a policy file.
+#![tactic(auto, unfolding(crate::specs::Object::read_in))]
 
 ghost use Rattle.std.specs.Prelude.{◌≡◌, IfOk};
 ghost use Rattle.serde_json.specs.View.{view};
@@ -6,7 +7,7 @@ ghost use Rattle.vsw_config.specs.declared.policy.PlainPolicy.{PlainPolicy};
 ghost use Rattle.vsw_config.specs.Value.{Gives, Says};
 ghost use Rattle.vsw_config.specs.Object.{read_in};
 ghost use Rattle.vsw_config.specs.declared.word.Word.TheVariants as word;
-ghost use Rattle.vsw_config.specs.Policy.{address_of, rows_of, port_of, version_of, controllers_of, policy_of, IsPolicy, AreDistinct, Answers};
+ghost use Rattle.vsw_config.specs.Policy.{only, layer_of, address_of, rows_of, port_of, version_of, controllers_of, policy_of, IsPolicy, AreDistinct, Answers};
 
 use crate::layer::layer;
 use crate::object::{object_in, value_in};
@@ -17,6 +18,7 @@ use crate::word::Word;
 use serde_json::Value;
 use std::alloc::Global;
 use vsw_base::Mac;
+use vsw_walk::PlainLayer;
 
 /// Bytes of the longest policy file that is read.
 const MOST_BYTES: usize = 65536;
@@ -38,6 +40,13 @@ fn rows(object: &Value) -> Result<u32, PolicyFault>
     number(8, 16384, value_in(object, Word::Rows)?)
 }
 
+fn only_layer(alloc: Global, controller: u16, object: &Value) -> Result<PlainLayer, PolicyFault>
+    ensures { Says result (read_in word.Layers (view object.now) (only (layer_of controller))) }
+{
+    let layer = layer(alloc, controller, only_item(object, Word::Layers)?)?;
+    Ok(layer)
+}
+
 #[tactic(auto, unfolding(crate::specs::Policy::port_of))]
 fn port(alloc: Global, controller: u16, value: &Value) -> Result<PlainPolicy, PolicyFault>
     ensures { Says result (port_of controller (view value.now)) }
@@ -46,11 +55,7 @@ fn port(alloc: Global, controller: u16, value: &Value) -> Result<PlainPolicy, Po
     let port = short_in(object, Word::Port)?;
     let mac = mac(object)?;
     let rows = rows(object)?;
-    let layer = layer(
-        alloc,
-        controller,
-        only_item(value_in(object, Word::Layers)?)?,
-    )?;
+    let layer = only_layer(alloc, controller, object)?;
     Ok(PlainPolicy {
         controller,
         port,
@@ -60,16 +65,23 @@ fn port(alloc: Global, controller: u16, value: &Value) -> Result<PlainPolicy, Po
     })
 }
 
-fn version(value: &Value) -> Result<u32, PolicyFault>
-    ensures { Gives result (version_of (view value.now)) }
+fn version(object: &Value) -> Result<u32, PolicyFault>
+    ensures { Gives result (read_in word.Version (view object.now) version_of) }
 {
-    number(1, 1, value)
+    number(1, 1, value_in(object, Word::Version)?)
 }
 
-fn controllers(value: &Value) -> Result<u16, PolicyFault>
-    ensures { Gives result (controllers_of (view value.now)) }
+fn only_controller(object: &Value) -> Result<u16, PolicyFault>
+    ensures { Gives result (read_in word.Controllers (view object.now) controllers_of) }
 {
-    short(only_item(value)?)
+    short(only_item(object, Word::Controllers)?)
+}
+
+fn only_port(alloc: Global, controller: u16, object: &Value) -> Result<PlainPolicy, PolicyFault>
+    ensures { Says result (read_in word.Ports (view object.now) (only (port_of controller))) }
+{
+    let policy = port(alloc, controller, only_item(object, Word::Ports)?)?;
+    Ok(policy)
 }
 
 #[tactic(auto, unfolding(crate::specs::Policy::policy_of))]
@@ -77,13 +89,10 @@ fn policy(alloc: Global, value: &Value) -> Result<PlainPolicy, PolicyFault>
     ensures { Says result (policy_of (view value.now)) }
 {
     let object = object_in(&FILE_WORDS, value)?;
-    version(value_in(object, Word::Version)?)?;
-    let controller = controllers(value_in(object, Word::Controllers)?)?;
-    port(
-        alloc,
-        controller,
-        only_item(value_in(object, Word::Ports)?)?,
-    )
+    version(object)?;
+    let controller = only_controller(object)?;
+    let policy = only_port(alloc, controller, object)?;
+    Ok(policy)
 }
 
 /// Reads a policy file: a JSON value of at most 65,536 bytes.

@@ -1,4 +1,5 @@
 //! Numbers, texts and lists.
+#![tactic(auto, unfolding(crate::specs::Object::read_in))]
 
 ghost use Rattle.std.specs.Prelude.{◌≡◌, map};
 ghost use Rattle.serde_json.specs.View.{view};
@@ -74,11 +75,11 @@ fn items(value: &Value) -> Result<&[Value], PolicyFault>
     }
 }
 
-/// The items of a list of so many at most.
-pub fn items_up_to(most: usize, value: &Value) -> Result<&[Value], PolicyFault>
-    ensures { Gives (seen (λ vs. map view vs.now) result) (items_to most (view value.now)) }
+/// The items of a member's list, so many at most.
+pub fn items_up_to(most: usize, object: &Value, word: Word) -> Result<&[Value], PolicyFault>
+    ensures { Gives (seen (λ vs. map view vs.now) result) (read_in word (view object.now) (items_to most)) }
 {
-    let values = items(value)?;
+    let values = items(value_in(object, word)?)?;
     if values.len() <= most {
         Ok(values)
     } else {
@@ -86,11 +87,11 @@ pub fn items_up_to(most: usize, value: &Value) -> Result<&[Value], PolicyFault>
     }
 }
 
-/// The item of a list of one.
-pub fn only_item(value: &Value) -> Result<&Value, PolicyFault>
-    ensures { Gives (seen (λ v. view v.now) result) (only_item (view value.now)) }
+/// The item of a member's list of one.
+pub fn only_item(object: &Value, word: Word) -> Result<&Value, PolicyFault>
+    ensures { Gives (seen (λ v. view v.now) result) (read_in word (view object.now) only_item) }
 {
-    match items(value)? {
+    match items(value_in(object, word)?)? {
         [item] => Ok(item),
         _ => Err(NotBuilt),
     }

@@ -29,7 +29,7 @@ Grows (Ok u) old new x = new ≡ old ++ x ∷ []
 Grows (Err fault) old new x = fault ≡ Memory
 
 -- a whole number, without sign, fraction or exponent, from `low` to `high`
-abbrev pub number_from : ℕ → ℕ → Data → Option ℕ
+unfoldable pub number_from : ℕ → ℕ → Data → Option ℕ
 number_from low high d = do
   number ← as_number d
   n ← as_u64 number
@@ -61,7 +61,7 @@ abbrev pub items_in : Data → Option (List Data)
 items_in d = option_map list_of (as_array d)
 
 -- the items of a list of so many at most
-abbrev pub items_to : ℕ → Data → Option (List Data)
+unfoldable pub items_to : ℕ → Data → Option (List Data)
 items_to most d = items_in d >>= (λ ds. if nat_le (length ds) most then Some ds else None)
 
 abbrev pub the_one : List Data → Option Data
@@ -70,7 +70,7 @@ the_one (d ∷ []) = Some d
 the_one (d ∷ e ∷ ds) = None
 
 -- the item of a list of one
-abbrev pub only_item : Data → Option Data
+unfoldable pub only_item : Data → Option Data
 only_item d = items_in d >>= the_one
 
 -- the items so far, and then the rest, each of which is read against those before it

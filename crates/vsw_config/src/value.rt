@@ -14,6 +14,7 @@ use crate::word::Word;
 use serde_json::Value;
 
 /// A whole number from `low` to `high`.
+#[tactic(auto, unfolding(crate::specs::Value::number_from))]
 pub fn number(low: u32, high: u32, value: &Value) -> Result<u32, PolicyFault>
     ensures { Gives result (number_from low high (view value.now)) }
 {
@@ -26,6 +27,7 @@ pub fn number(low: u32, high: u32, value: &Value) -> Result<u32, PolicyFault>
 }
 
 /// A number that an author may choose as a name or a place.
+#[tactic(auto, unfolding(crate::specs::Value::number_from))]
 pub fn short(value: &Value) -> Result<u16, PolicyFault>
     ensures { Gives result (short_of (view value.now)) }
 {
@@ -76,6 +78,7 @@ fn items(value: &Value) -> Result<&[Value], PolicyFault>
 }
 
 /// The items of a member's list, so many at most.
+#[tactic(auto, unfolding(crate::specs::Object::read_in, crate::specs::Value::items_to))]
 pub fn items_up_to(most: usize, object: &Value, word: Word) -> Result<&[Value], PolicyFault>
     ensures { Gives (seen (λ vs. map view vs.now) result) (read_in word (view object.now) (items_to most)) }
 {
@@ -88,6 +91,7 @@ pub fn items_up_to(most: usize, object: &Value, word: Word) -> Result<&[Value], 
 }
 
 /// The item of a member's list of one.
+#[tactic(auto, unfolding(crate::specs::Object::read_in, crate::specs::Value::only_item))]
 pub fn only_item(object: &Value, word: Word) -> Result<&Value, PolicyFault>
     ensures { Gives (seen (λ v. view v.now) result) (read_in word (view object.now) only_item) }
 {

@@ -1,2 +1,3 @@
 pub mod Views
-pub mod Alone
+pub mod Rules
+pub mod Laws

@@ -49,7 +49,7 @@ abbrev pub has_names_among : List Word → Data → Bool
 has_names_among words d = elim (as_object d) [ None ↦ false | Some ms ↦ are_among words ms ]
 
 -- the value itself, where it is an object all names of which are among these
-abbrev pub object_among : List Word → Data → Option Data
+unfoldable pub object_among : List Word → Data → Option Data
 object_among words d = if has_names_among words d then Some d else None
 
 -- the value of a member, where it is there
@@ -57,5 +57,5 @@ abbrev pub found : Word → Data → Option Data
 found w d = get (word_text w) d
 
 -- a member, read
-abbrev pub read_in : {A : Type 0} → Word → Data → (Data → Option A) → Option A
+unfoldable pub read_in : {A : Type 0} → Word → Data → (Data → Option A) → Option A
 read_in w d f = found w d >>= f

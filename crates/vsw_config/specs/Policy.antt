@@ -1,11 +1,13 @@
 -- What a policy file says.
-use Rattle.std.specs.Prelude.{◌≡◌, ℕ, ◌≤◌, ◌==◌, List, [], ◌∷◌, length, Bool, true, false, Option, Some, None, Result, Ok, Err, IsUtf8, codes, if◌then◌else◌}
+use Rattle.std.specs.Prelude.{◌≡◌, ◌≢◌, ℕ, ◌≤◌, ◌==◌, List, [], ◌∷◌, length, Option, Some, None, Result, Ok, Err, IsUtf8, codes, if◌then◌else◌}
+use Rattle.std.specs.List.{AllPairs}
 use Rattle.serde_json.specs.Data.{Data}
 use Rattle.serde_json.specs.Find.{as_str}
 use Rattle.serde_json.specs.Read.{read}
 use Rattle.vsw_base.specs.declared.packet.Dir.{Dir}
 use Rattle.vsw_base.specs.declared.packet.Dir.TheVariants.{Out, In}
 use Rattle.vsw_base.specs.Spelling.{◌>>=◌, mac_of}
+use Rattle.vsw_walk.specs.declared.layer.PlainRule.{PlainRule}
 use Rattle.vsw_walk.specs.declared.layer.PlainGroup.{PlainGroup}
 use Rattle.vsw_walk.specs.declared.layer.PlainLayer.{PlainLayer}
 use Rattle.vsw_config.specs.declared.policy.PlainPolicy.{PlainPolicy}
@@ -14,15 +16,15 @@ use Rattle.vsw_config.specs.declared.policy.PolicyFault.TheVariants.{NotBuilt, M
 use Rattle.vsw_config.specs.declared.word.Word.{Word}
 use Rattle.vsw_config.specs.declared.word.Word.TheVariants as word
 use Rattle.vsw_config.specs.Object.{object_among, read_in}
-use Rattle.vsw_config.specs.Value.{number_from, short_of, choice_of, allow_of, items_to, only_item}
+use Rattle.vsw_config.specs.Value.{number_from, short_of, choice_of, allows_of, items_to, only_item}
 use Rattle.vsw_config.specs.Rule.{rules_of}
 
 abbrev pub dir_of : Data → Option Dir
 dir_of d = choice_of ((codes "out", Out) ∷ (codes "in", In) ∷ []) d
 
--- a text that spells an Ethernet address
-abbrev pub mac_in : Data → Option ℕ
-mac_in d = as_str d >>= mac_of
+-- an Ethernet address, spelt as a text
+abbrev pub address_of : Data → Option ℕ
+address_of d = as_str d >>= mac_of
 
 -- the one item of a list, read
 abbrev pub only : {A : Type 0} → (Data → Option A) → Data → Option A
@@ -62,8 +64,8 @@ layer_of listed d = do
   controller ← read_in word.Controller o (listed_number listed)
   layer ← read_in word.Layer o short_of
   order ← read_in word.Order o short_of
-  allow_out ← read_in word.DefaultOut o allow_of
-  allow_in ← read_in word.DefaultIn o allow_of
+  allow_out ← read_in word.DefaultOut o allows_of
+  allow_in ← read_in word.DefaultIn o allows_of
   pairs ← read_in word.Pairs o pairs_of
   idle ← read_in word.Idle o seconds_of
   linger ← read_in word.Linger o seconds_of
@@ -73,12 +75,15 @@ layer_of listed d = do
 abbrev pub rows_of : Data → Option ℕ
 rows_of d = number_from 8 16384 d
 
+abbrev pub port_words : List Word
+port_words = word.Port ∷ word.Mac ∷ word.Rows ∷ word.Layers ∷ []
+
 -- a port and its number, address, rows and layer; only ports of one layer are built
 unfoldable pub port_of : ℕ → Data → Option PlainPolicy
 port_of listed d = do
-  o ← object_among (word.Port ∷ word.Mac ∷ word.Rows ∷ word.Layers ∷ []) d
+  o ← object_among port_words d
   port ← read_in word.Port o short_of
-  mac ← read_in word.Mac o mac_in
+  mac ← read_in word.Mac o address_of
   rows ← read_in word.Rows o rows_of
   layer ← read_in word.Layers o (only (layer_of listed))
   Some (record { controller = listed; port = port; mac = mac; rows = rows; layer = layer })
@@ -90,10 +95,13 @@ version_of d = number_from 1 1 d
 abbrev pub controllers_of : Data → Option ℕ
 controllers_of d = only short_of d
 
+abbrev pub file_words : List Word
+file_words = word.Version ∷ word.Controllers ∷ word.Ports ∷ []
+
 -- a policy file; only policies of one controller and one port are built
 unfoldable pub policy_of : Data → Option PlainPolicy
 policy_of d = do
-  o ← object_among (word.Version ∷ word.Controllers ∷ word.Ports ∷ []) d
+  o ← object_among file_words d
   version ← read_in word.Version o version_of
   controller ← read_in word.Controllers o controllers_of
   read_in word.Ports o (only (port_of controller))
@@ -101,6 +109,10 @@ policy_of d = do
 -- the bytes are the text of this policy
 abbrev pub IsPolicy : List ℕ → PlainPolicy → Type 0
 IsPolicy bytes p = (length bytes ≤ 65536) × (d : Data) × IsUtf8 bytes × (read bytes ≡ Some d) × (policy_of d ≡ Some p)
+
+-- no number stands twice
+unfoldable pub AreDistinct : List PlainRule → Type 0
+AreDistinct rules = AllPairs (λ r s. r.number ≢ s.number) rules
 
 -- what each answer says of the bytes
 abbrev pub Answers : List ℕ → Result PlainPolicy PolicyFault → Type 0

@@ -1,5 +1,5 @@
 -- Rules and their conditions.
-use Rattle.std.specs.Prelude.{ℕ, ◌==◌, ◌||◌, List, [], ◌∷◌, Bool, Option, Some, None, codes, if◌then◌else◌}
+use Rattle.std.specs.Prelude.{ℕ, ◌==◌, ◌||◌, List, [], ◌∷◌, Option, Some, None, codes, if◌then◌else◌}
 use Rattle.std.specs.List.{list_any}
 use Rattle.serde_json.specs.Data.{Data}
 use Rattle.serde_json.specs.Find.{as_str, as_bool}
@@ -12,7 +12,7 @@ use Rattle.vsw_walk.specs.declared.layer.PlainRule.{PlainRule}
 use Rattle.vsw_config.specs.declared.word.Word.{Word}
 use Rattle.vsw_config.specs.declared.word.Word.TheVariants.{When, Rule, Priority, Action, Stateful, Last, Field, Any}
 use Rattle.vsw_config.specs.Object.{object_among, read_in}
-use Rattle.vsw_config.specs.Value.{short_of, choice_of, allow_of, items_to, only_item, items_after}
+use Rattle.vsw_config.specs.Value.{short_of, choice_of, allows_of, items_to, only_item, items_after}
 
 -- a field of the inner IPv4 header
 abbrev pub field_of : Data → Option PlainField
@@ -51,7 +51,7 @@ rule_of done d = do
   number ← read_in Rule o (fresh_number done)
   priority ← read_in Priority o short_of
   when ← read_in When o conds_of
-  allow ← read_in Action o allow_of
+  allow ← read_in Action o allows_of
   stateful ← read_in Stateful o as_bool
   last ← read_in Last o as_bool
   if stateful || last then None else Some (record { number = number; priority = priority; when = when; allow = allow })

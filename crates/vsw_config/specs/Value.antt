@@ -1,7 +1,7 @@
 -- Numbers, texts and lists.
-use Rattle.std.specs.Prelude.{◌≡◌, ℕ, ◌^◌, ◌==◌, ◌&&◌, List, [], ◌∷◌, ◌++◌, length, Bool, true, false, nat_le, nat_lt, Option, Some, None, option_and_then, option_map, Result, Ok, Err, ⊤, codes, bytes_eq, if◌then◌else◌}
+use Rattle.std.specs.Prelude.{◌≡◌, ℕ, ◌&&◌, List, [], ◌∷◌, ◌++◌, length, Bool, true, false, nat_le, Option, Some, None, option_map, Result, Ok, Err, ⊤, codes, bytes_eq, if◌then◌else◌}
 use Rattle.serde_json.specs.Data.{Data, Items, no_items, item}
-use Rattle.serde_json.specs.Find.{as_number, as_u64, as_array, as_str, as_bool}
+use Rattle.serde_json.specs.Find.{as_number, as_u64, as_array, as_str}
 use Rattle.vsw_base.specs.Spelling.{◌>>=◌}
 use Rattle.vsw_config.specs.declared.policy.PolicyFault.{PolicyFault}
 use Rattle.vsw_config.specs.declared.policy.PolicyFault.TheVariants.{NotBuilt, Memory}
@@ -29,7 +29,7 @@ Grows (Ok u) old new x = new ≡ old ++ x ∷ []
 Grows (Err fault) old new x = fault ≡ Memory
 
 -- a whole number, without sign, fraction or exponent, from `low` to `high`
-abbrev pub number_from : ℕ → ℕ → Data → Option ℕ
+unfoldable pub number_from : ℕ → ℕ → Data → Option ℕ
 number_from low high d = do
   number ← as_number d
   n ← as_u64 number
@@ -49,8 +49,8 @@ abbrev pub choice_of : {A : Type 0} → List (List ℕ × A) → Data → Option
 choice_of table d = as_str d >>= value_for table
 
 -- whether what it is said of passes
-abbrev pub allow_of : Data → Option Bool
-allow_of d = choice_of ((codes "allow", true) ∷ (codes "drop", false) ∷ []) d
+abbrev pub allows_of : Data → Option Bool
+allows_of d = choice_of ((codes "allow", true) ∷ (codes "drop", false) ∷ []) d
 
 abbrev pub list_of : Items → List Data
 list_of no_items = []
@@ -61,7 +61,7 @@ abbrev pub items_in : Data → Option (List Data)
 items_in d = option_map list_of (as_array d)
 
 -- the items of a list of so many at most
-abbrev pub items_to : ℕ → Data → Option (List Data)
+unfoldable pub items_to : ℕ → Data → Option (List Data)
 items_to most d = items_in d >>= (λ ds. if nat_le (length ds) most then Some ds else None)
 
 abbrev pub the_one : List Data → Option Data
@@ -70,7 +70,7 @@ the_one (d ∷ []) = Some d
 the_one (d ∷ e ∷ ds) = None
 
 -- the item of a list of one
-abbrev pub only_item : Data → Option Data
+unfoldable pub only_item : Data → Option Data
 only_item d = items_in d >>= the_one
 
 -- the items so far, and then the rest, each of which is read against those before it

@@ -1,4 +1,5 @@
 //! Layers and their groups.
+#![tactic(auto, unfolding(crate::specs::Object::read_in))]
 
 ghost use Rattle.std.specs.Prelude.{◌≡◌};
 ghost use Rattle.serde_json.specs.View.{view};
@@ -11,7 +12,7 @@ ghost use Rattle.vsw_config.specs.Policy.{only, dir_of, group_words, group_of, l
 use crate::object::{object_in, value_in};
 use crate::policy::PolicyFault::{self, NotBuilt};
 use crate::rule::rules;
-use crate::value::{allow_in, items_up_to, number, only, short_in, text};
+use crate::value::{allows_in, items_up_to, number, only_item, short_in, text};
 use crate::word::Word;
 use serde_json::Value;
 use std::alloc::Global;
@@ -49,7 +50,7 @@ fn group(alloc: Global, value: &Value) -> Result<PlainGroup, PolicyFault>
     let object = object_in(&GROUP_WORDS, value)?;
     let number = short_in(object, Word::Group)?;
     let dir = dir(object)?;
-    items_up_to(0, value_in(object, Word::When)?)?;
+    items_up_to(0, object, Word::When)?;
     let rules = rules(alloc, object)?;
     Ok(PlainGroup { number, dir, rules })
 }
@@ -57,7 +58,7 @@ fn group(alloc: Global, value: &Value) -> Result<PlainGroup, PolicyFault>
 fn only_group(alloc: Global, object: &Value) -> Result<PlainGroup, PolicyFault>
     ensures { Says result (read_in word.Groups (view object.now) (only group_of)) }
 {
-    let group = group(alloc, only(value_in(object, Word::Groups)?)?)?;
+    let group = group(alloc, only_item(object, Word::Groups)?)?;
     Ok(group)
 }
 
@@ -93,8 +94,8 @@ pub fn layer(alloc: Global, controller: u16, value: &Value) -> Result<PlainLayer
     let controller = listed(controller, object)?;
     let layer = short_in(object, Word::Layer)?;
     let order = short_in(object, Word::Order)?;
-    let allow_out = allow_in(object, Word::DefaultOut)?;
-    let allow_in = allow_in(object, Word::DefaultIn)?;
+    let allow_out = allows_in(object, Word::DefaultOut)?;
+    let allow_in = allows_in(object, Word::DefaultIn)?;
     let pairs = pairs(object)?;
     let idle = seconds_in(object, Word::Idle)?;
     let linger = seconds_in(object, Word::Linger)?;

@@ -33,6 +33,7 @@ fn is_object_among(words: &[Word], value: &Value) -> bool
 }
 
 /// The value itself, if it is an object with no other members than these.
+#[tactic(auto, unfolding(crate::specs::Object::object_among))]
 pub fn object_in<'a>(words: &[Word], value: &'a Value) -> Result<&'a Value, PolicyFault>
     ensures { Gives (seen (λ v. view v.now) result) (object_among words.now (view value.now)) }
 {

@@ -1,4 +1,5 @@
 //! Rules and their conditions.
+#![tactic(auto, unfolding(crate::specs::Object::read_in))]
 
 ghost use Rattle.std.specs.Prelude.{◌≡◌, ◌==◌, codes};
 ghost use Rattle.std.specs.List.{list_any};
@@ -11,7 +12,7 @@ ghost use Rattle.vsw_config.specs.Rule.{field_of, only_prefix, cond_of, conds_of
 use crate::list::{Listed, list};
 use crate::object::{object_in, value_in};
 use crate::policy::PolicyFault::{self, NotBuilt};
-use crate::value::{allow_in, items_up_to, only, short_in, text, truth_in};
+use crate::value::{allows_in, items_up_to, only_item, short_in, text, truth_in};
 use crate::word::Word;
 use serde_json::Value;
 use std::alloc::Global;
@@ -31,7 +32,7 @@ fn field(object: &Value) -> Result<PlainField, PolicyFault>
 fn prefix(object: &Value) -> Result<Prefix, PolicyFault>
     ensures { Gives result (read_in word.Any (view object.now) only_prefix) }
 {
-    let text = text(only(value_in(object, Word::Any)?)?)?;
+    let text = text(only_item(object, Word::Any)?)?;
     Prefix::read(text.as_bytes()).map_err(|_| NotBuilt)
 }
 
@@ -56,7 +57,7 @@ impl Listed for PlainCond {
 fn conds(alloc: Global, object: &Value) -> Result<Items<PlainCond>, PolicyFault>
     ensures { Says result (read_in word.When (view object.now) conds_of) }
 {
-    list(alloc, items_up_to(16, value_in(object, Word::When)?)?)
+    list(alloc, items_up_to(16, object, Word::When)?)
 }
 
 fn is_taken(number: u16, rules: &[PlainRule]) -> bool
@@ -93,7 +94,7 @@ fn rule(alloc: Global, done: &[PlainRule], value: &Value) -> Result<PlainRule, P
     let number = fresh(done, object)?;
     let priority = short_in(object, Word::Priority)?;
     let when = conds(alloc, object)?;
-    let allow = allow_in(object, Word::Action)?;
+    let allow = allows_in(object, Word::Action)?;
     let stateful = truth_in(object, Word::Stateful)?;
     let last = truth_in(object, Word::Last)?;
     if stateful || last {
@@ -119,5 +120,5 @@ impl Listed for PlainRule {
 pub fn rules(alloc: Global, object: &Value) -> Result<Items<PlainRule>, PolicyFault>
     ensures { Says result (read_in word.Rules (view object.now) rules_of) }
 {
-    list(alloc, items_up_to(1024, value_in(object, Word::Rules)?)?)
+    list(alloc, items_up_to(1024, object, Word::Rules)?)
 }

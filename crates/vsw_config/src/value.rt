@@ -1,11 +1,12 @@
 //! Numbers, texts and lists.
+#![tactic(auto, unfolding(crate::specs::Object::read_in))]
 
 ghost use Rattle.std.specs.Prelude.{◌≡◌, map};
 ghost use Rattle.serde_json.specs.View.{view};
 ghost use Rattle.serde_json.specs.Find.{as_bool, as_str};
 ghost use Rattle.vsw_config.specs.Object.{read_in};
 ghost use Rattle.vsw_config.specs.declared.word.Word.{Word};
-ghost use Rattle.vsw_config.specs.Value.{Gives, seen, number_from, short_of, allow_of, items_in, items_to, only_item};
+ghost use Rattle.vsw_config.specs.Value.{Gives, seen, number_from, short_of, allows_of, items_in, items_to, only_item};
 
 use crate::object::value_in;
 use crate::policy::PolicyFault::{self, NotBuilt};
@@ -13,6 +14,7 @@ use crate::word::Word;
 use serde_json::Value;
 
 /// A whole number from `low` to `high`.
+#[tactic(auto, unfolding(crate::specs::Value::number_from))]
 pub fn number(low: u32, high: u32, value: &Value) -> Result<u32, PolicyFault>
     ensures { Gives result (number_from low high (view value.now)) }
 {
@@ -25,6 +27,7 @@ pub fn number(low: u32, high: u32, value: &Value) -> Result<u32, PolicyFault>
 }
 
 /// A number that an author may choose as a name or a place.
+#[tactic(auto, unfolding(crate::specs::Value::number_from))]
 pub fn short(value: &Value) -> Result<u16, PolicyFault>
     ensures { Gives result (short_of (view value.now)) }
 {
@@ -54,8 +57,8 @@ pub fn text(value: &Value) -> Result<&str, PolicyFault>
 }
 
 /// Whether what a member is said of passes.
-pub fn allow_in(object: &Value, word: Word) -> Result<bool, PolicyFault>
-    ensures { Gives result (read_in word (view object.now) allow_of) }
+pub fn allows_in(object: &Value, word: Word) -> Result<bool, PolicyFault>
+    ensures { Gives result (read_in word (view object.now) allows_of) }
 {
     match text(value_in(object, word)?)? {
         "allow" => Ok(true),
@@ -74,11 +77,12 @@ fn items(value: &Value) -> Result<&[Value], PolicyFault>
     }
 }
 
-/// The items of a list of so many at most.
-pub fn items_up_to(most: usize, value: &Value) -> Result<&[Value], PolicyFault>
-    ensures { Gives (seen (λ vs. map view vs.now) result) (items_to most (view value.now)) }
+/// The items of a member's list, so many at most.
+#[tactic(auto, unfolding(crate::specs::Object::read_in, crate::specs::Value::items_to))]
+pub fn items_up_to(most: usize, object: &Value, word: Word) -> Result<&[Value], PolicyFault>
+    ensures { Gives (seen (λ vs. map view vs.now) result) (read_in word (view object.now) (items_to most)) }
 {
-    let values = items(value)?;
+    let values = items(value_in(object, word)?)?;
     if values.len() <= most {
         Ok(values)
     } else {
@@ -86,11 +90,12 @@ pub fn items_up_to(most: usize, value: &Value) -> Result<&[Value], PolicyFault>
     }
 }
 
-/// The item of a list of one.
-pub fn only(value: &Value) -> Result<&Value, PolicyFault>
-    ensures { Gives (seen (λ v. view v.now) result) (only_item (view value.now)) }
+/// The item of a member's list of one.
+#[tactic(auto, unfolding(crate::specs::Object::read_in, crate::specs::Value::only_item))]
+pub fn only_item(object: &Value, word: Word) -> Result<&Value, PolicyFault>
+    ensures { Gives (seen (λ v. view v.now) result) (read_in word (view object.now) only_item) }
 {
-    match items(value)? {
+    match items(value_in(object, word)?)? {
         [item] => Ok(item),
         _ => Err(NotBuilt),
     }

@@ -3,7 +3,7 @@
 ghost use Rattle.std.specs.Prelude.{◌≡◌};
 ghost use Rattle.vsw_config.specs.Object.{word_text, is_among};
 
-/// The name of a member, in the order of the objects' table in docs/FORMATS.md.
+/// The name of a member, objects from the outside in, and in each the order of reading.
 #[derive(Clone, Copy, Debug, PartialEq, Eq)]
 pub enum Word {
     Version,

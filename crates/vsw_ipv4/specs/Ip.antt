@@ -7,11 +7,11 @@ use Rattle.vsw_sum.specs.Sum.{checksum, sum_ones, words_of}
 use Rattle.vsw_ipv4.specs.declared.ip.IpPart.{IpPart}
 
 -- what was read
-abbrev pub ip_fields : IpPart → IpFields
-ip_fields p = record { src = p.src; dst = p.dst; proto = p.proto; part = p.part; payload = p.payload.now; trailer = p.trailer.now }
+abbrev pub ip_view : IpPart → IpFields
+ip_view p = record { src = p.src; dst = p.dst; proto = p.proto; part = p.part; payload = p.payload.now; trailer = p.trailer.now }
 
 abbrev pub ip_seen : Result IpPart BadFrame → Result IpFields BadFrame
-ip_seen (Ok p) = Ok (ip_fields p)
+ip_seen (Ok p) = Ok (ip_view p)
 ip_seen (Err e) = Err e
 
 -- a header in front of an encapsulation, with this checksum: version 4 and header length 5, service 0; total length;

@@ -12,14 +12,15 @@ use vsw_base::{BadFrame, Control};
 /// Bytes of a TCP header without options.
 const TCP_LEN: usize = 20;
 
-/// Where the fields stand.
+/// Offset of the destination port.
 const DST: usize = 2;
 
-const OFFSET: usize = 12;
+/// Offset of the data offset.
+const DATA_OFFSET: usize = 12;
 
+/// Offset of the flags.
 const FLAGS: usize = 13;
 
-/// The flags.
 const FIN: u8 = 0x01;
 
 const SYN: u8 = 0x02;
@@ -62,14 +63,14 @@ pub fn read_tcp<'a>(bytes: &'a [u8]) -> Result<TcpPart<'a>, BadFrame>
     if bytes.len() < TCP_LEN {
         return Err(BadFrame::ShortTcp);
     }
-    let header = 4 * usize::from(bytes[OFFSET] / 16);
-    if header < TCP_LEN || bytes.len() < header {
+    let header_len = 4 * usize::from(bytes[DATA_OFFSET] >> 4);
+    if header_len < TCP_LEN || bytes.len() < header_len {
         return Err(BadFrame::TcpOffset);
     }
     Ok(TcpPart {
         src: BigEndian::read_u16(bytes),
         dst: BigEndian::read_u16(&bytes[DST..]),
         control: control(bytes[FLAGS]),
-        payload: &bytes[header..],
+        payload: &bytes[header_len..],
     })
 }

@@ -11,9 +11,10 @@ use vsw_base::BadFrame;
 /// Bytes of a UDP header.
 const UDP_LEN: usize = 8;
 
-/// Where the fields stand.
+/// Offset of the destination port.
 const DST: usize = 2;
 
+/// Offset of the length.
 const LENGTH: usize = 4;
 
 /// A UDP header and what follows it.

@@ -1,4 +1,5 @@
-//! The Internet checksum (RFC 1071).
+//! The Internet checksum (RFC 1071). Eight bytes are added at a time as one number, and the sum is folded to a word at
+//! the end: in one's complement that gives the sum of the words (section 2).
 
 ghost use Rattle.std.specs.Prelude.{◌≡◌, ◌≤◌, ◌<◌, ◌^◌, ◌+◌, ◌-◌, ◌++◌, length, sum, drop};
 ghost use Rattle.vsw_sum.specs.Sum.{checksum, pseudo_words, words_of};
@@ -60,14 +61,14 @@ fn added(start: u64, bytes: &[u8]) -> u64
     plus(sum, rest(&bytes[bytes.len() / STEP * STEP..]))
 }
 
-/// The Internet checksum of the bytes; an odd last byte counts with a zero byte after it.
+/// The checksum of the bytes; an odd last byte counts with a zero byte after it.
 pub fn fresh(bytes: &[u8]) -> u16
     ensures { result ≡ checksum (words_of bytes.now) }
 {
     complement(added(0, bytes))
 }
 
-/// The Internet checksum of the bytes of a TCP or UDP packet with its pseudo-header.
+/// The checksum of a TCP or UDP packet's bytes with the pseudo-header before them (RFC 9293, section 3.1; RFC 768).
 pub fn pseudo(src: Ip4, dst: Ip4, proto: u8, bytes: &[u8]) -> u16
     requires { length bytes.now < 2 ^ 16 }
     ensures { result ≡ checksum (pseudo_words src dst proto (length bytes.now) ++ words_of bytes.now) }

@@ -90,6 +90,7 @@ fn header(src: Ip4, dst: Ip4, total: u16, checksum: u16) -> [u8; IP_LEN]
 }
 
 /// Writes the header of an encapsulation at the front. `total` counts its bytes and all that follow it.
+#[tactic(auto, unfolding(crate::specs::Ip::pushed_checksum))]
 pub fn write_ip(out: &mut [u8], src: Ip4, dst: Ip4, total: u16)
     requires { 20 ≤ length out.old }
     ensures front { take 20 out.new ≡ pushed_ip_bytes src dst total }

@@ -1,6 +1,6 @@
-//! The IPv4 header (RFC 791, section 3.1): version and header length in words of 4 bytes (1 byte), service
-//! (1), total length (2), id (2), flags and fragment offset (2), time to live (1), protocol (1), checksum
-//! (2), source (4), destination (4), options. Numbers have their highest byte first.
+//! The IPv4 header (RFC 791, section 3.1): version and header length in words of 4 bytes (1 byte),
+//! service (1), total length (2), id (2), flags and fragment offset (2), time to live (1), protocol
+//! (1), checksum (2), source (4), destination (4), options. Numbers have their highest byte first.
 
 ghost use Rattle.std.specs.Prelude.{◌≡◌, ◌≤◌, IfOk, drop, length, take};
 ghost use Rattle.vsw_base.specs.Ipv4.{ip_of};
@@ -47,8 +47,8 @@ pub struct IpPart<'a> {
     pub trailer: &'a [u8],
 }
 
-/// The header that the bytes begin with. Options are skipped, and the checksum isn't looked at: captures
-/// under checksum offload hold wrong ones.
+/// The header that the bytes begin with. Options are skipped, and the checksum isn't looked at:
+/// captures under checksum offload hold wrong ones.
 pub fn read_ip<'a>(bytes: &'a [u8]) -> Result<IpPart<'a>, BadFrame>
     ensures fields { ip_seen result ≡ ip_of bytes.now }
     ensures fit { IfOk result (λ part. IsFit (Ip part.src part.dst part.proto part.part)) }
@@ -74,8 +74,8 @@ pub fn read_ip<'a>(bytes: &'a [u8]) -> Result<IpPart<'a>, BadFrame>
     })
 }
 
-/// The bytes of the header of an encapsulation: version 4, header length 5 words, service 0, id 0, don't fragment, time
-/// to live 64, UDP.
+/// The bytes of the header of an encapsulation: version 4, header length 5 words, service 0, id 0,
+/// don't fragment, time to live 64, UDP.
 fn header(src: Ip4, dst: Ip4, total: u16, checksum: u16) -> [u8; IP_LEN]
     ensures bytes { result ≡ ip_bytes src dst total checksum }
     ensures len { length result ≡ 20 }
@@ -89,7 +89,8 @@ fn header(src: Ip4, dst: Ip4, total: u16, checksum: u16) -> [u8; IP_LEN]
     ]
 }
 
-/// Writes the header of an encapsulation at the front. `total` counts its bytes and all that follow it.
+/// Writes the header of an encapsulation at the front. `total` counts its bytes and all that follow
+/// it.
 #[tactic(auto, unfolding(crate::specs::Ip::pushed_checksum))]
 pub fn write_ip(out: &mut [u8], src: Ip4, dst: Ip4, total: u16)
     requires { 20 ≤ length out.old }

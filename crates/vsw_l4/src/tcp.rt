@@ -1,6 +1,7 @@
-//! The TCP header (RFC 9293, section 3.1): source port (2 bytes), destination port (2), sequence number (4),
-//! acknowledgment number (4), data offset in words of 4 bytes (the high half of 1 byte), flags (1),
-//! window (2), checksum (2), urgent pointer (2), options. Numbers have their highest byte first.
+//! The TCP header (RFC 9293, section 3.1): source port (2 bytes), destination port (2), sequence
+//! number (4), acknowledgment number (4), data offset in words of 4 bytes (the high half of 1
+//! byte), flags (1), window (2), checksum (2), urgent pointer (2), options. Numbers have their
+//! highest byte first.
 
 ghost use Rattle.std.specs.Prelude.{◌≡◌};
 ghost use Rattle.vsw_base.specs.Tcp.{control_of, tcp_of};
@@ -55,8 +56,8 @@ fn control(flags: u8) -> Control
     }
 }
 
-/// The header that the bytes begin with. Options are skipped, and the checksum isn't looked at: captures
-/// under checksum offload hold wrong ones.
+/// The header that the bytes begin with. Options are skipped, and the checksum isn't looked at:
+/// captures under checksum offload hold wrong ones.
 pub fn read_tcp<'a>(bytes: &'a [u8]) -> Result<TcpPart<'a>, BadFrame>
     ensures { tcp_seen result ≡ tcp_of bytes.now }
 {

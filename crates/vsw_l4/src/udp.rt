@@ -28,8 +28,8 @@ pub struct UdpPart<'a> {
     pub slack: &'a [u8],
 }
 
-/// The header that the bytes begin with. The checksum isn't looked at: captures under checksum offload
-/// hold wrong ones.
+/// The header that the bytes begin with. The checksum isn't looked at: captures under checksum
+/// offload hold wrong ones.
 pub fn read_udp<'a>(bytes: &'a [u8]) -> Result<UdpPart<'a>, BadFrame>
     ensures { udp_seen result ≡ udp_of bytes.now }
 {

@@ -1,5 +1,5 @@
-//! The VXLAN header (RFC 7348, section 5): flags (1 byte), reserved (3), VNI (3), reserved (1). Numbers
-//! have their highest byte first.
+//! The VXLAN header (RFC 7348, section 5): flags (1 byte), reserved (3), VNI (3), reserved (1).
+//! Numbers have their highest byte first.
 
 ghost use Rattle.std.specs.Prelude.{◌≡◌, ◌<◌, ◌≤◌, ◌+◌, ◌^◌, IfSome, drop, length, take};
 ghost use Rattle.vsw_base.specs.Vxlan.{vni_of};
@@ -20,7 +20,8 @@ const VNI: usize = 4;
 /// The I flag, which says that the VNI is valid.
 const FLAG_VNI: u8 = 0x08;
 
-/// The VNI of the header that the bytes begin with, if there is one. Reserved bits are ignored, as the RFC asks.
+/// The VNI of the header that the bytes begin with, if there is one. Reserved bits are ignored, as
+/// the RFC asks.
 pub fn read_vxlan(bytes: &[u8]) -> Option<u32>
     ensures vni { result ≡ vni_of bytes.now }
     ensures fit { IfSome result (λ vni. vni < 2 ^ 24) }
@@ -46,7 +47,8 @@ fn header(src_port: u16, inner: u32, vni: u32) -> [u8; UDP_VXLAN_LEN]
     ]
 }
 
-/// Writes the headers of an encapsulation at the front. `inner` counts the bytes of the frame that follows them.
+/// Writes the headers of an encapsulation at the front. `inner` counts the bytes of the frame that
+/// follows them.
 pub fn write_udp_vxlan(out: &mut [u8], src_port: u16, inner: u32, vni: u32)
     requires room { 16 ≤ length out.old }
     requires fits { inner ≤ 65519 }

@@ -17,8 +17,9 @@ fn changed(total: u64, from: u16, to: u16) -> u64
     }
 }
 
-/// The checksum after words changed: `old` was that of words among which `from` became `to`, place by place. Only the
-/// places that differ are added (RFC 1624, equation 3), so that where none does, `old` stays.
+/// The checksum after words changed: `old` was that of words among which `from` became `to`, place
+/// by place. Only the places that differ are added (RFC 1624, equation 3), so that where none does,
+/// `old` stays.
 pub fn update(old: u16, from: &[u16], to: &[u16]) -> u16
     requires { length from.now ≡ length to.now }
     ensures { result ≡ update_of old from.now to.now }

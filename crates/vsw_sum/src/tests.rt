@@ -18,7 +18,8 @@ fn an_update_is_that_of_the_rfc(rt: HostRuntime) {
 
 #[test]
 fn headers_of_linux_have_its_checksums(rt: HostRuntime) {
-    // IPv4 headers with 0 in the place of the checksum: TCP's first packet, a packet with options, a later fragment
+    // IPv4 headers with 0 in the place of the checksum: TCP's first packet, a packet with options,
+    // a later fragment
     let first = [
         0x45, 0x00, 0x00, 0x3c, 0xbe, 0x4b, 0x40, 0x00, 0x40, 0x06, 0x00, 0x00, 0x7f, 0x00, 0x00,
         0x01, 0x7f, 0x00, 0x00, 0x01,

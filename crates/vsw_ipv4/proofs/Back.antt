@@ -7,7 +7,7 @@ use Rattle.byteorder.specs.Endian.{big_bytes, big_number}
 use Rattle.vsw_base.specs.Ipv4.{IpFields, ip_fields, ip_of, ip_total}
 use Rattle.vsw_sum.specs.Sum.{AreWords, checksum, sum_ones, words_of}
 use Rattle.vsw_sum.proofs.Changed as changed
-use Rattle.vsw_ipv4.specs.Ip.{Checks, ReadsBack, ip_bytes}
+use Rattle.vsw_ipv4.specs.Ip.{Checks, ReadsBack, ip_bytes, pushed_checksum}
 
 two_is : (x : ℕ) → x < 2 ^ 16 → big_number 2 (big_bytes 2 x) ≡ x
 two_is x h = omega arith
@@ -38,7 +38,7 @@ read_back src dst n sum rest hs hd hn l =
     ∙ ap Ok (fields_are _ src _ dst _ (take n rest) _ (drop n rest) (four_is src hs) (four_is dst hd) (payload_is bytes rest (ip_total bytes) n t refl) (trailer_is bytes rest (ip_total bytes) n t refl))
 
 pub reads_back : ReadsBack
-reads_back src dst n rest hs hd hn l = read_back src dst n (checksum (words_of (ip_bytes src dst (20 + n) 0))) rest hs hd hn l
+reads_back src dst n rest hs hd hn l = read_back src dst n (pushed_checksum src dst (20 + n)) rest hs hd hn l
 
 word_is : (k : ℕ) → k < 2 ^ 16 → 256 * (k / 256 % 256) + k % 256 ≡ k
 word_is k h = omega arith
@@ -47,6 +47,7 @@ checks_at : (first last : List ℕ) (w : ℕ) → AreWords first → AreWords la
 checks_at first last w f l e = ap (λ (k : ℕ). sum_ones (first ++ k ∷ last)) e ∙ changed.checks first last f l
 
 pub checks : Checks
+unfolding pushed_checksum
 checks src dst total hs hd ht =
     let bare : List ℕ = ip_bytes src dst total 0 in
     let k : ℕ = checksum (words_of bare) in

@@ -7,11 +7,11 @@ use Rattle.vsw_sum.specs.Sum.{checksum, sum_ones, words_of}
 use Rattle.vsw_ipv4.specs.declared.ip.IpPart.{IpPart}
 
 -- what was read
-abbrev pub ip_fields : IpPart → IpFields
-ip_fields p = record { src = p.src; dst = p.dst; proto = p.proto; part = p.part; payload = p.payload.now; trailer = p.trailer.now }
+abbrev pub ip_view : IpPart → IpFields
+ip_view p = record { src = p.src; dst = p.dst; proto = p.proto; part = p.part; payload = p.payload.now; trailer = p.trailer.now }
 
 abbrev pub ip_seen : Result IpPart BadFrame → Result IpFields BadFrame
-ip_seen (Ok p) = Ok (ip_fields p)
+ip_seen (Ok p) = Ok (ip_view p)
 ip_seen (Err e) = Err e
 
 -- a header in front of an encapsulation, with this checksum: version 4 and header length 5, service 0; total length;
@@ -20,8 +20,11 @@ abbrev pub ip_bytes : ℕ → ℕ → ℕ → ℕ → List ℕ
 ip_bytes src dst total sum = (0x45 ∷ 0 ∷ []) ++ big_bytes 2 total ++ big_bytes 2 0 ++ big_bytes 2 0x4000 ++ (64 ∷ 17 ∷ []) ++ big_bytes 2 sum ++ big_bytes 4 src ++ big_bytes 4 dst
 
 -- its checksum is taken with 0 in its place
+unfoldable pub pushed_checksum : ℕ → ℕ → ℕ → ℕ
+pushed_checksum src dst total = checksum (words_of (ip_bytes src dst total 0))
+
 abbrev pub pushed_ip_bytes : ℕ → ℕ → ℕ → List ℕ
-pushed_ip_bytes src dst total = ip_bytes src dst total (checksum (words_of (ip_bytes src dst total 0)))
+pushed_ip_bytes src dst total = ip_bytes src dst total (pushed_checksum src dst total)
 
 -- what was written is read back: n bytes of what follows are the payload, and the rest of it the trailer
 abbrev pub ReadsBack : Type 0

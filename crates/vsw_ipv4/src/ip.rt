@@ -1,6 +1,6 @@
-//! The IPv4 header (RFC 791, section 3.1): version and header length in words of 4 bytes (1 byte), service
-//! (1), total length (2), id (2), flags and fragment offset (2), time to live (1), protocol (1), checksum
-//! (2), source (4), destination (4), options. Numbers have their highest byte first.
+//! The IPv4 header (RFC 791, section 3.1): version and header length in words of 4 bytes (1 byte),
+//! service (1), total length (2), id (2), flags and fragment offset (2), time to live (1), protocol
+//! (1), checksum (2), source (4), destination (4), options. Numbers have their highest byte first.
 
 ghost use Rattle.std.specs.Prelude.{◌≡◌, ◌≤◌, IfOk, drop, length, take};
 ghost use Rattle.vsw_base.specs.Ipv4.{ip_of};
@@ -15,15 +15,19 @@ use vsw_sum::fresh;
 /// Bytes of an IPv4 header without options.
 const IP_LEN: usize = 20;
 
-/// Where the fields stand.
+/// Offset of the total length.
 const TOTAL: usize = 2;
 
+/// Offset of flags and fragment offset.
 const FRAGMENT: usize = 6;
 
+/// Offset of the protocol.
 const PROTO: usize = 9;
 
+/// Offset of the source address.
 const SRC: usize = 12;
 
+/// Offset of the destination address.
 const DST: usize = 16;
 
 /// The bits of flags and fragment offset that mark a fragment: more fragments, and the offset.
@@ -43,8 +47,8 @@ pub struct IpPart<'a> {
     pub trailer: &'a [u8],
 }
 
-/// The header that the bytes begin with. Options are skipped, and the checksum isn't looked at: captures
-/// under checksum offload hold wrong ones.
+/// The header that the bytes begin with. Options are skipped, and the checksum isn't looked at:
+/// captures under checksum offload hold wrong ones.
 pub fn read_ip<'a>(bytes: &'a [u8]) -> Result<IpPart<'a>, BadFrame>
     ensures fields { ip_seen result ≡ ip_of bytes.now }
     ensures fit { IfOk result (λ part. IsFit (Ip part.src part.dst part.proto part.part)) }
@@ -52,12 +56,12 @@ pub fn read_ip<'a>(bytes: &'a [u8]) -> Result<IpPart<'a>, BadFrame>
     if bytes.len() < IP_LEN {
         return Err(BadFrame::ShortIp);
     }
-    if bytes[0] / 16 != 4 {
+    if bytes[0] >> 4 != 4 {
         return Err(BadFrame::IpVersion);
     }
-    let header = 4 * usize::from(bytes[0] & 0x0f);
+    let header_len = 4 * usize::from(bytes[0] & 0x0f);
     let total = usize::from(BigEndian::read_u16(&bytes[TOTAL..]));
-    if header < IP_LEN || total < header || bytes.len() < total {
+    if header_len < IP_LEN || total < header_len || bytes.len() < total {
         return Err(BadFrame::IpLength);
     }
     Ok(IpPart {
@@ -65,13 +69,13 @@ pub fn read_ip<'a>(bytes: &'a [u8]) -> Result<IpPart<'a>, BadFrame>
         dst: Ip4::of(BigEndian::read_u32(&bytes[DST..])),
         proto: bytes[PROTO],
         part: BigEndian::read_u16(&bytes[FRAGMENT..]) & PART_BITS != 0,
-        payload: &bytes[..total][header..],
+        payload: &bytes[..total][header_len..],
         trailer: &bytes[total..],
     })
 }
 
-/// The bytes of a header in front of an encapsulation: version 4, header length 5 words, service 0, id 0, don't
-/// fragment, time to live 64, UDP.
+/// The bytes of the header of an encapsulation: version 4, header length 5 words, service 0, id 0,
+/// don't fragment, time to live 64, UDP.
 fn header(src: Ip4, dst: Ip4, total: u16, checksum: u16) -> [u8; IP_LEN]
     ensures bytes { result ≡ ip_bytes src dst total checksum }
     ensures len { length result ≡ 20 }
@@ -85,7 +89,9 @@ fn header(src: Ip4, dst: Ip4, total: u16, checksum: u16) -> [u8; IP_LEN]
     ]
 }
 
-/// Writes the header of an encapsulation at the front; `total` is its bytes with all that follows.
+/// Writes the header of an encapsulation at the front. `total` counts its bytes and all that follow
+/// it.
+#[tactic(auto, unfolding(crate::specs::Ip::pushed_checksum))]
 pub fn write_ip(out: &mut [u8], src: Ip4, dst: Ip4, total: u16)
     requires { 20 ≤ length out.old }
     ensures front { take 20 out.new ≡ pushed_ip_bytes src dst total }

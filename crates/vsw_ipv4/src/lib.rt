@@ -3,6 +3,8 @@
 
 mod ip;
 mod law;
+#[cfg(test)]
+mod tests;
 
 pub use ip::{IpPart, read_ip, write_ip};
 pub use law::laws;

@@ -3,6 +3,8 @@
 
 mod law;
 mod tcp;
+#[cfg(test)]
+mod tests;
 mod udp;
 mod vxlan;
 

@@ -11,9 +11,10 @@ use vsw_base::BadFrame;
 /// Bytes of a UDP header.
 const UDP_LEN: usize = 8;
 
-/// Where the fields stand.
+/// Offset of the destination port.
 const DST: usize = 2;
 
+/// Offset of the length.
 const LENGTH: usize = 4;
 
 /// A UDP header and what follows it.
@@ -27,8 +28,8 @@ pub struct UdpPart<'a> {
     pub slack: &'a [u8],
 }
 
-/// The header that the bytes begin with. The checksum isn't looked at: captures under checksum offload
-/// hold wrong ones.
+/// The header that the bytes begin with. The checksum isn't looked at: captures under checksum
+/// offload hold wrong ones.
 pub fn read_udp<'a>(bytes: &'a [u8]) -> Result<UdpPart<'a>, BadFrame>
     ensures { udp_seen result ≡ udp_of bytes.now }
 {

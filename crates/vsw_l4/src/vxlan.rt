@@ -1,5 +1,5 @@
-//! The VXLAN header (RFC 7348, section 5): flags (1 byte), reserved (3), VNI (3), reserved (1). Numbers
-//! have their highest byte first.
+//! The VXLAN header (RFC 7348, section 5): flags (1 byte), reserved (3), VNI (3), reserved (1).
+//! Numbers have their highest byte first.
 
 ghost use Rattle.std.specs.Prelude.{◌≡◌, ◌<◌, ◌≤◌, ◌+◌, ◌^◌, IfSome, drop, length, take};
 ghost use Rattle.vsw_base.specs.Vxlan.{vni_of};
@@ -11,17 +11,17 @@ const VXLAN_LEN: usize = 8;
 /// Bytes of a UDP header and a VXLAN header.
 const UDP_VXLAN_LEN: usize = 16;
 
-/// The UDP port of VXLAN.
+/// The UDP port of VXLAN (RFC 7348, section 5).
 const PORT: u16 = 4789;
 
-/// Where the VNI stands.
+/// Offset of the VNI.
 const VNI: usize = 4;
 
 /// The I flag, which says that the VNI is valid.
 const FLAG_VNI: u8 = 0x08;
 
-/// The VNI of the header that the bytes begin with, where there is one. Reserved bits are ignored, as the RFC
-/// asks.
+/// The VNI of the header that the bytes begin with, if there is one. Reserved bits are ignored, as
+/// the RFC asks.
 pub fn read_vxlan(bytes: &[u8]) -> Option<u32>
     ensures vni { result ≡ vni_of bytes.now }
     ensures fit { IfSome result (λ vni. vni < 2 ^ 24) }
@@ -32,7 +32,7 @@ pub fn read_vxlan(bytes: &[u8]) -> Option<u32>
     Some(u32::from_be_bytes([0, bytes[VNI], bytes[VNI + 1], bytes[VNI + 2]]))
 }
 
-/// The bytes of a UDP header without checksum, as the RFC asks (section 5), and of a VXLAN header.
+/// The bytes of the UDP header, without checksum as the RFC asks, and of the VXLAN header.
 fn header(src_port: u16, inner: u32, vni: u32) -> [u8; UDP_VXLAN_LEN]
     requires { inner ≤ 65519 }
     ensures bytes { result ≡ udp_vxlan_bytes src_port inner vni }
@@ -47,7 +47,8 @@ fn header(src_port: u16, inner: u32, vni: u32) -> [u8; UDP_VXLAN_LEN]
     ]
 }
 
-/// Writes the headers of an encapsulation at the front, for `inner` bytes behind them.
+/// Writes the headers of an encapsulation at the front. `inner` counts the bytes of the frame that
+/// follows them.
 pub fn write_udp_vxlan(out: &mut [u8], src_port: u16, inner: u32, vni: u32)
     requires room { 16 ≤ length out.old }
     requires fits { inner ≤ 65519 }

@@ -8,11 +8,11 @@ use Rattle.vsw_base.specs.declared.header.Header.TheVariants.{Ether}
 use Rattle.vsw_link.specs.declared.ether.EtherPart.{EtherPart}
 
 -- what was read
-abbrev pub ether_fields : EtherPart → EtherFields
-ether_fields p = record { dst = p.dst; src = p.src; kind = p.kind; rest = p.rest.now }
+abbrev pub ether_view : EtherPart → EtherFields
+ether_view p = record { dst = p.dst; src = p.src; kind = p.kind; rest = p.rest.now }
 
 abbrev pub ether_seen : Result EtherPart BadFrame → Result EtherFields BadFrame
-ether_seen (Ok p) = Ok (ether_fields p)
+ether_seen (Ok p) = Ok (ether_view p)
 ether_seen (Err e) = Err e
 
 -- destination, source, type

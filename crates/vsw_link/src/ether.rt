@@ -14,9 +14,10 @@ use vsw_base::{BadFrame, Mac};
 /// Bytes of an Ethernet header.
 const ETHER_LEN: usize = 14;
 
-/// Where the fields stand.
+/// Offset of the source address.
 const SRC: usize = 6;
 
+/// Offset of the type.
 const KIND: usize = 12;
 
 /// An Ethernet header and what follows it.

@@ -6,7 +6,7 @@ ghost use Rattle.vsw_sum.specs.Update.{changes, update_of};
 
 use crate::sum::{complement, plus};
 
-/// The sum after a word changed.
+/// The sum after a word of those that it was taken over changed.
 fn changed(total: u64, from: u16, to: u16) -> u64
     ensures { fold_of result ≡ fold_of (total + sum (changes (from ∷ []) (to ∷ []))) }
 {
@@ -17,8 +17,9 @@ fn changed(total: u64, from: u16, to: u16) -> u64
     }
 }
 
-/// The checksum `old` after the words `from` became `to`, place by place; where they are the same, so is the
-/// checksum.
+/// The checksum after words changed: `old` was that of words among which `from` became `to`, place
+/// by place. Only the places that differ are added (RFC 1624, equation 3), so that where none does,
+/// `old` stays.
 pub fn update(old: u16, from: &[u16], to: &[u16]) -> u16
     requires { length from.now ≡ length to.now }
     ensures { result ≡ update_of old from.now to.now }

@@ -4,6 +4,8 @@
 mod change;
 mod law;
 mod sum;
+#[cfg(test)]
+mod tests;
 
 pub use change::update;
 pub use law::laws;

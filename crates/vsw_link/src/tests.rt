@@ -1,0 +1,34 @@
+//! Headers from other sources.
+
+use crate::{EtherPart, read_ether, write_ether};
+use vsw_base::{BadFrame, Mac};
+
+/// From 02:00:00:00:00:01 to 02:00:00:00:00:99, IPv4.
+const HEADER: [u8; 14] = [
+    0x02, 0x00, 0x00, 0x00, 0x00, 0x99, 0x02, 0x00, 0x00, 0x00, 0x00, 0x01, 0x08, 0x00,
+];
+
+#[test]
+fn a_header_is_read(rt: HostRuntime) {
+    let part = EtherPart {
+        dst: Mac::of(0x0200_0000_0099),
+        src: Mac::of(0x0200_0000_0001),
+        kind: 0x0800,
+        rest: &[],
+    };
+    assert_eq!(rt; read_ether(&HEADER), Ok(part));
+    assert_eq!(rt; read_ether(&HEADER[..13]), Err(BadFrame::ShortEther));
+}
+
+#[test]
+fn a_header_is_written_at_the_front(rt: HostRuntime) {
+    let mut out = [0xee; 16];
+    write_ether(
+        &mut out,
+        Mac::of(0x0200_0000_0099),
+        Mac::of(0x0200_0000_0001),
+        0x0800,
+    );
+    assert_eq!(rt; &out[..14], &HEADER[..]);
+    assert_eq!(rt; &out[14..], [0xee, 0xee].as_slice());
+}

@@ -37,9 +37,9 @@ enum Start {
 
 /// A reader of a capture, which takes the capture's bytes in pieces of any lengths.
 ///
-/// Consumed bytes are given back when a piece is fed and they are at least as many as the bytes left.
-/// So each byte is moved a constant number of times on average, and the buffer never holds more
-/// than twice the bytes that were in hand at once.
+/// Consumed bytes are given back when a piece is fed, once they are at least as many as the bytes
+/// left. So no more bytes are moved than were consumed, and the buffer never holds more than twice
+/// the bytes that were in hand after the last piece.
 #[derive(Drop)]
 pub struct Reader {
     alloc: Global,
@@ -108,8 +108,10 @@ impl Reader {
         ensures ok { OnOk result (self.new ≡ fed_with piece.now self.old) }
         ensures err { OnErr result (self.new ≡ self.old) }
 
-        // The same in the words of the bytes fed and the records given; and a refused capture stays refused.
+        // The same in the words of the bytes fed and the records given.
         ensures stands { OnOk result ((bytes : List ℕ) (records : List Record) → Stands self.old bytes records → Stands self.new (bytes ++ piece.now) records) }
+
+        // A refused capture stays refused.
         ensures refused { OnOk result ((bad : BadTrace) → next_of self.old ≡ Next.Bad bad → next_of self.new ≡ Next.Bad bad) }
     {
         self.give_back();
@@ -167,7 +169,8 @@ impl Reader {
         }
     }
 
-    /// What stands next, computed.
+    /// The next answer, by what stands at the front.
+    #[tactic(auto, unfolding(crate::specs::Reader::next_of, crate::specs::Reader::after_next))]
     fn take_next(&mut self) -> Result<Next, NoMemory>
         ensures answer { IfOk result (λ answer. answer ≡ next_of self.old) }
         ensures after { OnOk result (self.new ≡ after_next self.old) }

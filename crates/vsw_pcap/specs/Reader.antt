@@ -26,11 +26,15 @@ start_in None left finished = if nat_lt (length left) 24 && not finished then Un
 abbrev pub start_of : Progress → Start
 start_of p = start_in p.form p.left p.finished
 
+-- the answer where no whole record stands at the front of these bytes
+abbrev pub pause_of : ℕ → List ℕ → Bool → Next
+pause_of at left finished = if not finished then next.More else if length left == 0 then next.End else next.Bad (Cut at)
+
 -- the answer where this stands at the front of the bytes that are left, which begin at byte `at`
 abbrev pub answer_at : Front → Form → ℕ → List ℕ → Bool → Next
 answer_at (Whole captured) form at left finished = next.Record (record_of form left captured)
 answer_at Oversize form at left finished = next.Bad (Huge at)
-answer_at Part form at left finished = if not finished then next.More else if length left == 0 then next.End else next.Bad (Cut at)
+answer_at Part form at left finished = pause_of at left finished
 
 abbrev pub answer_from : Start → Progress → Next
 answer_from (Records form header) p = answer_at (front_of form (drop header p.left)) form (p.at + header) (drop header p.left) p.finished

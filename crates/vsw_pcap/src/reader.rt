@@ -1,7 +1,8 @@
 //! The reader of a capture that comes in pieces.
 
 ghost use Rattle.std.specs.Prelude.{◌≡◌, ◌<◌, ◌≤◌, ◌^◌, ◌+◌, ℕ, List, length, drop, ◌++◌, [], false, true, Ok, OnOk, OnErr, IfOk};
-ghost use Rattle.vsw_pcap.specs.Reader.{start_of, next_of, after_next, unfed, fed_with, finished_at, BeginsIn, Moves, Stands, Tells};
+ghost use Rattle.vsw_pcap.specs.Capture.{front_of};
+ghost use Rattle.vsw_pcap.specs.Reader.{start_of, pause_of, answer_at, after_at, next_of, after_next, unfed, fed_with, finished_at, BeginsIn, Moves, Stands, Tells};
 ghost use Rattle.vsw_pcap.specs.declared.capture.Record.{Record};
 ghost use Rattle.vsw_pcap.specs.declared.fault.BadTrace.{BadTrace};
 
@@ -82,6 +83,19 @@ fn append(buffer: &mut Vec<u8>, piece: &[u8]) -> Result<(), NoMemory>
     match buffer.extend_from_slice(piece) {
         Ok(()) => Ok(()),
         Err(_) => Err(NoMemory),
+    }
+}
+
+/// The answer where no whole record stands at the front of these bytes, which begin at byte `at`.
+fn pause(at: u64, left: &[u8], finished: bool) -> Next
+    ensures { result ≡ pause_of at left.now finished }
+{
+    if !finished {
+        Next::More
+    } else if left.is_empty() {
+        Next::End
+    } else {
+        Next::Bad(BadTrace::Cut { at })
     }
 }
 
@@ -169,18 +183,27 @@ impl Reader {
         }
     }
 
-    /// The next answer, by what stands at the front.
+    /// The next answer, by where the next record begins.
     #[tactic(auto, unfolding(crate::specs::Reader::next_of, crate::specs::Reader::after_next))]
     fn take_next(&mut self) -> Result<Next, NoMemory>
         ensures answer { IfOk result (λ answer. answer ≡ next_of self.old) }
         ensures after { OnOk result (self.new ≡ after_next self.old) }
         ensures err { OnErr result (self.new ≡ self.old) }
     {
-        let (form, header) = match self.start() {
-            Start::Records(form, header) => (form, header),
-            Start::Unknown => return Ok(Next::More),
-            Start::Refused(bad) => return Ok(Next::Bad(bad)),
-        };
+        match self.start() {
+            Start::Records(form, header) => self.take_front(form, header),
+            Start::Unknown => Ok(Next::More),
+            Start::Refused(bad) => Ok(Next::Bad(bad)),
+        }
+    }
+
+    /// The next answer, by what stands at the front after so many bytes of header.
+    fn take_front(&mut self, form: Form, header: usize) -> Result<Next, NoMemory>
+        requires { header ≤ length self.old.left }
+        ensures answer { IfOk result (λ answer. answer ≡ answer_at (front_of form (drop header self.old.left)) form (self.old.at + header) (drop header self.old.left) self.old.finished) }
+        ensures after { OnOk result (self.new ≡ after_at (front_of form (drop header self.old.left)) form header self.old) }
+        ensures err { OnErr result (self.new ≡ self.old) }
+    {
         let left = &self.buffer[self.from + header..];
         let at = self.at + header as u64;
         match read_front(form, left) {
@@ -193,15 +216,7 @@ impl Reader {
                 Ok(Next::Record(record))
             }
             Front::Oversize => Ok(Next::Bad(BadTrace::Huge { at })),
-            Front::Part => {
-                if !self.finished {
-                    Ok(Next::More)
-                } else if left.is_empty() {
-                    Ok(Next::End)
-                } else {
-                    Ok(Next::Bad(BadTrace::Cut { at }))
-                }
-            }
+            Front::Part => Ok(pause(at, left, self.finished)),
         }
     }
 }

@@ -5,7 +5,7 @@ use Rattle.std.proofs.lemmas.Bool.Decides.{nat_tests}
 use Rattle.vsw_pcap.specs.Capture.{header_of, front_of, Splits, IsCapture}
 use Rattle.vsw_base.specs.declared.fault.NoMemory.{NoMemory}
 use Rattle.vsw_pcap.specs.Progress.{Progress}
-use Rattle.vsw_pcap.specs.Reader.{after_header, start_in, start_of, answer_at, next_from, next_of, past, after_from, after_next, fed_with, finished_at, Gave, Stands, Moves, Tells}
+use Rattle.vsw_pcap.specs.Reader.{after_header, start_in, start_of, answer_at, answer_from, next_of, after_at, after_from, after_next, fed_with, finished_at, Gave, Stands, Moves, Tells}
 use Rattle.vsw_pcap.specs.declared.capture.Form.{Form}
 use Rattle.vsw_pcap.specs.declared.capture.Front.{Front}
 use Rattle.vsw_pcap.specs.declared.capture.Front.TheVariants.{Whole, Part, Oversize}
@@ -51,7 +51,7 @@ told_part p form n bytes rs true false w f b e =
 
 told_at : (p : Progress) (form : Form) (n : ℕ) (bytes : List ℕ) (rs : List Record) (f : Front)
     → Place p form n bytes rs → front_of form (drop n p.left) ≡ f
-    → Tells (past f form n p) bytes rs (answer_at f form (p.at + n) (drop n p.left) p.finished)
+    → Tells (after_at f form n p) bytes rs (answer_at f form (p.at + n) (drop n p.left) p.finished)
 told_at p form n bytes rs (Whole captured) w e =
     let fits = whole_is form (drop n p.left) captured e in
     let later : drop (16 + captured) (drop n p.left) ≡ drop (n + (16 + captured)) p.left = drop-drop (16 + captured) n p.left in
@@ -76,7 +76,7 @@ Knows p bytes rs (Records form n) = Place p form n bytes rs
 Knows p bytes rs Unknown = (p.finished ≡ false) × (length bytes < 24) × (rs ≡ [])
 Knows p bytes rs (Refused bad) = (header_of bytes ≡ Err bad) × (rs ≡ [])
 
-told_from : (p : Progress) (bytes : List ℕ) (rs : List Record) (start : Start) → Knows p bytes rs start → Tells (after_from start p) bytes rs (next_from start p)
+told_from : (p : Progress) (bytes : List ℕ) (rs : List Record) (start : Start) → Knows p bytes rs start → Tells (after_from start p) bytes rs (answer_from start p)
 told_from p bytes rs (Records form n) k = told_at p form n bytes rs (front_of form (drop n p.left)) k refl
 told_from p bytes rs Unknown k = (k.0, inl (k.1, k.2))
 told_from p bytes rs (Refused bad) k = refused_is bytes rs bad k.0 k.1
@@ -98,10 +98,11 @@ knows p None bytes rs g a = knows_header p bytes rs (nat_lt (length p.left) 24 &
 knows p (Some form) bytes rs g a = record { header = g.0; splits = g.1; place = omega (arith, a) }
 
 pub told : (p : Progress) (bytes : List ℕ) (rs : List Record) → Stands p bytes rs → Tells (after_next p) bytes rs (next_of p)
+unfolding next_of after_next
 told p bytes rs s = told_from p bytes rs (start_of p) (knows p p.form bytes rs s.gave s.place)
 
 -- a record takes at least 16 bytes, and no other answer changes anything
-moves_at : (p : Progress) (form : Form) (n : ℕ) (f : Front) → front_of form (drop n p.left) ≡ f → Moves p (past f form n p) (answer_at f form (p.at + n) (drop n p.left) p.finished)
+moves_at : (p : Progress) (form : Form) (n : ℕ) (f : Front) → front_of form (drop n p.left) ≡ f → Moves p (after_at f form n p) (answer_at f form (p.at + n) (drop n p.left) p.finished)
 moves_at p form n (Whole captured) e =
     let fits = whole_is form (drop n p.left) captured e in
     let some : n ≤ length p.left = omega (arith, fits.0, length-drop n p.left) in
@@ -115,12 +116,13 @@ moves_at p form n Part e = moves_part p form n p.finished (length (drop n p.left
     moves_part p form n true true = refl
     moves_part p form n true false = refl
 
-moves_from : (p : Progress) (start : Start) → Moves p (after_from start p) (next_from start p)
+moves_from : (p : Progress) (start : Start) → Moves p (after_from start p) (answer_from start p)
 moves_from p (Records form n) = moves_at p form n (front_of form (drop n p.left)) refl
 moves_from p Unknown = refl
 moves_from p (Refused bad) = refl
 
 pub moves : (p : Progress) → Moves p (after_next p) (next_of p)
+unfolding next_of after_next
 moves p = moves_from p (start_of p)
 
 -- more bytes, or the end, don't change what refuses the capture at this front
@@ -140,7 +142,7 @@ abbrev open_at : Option Form → ℕ → List ℕ → Progress
 open_at o at left = record { form = o; at = at; left = left; finished = false }
 
 refused_header : (at : ℕ) (left piece : List ℕ) (bad : BadTrace) (header : Result Form BadTrace) → 24 ≤ length left
-    → next_from (after_header header) (open_at None at left) ≡ next.Bad bad → next_from (after_header header) (open_at None at (left ++ piece)) ≡ next.Bad bad
+    → answer_from (after_header header) (open_at None at left) ≡ next.Bad bad → answer_from (after_header header) (open_at None at (left ++ piece)) ≡ next.Bad bad
 refused_header at left piece bad (Ok form) l a =
     rw (drop-append-le 24 left piece l) (refused_front form (at + 24) (drop 24 left) piece bad (front_of form (drop 24 left)) refl a)
 refused_header at left piece bad (Err other) l a = a
@@ -152,46 +154,52 @@ long_start left finished l =
     ap (λ (short : Bool). cond short Unknown (after_header (header_of left))) e
 
 refused_start : (at : ℕ) (left piece : List ℕ) (bad : BadTrace) (short : Bool) → nat_lt (length left) 24 ≡ short
-    → next_from (cond (short && true) Unknown (after_header (header_of left))) (open_at None at left) ≡ next.Bad bad
+    → answer_from (cond (short && true) Unknown (after_header (header_of left))) (open_at None at left) ≡ next.Bad bad
     → next_of (open_at None at (left ++ piece)) ≡ next.Bad bad
+unfolding next_of
 refused_start at left piece bad true e a = cc
 refused_start at left piece bad false e a =
     let long : 24 ≤ length left = grind (arith, nat_tests) in
     let more : 24 ≤ length (left ++ piece) = omega (arith, length-append left piece) in
     let start = long_start (left ++ piece) false more ∙ ap after_header (header_of-append left piece long) in
-    ap (λ (s : Start). next_from s (open_at None at (left ++ piece))) start ∙ refused_header at left piece bad (header_of left) long a
+    ap (λ (s : Start). answer_from s (open_at None at (left ++ piece))) start ∙ refused_header at left piece bad (header_of left) long a
 
 refused_fed_in : (o : Option Form) (at : ℕ) (left piece : List ℕ) (bad : BadTrace) → next_of (open_at o at left) ≡ next.Bad bad → next_of (open_at o at (left ++ piece)) ≡ next.Bad bad
+unfolding next_of
 refused_fed_in None at left piece bad a = refused_start at left piece bad (nat_lt (length left) 24) refl a
 refused_fed_in (Some form) at left piece bad a = refused_front form (at + 0) left piece bad (front_of form left) refl a
 
 -- a capture that was refused stays refused, whatever is fed
 pub refused_fed : (p : Progress) (piece : List ℕ) (bad : BadTrace) → p.finished ≡ false → next_of p ≡ next.Bad bad → next_of (fed_with piece p) ≡ next.Bad bad
+unfolding next_of
 refused_fed p piece bad f a =
     let P : Bool → Type 0 = λ b. next_of (record p { finished = b }) ≡ next.Bad bad → next_of (record p { left = p.left ++ piece; finished = b }) ≡ next.Bad bad in
     subst P (sym f) (refused_fed_in p.form p.at p.left piece bad) a
 
 refused_header_end : (at : ℕ) (left : List ℕ) (bad : BadTrace) (header : Result Form BadTrace)
-    → next_from (after_header header) (open_at None at left) ≡ next.Bad bad → next_from (after_header header) (finished_at (open_at None at left)) ≡ next.Bad bad
+    → answer_from (after_header header) (open_at None at left) ≡ next.Bad bad → answer_from (after_header header) (finished_at (open_at None at left)) ≡ next.Bad bad
 refused_header_end at left bad (Ok form) a = refused_end form (at + 24) (drop 24 left) bad (front_of form (drop 24 left)) a
 refused_header_end at left bad (Err other) a = a
 
 refused_start_end : (at : ℕ) (left : List ℕ) (bad : BadTrace) (short : Bool) → nat_lt (length left) 24 ≡ short
-    → next_from (cond (short && true) Unknown (after_header (header_of left))) (open_at None at left) ≡ next.Bad bad
+    → answer_from (cond (short && true) Unknown (after_header (header_of left))) (open_at None at left) ≡ next.Bad bad
     → next_of (finished_at (open_at None at left)) ≡ next.Bad bad
+unfolding next_of
 refused_start_end at left bad true e a = cc
 refused_start_end at left bad false e a =
     let long : 24 ≤ length left = grind (arith, nat_tests) in
-    ap (λ (s : Start). next_from s (finished_at (open_at None at left))) (long_start left true long) ∙ refused_header_end at left bad (header_of left) a
+    ap (λ (s : Start). answer_from s (finished_at (open_at None at left))) (long_start left true long) ∙ refused_header_end at left bad (header_of left) a
 
 refused_end_in : (o : Option Form) (at : ℕ) (left : List ℕ) (finished : Bool) (bad : BadTrace)
     → next_of (record { form = o; at = at; left = left; finished = finished }) ≡ next.Bad bad → next_of (finished_at (open_at o at left)) ≡ next.Bad bad
+unfolding next_of
 refused_end_in o at left true bad a = a
 refused_end_in None at left false bad a = refused_start_end at left bad (nat_lt (length left) 24) refl a
 refused_end_in (Some form) at left false bad a = refused_end form (at + 0) left bad (front_of form left) a
 
 -- a capture that was refused stays refused at its end
 pub refused_finished : (p : Progress) (bad : BadTrace) → next_of p ≡ next.Bad bad → next_of (finished_at p) ≡ next.Bad bad
+unfolding next_of
 refused_finished p bad a = refused_end_in p.form p.at p.left p.finished bad a
 
 -- the same of an answer of `next`

@@ -26,34 +26,38 @@ start_in None left finished = if nat_lt (length left) 24 && not finished then Un
 abbrev pub start_of : Progress → Start
 start_of p = start_in p.form p.left p.finished
 
+-- the answer where no whole record stands at the front of these bytes
+abbrev pub pause_of : ℕ → List ℕ → Bool → Next
+pause_of at left finished = if not finished then next.More else if length left == 0 then next.End else next.Bad (Cut at)
+
 -- the answer where this stands at the front of the bytes that are left, which begin at byte `at`
 abbrev pub answer_at : Front → Form → ℕ → List ℕ → Bool → Next
 answer_at (Whole captured) form at left finished = next.Record (record_of form left captured)
 answer_at Oversize form at left finished = next.Bad (Huge at)
-answer_at Part form at left finished = if not finished then next.More else if length left == 0 then next.End else next.Bad (Cut at)
+answer_at Part form at left finished = pause_of at left finished
 
-abbrev pub next_from : Start → Progress → Next
-next_from (Records form header) p = answer_at (front_of form (drop header p.left)) form (p.at + header) (drop header p.left) p.finished
-next_from Unknown p = next.More
-next_from (Refused bad) p = next.Bad bad
+abbrev pub answer_from : Start → Progress → Next
+answer_from (Records form header) p = answer_at (front_of form (drop header p.left)) form (p.at + header) (drop header p.left) p.finished
+answer_from Unknown p = next.More
+answer_from (Refused bad) p = next.Bad bad
 
 -- what the reader answers next
-abbrev pub next_of : Progress → Next
-next_of p = next_from (start_of p) p
+unfoldable pub next_of : Progress → Next
+next_of p = answer_from (start_of p) p
 
--- a record takes its bytes, with those of a header that stands before it; nothing else takes any
-abbrev pub past : Front → Form → ℕ → Progress → Progress
-past (Whole captured) form header p = record p { form = Some form; at = p.at + (header + (16 + captured)); left = drop (header + (16 + captured)) p.left }
-past Oversize form header p = p
-past Part form header p = p
+-- what is held after that: a record's bytes are consumed, with those of a header before it, and else none
+abbrev pub after_at : Front → Form → ℕ → Progress → Progress
+after_at (Whole captured) form header p = record p { form = Some form; at = p.at + (header + (16 + captured)); left = drop (header + (16 + captured)) p.left }
+after_at Oversize form header p = p
+after_at Part form header p = p
 
 abbrev pub after_from : Start → Progress → Progress
-after_from (Records form header) p = past (front_of form (drop header p.left)) form header p
+after_from (Records form header) p = after_at (front_of form (drop header p.left)) form header p
 after_from Unknown p = p
 after_from (Refused bad) p = p
 
 -- what the reader holds after that answer
-abbrev pub after_next : Progress → Progress
+unfoldable pub after_next : Progress → Progress
 after_next p = after_from (start_of p) p
 
 -- where the next record begins, its header within the bytes in hand

@@ -18,7 +18,7 @@ pub const RECORD_LEN: usize = 16;
 const MOST_CAPTURED: u32 = 262_144;
 
 /// The order of the bytes of a capture's numbers.
-#[derive(Clone, Copy, Debug, PartialEq, Eq)]
+#[derive(Clone, Copy)]
 pub enum Order {
     /// The lowest byte first.
     Little,
@@ -27,21 +27,21 @@ pub enum Order {
 }
 
 /// What the fractions of a capture's seconds count.
-#[derive(Clone, Copy, Debug, PartialEq, Eq)]
+#[derive(Clone, Copy)]
 pub enum Fraction {
     Micros,
     Nanos,
 }
 
 /// How a capture is written, as its magic tells.
-#[derive(Clone, Copy, Debug, PartialEq, Eq)]
+#[derive(Clone, Copy)]
 pub struct Form {
     pub order: Order,
     pub fraction: Fraction,
 }
 
 /// What stands at the front of a capture's records.
-#[derive(Clone, Copy, Debug, PartialEq, Eq)]
+#[derive(Clone, Copy)]
 pub enum Front {
     /// A whole record with so many captured bytes.
     Whole(usize),

@@ -1,7 +1,8 @@
 //! The reader of a capture that comes in pieces.
 
 ghost use Rattle.std.specs.Prelude.{◌≡◌, ◌<◌, ◌≤◌, ◌^◌, ◌+◌, ℕ, List, length, drop, ◌++◌, [], false, true, Ok, OnOk, OnErr, IfOk};
-ghost use Rattle.vsw_pcap.specs.Reader.{start_of, next_of, after_next, unfed, fed_with, finished_at, BeginsIn, Moves, Stands, Tells};
+ghost use Rattle.vsw_pcap.specs.Capture.{front_of};
+ghost use Rattle.vsw_pcap.specs.Reader.{start_of, pause_of, answer_at, after_at, next_of, after_next, unfed, fed_with, finished_at, BeginsIn, Moves, Stands, Tells};
 ghost use Rattle.vsw_pcap.specs.declared.capture.Record.{Record};
 ghost use Rattle.vsw_pcap.specs.declared.fault.BadTrace.{BadTrace};
 
@@ -37,9 +38,9 @@ enum Start {
 
 /// A reader of a capture, which takes the capture's bytes in pieces of any lengths.
 ///
-/// Consumed bytes are given back when a piece is fed and they are at least as many as the bytes left.
-/// So each byte is moved a constant number of times on average, and the buffer never holds more
-/// than twice the bytes that were in hand at once.
+/// Consumed bytes are given back when a piece is fed, once they are at least as many as the bytes
+/// left. So no more bytes are moved than were consumed, and the buffer never holds more than twice
+/// the bytes that were in hand after the last piece.
 #[derive(Drop)]
 pub struct Reader {
     alloc: Global,
@@ -85,6 +86,19 @@ fn append(buffer: &mut Vec<u8>, piece: &[u8]) -> Result<(), NoMemory>
     }
 }
 
+/// The answer where no whole record stands at the front of these bytes, which begin at byte `at`.
+fn pause(at: u64, left: &[u8], finished: bool) -> Next
+    ensures { result ≡ pause_of at left.now finished }
+{
+    if !finished {
+        Next::More
+    } else if left.is_empty() {
+        Next::End
+    } else {
+        Next::Bad(BadTrace::Cut { at })
+    }
+}
+
 impl Reader {
     /// A reader that was fed nothing.
     pub fn new(alloc: Global) -> Reader
@@ -108,8 +122,10 @@ impl Reader {
         ensures ok { OnOk result (self.new ≡ fed_with piece.now self.old) }
         ensures err { OnErr result (self.new ≡ self.old) }
 
-        // The same in the words of the bytes fed and the records given; and a refused capture stays refused.
+        // The same in the words of the bytes fed and the records given.
         ensures stands { OnOk result ((bytes : List ℕ) (records : List Record) → Stands self.old bytes records → Stands self.new (bytes ++ piece.now) records) }
+
+        // A refused capture stays refused.
         ensures refused { OnOk result ((bad : BadTrace) → next_of self.old ≡ Next.Bad bad → next_of self.new ≡ Next.Bad bad) }
     {
         self.give_back();
@@ -174,17 +190,27 @@ impl Reader {
         }
     }
 
-    /// What stands next, computed.
+    /// The next answer, by where the next record begins.
+    #[tactic(auto, unfolding(crate::specs::Reader::next_of, crate::specs::Reader::after_next))]
     fn take_next(&mut self) -> Result<Next, NoMemory>
         ensures answer { IfOk result (λ answer. answer ≡ next_of self.old) }
         ensures after { OnOk result (self.new ≡ after_next self.old) }
         ensures err { OnErr result (self.new ≡ self.old) }
     {
-        let (form, header) = match self.start() {
-            Start::Records(form, header) => (form, header),
-            Start::Unknown => return Ok(Next::More),
-            Start::Refused(bad) => return Ok(Next::Bad(bad)),
-        };
+        match self.start() {
+            Start::Records(form, header) => self.take_front(form, header),
+            Start::Unknown => Ok(Next::More),
+            Start::Refused(bad) => Ok(Next::Bad(bad)),
+        }
+    }
+
+    /// The next answer, by what stands at the front after so many bytes of header.
+    fn take_front(&mut self, form: Form, header: usize) -> Result<Next, NoMemory>
+        requires { header ≤ length self.old.left }
+        ensures answer { IfOk result (λ answer. answer ≡ answer_at (front_of form (drop header self.old.left)) form (self.old.at + header) (drop header self.old.left) self.old.finished) }
+        ensures after { OnOk result (self.new ≡ after_at (front_of form (drop header self.old.left)) form header self.old) }
+        ensures err { OnErr result (self.new ≡ self.old) }
+    {
         let left = &self.buffer[self.from + header..];
         let at = self.at + header as u64;
         match read_front(form, left) {
@@ -197,15 +223,7 @@ impl Reader {
                 Ok(Next::Record(record))
             }
             Front::Oversize => Ok(Next::Bad(BadTrace::Huge { at })),
-            Front::Part => {
-                if !self.finished {
-                    Ok(Next::More)
-                } else if left.is_empty() {
-                    Ok(Next::End)
-                } else {
-                    Ok(Next::Bad(BadTrace::Cut { at }))
-                }
-            }
+            Front::Part => Ok(pause(at, left, self.finished)),
         }
     }
 }

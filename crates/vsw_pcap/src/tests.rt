@@ -79,20 +79,22 @@ fn joined(alloc: Global, parts: &[&[u8]]) -> Result<Vec<u8>, Fail> {
     Ok(whole)
 }
 
+fn is_record(record: &Record, micros: u64, original: u32, bytes: &[u8]) -> bool {
+    record.moment == Moment::of(micros)
+        && record.original == original
+        && record.bytes.as_slice() == bytes
+}
+
 #[test]
 fn two_records_are_read_however_they_are_fed(rt: HostRuntime) -> Result<(), Fail> {
     let alloc = rt.alloc();
     let capture = joined(alloc, &[LITTLE, AT_START, QUERY, SNAPPED, &QUERY[..12]])?;
     for size in [1, 7, 60, 4_096] {
         let read = read_by(alloc, size, &capture)?;
-        assert_eq!(rt; read.fault, None, "in pieces of {size}");
-        assert_eq!(rt; read.records.len(), 2, "in pieces of {size}");
-        assert_eq!(rt; read.records[0].moment, Moment::of(0));
-        assert_eq!(rt; read.records[0].original, 44);
-        assert_eq!(rt; read.records[0].bytes.as_slice(), QUERY.as_slice());
-        assert_eq!(rt; read.records[1].moment, Moment::of(1_000));
-        assert_eq!(rt; read.records[1].original, 94);
-        assert_eq!(rt; read.records[1].bytes.as_slice(), &QUERY[..12]);
+        assert!(rt; read.fault.is_none());
+        assert_eq!(rt; read.records.len(), 2);
+        assert!(rt; is_record(&read.records[0], 0, 44, QUERY));
+        assert!(rt; is_record(&read.records[1], 1_000, 94, &QUERY[..12]));
     }
     Ok(())
 }
@@ -100,12 +102,11 @@ fn two_records_are_read_however_they_are_fed(rt: HostRuntime) -> Result<(), Fail
 #[test]
 fn nanoseconds_in_the_other_order_are_rounded_down(rt: HostRuntime) -> Result<(), Fail> {
     let alloc = rt.alloc();
-    let read = read_by(alloc, 1, &joined(alloc, &[BIG_NANOS, LATER_NANOS, QUERY])?)?;
-    assert_eq!(rt; read.fault, None);
+    let capture = joined(alloc, &[BIG_NANOS, LATER_NANOS, QUERY])?;
+    let read = read_by(alloc, 1, &capture)?;
+    assert!(rt; read.fault.is_none());
     assert_eq!(rt; read.records.len(), 1);
-    assert_eq!(rt; read.records[0].moment, Moment::of(1_999_999));
-    assert_eq!(rt; read.records[0].original, 44);
-    assert_eq!(rt; read.records[0].bytes.as_slice(), QUERY.as_slice());
+    assert!(rt; is_record(&read.records[0], 1_999_999, 44, QUERY));
     Ok(())
 }
 
@@ -121,43 +122,35 @@ const LONGEST: &[u8; 16] = b"\x00\x00\x00\x00\x00\x00\x00\x00\x00\x00\x04\x00\x0
 
 const TOO_LONG: &[u8; 16] = b"\x00\x00\x00\x00\x00\x00\x00\x00\x01\x00\x04\x00\x01\x00\x04\x00";
 
-/// The fault of a capture in these parts, fed in pieces of so many bytes.
-fn fault_of(alloc: Global, size: usize, parts: &[&[u8]]) -> Result<Option<BadTrace>, Fail>
-    requires { 0 < size }
-{
+/// Whether a capture in these parts comes to this end or fault, fed whole and byte by byte.
+fn comes_to(alloc: Global, parts: &[&[u8]], fault: Option<BadTrace>) -> Result<bool, Fail> {
     let capture = joined(alloc, parts)?;
-    let read = read_by(alloc, size, &capture)?;
-    Ok(read.fault)
+    let whole = read_by(alloc, 4_096, &capture)?;
+    let by_bytes = read_by(alloc, 1, &capture)?;
+    Ok(whole.fault == fault && by_bytes.fault == fault)
 }
 
 #[test]
 fn headers_are_refused(rt: HostRuntime) -> Result<(), Fail> {
     let alloc = rt.alloc();
-    for size in [1, 4_096] {
-        assert_eq!(rt;
-            fault_of(alloc, size, &[&LITTLE[..23]])?,
-            Some(BadTrace::NotPcap)
-        );
-        assert_eq!(rt; fault_of(alloc, size, &[QUERY])?, Some(BadTrace::NotPcap));
-        assert_eq!(rt; fault_of(alloc, size, &[OLDER])?, Some(BadTrace::Version));
-        assert_eq!(rt; fault_of(alloc, size, &[RAW_IP])?, Some(BadTrace::LinkType));
-        assert_eq!(rt; fault_of(alloc, size, &[LITTLE])?, None);
-    }
+    assert!(rt; comes_to(alloc, &[LITTLE], None)?);
+    assert!(rt; comes_to(alloc, &[&LITTLE[..23]], Some(BadTrace::NotPcap))?);
+    assert!(rt; comes_to(alloc, &[QUERY], Some(BadTrace::NotPcap))?);
+    assert!(rt; comes_to(alloc, &[OLDER], Some(BadTrace::Version))?);
+    assert!(rt; comes_to(alloc, &[RAW_IP], Some(BadTrace::LinkType))?);
     Ok(())
 }
 
 #[test]
 fn cut_and_huge_records_are_told_by_their_byte(rt: HostRuntime) -> Result<(), Fail> {
     let alloc = rt.alloc();
-    for size in [1, 4_096] {
-        let cut = fault_of(alloc, size, &[LITTLE, AT_START, QUERY, &SNAPPED[..3]])?;
-        assert_eq!(rt; cut, Some(BadTrace::Cut { at: 84 }));
-        let long = fault_of(alloc, size, &[LITTLE, LONGEST, QUERY])?;
-        assert_eq!(rt; long, Some(BadTrace::Cut { at: 24 }));
-        let huge = fault_of(alloc, size, &[LITTLE, TOO_LONG])?;
-        assert_eq!(rt; huge, Some(BadTrace::Huge { at: 24 }));
-    }
-    assert_eq!(rt; BadTrace::Cut { at: 84 }.number(), 4);
-    assert_eq!(rt; BadTrace::Huge { at: 24 }.name(), "Huge");
+    let cut = BadTrace::Cut { at: 84 };
+    let long = BadTrace::Cut { at: 24 };
+    let huge = BadTrace::Huge { at: 24 };
+    assert!(rt; comes_to(alloc, &[LITTLE, AT_START, QUERY, &SNAPPED[..3]], Some(cut))?);
+    assert!(rt; comes_to(alloc, &[LITTLE, LONGEST, QUERY], Some(long))?);
+    assert!(rt; comes_to(alloc, &[LITTLE, TOO_LONG], Some(huge))?);
+    assert_eq!(rt; cut.number(), 4);
+    assert_eq!(rt; huge.name(), "Huge");
     Ok(())
 }

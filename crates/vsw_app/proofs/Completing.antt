@@ -1,5 +1,5 @@
 -- A run over files of the form that is built ends well, but for faults and want of memory.
-use Rattle.std.proofs.Common.{◌≡◌, ℕ, ◌+◌, ◌≤◌, ◌<◌, ◌⊎◌, inl, inr, List, [], ◌∷◌, ◌++◌, Bool, true, false, Option, Some, None, Result, Ok, Err, length, take, drop, take_all, refl, sym, ◌∙◌, ap, subst, arith}
+use Rattle.std.proofs.Common.{◌≡◌, ℕ, suc, ◌+◌, ◌≤◌, ◌<◌, ◌⊎◌, inl, inr, List, [], ◌∷◌, ◌++◌, Bool, true, false, Option, Some, None, Result, Ok, Err, length, take, drop, take_all, refl, sym, ◌∙◌, ap, subst, arith}
 use Rattle.std.proofs.Math.Seq.{take-length}
 use Rattle.vsw_host.specs.Outside.{Inputs, Outside, Rose, Grows}
 use Rattle.vsw_config.specs.declared.policy.PlainPolicy.{PlainPolicy}
@@ -22,7 +22,7 @@ use Rattle.vsw_app.specs.Trace.{Shows, ShowsRefused, ShowsLimit, Puts, most_reco
 use Rattle.vsw_app.specs.IsRun.{Leaves, LeavesBy, LeavesTold, EndsByTrace, IsRun, AreAdmitted, IsComplete, AtPolicy, AtCommands, BeforeTrace, ByTrace, judged}
 use Rattle.vsw_app.proofs.Splitting.{NotWhole, one_whole}
 
-shorter_by : (form : Form) (rest : List ℕ) (n m : ℕ) → NotWhole (front_of form rest) ⊎ (n + 1 ≤ m + 1) → NotWhole (front_of form rest) ⊎ (n ≤ m)
+shorter_by : (form : Form) (rest : List ℕ) (n m : ℕ) → NotWhole (front_of form rest) ⊎ (suc n ≤ suc m) → NotWhole (front_of form rest) ⊎ (n ≤ m)
 shorter_by form rest n m (inl w) = inl w
 shorter_by form rest n m (inr h) = inr (omega (arith, h))
 

@@ -1,6 +1,6 @@
 -- What the files of a run leave, one after another.
-use Rattle.std.specs.Prelude.{◌≡◌, ◌≢◌, ◌≤◌, ◌⊎◌, ℕ, List, [], ◌∷◌, length, take, Bool, true, Option, Some, Result, Ok, Err}
-use Rattle.vsw_host.specs.Outside.{Inputs, Outside, OpensSince, SameOutputs, Grows}
+use Rattle.std.specs.Prelude.{◌≡◌, ◌≢◌, ◌≤◌, ◌⊎◌, ℕ, List, [], ◌∷◌, length, take, Bool, true, Option, Some, Result, Ok, Err, false}
+use Rattle.vsw_host.specs.Outside.{Inputs, Outside, OpensSince, SameOutputs, Grows, Rose}
 use Rattle.vsw_config.specs.declared.policy.PlainPolicy.{PlainPolicy}
 use Rattle.vsw_app.specs.declared.ending.Ending.{Ending}
 use Rattle.vsw_app.specs.declared.ending.Ending.TheVariants.{Usage}

@@ -73,9 +73,12 @@ read_limit : (policy : PlainPolicy) (bytes : List ℕ) (form : Form) (given : Li
 read_limit policy bytes form given rounds left h s a full none =
     let P : List ℕ → Type 0 = Splits form (drop 24 bytes) given in
     record {
-      records = given; at = length bytes;
+      records = given;
+      at = length bytes;
       stops = record { form = form; rest = []; header = h; splits = subst P (no_bytes left none) s; place = omega arith; begins = refl };
-      few = omega (arith, full); last = λ e. refl; reports = record { rounds = rounds; are = a; text_is = refl };
+      few = omega (arith, full);
+      last = λ e. refl;
+      reports = record { rounds = rounds; are = a; text_is = refl };
     }
 
 end_more : (c left : ℕ) → past_limit_at stop.End (suc c) left ≡ Records

@@ -33,7 +33,10 @@ pub front_so_far : (policy : PlainPolicy) (bytes : List ℕ) (p : Progress) (num
 front_so_far policy bytes p number round olds before after h f g =
     let c = complete policy bytes p number round olds h f in
     record {
-      ending = c.ending; text = report f.rounds ++ c.more; shows = c.shows; count = length (report f.rounds);
+      ending = c.ending;
+      text = report f.rounds ++ c.more;
+      shows = c.shows;
+      count = length (report f.rounds);
       grows = grows_is before after (report f.rounds) (take (length (report f.rounds)) (report f.rounds ++ c.more)) (sym (take-append_seam (report f.rounds) c.more)) g;
     }
 
@@ -44,7 +47,10 @@ front_of_round policy bytes p number round olds before now after n h f g t =
     let k : ℕ = length (report olds) + n in
     let part : Grows before after (take k (report f.rounds)) = grows_is before after (take k (report olds ++ text_put number round)) (take k (report f.rounds)) (ap (take k) (sym f.text_is)) (front_then before now after (report olds) (text_put number round) n g t) in
     record {
-      ending = c.ending; text = report f.rounds ++ c.more; shows = c.shows; count = min k (length (report f.rounds));
+      ending = c.ending;
+      text = report f.rounds ++ c.more;
+      shows = c.shows;
+      count = min k (length (report f.rounds));
       grows = front_more before after (report f.rounds) c.more k part;
     }
 
@@ -67,7 +73,14 @@ ok_puts policy bytes p number round before now after g f t = grows_is before aft
 
 going_on : (policy : PlainPolicy) (bytes : List ℕ) (p q : Progress) (number : ℕ) (rr : Round) (c : ℕ) (s : Stop) (olds : List Round) (before after : Option (List ℕ)) (next : RoundRead) → (f : Further policy bytes p number (record { round = rr; count = c; stop = s }) olds) → Grows before after (report f.rounds) → Follows policy p q number s (Ok next) → Going policy bytes before after q (number + 1) next
 going_on policy bytes p q number rr c stop.Full olds before after next f g follows = record {
-  form = f.form; header = f.header; given = f.all; rounds = f.rounds; are = f.are; count = f.long.1; full = f.long.0; puts = g;
+  form = f.form;
+  header = f.header;
+  given = f.all;
+  rounds = f.rounds;
+  are = f.are;
+  count = f.long.1;
+  full = f.long.0;
+  puts = g;
   reads = follows.1 bytes f.all f.stands (omega (arith, f.long.0));
 }
 going_on policy bytes p q number rr c stop.End olds before after next f g follows = absurd (let e = follows.0 in cc)

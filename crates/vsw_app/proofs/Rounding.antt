@@ -24,10 +24,11 @@ rounds_append policy first gs qs (r ∷ rs) ts a e t =
     let left : length (drop round_size gs) ≡ round_size * length rs = omega (arith, e, length-drop round_size gs) in
     let i : first + length gs ≡ first + round_size + length (drop round_size gs) = omega (arith, long, length-drop round_size gs) in
     let Q : ℕ → Type 0 = λ n. AreRounds policy n qs ts in
-    let D : List Record → Type 0 = λ d. AreRounds policy (first + round_size) d (rs ++ ts) in
-    (omega (arith, long, length-append gs qs),
-     a.1 ∙ ap (round_of policy first) (sym (take-append-le round_size gs qs long)),
-     subst D (sym (drop-append-le round_size gs qs long)) (rounds_append policy (first + round_size) (drop round_size gs) qs rs ts a.2 left (subst Q i t)))
+    let D : List Record → Type 0 = λ d. AreRounds policy (first + round_size) d (rs ++ ts) in (
+      omega (arith, long, length-append gs qs),
+      a.1 ∙ ap (round_of policy first) (sym (take-append-le round_size gs qs long)),
+      subst D (sym (drop-append-le round_size gs qs long)) (rounds_append policy (first + round_size) (drop round_size gs) qs rs ts a.2 left (subst Q i t)),
+    )
 
 pub one_round : (policy : PlainPolicy) (first : ℕ) (qs : List Record) → 0 < length qs → length qs ≤ round_size → AreRounds policy first qs (round_of policy first qs ∷ [])
 one_round policy first qs some few = (some, ap (round_of policy first) (sym (take_all round_size qs few)), drop_all round_size qs few)
@@ -36,7 +37,7 @@ one_round policy first qs some few = (some, ap (round_of policy first) (sym (tak
 pub rounds_push : (policy : PlainPolicy) (gs qs : List Record) (rs : List Round) → AreRounds policy 0 gs rs → length gs ≡ round_size * length rs → 0 < length qs → length qs ≤ round_size → AreRounds policy 0 (gs ++ qs) (rs ++ round_of policy (length gs) qs ∷ [])
 rounds_push policy gs qs rs a e some few = rounds_append policy 0 gs qs rs (round_of policy (length gs) qs ∷ []) a e
     (let Q : ℕ → Type 0 = λ n. AreRounds policy n qs (round_of policy (length gs) qs ∷ []) in
-     let i : length gs ≡ 0 + length gs = omega arith in subst Q i (one_round policy (length gs) qs some few))
+    let i : length gs ≡ 0 + length gs = omega arith in subst Q i (one_round policy (length gs) qs some few))
 
 -- any records have rounds
 pub record HasRounds (policy : PlainPolicy) (first : ℕ) (records : List Record) : Type 0 where

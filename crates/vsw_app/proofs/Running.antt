@@ -176,14 +176,24 @@ told_forward None b c before now after faults halfway risen names p e i l s t = 
 told_forward (Some a) None c before now after faults halfway risen names p e i l s t = absurd s
 told_forward (Some a) (Some b) None before now after faults halfway risen names p e i l s t = absurd t
 told_forward (Some a) (Some b) (Some c) before now after faults halfway risen names p e i l s (inl t) = BeforeTrace (record {
-  policy = p; holds = s.0; no_commands = s.1;
+  policy = p;
+  holds = s.0;
+  no_commands = s.1;
   why = trace_then a b c (judged names s.0.bytes) names.trace e s.2 t.0;
   nothing = grows_from before now after [] i t.1;
 })
 told_forward (Some a) (Some b) (Some c) before now after faults halfway risen names p e i l s (inr t) = ByTrace (record {
-  policy = p; holds = s.0; no_commands = s.1; trace_bytes = t.0; held = held_before a b (judged names s.0.bytes) names.trace t.0 s.2 t.3; read = t.1;
+  policy = p;
+  holds = s.0;
+  no_commands = s.1;
+  trace_bytes = t.0;
+  held = held_before a b (judged names s.0.bytes) names.trace t.0 s.2 t.3;
+  read = t.1;
   opens = since_then a b c (judged names s.0.bytes) (record { name = names.trace; bytes = t.0; read = t.1 } ∷ []) s.2 t.4;
-  whole = t.2; all = t.5; part = λ w. rose_from faults halfway risen l (t.6 w); puts = puts_from p (take t.1 t.0) t.2 before now after e i t.7;
+  whole = t.2;
+  all = t.5;
+  part = λ w. rose_from faults halfway risen l (t.6 w);
+  puts = puts_from p (take t.1 t.0) t.2 before now after e i t.7;
 })
 
 pub forwards_ok : (old now new : Outside) (names : Names) (p : PlainPolicy) (e : Ending) → Judged old now names.policy names.commands (Ok p) → Replays now new p names.trace e → Forwards old new names e

@@ -86,7 +86,10 @@ further_some policy bytes before now p number round g h some =
     let P : Round → Type 0 = λ x. AreRounds policy 0 all (g.rounds ++ x ∷ []) in
     let are : AreRounds policy 0 all (g.rounds ++ round.round ∷ []) = subst P (sym same) (rounds_push policy g.given r.records g.rounds g.are (omega (arith, g.full, g.count)) (omega (arith, r.count_is, some)) r.few) in
     record {
-      form = g.form; header = g.header; all = all; rounds = g.rounds ++ round.round ∷ [];
+      form = g.form;
+      header = g.header;
+      all = all;
+      rounds = g.rounds ++ round.round ∷ [];
       text_is = report_push g.rounds round.round ∙ ap (λ (t : List ℕ). report g.rounds ++ t) (sym (put_is (is_put_of number round.count round.stop) (round_text round.round) (some_put number round.count round.stop some)));
       are = rounds_for round.stop policy all (g.rounds ++ round.round ∷ []) positive are;
       long = as_long round.stop bytes p.finished all (g.rounds ++ round.round ∷ []) n number r.says long h (omega (arith, length-append g.rounds (round.round ∷ []), g.count));
@@ -124,9 +127,15 @@ unput rounds number round e = sym (ap (λ (t : List ℕ). report rounds ++ t) (p
 
 further_later : (policy : PlainPolicy) (bytes : List ℕ) (before now : Option (List ℕ)) (p : Progress) (number : ℕ) (round : RoundRead) → (g : Going policy bytes before now p number round) → number < 1024 → round.count ≡ 0 → is_put_of number round.count round.stop ≡ false → RoundsFor round.stop policy (g.given ++ g.reads.records) g.rounds → IsAsLong round.stop (g.given ++ g.reads.records) g.rounds number → Further policy bytes p number round g.rounds
 further_later policy bytes before now p number round g h none e are long = record {
-  form = g.form; header = g.header; all = g.given ++ g.reads.records; rounds = g.rounds;
+  form = g.form;
+  header = g.header;
+  all = g.given ++ g.reads.records;
+  rounds = g.rounds;
   text_is = unput g.rounds number round e;
-  are = are; long = long; stands = g.reads.stands; says = (length g.reads.records, g.reads.says);
+  are = are;
+  long = long;
+  stands = g.reads.stands;
+  says = (length g.reads.records, g.reads.says);
 }
 
 -- the first round of a trace without records
@@ -142,7 +151,10 @@ further_first policy bytes before now p number rr c g none first =
     let one : g.rounds ++ rr ∷ [] ≡ round_of policy 0 [] ∷ [] = ap (λ (l : List Round). l ++ rr ∷ []) rounds_none ∙ ap (λ (x : Round). x ∷ []) same in
     let P : List Round → Type 0 = AreAllRounds policy all in
     record {
-      form = g.form; header = g.header; all = all; rounds = g.rounds ++ rr ∷ [];
+      form = g.form;
+      header = g.header;
+      all = all;
+      rounds = g.rounds ++ rr ∷ [];
       text_is = report_push g.rounds rr ∙ ap (λ (t : List ℕ). report g.rounds ++ t) (sym (put_is (is_put_of number c stop.End) (round_text rr) (first_put number c first)));
       are = subst P (sym one) (are_none policy all empty);
       long = omega (arith, empty);
@@ -223,18 +235,28 @@ empty_shows : (policy : PlainPolicy) (bytes : List ℕ) (finished : Bool) (form 
 empty_shows policy bytes true form total rounds h s a few some = record {
   ending = Done;
   shows = record {
-    records = total; read = refl;
+    records = total;
+    read = refl;
     capture = (form, h, s);
-    few = few; rounds = rounds; are = are_all policy total rounds some a; text_is = refl;
+    few = few;
+    rounds = rounds;
+    are = are_all policy total rounds some a;
+    text_is = refl;
   };
 }
 empty_shows policy bytes false form total rounds h s a few some = record {
   ending = ReadFault;
-  shows = (refl, inr (record {
-    records = total; at = length bytes;
-    stops = record { form = form; rest = []; header = h; splits = s; place = omega arith; begins = refl };
-    few = few; last = λ e. refl; reports = record { rounds = rounds; are = a; text_is = refl };
-  }));
+  shows = (
+    refl,
+    inr (record {
+      records = total;
+      at = length bytes;
+      stops = record { form = form; rest = []; header = h; splits = s; place = omega arith; begins = refl };
+      few = few;
+      last = λ e. refl;
+      reports = record { rounds = rounds; are = a; text_is = refl };
+    }),
+  );
 }
 
 pub part_shows : (policy : PlainPolicy) (bytes : List ℕ) (finished : Bool) (at : ℕ) (total : List Record) (rounds : List Round) → Stops bytes total at Part → at < length bytes → AreRounds policy 0 total rounds → length total < most_records → Shown policy bytes finished (report rounds)

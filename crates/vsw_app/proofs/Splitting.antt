@@ -59,12 +59,12 @@ pub ends_within : (n : ℕ) (form : Form) (bytes : List ℕ) → Ends n form byt
 ends_within zero form bytes = record { records = []; rest = bytes; splits = refl; few = omega arith; last = inl refl }
 ends_within (suc n) form bytes = elim (front_of form bytes) as (λ f. front_of form bytes ≡ f → Ends (suc n) form bytes) [
   | Whole c ↦ λ e. let t = ends_within n form (drop (16 + c) bytes) in record {
-      records = record_of form bytes c ∷ t.records;
-      rest = t.rest;
-      splits = (c, e, refl, t.splits);
-      few = omega (arith, t.few);
-      last = more_last n (length t.records) (front_of form t.rest) t.last;
-    }
+    records = record_of form bytes c ∷ t.records;
+    rest = t.rest;
+    splits = (c, e, refl, t.splits);
+    few = omega (arith, t.few);
+    last = more_last n (length t.records) (front_of form t.rest) t.last;
+  }
   | Part ↦ λ e. record { records = []; rest = bytes; splits = refl; few = omega arith; last = inr (subst NotWhole (sym e) tt) }
   | Oversize ↦ λ e. record { records = []; rest = bytes; splits = refl; few = omega arith; last = inr (subst NotWhole (sym e) tt) }
 ] refl
@@ -75,7 +75,10 @@ header_long bytes form h = grind (arith, common_steps)
 -- the records so far, and where they stop
 pub stops_at : (bytes : List ℕ) (form : Form) (records : List Record) (rest : List ℕ) (front : Front) → header_of bytes ≡ Ok form → Splits form (drop 24 bytes) records rest → front_of form rest ≡ front → Stops bytes records (length bytes - length rest) front
 stops_at bytes form records rest front h s b = record {
-  form = form; rest = rest; header = h; splits = s;
+  form = form;
+  rest = rest;
+  header = h;
+  splits = s;
   place = omega (arith, splits_shorter form (drop 24 bytes) records rest s, length-drop 24 bytes);
   begins = b;
 }

@@ -5,6 +5,8 @@ mod ending;
 mod files;
 mod round;
 mod run;
+#[cfg(test)]
+mod tests;
 mod trace;
 mod words;
 

@@ -132,7 +132,10 @@ fn place(
     ensures loose { OnOk result (lines.new.loose ≡ lines.old.loose ++ loose_of packet (outcome_of policy.now captured)) }
 {
     match outcome(policy, &captured) {
-        Ok(verdict) => push(&mut lines.told, line(alloc, packet, verdict, captured.bytes)),
+        Ok(verdict) => push(
+            &mut lines.told,
+            line(alloc, packet, verdict, captured.bytes),
+        ),
         Err(what) => push(&mut lines.loose, Loose { packet, what }),
     }
 }

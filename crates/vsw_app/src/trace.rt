@@ -96,7 +96,12 @@ fn is_put(number: u32, count: u32, stop: Stop) -> bool
 
 /// Puts a round that was read, the `number`th from 0. A round without packets is put only where it is the
 /// first of a trace that ended cleanly.
-fn put_one<H: Host>(alloc: Global, host: &mut H, number: u32, round: &RoundRead) -> Result<(), Ending>
+fn put_one<H: Host>(
+    alloc: Global,
+    host: &mut H,
+    number: u32,
+    round: &RoundRead,
+) -> Result<(), Ending>
     ensures puts { PutsText (H.outside host.old) (H.outside host.new) (text_put number round.now) result }
     ensures rises { EndRises (H.outside host.old) (H.outside host.new) result }
     ensures only { OnlyPuts (H.outside host.old) (H.outside host.new) }

@@ -10,8 +10,8 @@ returns-in-Ok-clause-goes g c = λ bytes before going.
     let new = (g.H.Host.outside c.put_one.new.host).put in
     let f = further policy bytes before old c.args.reader.now c.args.number round going c.requires in
     goes_on policy bytes c.args.reader.now c.next_round.new.reader c.args.number round going.rounds before new c.next_round.result c.requires f
-      (ok_puts policy bytes c.args.reader.now c.args.number round before old new going f c.in-Ok.ensures.puts)
-      c.next_round.ensures.finished c.next_round.ensures.goes
+    (ok_puts policy bytes c.args.reader.now c.args.number round before old new going f c.in-Ok.ensures.puts)
+    c.next_round.ensures.finished c.next_round.ensures.goes
 
 pub returns-in-Err-clause-goes : goal.returns-in-Err-clause-goes
 returns-in-Err-clause-goes g c = λ bytes before going.

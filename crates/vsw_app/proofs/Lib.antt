@@ -8,3 +8,4 @@ pub mod Putting
 pub mod Past
 pub mod Heading
 pub mod Running
+pub mod Completing

@@ -121,14 +121,14 @@ early_write old new WriteFault q i = absurd q
 early_write old new (Refused bad) q i = absurd q
 early_write old new Records q i = absurd q
 
-told_trace : (a b c : Option Inputs) (before now after : Option (List ℕ)) (policy : PlainPolicy) (tn : List ℕ) (t : TraceBytes) (e : Ending) → Told (λ x y. TraceSays x y tn (Ok t)) a b → c ≡ b → now ≡ before → Puts policy t.bytes.items t.whole now after e → Told (λ x y. ReplaySays x y before after policy tn e) a c
-told_trace None b c before now after policy tn t e s i j q = tt
-told_trace (Some a) None c before now after policy tn t e s i j q = absurd s
-told_trace (Some a) (Some b) c before now after policy tn t e s i j q =
-    let P : Option Inputs → Type 0 = λ x. Told (λ x y. ReplaySays x y before after policy tn e) (Some a) x in
+told_trace : (a b c : Option Inputs) (before now after : Option (List ℕ)) (faults risen : ℕ) (policy : PlainPolicy) (tn : List ℕ) (t : TraceBytes) (e : Ending) → Told (λ x y. TraceSays x y tn (Ok t)) a b → c ≡ b → now ≡ before → (t.whole ≡ false → Rose faults risen) → Puts policy t.bytes.items t.whole now after e → Told (λ x y. ReplaySays x y before after faults risen policy tn e) a c
+told_trace None b c before now after faults risen policy tn t e s i j f q = tt
+told_trace (Some a) None c before now after faults risen policy tn t e s i j f q = absurd s
+told_trace (Some a) (Some b) c before now after faults risen policy tn t e s i j f q =
+    let P : Option Inputs → Type 0 = λ x. Told (λ x y. ReplaySays x y before after faults risen policy tn e) (Some a) x in
     let Q : List ℕ → Type 0 = λ l. Puts policy l t.whole now after e in
     let R : Option (List ℕ) → Type 0 = λ o. Puts policy (take s.read s.bytes) t.whole o after e in
-    subst P (sym i) (inr (s.bytes, s.read, t.whole, s.held, s.since, s.all, subst R j (subst Q s.got q)))
+    subst P (sym i) (inr (s.bytes, s.read, t.whole, s.held, s.since, s.all, f, subst R j (subst Q s.got q)))
 
 rose_at : (a b c : ℕ) → c ≡ b → Rose a b → Rose a c
 rose_at a b c e r = omega (arith, e, r)
@@ -140,13 +140,13 @@ replays_ok old now new policy tn t e r q w o = record {
   rises = λ i. rose_at old.input_faults now.input_faults new.input_faults o.inputs.input_faults (r.fault (puts_fault policy t.bytes.items t.whole now.put new.put e q i));
   write_rises = λ i. let f = w i in let g = r.outputs.put_faults in omega (arith, f, g);
   no_usage = puts_used policy t.bytes.items t.whole now.put new.put e q;
-  told = told_trace old.inputs now.inputs new.inputs old.put now.put new.put policy tn t e r.told o.inputs.inputs r.outputs.put q;
+  told = told_trace old.inputs now.inputs new.inputs old.put now.put new.put old.input_faults new.input_faults policy tn t e r.told o.inputs.inputs r.outputs.put (λ w. rose_at old.input_faults now.input_faults new.input_faults o.inputs.input_faults (r.fault w)) q;
 }
 
-told_untraced : (a b : Option Inputs) (before after : Option (List ℕ)) (policy : PlainPolicy) (tn : List ℕ) (e : Ending) → Told (λ x y. TraceSays x y tn (Err e)) a b → Grows before after [] → Told (λ x y. ReplaySays x y before after policy tn e) a b
-told_untraced None b before after policy tn e s g = tt
-told_untraced (Some a) None before after policy tn e s g = absurd s
-told_untraced (Some a) (Some b) before after policy tn e s g = inl (s, g)
+told_untraced : (a b : Option Inputs) (before after : Option (List ℕ)) (faults risen : ℕ) (policy : PlainPolicy) (tn : List ℕ) (e : Ending) → Told (λ x y. TraceSays x y tn (Err e)) a b → Grows before after [] → Told (λ x y. ReplaySays x y before after faults risen policy tn e) a b
+told_untraced None b before after faults risen policy tn e s g = tt
+told_untraced (Some a) None before after faults risen policy tn e s g = absurd s
+told_untraced (Some a) (Some b) before after faults risen policy tn e s g = inl (s, g)
 
 pub replays_err : (old new : Outside) (policy : PlainPolicy) (tn : List ℕ) (e : Ending) → ReadsTrace old new tn (Err e) → Replays old new policy tn e
 replays_err old new policy tn e r = record {
@@ -155,7 +155,7 @@ replays_err old new policy tn e r = record {
   rises = r.rises;
   write_rises = early_write old new e r.early;
   no_usage = early_used e r.early;
-  told = told_untraced old.inputs new.inputs old.put new.put policy tn e r.told (grows_at old.put old.put new.put [] r.outputs.put (grows_none old.put));
+  told = told_untraced old.inputs new.inputs old.put new.put old.input_faults new.input_faults policy tn e r.told (grows_at old.put old.put new.put [] r.outputs.put (grows_none old.put));
 }
 
 trace_then : (a b c : Inputs) (xs : List Opened) (tn : List ℕ) (e : Ending) → OpensSince a b xs → StopsAtTrace b c [] tn e → StopsAtTrace a c xs tn e
@@ -171,19 +171,19 @@ trace_then a b c xs tn Records p h = absurd h
 puts_from : (policy : PlainPolicy) (bytes : List ℕ) (whole : Bool) (before now after : Option (List ℕ)) (e : Ending) → now ≡ before → Puts policy bytes whole now after e → Puts policy bytes whole before after e
 puts_from policy bytes whole before now after e i q = let R : Option (List ℕ) → Type 0 = λ o. Puts policy bytes whole o after e in subst R i q
 
-told_forward : (a b c : Option Inputs) (before now after : Option (List ℕ)) (names : Names) (p : PlainPolicy) (e : Ending) → now ≡ before → Told (λ x y. JudgeSays x y names.policy names.commands (Ok p)) a b → Told (λ x y. ReplaySays x y now after p names.trace e) b c → LeavesTold (Some names) a c before after e
-told_forward None b c before now after names p e i s t = tt
-told_forward (Some a) None c before now after names p e i s t = absurd s
-told_forward (Some a) (Some b) None before now after names p e i s t = absurd t
-told_forward (Some a) (Some b) (Some c) before now after names p e i s (inl t) = BeforeTrace (record {
+told_forward : (a b c : Option Inputs) (before now after : Option (List ℕ)) (faults halfway risen : ℕ) (names : Names) (p : PlainPolicy) (e : Ending) → now ≡ before → faults ≤ halfway → Told (λ x y. JudgeSays x y names.policy names.commands (Ok p)) a b → Told (λ x y. ReplaySays x y now after halfway risen p names.trace e) b c → LeavesTold (Some names) a c before after faults risen e
+told_forward None b c before now after faults halfway risen names p e i l s t = tt
+told_forward (Some a) None c before now after faults halfway risen names p e i l s t = absurd s
+told_forward (Some a) (Some b) None before now after faults halfway risen names p e i l s t = absurd t
+told_forward (Some a) (Some b) (Some c) before now after faults halfway risen names p e i l s (inl t) = BeforeTrace (record {
   policy = p; holds = s.0; no_commands = s.1;
   why = trace_then a b c (judged names s.0.bytes) names.trace e s.2 t.0;
   nothing = grows_from before now after [] i t.1;
 })
-told_forward (Some a) (Some b) (Some c) before now after names p e i s (inr t) = ByTrace (record {
+told_forward (Some a) (Some b) (Some c) before now after faults halfway risen names p e i l s (inr t) = ByTrace (record {
   policy = p; holds = s.0; no_commands = s.1; trace_bytes = t.0; held = held_before a b (judged names s.0.bytes) names.trace t.0 s.2 t.3; read = t.1;
   opens = since_then a b c (judged names s.0.bytes) (record { name = names.trace; bytes = t.0; read = t.1 } ∷ []) s.2 t.4;
-  whole = t.2; all = t.5; puts = puts_from p (take t.1 t.0) t.2 before now after e i t.6;
+  whole = t.2; all = t.5; part = λ w. rose_from faults halfway risen l (t.6 w); puts = puts_from p (take t.1 t.0) t.2 before now after e i t.7;
 })
 
 pub forwards_ok : (old now new : Outside) (names : Names) (p : PlainPolicy) (e : Ending) → Judged old now names.policy names.commands (Ok p) → Replays now new p names.trace e → Forwards old new names e
@@ -193,14 +193,14 @@ forwards_ok old now new names p e j r = record {
   rises = λ i. rose_from old.input_faults now.input_faults new.input_faults j.later (r.rises i);
   write_rises = λ i. let f = r.write_rises i in let g = j.outputs.put_faults in omega (arith, f, g);
   no_usage = r.no_usage;
-  leaves = told_forward old.inputs now.inputs new.inputs old.put now.put new.put names p e j.outputs.put j.told r.told;
+  leaves = told_forward old.inputs now.inputs new.inputs old.put now.put new.put old.input_faults now.input_faults new.input_faults names p e j.outputs.put j.later j.told r.told;
 }
 
-told_judged : (a b : Option Inputs) (before after : Option (List ℕ)) (names : Names) (e : Ending) → Grows before after [] → Told (λ x y. JudgeSays x y names.policy names.commands (Err e)) a b → LeavesTold (Some names) a b before after e
-told_judged None b before after names e g s = tt
-told_judged (Some a) None before after names e g s = absurd s
-told_judged (Some a) (Some b) before after names e g (inl s) = AtPolicy (record { opens = s.0; why = s.1; nothing = g })
-told_judged (Some a) (Some b) before after names e g (inr s) = AtCommands (record { policy = s.0; holds = s.1; opens = s.2; why = s.3; nothing = g })
+told_judged : (a b : Option Inputs) (before after : Option (List ℕ)) (faults risen : ℕ) (names : Names) (e : Ending) → Grows before after [] → Told (λ x y. JudgeSays x y names.policy names.commands (Err e)) a b → LeavesTold (Some names) a b before after faults risen e
+told_judged None b before after faults risen names e g s = tt
+told_judged (Some a) None before after faults risen names e g s = absurd s
+told_judged (Some a) (Some b) before after faults risen names e g (inl s) = AtPolicy (record { opens = s.0; why = s.1; nothing = g })
+told_judged (Some a) (Some b) before after faults risen names e g (inr s) = AtCommands (record { policy = s.0; holds = s.1; opens = s.2; why = s.3; nothing = g })
 
 pub forwards_err : (old new : Outside) (names : Names) (e : Ending) → Judged old new names.policy names.commands (Err e) → Forwards old new names e
 forwards_err old new names e j = record {
@@ -209,14 +209,14 @@ forwards_err old new names e j = record {
   rises = j.rises;
   write_rises = early_write old new e j.early;
   no_usage = early_used e j.early;
-  leaves = told_judged old.inputs new.inputs old.put new.put names e (grows_at old.put old.put new.put [] j.outputs.put (grows_none old.put)) j.told;
+  leaves = told_judged old.inputs new.inputs old.put new.put old.input_faults new.input_faults names e (grows_at old.put old.put new.put [] j.outputs.put (grows_none old.put)) j.told;
 }
 
-told_unnamed : (a b : Option Inputs) (names : Option Names) (before after : Option (List ℕ)) → names ≡ None → b ≡ a → Grows before after [] → LeavesTold names a b before after Usage
-told_unnamed None b names before after n i g = tt
-told_unnamed (Some a) None names before after n i g = absurd (cc)
-told_unnamed (Some a) (Some b) (Some m) before after n i g = absurd (cc)
-told_unnamed (Some a) (Some b) None before after n i g = (refl, cc, g)
+told_unnamed : (a b : Option Inputs) (names : Option Names) (before after : Option (List ℕ)) (faults risen : ℕ) → names ≡ None → b ≡ a → Grows before after [] → LeavesTold names a b before after faults risen Usage
+told_unnamed None b names before after faults risen n i g = tt
+told_unnamed (Some a) None names before after faults risen n i g = absurd (cc)
+told_unnamed (Some a) (Some b) (Some m) before after faults risen n i g = absurd (cc)
+told_unnamed (Some a) (Some b) None before after faults risen n i g = (refl, cc, g)
 
-pub unnamed : (old new : Outside) (names : Option Names) → names ≡ None → SameInputs old new → new.put ≡ old.put → LeavesTold names old.inputs new.inputs old.put new.put Usage
-unnamed old new names n s p = told_unnamed old.inputs new.inputs names old.put new.put n s.inputs (grows_at old.put old.put new.put [] p (grows_none old.put))
+pub unnamed : (old new : Outside) (names : Option Names) → names ≡ None → SameInputs old new → new.put ≡ old.put → LeavesTold names old.inputs new.inputs old.put new.put old.input_faults new.input_faults Usage
+unnamed old new names n s p = told_unnamed old.inputs new.inputs names old.put new.put old.input_faults new.input_faults n s.inputs (grows_at old.put old.put new.put [] p (grows_none old.put))

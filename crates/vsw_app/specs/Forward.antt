@@ -25,9 +25,9 @@ pub record Judged (old new : Outside) (policy_name commands_name : List ℕ) (r 
   pub told : Told (λ a b. JudgeSays a b policy_name commands_name r) old.inputs new.inputs
 
 -- the trace was run, or not read
-abbrev pub ReplaySays : Inputs → Inputs → Option (List ℕ) → Option (List ℕ) → PlainPolicy → List ℕ → Ending → Type 0
-ReplaySays old new before after policy trace_name ending = (StopsAtTrace old new [] trace_name ending × Grows before after [])
-    ⊎ ((bytes : List ℕ) × (read : ℕ) × (whole : Bool) × (old.files trace_name ≡ Some bytes) × OpensSince old new (record { name = trace_name; bytes = bytes; read = read } ∷ []) × (whole ≡ true → read ≡ length bytes) × Puts policy (take read bytes) whole before after ending)
+abbrev pub ReplaySays : Inputs → Inputs → Option (List ℕ) → Option (List ℕ) → ℕ → ℕ → PlainPolicy → List ℕ → Ending → Type 0
+ReplaySays old new before after faults now policy trace_name ending = (StopsAtTrace old new [] trace_name ending × Grows before after [])
+    ⊎ ((bytes : List ℕ) × (read : ℕ) × (whole : Bool) × (old.files trace_name ≡ Some bytes) × OpensSince old new (record { name = trace_name; bytes = bytes; read = read } ∷ []) × (whole ≡ true → read ≡ length bytes) × (whole ≡ false → Rose faults now) × Puts policy (take read bytes) whole before after ending)
 
 pub record Replays (old new : Outside) (policy : PlainPolicy) (trace_name : List ℕ) (ending : Ending) : Type 0 where
   pub complained : new.complained ≡ old.complained
@@ -35,7 +35,7 @@ pub record Replays (old new : Outside) (policy : PlainPolicy) (trace_name : List
   pub rises : RisesAt old new ending
   pub write_rises : WriteRises old new ending
   pub no_usage : ending ≢ Usage
-  pub told : Told (λ a b. ReplaySays a b old.put new.put policy trace_name ending) old.inputs new.inputs
+  pub told : Told (λ a b. ReplaySays a b old.put new.put old.input_faults new.input_faults policy trace_name ending) old.inputs new.inputs
 
 pub record Forwards (old new : Outside) (names : Names) (ending : Ending) : Type 0 where
   pub complained : new.complained ≡ old.complained
@@ -43,4 +43,4 @@ pub record Forwards (old new : Outside) (names : Names) (ending : Ending) : Type
   pub rises : RisesAt old new ending
   pub write_rises : WriteRises old new ending
   pub no_usage : ending ≢ Usage
-  pub leaves : LeavesTold (Some names) old.inputs new.inputs old.put new.put ending
+  pub leaves : LeavesTold (Some names) old.inputs new.inputs old.put new.put old.input_faults new.input_faults ending

@@ -1,14 +1,17 @@
 -- A run of `vsw forward`: what it opened and read, what it put, and what it complained.
-use Rattle.std.specs.Prelude.{◌≡◌, ℕ, List, [], ◌∷◌, ◌++◌, length, take, Bool, true, Option, Some, None}
-use Rattle.vsw_host.specs.Outside.{Opened, Inputs, Outside, OpensSince, Grows}
+use Rattle.std.specs.Prelude.{◌≡◌, ◌≤◌, ◌⊎◌, ℕ, List, [], ◌∷◌, ◌++◌, length, take, Bool, true, false, Option, Some, None}
+use Rattle.vsw_host.specs.Outside.{Opened, Inputs, Outside, OpensSince, Grows, Rose}
 use Rattle.vsw_config.specs.declared.policy.PlainPolicy.{PlainPolicy}
 use Rattle.vsw_app.specs.declared.ending.Status.{Status}
+use Rattle.vsw_app.specs.declared.ending.Status.TheVariants as status
 use Rattle.vsw_app.specs.declared.ending.Ending.{Ending}
 use Rattle.vsw_app.specs.declared.ending.Ending.TheVariants.{Usage}
 use Rattle.vsw_app.specs.Words.{Names, names_of}
 use Rattle.vsw_app.specs.Ending.{status_of, complaint, Complains}
 use Rattle.vsw_app.specs.Files.{read_whole, OpensAtMost, HoldsPolicy, StopsAtPolicy, StopsAtCommands, StopsAtTrace}
-use Rattle.vsw_app.specs.Trace.{Puts}
+use Rattle.vsw_app.specs.Trace.{Puts, most_records}
+use Rattle.vsw_pcap.specs.Capture.{IsCapture}
+use Rattle.vsw_pcap.specs.declared.capture.Record.{Record}
 
 -- the policy is read and judged first: where it isn't read or isn't built, no other file is opened
 pub record EndsAtPolicy (names : Names) (old new : Inputs) (before after : Option (List ℕ)) (ending : Ending) : Type 0 where
@@ -37,7 +40,7 @@ pub record EndsBeforeTrace (names : Names) (old new : Inputs) (before after : Op
   pub nothing : Grows before after []
 
 -- and else the bytes of the trace that were read decide: all of them, or those before a fault
-pub record EndsByTrace (names : Names) (old new : Inputs) (before after : Option (List ℕ)) (ending : Ending) : Type 0 where
+pub record EndsByTrace (names : Names) (old new : Inputs) (before after : Option (List ℕ)) (faults now : ℕ) (ending : Ending) : Type 0 where
   pub policy : PlainPolicy
   pub holds : HoldsPolicy old names.policy policy
   pub no_commands : old.files names.commands ≡ Some []
@@ -47,28 +50,49 @@ pub record EndsByTrace (names : Names) (old new : Inputs) (before after : Option
   pub opens : OpensSince old new (judged names holds.bytes ++ record { name = names.trace; bytes = trace_bytes; read = read } ∷ [])
   pub whole : Bool
   pub all : whole ≡ true → read ≡ length trace_bytes
+  pub part : whole ≡ false → Rose faults now
   pub puts : Puts policy (take read trace_bytes) whole before after ending
 
-pub data Leaves (names : Names) (old new : Inputs) (before after : Option (List ℕ)) (ending : Ending) : Type 0 where
-  AtPolicy : EndsAtPolicy names old new before after ending → Leaves names old new before after ending
-  AtCommands : EndsAtCommands names old new before after ending → Leaves names old new before after ending
-  BeforeTrace : EndsBeforeTrace names old new before after ending → Leaves names old new before after ending
-  ByTrace : EndsByTrace names old new before after ending → Leaves names old new before after ending
+-- how a run over these files ended; `faults` and `now` are the host's counts of read faults before and after it
+pub data Leaves (names : Names) (old new : Inputs) (before after : Option (List ℕ)) (faults now : ℕ) (ending : Ending) : Type 0 where
+  AtPolicy : EndsAtPolicy names old new before after ending → Leaves names old new before after faults now ending
+  AtCommands : EndsAtCommands names old new before after ending → Leaves names old new before after faults now ending
+  BeforeTrace : EndsBeforeTrace names old new before after ending → Leaves names old new before after faults now ending
+  ByTrace : EndsByTrace names old new before after faults now ending → Leaves names old new before after faults now ending
 
 -- words outside the grammar open nothing and put nothing
-abbrev pub LeavesBy : Option Names → Inputs → Inputs → Option (List ℕ) → Option (List ℕ) → Ending → Type 0
-LeavesBy None old new before after ending = (ending ≡ Usage) × (new ≡ old) × Grows before after []
-LeavesBy (Some names) old new before after ending = Leaves names old new before after ending
+abbrev pub LeavesBy : Option Names → Inputs → Inputs → Option (List ℕ) → Option (List ℕ) → ℕ → ℕ → Ending → Type 0
+LeavesBy None old new before after faults now ending = (ending ≡ Usage) × (new ≡ old) × Grows before after []
+LeavesBy (Some names) old new before after faults now ending = Leaves names old new before after faults now ending
 
 -- where the host tells its files; what was put is told where the host tells it
-abbrev pub LeavesTold : Option Names → Option Inputs → Option Inputs → Option (List ℕ) → Option (List ℕ) → Ending → Type 0
-LeavesTold names None new before after ending = Unit {0}
-LeavesTold names (Some a) None before after ending = ⊥
-LeavesTold names (Some a) (Some b) before after ending = LeavesBy names a b before after ending
+abbrev pub LeavesTold : Option Names → Option Inputs → Option Inputs → Option (List ℕ) → Option (List ℕ) → ℕ → ℕ → Ending → Type 0
+LeavesTold names None new before after faults now ending = Unit {0}
+LeavesTold names (Some a) None before after faults now ending = ⊥
+LeavesTold names (Some a) (Some b) before after faults now ending = LeavesBy names a b before after faults now ending
 
 -- what a run of these words left, by its status
 pub record IsRun (words : List (List ℕ)) (old new : Outside) (status : Status) : Type 0 where
   pub ending : Ending
   pub status_is : status ≡ status_of ending
-  pub leaves : LeavesTold (names_of words) old.inputs new.inputs old.put new.put ending
+  pub leaves : LeavesTold (names_of words) old.inputs new.inputs old.put new.put old.input_faults new.input_faults ending
   pub complains : Complains old new (complaint ending)
+
+-- the words name three files that the host holds, all of the form that is built
+pub record AreAdmitted (words : List (List ℕ)) (inputs : Option Inputs) : Type 0 where
+  pub names : Names
+  pub named : names_of words ≡ Some names
+  pub files : Inputs
+  pub told : inputs ≡ Some files
+  pub policy : PlainPolicy
+  pub holds : HoldsPolicy files names.policy policy
+  pub no_commands : files.files names.commands ≡ Some []
+  pub trace_bytes : List ℕ
+  pub held : files.files names.trace ≡ Some trace_bytes
+  pub records : List Record
+  pub capture : IsCapture trace_bytes records None
+  pub few : length records ≤ most_records
+
+-- then nothing but a fault or want of memory keeps a run from its end
+abbrev pub IsComplete : List (List ℕ) → Outside → Outside → Status → Type 0
+IsComplete words old new s = AreAdmitted words old.inputs → ¬ (Rose old.input_faults new.input_faults) → ¬ (Rose old.put_faults new.put_faults) → (s ≡ status.Done) ⊎ (s ≡ status.Memory)

@@ -3,7 +3,7 @@
 ghost use Rattle.std.specs.Prelude.{◌≡◌, ◌↔◌, ◌⊎◌, ◌≤◌, ℕ, List, None, length};
 ghost use Rattle.vsw_host.specs.Outside.{Rose};
 ghost use Rattle.vsw_app.specs.Words.{names_of};
-ghost use Rattle.vsw_app.specs.IsRun.{IsRun};
+ghost use Rattle.vsw_app.specs.IsRun.{IsRun, IsComplete};
 ghost use Rattle.vsw_app.specs.Forward.{Forwards, Judged, Replays};
 
 use crate::ending::{Ending, Status, finish};
@@ -59,13 +59,8 @@ fn forward<H: Host>(
     }
 }
 
-/// The whole program: reads the words and the files that they name, puts the report, and complains
-/// where it ends otherwise.
-///
-/// `run` says what was opened, read, put and complained, by the status. `usage` and the two faults
-/// hold of hosts that tell nothing, too. `complete` says when nothing but want of memory keeps a run
-/// from its end.
-pub fn run_words<H: Host>(alloc: Global, words: &[Word], host: &mut H) -> Status
+/// Reads the words and runs over the files that they name.
+fn run<H: Host>(alloc: Global, words: &[Word], host: &mut H) -> Status
     ensures run { IsRun words.now (H.outside host.old) (H.outside host.new) result }
     ensures usage { (result ≡ Status.Usage) ↔ (names_of words.now ≡ None) }
     ensures read_fault { result ≡ Status.ReadFault → Rose (H.outside host.old).input_faults (H.outside host.new).input_faults }
@@ -78,4 +73,20 @@ pub fn run_words<H: Host>(alloc: Global, words: &[Word], host: &mut H) -> Status
             finish(host, ending)
         }
     }
+}
+
+/// The whole program: reads the words and the files that they name, puts the report, and complains
+/// where it ends otherwise.
+///
+/// `run` says what was opened, read, put and complained, by the status. `usage` and the two faults
+/// hold of hosts that tell nothing, too. `complete` says when nothing but want of memory keeps a run
+/// from its end.
+pub fn run_words<H: Host>(alloc: Global, words: &[Word], host: &mut H) -> Status
+    ensures run { IsRun words.now (H.outside host.old) (H.outside host.new) result }
+    ensures usage { (result ≡ Status.Usage) ↔ (names_of words.now ≡ None) }
+    ensures read_fault { result ≡ Status.ReadFault → Rose (H.outside host.old).input_faults (H.outside host.new).input_faults }
+    ensures write_fault { result ≡ Status.WriteFault → Rose (H.outside host.old).put_faults (H.outside host.new).put_faults }
+    ensures complete { IsComplete words.now (H.outside host.old) (H.outside host.new) result }
+{
+    run(alloc, words, host)
 }

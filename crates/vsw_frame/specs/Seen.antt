@@ -2,8 +2,8 @@
 use Rattle.std.specs.Prelude.{◌≡◌, ◌≤◌, ◌+◌, ◌*◌, true, ◌<◌, ◌||◌, ◌&&◌, ℕ, zero, suc, Bool, List, [], ◌∷◌, ◌++◌, length, take, drop, Option, Some, None, Result, Ok, Err}
 use Rattle.vsw_base.specs.declared.fault.BadFrame.{BadFrame}
 use Rattle.vsw_base.specs.Frame as frame
-use Rattle.vsw_l4.specs.Tcp.{tcp_fields}
-use Rattle.vsw_l4.specs.Udp.{udp_fields}
+use Rattle.vsw_l4.specs.Tcp.{tcp_view}
+use Rattle.vsw_l4.specs.Udp.{udp_view}
 use Rattle.vsw_frame.specs.declared.opened.End.{End}
 use Rattle.vsw_frame.specs.declared.opened.End.TheVariants.{Rest, OverTcp, OverUdp}
 use Rattle.vsw_frame.specs.declared.opened.Opened.{Opened}
@@ -15,8 +15,8 @@ use Rattle.vsw_base.specs.Shape.{is_plain, is_encap}
 
 abbrev pub end_fields : End → frame.End
 end_fields (Rest payload) = frame.Rest payload.now
-end_fields (OverTcp t) = frame.OverTcp (tcp_fields t)
-end_fields (OverUdp u) = frame.OverUdp (udp_fields u)
+end_fields (OverTcp t) = frame.OverTcp (tcp_view t)
+end_fields (OverUdp u) = frame.OverUdp (udp_view u)
 
 abbrev pub end_seen : Result End BadFrame → Result frame.End BadFrame
 end_seen (Ok end) = Ok (end_fields end)

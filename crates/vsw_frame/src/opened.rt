@@ -5,7 +5,7 @@ ghost use Rattle.vsw_base.specs.Shape.{is_plain, is_packet};
 ghost use Rattle.vsw_base.specs.declared.header.Header.TheVariants.{Ip};
 ghost use Rattle.vsw_base.specs.Frame.{opened_of, end_of, within, ports, control_in, payload_in, slack_in, ether_header};
 ghost use Rattle.vsw_frame.specs.Seen.{end_seen, end_fields, opened_seen, inner_seen};
-ghost use Rattle.vsw_ipv4.specs.Ip.{ip_fields};
+ghost use Rattle.vsw_ipv4.specs.Ip.{ip_view};
 
 use vsw_base::{BadFrame, Control, Header, Headers};
 use vsw_ipv4::{IpPart, read_ip};
@@ -71,7 +71,7 @@ pub fn look_within<'a>(end: &End<'a>) -> Option<Inner<'a>>
 }
 
 fn read_end<'a>(ip: &IpPart<'a>) -> Result<End<'a>, BadFrame>
-    ensures fields { end_seen result ≡ end_of (ip_fields ip.now) }
+    ensures fields { end_seen result ≡ end_of (ip_view ip.now) }
     ensures short { IfOk result (λ end. length (payload_in (end_fields end)) ≤ length ip.now.payload.now) }
     ensures shape { IfOk result (λ end. IsTrue (is_packet (Ip ip.now.src ip.now.dst ip.now.proto ip.now.part ∷ ports (end_fields end)))) }
 {

@@ -1,13 +1,5 @@
-use Rattle.std.proofs.Common.{sym}
-use Rattle.vsw_app.specs.Words.{names_of}
-use Rattle.vsw_app.specs.declared.ending.Ending.TheVariants.{Usage}
-use Rattle.vsw_app.proofs.Running.{unnamed}
+use Rattle.vsw_app.proofs.Completing.{complete_is}
 use Rattle.vsw_app.proofs.run.run_words.Goals as goal
 
-pub returns-in-None-clause-run : goal.returns-in-None-clause-run
-returns-in-None-clause-run g c = record {
-  ending = Usage;
-  status_is = c.finish.ensures.status;
-  leaves = unnamed (g.H.Host.outside c.args.host.now) (g.H.Host.outside c.finish.new.host) (names_of c.args.words.now) (sym c.in-None.ensures) c.finish.ensures.inputs c.finish.ensures.put.put;
-  complains = c.finish.ensures.complains;
-}
+pub returns-clause-complete : goal.returns-clause-complete
+returns-clause-complete g c = complete_is c.args.words.now (g.H.Host.outside c.args.host.now) (g.H.Host.outside c.run.new.host) c.run.result c.run.ensures.run c.run.ensures.read_fault c.run.ensures.write_fault

@@ -1,0 +1,141 @@
+-- A run over files of the form that is built ends well, but for faults and want of memory.
+use Rattle.std.proofs.Common.{◌≡◌, ℕ, ◌+◌, ◌≤◌, ◌<◌, ◌⊎◌, inl, inr, List, [], ◌∷◌, ◌++◌, Bool, true, false, Option, Some, None, Result, Ok, Err, length, take, drop, take_all, refl, sym, ◌∙◌, ap, subst, arith}
+use Rattle.std.proofs.Math.Seq.{take-length}
+use Rattle.vsw_host.specs.Outside.{Inputs, Outside, Rose, Grows}
+use Rattle.vsw_config.specs.declared.policy.PlainPolicy.{PlainPolicy}
+use Rattle.vsw_config.specs.Policy.{IsPolicy}
+use Rattle.vsw_pcap.specs.Capture.{header_of, front_of, Splits, Stops, IsCapture}
+use Rattle.vsw_pcap.specs.declared.capture.Form.{Form}
+use Rattle.vsw_pcap.specs.declared.capture.Front.{Front}
+use Rattle.vsw_pcap.specs.declared.capture.Front.TheVariants.{Whole, Part, Oversize}
+use Rattle.vsw_pcap.specs.declared.capture.Record.{Record}
+use Rattle.vsw_pcap.specs.declared.fault.BadTrace.{BadTrace}
+use Rattle.vsw_pcap.specs.declared.fault.BadTrace.TheVariants.{NotPcap, Version, LinkType, Cut, Huge}
+use Rattle.vsw_app.specs.declared.ending.Status.{Status}
+use Rattle.vsw_app.specs.declared.ending.Status.TheVariants as status
+use Rattle.vsw_app.specs.declared.ending.Ending.{Ending}
+use Rattle.vsw_app.specs.declared.ending.Ending.TheVariants.{Done, Usage, ReadFault, WriteFault, Refused, Records, NotBuilt, Memory}
+use Rattle.vsw_app.specs.Words.{Names, names_of}
+use Rattle.vsw_app.specs.Ending.{status_of}
+use Rattle.vsw_app.specs.Files.{HoldsPolicy, HoldsNoPolicy, HoldsCommands, StopsAtPolicy, StopsAtCommands, StopsAtTrace}
+use Rattle.vsw_app.specs.Trace.{Shows, ShowsRefused, ShowsLimit, Puts, most_records}
+use Rattle.vsw_app.specs.IsRun.{Leaves, LeavesBy, LeavesTold, EndsByTrace, IsRun, AreAdmitted, IsComplete, AtPolicy, AtCommands, BeforeTrace, ByTrace, judged}
+use Rattle.vsw_app.proofs.Splitting.{NotWhole, one_whole}
+
+shorter_by : (form : Form) (rest : List ℕ) (n m : ℕ) → NotWhole (front_of form rest) ⊎ (n + 1 ≤ m + 1) → NotWhole (front_of form rest) ⊎ (n ≤ m)
+shorter_by form rest n m (inl w) = inl w
+shorter_by form rest n m (inr h) = inr (omega (arith, h))
+
+front_or : (form : Form) (rest : List ℕ) (front : Front) (R : Type 0) → front_of form rest ≡ front → NotWhole front ⊎ R → NotWhole (front_of form rest) ⊎ R
+front_or form rest front R b (inl w) = inl (subst NotWhole (sym b) w)
+front_or form rest front R b (inr h) = inr h
+
+-- a capture that ends cleanly ends nowhere else
+clean_end : (form : Form) (bytes : List ℕ) (rs qs : List Record) (rest : List ℕ) → Splits form bytes rs [] → Splits form bytes qs rest → NotWhole (front_of form rest) ⊎ (length rs ≤ length qs) → rest ≡ []
+clean_end form bytes [] [] rest s t h = sym t ∙ s
+clean_end form bytes [] (q ∷ qs) rest s t h = absurd (let e = ap (front_of form) (sym s) ∙ t.1 in cc)
+clean_end form bytes (r ∷ rs) [] rest s t (inl w) = absurd (subst NotWhole (ap (front_of form) (sym t) ∙ s.1) w)
+clean_end form bytes (r ∷ rs) [] rest s t (inr h) = absurd (omega (arith, h))
+clean_end form bytes (r ∷ rs) (q ∷ qs) rest s t h =
+    let e : t.0 ≡ s.0 = one_whole t.0 s.0 (sym t.1 ∙ s.1) in
+    let P : ℕ → Type 0 = λ n. Splits form (drop (16 + n) bytes) qs rest in
+    clean_end form (drop (16 + s.0) bytes) rs qs rest s.3 (subst P e t.3) (shorter_by form rest (length rs) (length qs) h)
+
+one_form : (form form' : Form) (bytes : List ℕ) → header_of bytes ≡ Ok form → header_of bytes ≡ Ok form' → form ≡ form'
+one_form form form' bytes h k = cc
+
+clean_stop : (bytes : List ℕ) (rs qs : List Record) (at : ℕ) (front : Front) → IsCapture bytes rs None → (s : Stops bytes qs at front) → NotWhole front ⊎ (length rs ≤ length qs) → s.rest ≡ []
+clean_stop bytes rs qs at front c s h =
+    let e : s.form ≡ c.0 = one_form s.form c.0 bytes s.header c.1 in
+    let P : Form → Type 0 = λ f. Splits f (drop 24 bytes) qs s.rest in
+    let Q : Form → Type 0 = λ f. NotWhole (front_of f s.rest) ⊎ (length rs ≤ length qs) in
+    clean_end c.0 (drop 24 bytes) rs qs s.rest c.2 (subst P e s.splits) (subst Q e (front_or s.form s.rest front (length rs ≤ length qs) s.begins h))
+
+at_end : (bytes : List ℕ) (qs : List Record) (at : ℕ) (front : Front) → (s : Stops bytes qs at front) → s.rest ≡ [] → at < length bytes → ⊥
+at_end bytes qs at front s e h = let l = ap length e in omega (arith, s.place, l, h)
+
+no_oversize : (form : Form) (rest : List ℕ) → front_of form rest ≡ Oversize → rest ≡ [] → ⊥
+no_oversize form rest b e = let f = ap (front_of form) e in cc
+
+not_refused : (policy : PlainPolicy) (bytes : List ℕ) (bad : BadTrace) (text : List ℕ) (records : List Record) → IsCapture bytes records None → ShowsRefused policy bytes true bad text → ⊥
+not_refused policy bytes NotPcap text records c s = let e = s.refused.0 in let f = c.1 in cc
+not_refused policy bytes Version text records c s = let e = s.refused.0 in let f = c.1 in cc
+not_refused policy bytes LinkType text records c s = let e = s.refused.0 in let f = c.1 in cc
+not_refused policy bytes (Cut at) text records c s = at_end bytes s.1.records at Part s.1.refused.0 (clean_stop bytes records s.1.records at Part c s.1.refused.0 (inl tt)) s.1.refused.1
+not_refused policy bytes (Huge at) text records c s = no_oversize s.refused.form s.refused.rest s.refused.begins (clean_stop bytes records s.records at Oversize c s.refused (inl tt))
+
+not_limit : (policy : PlainPolicy) (bytes text : List ℕ) (records : List Record) → IsCapture bytes records None → length records ≤ most_records → ShowsLimit policy bytes text → ⊥
+not_limit policy bytes text records c few s = at_end bytes s.records s.at s.front s.stops (clean_stop bytes records s.records s.at s.front c s.stops (inr (omega (arith, few, s.full)))) s.more
+
+by_trace : (policy : PlainPolicy) (bytes : List ℕ) (records : List Record) (old new : Outside) (e : Ending) (s : Status) → s ≡ status_of e → (s ≡ status.ReadFault → Rose old.input_faults new.input_faults) → (s ≡ status.WriteFault → Rose old.put_faults new.put_faults) → IsCapture bytes records None → length records ≤ most_records → ¬ (Rose old.input_faults new.input_faults) → ¬ (Rose old.put_faults new.put_faults) → Puts policy bytes true old.put new.put e → (s ≡ status.Done) ⊎ (s ≡ status.Memory)
+by_trace policy bytes records old new Done s i r w c few n m p = inl i
+by_trace policy bytes records old new Memory s i r w c few n m p = inr i
+by_trace policy bytes records old new ReadFault s i r w c few n m p = absurd (n (r i))
+by_trace policy bytes records old new WriteFault s i r w c few n m p = absurd (m (w i))
+by_trace policy bytes records old new (Refused bad) s i r w c few n m p = absurd (not_refused policy bytes bad p.text records c p.shows)
+by_trace policy bytes records old new Records s i r w c few n m p = absurd (not_limit policy bytes p.text records c few p.shows)
+by_trace policy bytes records old new Usage s i r w c few n m p = absurd p
+by_trace policy bytes records old new NotBuilt s i r w c few n m p = absurd p
+
+one_some : (a b : List ℕ) (o : Option (List ℕ)) → o ≡ Some a → o ≡ Some b → a ≡ b
+one_some a b o h k = cc
+
+at_policy : (old new : Outside) (files : Inputs) (name : List ℕ) (policy : PlainPolicy) (e : Ending) (s : Status) → s ≡ status_of e → (s ≡ status.ReadFault → Rose old.input_faults new.input_faults) → ¬ (Rose old.input_faults new.input_faults) → HoldsPolicy files name policy → StopsAtPolicy name files e → (s ≡ status.Done) ⊎ (s ≡ status.Memory)
+at_policy old new files name policy NotBuilt s i r n h w = absurd (w.no_policy policy (subst (λ (t : List ℕ). IsPolicy t policy) (one_some h.bytes w.bytes (files.files name) h.held w.held) h.is_policy))
+at_policy old new files name policy ReadFault s i r n h w = absurd (n (r i))
+at_policy old new files name policy Memory s i r n h w = inr i
+at_policy old new files name policy Done s i r n h w = absurd w
+at_policy old new files name policy Usage s i r n h w = absurd w
+at_policy old new files name policy WriteFault s i r n h w = absurd w
+at_policy old new files name policy (Refused bad) s i r n h w = absurd w
+at_policy old new files name policy Records s i r n h w = absurd w
+
+at_commands : (old new : Outside) (files : Inputs) (name : List ℕ) (e : Ending) (s : Status) → s ≡ status_of e → (s ≡ status.ReadFault → Rose old.input_faults new.input_faults) → ¬ (Rose old.input_faults new.input_faults) → files.files name ≡ Some [] → StopsAtCommands name files e → (s ≡ status.Done) ⊎ (s ≡ status.Memory)
+at_commands old new files name NotBuilt s i r n h w = absurd (omega (arith, w.some, ap length (one_some [] w.bytes (files.files name) h w.held)))
+at_commands old new files name ReadFault s i r n h w = absurd (n (r i))
+at_commands old new files name Memory s i r n h w = inr i
+at_commands old new files name Done s i r n h w = absurd w
+at_commands old new files name Usage s i r n h w = absurd w
+at_commands old new files name WriteFault s i r n h w = absurd w
+at_commands old new files name (Refused bad) s i r n h w = absurd w
+at_commands old new files name Records s i r n h w = absurd w
+
+before_trace : (old new : Outside) (a b : Inputs) (names : Names) (pb : List ℕ) (e : Ending) (s : Status) → s ≡ status_of e → (s ≡ status.ReadFault → Rose old.input_faults new.input_faults) → ¬ (Rose old.input_faults new.input_faults) → StopsAtTrace a b (judged names pb) names.trace e → (s ≡ status.Done) ⊎ (s ≡ status.Memory)
+before_trace old new a b names pb ReadFault s i r n w = absurd (n (r i))
+before_trace old new a b names pb Memory s i r n w = inr i
+before_trace old new a b names pb NotBuilt s i r n w = absurd w
+before_trace old new a b names pb Done s i r n w = absurd w
+before_trace old new a b names pb Usage s i r n w = absurd w
+before_trace old new a b names pb WriteFault s i r n w = absurd w
+before_trace old new a b names pb (Refused bad) s i r n w = absurd w
+before_trace old new a b names pb Records s i r n w = absurd w
+
+whole_is : (w : Bool) (R : Type 0) → (w ≡ false → R) → ¬ R → w ≡ true
+whole_is true R f n = refl
+whole_is false R f n = absurd (n (f refl))
+
+whole_trace : (names : Names) (a b : Inputs) (old new : Outside) (trace_bytes : List ℕ) (records : List Record) (e : Ending) (s : Status) → s ≡ status_of e → (s ≡ status.ReadFault → Rose old.input_faults new.input_faults) → (s ≡ status.WriteFault → Rose old.put_faults new.put_faults) → IsCapture trace_bytes records None → length records ≤ most_records → ¬ (Rose old.input_faults new.input_faults) → ¬ (Rose old.put_faults new.put_faults) → a.files names.trace ≡ Some trace_bytes → EndsByTrace names a b old.put new.put old.input_faults new.input_faults e → (s ≡ status.Done) ⊎ (s ≡ status.Memory)
+whole_trace names a b old new trace_bytes records e s i r w c few n m held t =
+    let all : t.whole ≡ true = whole_is t.whole (Rose old.input_faults new.input_faults) t.part n in
+    let same : t.trace_bytes ≡ trace_bytes = one_some t.trace_bytes trace_bytes (a.files names.trace) t.held held in
+    let bytes : take t.read t.trace_bytes ≡ trace_bytes = ap (λ (k : ℕ). take k t.trace_bytes) (t.all all) ∙ take-length t.trace_bytes ∙ same in
+    let P : List ℕ → Type 0 = λ l. Puts t.policy l t.whole old.put new.put e in
+    let Q : Bool → Type 0 = λ x. Puts t.policy trace_bytes x old.put new.put e in
+    by_trace t.policy trace_bytes records old new e s i r w c few n m (subst Q all (subst P bytes t.puts))
+
+completes_by : (names : Names) (a b : Inputs) (old new : Outside) (policy : PlainPolicy) (trace_bytes : List ℕ) (records : List Record) (e : Ending) (s : Status) → s ≡ status_of e → (s ≡ status.ReadFault → Rose old.input_faults new.input_faults) → (s ≡ status.WriteFault → Rose old.put_faults new.put_faults) → HoldsPolicy a names.policy policy → a.files names.commands ≡ Some [] → a.files names.trace ≡ Some trace_bytes → IsCapture trace_bytes records None → length records ≤ most_records → ¬ (Rose old.input_faults new.input_faults) → ¬ (Rose old.put_faults new.put_faults) → Leaves names a b old.put new.put old.input_faults new.input_faults e → (s ≡ status.Done) ⊎ (s ≡ status.Memory)
+completes_by names a b old new policy trace_bytes records e s i r w h none held c few n m (AtPolicy t) = at_policy old new a names.policy policy e s i r n h t.why
+completes_by names a b old new policy trace_bytes records e s i r w h none held c few n m (AtCommands t) = at_commands old new a names.commands e s i r n none t.why
+completes_by names a b old new policy trace_bytes records e s i r w h none held c few n m (BeforeTrace t) = before_trace old new a b names t.holds.bytes e s i r n t.why
+completes_by names a b old new policy trace_bytes records e s i r w h none held c few n m (ByTrace t) = whole_trace names a b old new trace_bytes records e s i r w c few n m held t
+
+told_by : (names : Names) (a : Inputs) (new_inputs : Option Inputs) (old new : Outside) (policy : PlainPolicy) (trace_bytes : List ℕ) (records : List Record) (e : Ending) (s : Status) → s ≡ status_of e → (s ≡ status.ReadFault → Rose old.input_faults new.input_faults) → (s ≡ status.WriteFault → Rose old.put_faults new.put_faults) → HoldsPolicy a names.policy policy → a.files names.commands ≡ Some [] → a.files names.trace ≡ Some trace_bytes → IsCapture trace_bytes records None → length records ≤ most_records → ¬ (Rose old.input_faults new.input_faults) → ¬ (Rose old.put_faults new.put_faults) → LeavesTold (Some names) (Some a) new_inputs old.put new.put old.input_faults new.input_faults e → (s ≡ status.Done) ⊎ (s ≡ status.Memory)
+told_by names a None old new policy trace_bytes records e s i r w h none held c few n m l = absurd l
+told_by names a (Some b) old new policy trace_bytes records e s i r w h none held c few n m l = completes_by names a b old new policy trace_bytes records e s i r w h none held c few n m l
+
+-- a run is complete
+pub complete_is : (words : List (List ℕ)) (old new : Outside) (s : Status) → IsRun words old new s → (s ≡ status.ReadFault → Rose old.input_faults new.input_faults) → (s ≡ status.WriteFault → Rose old.put_faults new.put_faults) → IsComplete words old new s
+complete_is words old new s run r w admitted n m =
+    let P : Option Names → Type 0 = λ o. LeavesTold o old.inputs new.inputs old.put new.put old.input_faults new.input_faults run.ending in
+    let Q : Option Inputs → Type 0 = λ o. LeavesTold (Some admitted.names) o new.inputs old.put new.put old.input_faults new.input_faults run.ending in
+    told_by admitted.names admitted.files new.inputs old new admitted.policy admitted.trace_bytes admitted.records run.ending s run.status_is r w admitted.holds admitted.no_commands admitted.held admitted.capture admitted.few n m (subst Q admitted.told (subst P admitted.named run.leaves))

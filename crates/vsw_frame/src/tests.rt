@@ -1,6 +1,6 @@
 //! Frames that were written and read by hand.
 
-use crate::{Frame, read_frame};
+use crate::read_frame;
 use std::process::Abort;
 use vsw_base::{BadFrame, Control, Header, Ip4, Mac, Sizes};
 
@@ -57,20 +57,26 @@ fn ports(proto: u8, src: u16, dst: u16) -> Header {
     Header::Ports { proto, src, dst }
 }
 
-/// The outer Ethernet and IPv4 headers of `ENCAP`.
-fn outer() -> [Header; 2] {
-    let link = Header::Ether {
+/// The outer headers of `ENCAP`.
+fn outer_ether() -> Header {
+    Header::Ether {
         dst: Mac::of(0x0200_0000_0a02),
         src: Mac::of(0x0200_0000_0a01),
         kind: 0x0800,
-    };
-    let packet = Header::Ip {
+    }
+}
+
+fn outer_ip() -> Header {
+    Header::Ip {
         src: Ip4::of(0xac10_0001),
         dst: Ip4::of(0xac10_0002),
         proto: 17,
         part: false,
-    };
-    [link, packet]
+    }
+}
+
+fn vxlan() -> Header {
+    Header::Vxlan { vni: 5001 }
 }
 
 /// `PLAIN` with this byte at this place.
@@ -92,48 +98,57 @@ fn with_tcp() -> [u8; 54] {
     frame
 }
 
-fn is_sized(rt: &impl Abort, frame: &Frame<'_>, whole: u32, one: u32, two: u32) {
-    assert_eq!(rt; frame.sizes(), Sizes { whole, one, two });
+/// Reads a frame of these headers, payload and sizes.
+fn reads(rt: &impl Abort, bytes: &[u8], headers: &[Header], payload: &[u8], sizes: Sizes) {
+    match read_frame(bytes) {
+        Ok(frame) => {
+            assert_eq!(rt; frame.stack().headers(), headers);
+            assert_eq!(rt; frame.bytes(), bytes);
+            assert_eq!(rt; frame.payload(), payload);
+            assert_eq!(rt; frame.sizes(), sizes);
+        }
+        Err(fault) => assert_eq!(rt; Some(fault), None),
+    }
+}
+
+fn sizes(whole: u32, one: u32, two: u32) -> Sizes {
+    Sizes { whole, one, two }
+}
+
+/// The control that a frame asks for, or its fault.
+fn control(bytes: &[u8]) -> Result<Control, BadFrame> {
+    match read_frame(bytes) {
+        Ok(frame) => Ok(frame.control()),
+        Err(fault) => Err(fault),
+    }
 }
 
 #[test]
 fn a_plain_frame_is_read(rt: HostRuntime) {
-    let frame = read_frame(&PLAIN).expect(&rt, "a frame");
     let headers = [ether(0x0800), ip(0x0a00_0005, 17, false), ports(17, 1234, 53)];
-    assert_eq!(rt; frame.stack().headers(), headers.as_slice());
-    assert_eq!(rt; frame.control(), Control::None);
-    assert_eq!(rt; frame.bytes(), PLAIN.as_slice());
-    assert_eq!(rt; frame.payload(), b"hi".as_slice());
-    is_sized(&rt, &frame, 44, 0, 0);
+    reads(&rt, &PLAIN, &headers, b"hi", sizes(44, 0, 0));
+    assert_eq!(rt; control(&PLAIN), Ok(Control::None));
 }
 
 #[test]
 fn an_encapsulated_frame_is_read(rt: HostRuntime) {
-    let frame = read_frame(&ENCAP).expect(&rt, "a frame");
-    let [link, packet] = outer();
     let headers = [
-        link,
-        packet,
-        Header::Vxlan { vni: 5001 },
+        outer_ether(),
+        outer_ip(),
+        vxlan(),
         ether(0x0800),
         ip(0xc000_0207, 17, false),
         ports(17, 40000, 53),
     ];
-    assert_eq!(rt; frame.stack().headers(), headers.as_slice());
-    assert_eq!(rt; frame.payload(), b"hi".as_slice());
-    is_sized(&rt, &frame, 94, 44, 0);
+    reads(&rt, &ENCAP, &headers, b"hi", sizes(94, 44, 0));
 }
 
 #[test]
 fn vxlan_without_its_flag_is_plain_udp(rt: HostRuntime) {
     let mut bytes = ENCAP;
     bytes[42] = 0xf7;
-    let frame = read_frame(&bytes).expect(&rt, "a frame");
-    let [link, packet] = outer();
-    let headers = [link, packet, ports(17, 62768, 4789)];
-    assert_eq!(rt; frame.stack().headers(), headers.as_slice());
-    assert_eq!(rt; frame.payload(), &bytes[42..]);
-    is_sized(&rt, &frame, 94, 0, 0);
+    let headers = [outer_ether(), outer_ip(), ports(17, 62768, 4789)];
+    reads(&rt, &bytes, &headers, &bytes[42..], sizes(94, 0, 0));
 }
 
 #[test]
@@ -147,68 +162,66 @@ fn a_third_encapsulation_is_plain_udp(rt: HostRuntime) {
     bytes[39] = 160;
     bytes[67] = 130;
     bytes[89] = 110;
-    let frame = read_frame(&bytes).expect(&rt, "a frame");
-    let [link, packet] = outer();
-    let vxlan = Header::Vxlan { vni: 5001 };
-    let last = ports(17, 62768, 4789);
-    let headers = [link, packet, vxlan, link, packet, vxlan, link, packet, last];
-    assert_eq!(rt; frame.stack().headers(), headers.as_slice());
-    assert_eq!(rt; frame.payload(), &ENCAP[42..]);
-    is_sized(&rt, &frame, 194, 144, 94);
+    let headers = [
+        outer_ether(),
+        outer_ip(),
+        vxlan(),
+        outer_ether(),
+        outer_ip(),
+        vxlan(),
+        outer_ether(),
+        outer_ip(),
+        ports(17, 62768, 4789),
+    ];
+    reads(&rt, &bytes, &headers, &ENCAP[42..], sizes(194, 144, 94));
 }
 
 #[test]
 fn another_type_and_a_fragment_have_no_ports(rt: HostRuntime) {
     let arp = changed(13, 0x06);
-    let frame = read_frame(&arp).expect(&rt, "a frame");
-    assert_eq!(rt; frame.stack().headers(), [ether(0x0806)].as_slice());
-    assert_eq!(rt; frame.payload(), &arp[14..]);
+    reads(&rt, &arp, &[ether(0x0806)], &PLAIN[14..], sizes(44, 0, 0));
     let fragment = changed(20, 0x20);
-    let frame = read_frame(&fragment).expect(&rt, "a frame");
     let headers = [ether(0x0800), ip(0x0a00_0005, 17, true)];
-    assert_eq!(rt; frame.stack().headers(), headers.as_slice());
-    assert_eq!(rt; frame.payload(), &fragment[34..]);
+    reads(&rt, &fragment, &headers, &PLAIN[34..], sizes(44, 0, 0));
 }
 
 #[test]
 fn flags_of_tcp_are_told(rt: HostRuntime) {
     let bytes = with_tcp();
-    let frame = read_frame(&bytes).expect(&rt, "a frame");
     let headers = [ether(0x0800), ip(0x0a00_0005, 6, false), ports(6, 1234, 80)];
-    assert_eq!(rt; frame.stack().headers(), headers.as_slice());
-    assert_eq!(rt; frame.control(), Control::SynAck);
-    assert_eq!(rt; frame.payload(), [].as_slice());
+    reads(&rt, &bytes, &headers, b"", sizes(54, 0, 0));
+    assert_eq!(rt; control(&bytes), Ok(Control::SynAck));
 }
 
 #[test]
 fn faults_are_told(rt: HostRuntime) {
-    assert_eq!(rt; read_frame(&PLAIN[..13]).err(), Some(BadFrame::ShortEther));
-    assert_eq!(rt; read_frame(&PLAIN[..33]).err(), Some(BadFrame::ShortIp));
+    assert_eq!(rt; control(&PLAIN[..13]), Err(BadFrame::ShortEther));
+    assert_eq!(rt; control(&PLAIN[..33]), Err(BadFrame::ShortIp));
     for (at, byte, fault) in [
         (14, 0x44, BadFrame::IpLength),
         (17, 31, BadFrame::IpLength),
         (14, 0x65, BadFrame::IpVersion),
         (39, 7, BadFrame::UdpLength),
         (23, 6, BadFrame::ShortTcp),
+        (17, 27, BadFrame::ShortUdp),
     ] {
-        assert_eq!(rt; read_frame(&changed(at, byte)).err(), Some(fault));
+        assert_eq!(rt; control(&changed(at, byte)), Err(fault));
     }
-    assert_eq!(rt; read_frame(&changed(17, 27)).err(), Some(BadFrame::ShortUdp));
-    let mut frame = with_tcp();
-    frame[46] = 0x40;
-    assert_eq!(rt; read_frame(&frame).err(), Some(BadFrame::TcpOffset));
 }
 
 #[test]
-fn the_fault_of_an_inner_frame_is_told(rt: HostRuntime) {
-    let mut bytes = ENCAP;
-    bytes[64] = 0x65;
-    assert_eq!(rt; read_frame(&bytes).err(), Some(BadFrame::IpVersion));
+fn later_faults_are_told(rt: HostRuntime) {
+    let mut tcp = with_tcp();
+    tcp[46] = 0x40;
+    assert_eq!(rt; control(&tcp), Err(BadFrame::TcpOffset));
+    let mut encap = ENCAP;
+    encap[64] = 0x65;
+    assert_eq!(rt; control(&encap), Err(BadFrame::IpVersion));
 }
 
 #[test]
 fn frames_up_to_65600_bytes_are_read(rt: HostRuntime) {
     let bytes = [0; 65_601];
-    assert!(rt; read_frame(&bytes[1..]).is_ok());
-    assert_eq!(rt; read_frame(&bytes).err(), Some(BadFrame::TooLong));
+    assert_eq!(rt; control(&bytes[1..]), Ok(Control::None));
+    assert_eq!(rt; control(&bytes), Err(BadFrame::TooLong));
 }

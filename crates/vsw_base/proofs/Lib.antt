@@ -1,3 +1,4 @@
 pub mod Pushed
 pub mod Same
 pub mod Stacks
+pub mod Vectors

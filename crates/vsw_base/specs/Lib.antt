@@ -10,3 +10,4 @@ pub mod Spelling
 pub mod Fault
 pub mod Room
 pub mod Six
+pub mod Vectors

@@ -5,6 +5,8 @@ mod found;
 mod frame;
 mod opened;
 mod read;
+#[cfg(test)]
+mod tests;
 
 pub use frame::{Frame, Level};
 pub use read::read_frame;

@@ -4,6 +4,8 @@
 mod layer;
 mod matching;
 mod port;
+#[cfg(test)]
+mod tests;
 mod walk;
 
 pub use layer::{PlainCond, PlainField, PlainGroup, PlainLayer, PlainRule};

@@ -80,7 +80,8 @@ fn items(value: &Value) -> Result<&[Value], PolicyFault>
 /// The items of a member's list, so many at most.
 #[tactic(auto, unfolding(crate::specs::Object::read_in, crate::specs::Value::items_to))]
 pub fn items_up_to(most: usize, object: &Value, word: Word) -> Result<&[Value], PolicyFault>
-    ensures { Gives (seen (λ vs. map view vs.now) result) (read_in word (view object.now) (items_to most)) }
+    ensures { Gives (seen (λ vs. map view vs.now) result)
+        (read_in word (view object.now) (items_to most)) }
 {
     let values = items(value_in(object, word)?)?;
     if values.len() <= most {

@@ -4,8 +4,8 @@ use super::*;
 use vsw_base::{Dir, Ip4, Items, Prefix};
 use vsw_walk::{PlainCond, PlainField, PlainGroup, PlainLayer, PlainRule};
 
-/// The pieces of a policy file: what stands before the rows, the rows, what stands before the rules,
-/// the rules, and the end.
+/// The pieces of a policy file: what stands before the rows, the rows, what stands before the
+/// rules, the rules, and the end.
 const HEAD: &str =
     r#"{"version":1,"controllers":[1],"ports":[{"port":1,"mac":"02:00:00:00:00:01","#;
 

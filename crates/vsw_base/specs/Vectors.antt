@@ -45,7 +45,7 @@ ReadsPlain = frame_of plain_frame ≡ Ok (record {
 abbrev pub ReadsEncapsulated : Type 0
 ReadsEncapsulated = frame_of encap_frame ≡ Ok (record {
   stack = Ether 0x020000000a02 0x020000000a01 0x0800 ∷ Ip 0xac100001 0xac100002 17 false ∷ Vxlan 5001
-    ∷ Ether 0x020000000099 0x020000000001 0x0800 ∷ Ip 0xc0000207 0x0a000009 17 false ∷ Ports 17 40000 53 ∷ [];
+      ∷ Ether 0x020000000099 0x020000000001 0x0800 ∷ Ip 0xc0000207 0x0a000009 17 false ∷ Ports 17 40000 53 ∷ [];
   control = control.None;
   levels = level encap_frame ∷ level inner_frame ∷ [];
   payload = codes "hi";

@@ -125,7 +125,11 @@ fn control(bytes: &[u8]) -> Result<Control, BadFrame> {
 
 #[test]
 fn a_plain_frame_is_read(rt: HostRuntime) {
-    let headers = [ether(0x0800), ip(0x0a00_0005, 17, false), ports(17, 1234, 53)];
+    let headers = [
+        ether(0x0800),
+        ip(0x0a00_0005, 17, false),
+        ports(17, 1234, 53),
+    ];
     reads(&rt, &PLAIN, &headers, b"hi", sizes(44, 0, 0));
     assert_eq!(rt; control(&PLAIN), Ok(Control::None));
 }

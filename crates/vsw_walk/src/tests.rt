@@ -83,7 +83,11 @@ fn verdict_to(layer: &PlainLayer, dst: u32) -> Option<Verdict> {
 #[test]
 fn the_rule_of_least_priority_is_met(rt: HostRuntime) -> Result<(), Fail> {
     let alloc = rt.alloc();
-    let rules = [rule(alloc, 1, 20)?, rule(alloc, 2, 10)?, rule(alloc, 3, 30)?];
+    let rules = [
+        rule(alloc, 1, 20)?,
+        rule(alloc, 2, 10)?,
+        rule(alloc, 3, 30)?,
+    ];
     let layer = layer(Dir::Out, Vec::from_array(alloc, rules)?);
     assert_eq!(rt; verdict_to(&layer, 0x0a00_00ff), Some(met(2)));
     assert_eq!(rt; verdict_to(&layer, 0x0a00_0100), Some(DROPPED_OUT));

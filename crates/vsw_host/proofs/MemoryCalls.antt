@@ -54,15 +54,15 @@ opens-seen s new calls name n called o =
     subst P (sym (seen-open s new calls name n called o)) (opens (seen s) name p.file.bytes n p.held_is (o.counted ∙ sym (length-all_opened s)))
 
 -- bytes were read
-pub seen-read : (s : Inside) (new : Vec Opening Global) (calls number : ℕ) (buffer : List ℕ) (n : ℕ) → calls ≡ raised s.calls → ReadsNext s.files.items s.opened.items new.items number buffer n → seen (record s { opened = new; calls = calls }) ≡ after_read (seen s) number (Ok n)
+pub seen-read : (s : Inside) (new : Vec Opening Global) (calls number : ℕ) (buffer : List ℕ) (n : ℕ) → calls ≡ raised s.calls → ReadsNext s.files.items s.opened.items new.items s.most number buffer n → seen (record s { opened = new; calls = calls }) ≡ after_read (seen s) number (Ok n)
 seen-read s new calls number buffer n called r =
     rw (called, r.moved, slice_get-all_opened s.files.items s.opened.items number r.opening r.file r.found r.held, all_opened-set s.files.items s.opened.items number (r.opening.read + n) r.opening r.file r.held) refl
 
-pub next_count-read : (s : Inside) (new : List Opening) (number : ℕ) (buffer : List ℕ) (n : ℕ) → ReadsNext s.files.items s.opened.items new number buffer n → n ≡ next_count (seen s) number (length buffer)
+pub next_count-read : (s : Inside) (new : List Opening) (number : ℕ) (buffer : List ℕ) (n : ℕ) → ReadsNext s.files.items s.opened.items new s.most number buffer n → n ≡ next_count (seen s) number (length buffer)
 next_count-read s new number buffer n r = rw (slice_get-all_opened s.files.items s.opened.items number r.opening r.file r.found r.held) r.counted
 
-reads : (m : Memory) (number : ℕ) (buffer : List ℕ) (n : ℕ) (file : Opened) → slice_get m.opened number ≡ Some file → file.read ≤ length file.bytes → n ≡ min (length buffer) (length file.bytes - file.read) → take n buffer ≡ take n (drop file.read file.bytes) → DoesRead (outside m) (outside (after_read m number (Ok n))) number buffer (Ok n)
-reads m number buffer n file found inside counted front = record {
+reads : (m : Memory) → 0 < m.most → (number : ℕ) (buffer : List ℕ) (n : ℕ) (file : Opened) → slice_get m.opened number ≡ Some file → file.read ≤ length file.bytes → n ≡ min (min (length buffer) m.most) (length file.bytes - file.read) → take n buffer ≡ take n (drop file.read file.bytes) → DoesRead (outside m) (outside (after_read m number (Ok n))) number buffer (Ok n)
+reads m some number buffer n file found inside counted front = record {
   told = record { file = file; found = found; inside = omega arith; front = front; end = λ zero room. omega arith; files = refl; opened = rw found refl };
   within = omega arith;
   opens = rw found (simp length-set);
@@ -70,8 +70,8 @@ reads m number buffer n file found inside counted front = record {
   outputs = record { put = refl; complained = refl; put_faults = refl; complain_faults = refl };
 }
 
-pub reads-seen : (s : Inside) (new : Vec Opening Global) (calls number : ℕ) (buffer : List ℕ) (n : ℕ) → calls ≡ raised s.calls → ReadsNext s.files.items s.opened.items new.items number buffer n → DoesRead (outside (seen s)) (outside (seen (record s { opened = new; calls = calls }))) number buffer (Ok n)
-reads-seen s new calls number buffer n called r =
+pub reads-seen : (s : Inside) → 0 < s.most → (new : Vec Opening Global) (calls number : ℕ) (buffer : List ℕ) (n : ℕ) → calls ≡ raised s.calls → ReadsNext s.files.items s.opened.items new.items s.most number buffer n → DoesRead (outside (seen s)) (outside (seen (record s { opened = new; calls = calls }))) number buffer (Ok n)
+reads-seen s some new calls number buffer n called r =
     let P : Memory → Type 0 = λ m. DoesRead (outside (seen s)) (outside m) number buffer (Ok n) in
     let found = slice_get-all_opened s.files.items s.opened.items number r.opening r.file r.found r.held in
-    subst P (sym (seen-read s new calls number buffer n called r)) (reads (seen s) number buffer n _ found r.inside r.counted r.front)
+    subst P (sym (seen-read s new calls number buffer n called r)) (reads (seen s) some number buffer n _ found r.inside r.counted r.front)

@@ -15,6 +15,8 @@ pub record Memory : Type 0 where
   pub complained : List ℕ
   -- bytes that may be put, and as many may be complained
   pub room : ℕ
+  -- bytes that one read gives at most
+  pub most : ℕ
   -- the numbers of the calls that fail
   pub failing : List ℕ
   -- how many calls were made
@@ -42,6 +44,7 @@ made files room failing = record {
   put = [];
   complained = [];
   room = room;
+  most = 2 ^ 64 - 1;
   failing = failing;
   calls = 0;
   input_faults = 0;
@@ -74,7 +77,7 @@ after_open m name (Ok n) = record m { calls = raised m.calls; opened = m.opened 
 
 -- bytes that the file of this number has for a buffer of this size
 abbrev pub next_count : Memory → ℕ → ℕ → ℕ
-next_count m number size = option_map_or (λ (file : Opened). min size (length file.bytes - file.read)) (slice_get m.opened number) 0
+next_count m number size = option_map_or (λ (file : Opened). min (min size m.most) (length file.bytes - file.read)) (slice_get m.opened number) 0
 
 -- so many more bytes of the file of this number were read
 abbrev pub read_on : List Opened → ℕ → ℕ → List Opened

@@ -21,6 +21,7 @@ seen s = record {
   put = s.put.items;
   complained = s.complained.items;
   room = s.room;
+  most = s.most;
   failing = s.failing.items;
   calls = s.calls;
   input_faults = s.input_faults;
@@ -34,6 +35,7 @@ IsWithin files o = (o.file < length files) × (o.read ≤ length (opened_of (sli
 
 pub record IsSound (s : Inside) : Type 0 where
   pub within : All (IsWithin s.files.items) s.opened.items
+  pub most_some : 0 < s.most
   pub opened_room : openings ≤ vec_capacity s.opened
   pub put_room : s.room ≤ vec_capacity s.put
   pub complained_room : s.room ≤ vec_capacity s.complained
@@ -50,13 +52,13 @@ pub record OpensNext (files : List MemoryFile) (old new : List Opening) (name : 
 abbrev pub OpensNone : List MemoryFile → List Opening → List ℕ → Type 0
 OpensNone files old name = (place files name ≡ None) ⊎ (openings ≤ length old)
 
--- the next bytes of the file of this number were read to the front of the buffer
-pub record ReadsNext (files : List MemoryFile) (old new : List Opening) (number : ℕ) (buffer : List ℕ) (count : ℕ) : Type 0 where
+-- the next bytes of the file of this number were read to the front of the buffer, so many at most
+pub record ReadsNext (files : List MemoryFile) (old new : List Opening) (most number : ℕ) (buffer : List ℕ) (count : ℕ) : Type 0 where
   pub opening : Opening
   pub file : MemoryFile
   pub found : slice_get old number ≡ Some opening
   pub held : slice_get files opening.file ≡ Some file
   pub inside : opening.read ≤ length file.bytes
-  pub counted : count ≡ min (length buffer) (length file.bytes - opening.read)
+  pub counted : count ≡ min (min (length buffer) most) (length file.bytes - opening.read)
   pub front : take count buffer ≡ take count (drop opening.read file.bytes)
   pub moved : new ≡ slice_set old number (record opening { read = opening.read + count })

@@ -24,6 +24,7 @@ pub struct MemoryHost {
     put: Vec<u8>,
     complained: Vec<u8>,
     room: usize,
+    most: usize,
     failing: Vec<u64>,
     calls: u64,
     input_faults: u64,
@@ -70,12 +71,21 @@ impl MemoryHost {
             put,
             complained,
             room,
+            most: usize::MAX,
             failing,
             calls: 0,
             input_faults: 0,
             put_faults: 0,
             complain_faults: 0,
         })
+    }
+
+    /// From now on one read gives at most `most` bytes. Before that the buffer alone bounds it.
+    pub fn read_at_most(&mut self, most: usize)
+        requires some { 0 < most }
+        ensures { self.new ≡ record self.old { most = most } }
+    {
+        self.most = most;
     }
 
     /// What was put.
@@ -154,7 +164,13 @@ impl Host for MemoryHost {
         if next_fails(&mut self.calls, &self.failing) {
             return failed(&mut self.input_faults);
         }
-        Ok(read_next(&self.files, &mut self.opened, file as usize, buffer))
+        Ok(read_next(
+            &self.files,
+            &mut self.opened,
+            self.most,
+            file as usize,
+            buffer,
+        ))
     }
 
     fn put(&mut self, bytes: &[u8]) -> Result<(), Failed>

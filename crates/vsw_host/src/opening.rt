@@ -32,30 +32,32 @@ pub(crate) fn open_file(files: &[MemoryFile], opened: &mut Vec<Opening>, name: &
     Some(number as u32)
 }
 
-/// Copies as many of the bytes as the buffer has room for to its front, and answers how many.
-fn copy_front(bytes: &[u8], buffer: &mut [u8]) -> usize
-    ensures count { result ≡ min (length buffer.new) (length bytes.now) }
+/// Copies at most `most` of the bytes, as many as the buffer has room for, to its front, and answers how
+/// many.
+fn copy_front(bytes: &[u8], most: usize, buffer: &mut [u8]) -> usize
+    ensures count { result ≡ min (min (length buffer.new) most) (length bytes.now) }
     ensures front { take result buffer.new ≡ take result bytes.now }
 {
-    let count = buffer.len().min(bytes.len());
+    let count = buffer.len().min(most).min(bytes.len());
     buffer[..count].copy_from_slice(&bytes[..count]);
     count
 }
 
-/// Reads the next bytes of the file of this number, as many as the buffer has room for.
+/// Reads the next bytes of the file of this number, at most `most` and as many as the buffer has room for.
 pub(crate) fn read_next(
     files: &[MemoryFile],
     opened: &mut [Opening],
+    most: usize,
     number: usize,
     buffer: &mut [u8],
 ) -> usize
     requires is_open { number < length opened.old }
     requires within { All (IsWithin files.now) opened.old }
-    ensures reads { ReadsNext files.now opened.old opened.new number buffer.new result }
+    ensures reads { ReadsNext files.now opened.old opened.new most number buffer.new result }
     ensures within { All (IsWithin files.now) opened.new }
 {
     let Opening { file, read } = opened[number];
-    let count = copy_front(&files[file].bytes.as_slice()[read..], buffer);
+    let count = copy_front(&files[file].bytes.as_slice()[read..], most, buffer);
     opened[number] = Opening {
         file,
         read: read + count,

@@ -84,3 +84,15 @@ fn files_are_read_whole_or_as_far_as_told(rt: HostRuntime) -> Result<(), Fail> {
     }
     Ok(())
 }
+
+#[test]
+fn small_reads_give_the_same_bytes(rt: HostRuntime) -> Result<(), Fail> {
+    for most in [1, 2, 7, 4_096] {
+        let mut host = host_of(&rt, rt.alloc(), &[])?;
+        host.read_at_most(most);
+        let mut got = Vec::new(rt.alloc());
+        assert_eq!(rt; read_file(&mut host, "short", 5, &mut got), ReadEnd::Whole);
+        assert_eq!(rt; got.as_slice(), b"12345".as_slice());
+    }
+    Ok(())
+}

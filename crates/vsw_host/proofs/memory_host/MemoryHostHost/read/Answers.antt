@@ -8,14 +8,14 @@ use Rattle.vsw_host.proofs.memory_host.MemoryHostHost.read.Goals as goal
 use Rattle.vsw_host.proofs.memory_host.MemoryHostHost.read.Goals.{After-read_next}
 
 -- what the step did, to the host's own lists
-read_step : (c : After-read_next) → ReadsNext c.self.inside.files.items c.self.inside.opened.items (with_items c.self.inside.opened c.read_next.new.opened).items c.args.file c.read_next.new.buffer c.read_next.result
+read_step : (c : After-read_next) → ReadsNext c.self.inside.files.items c.self.inside.opened.items (with_items c.self.inside.opened c.read_next.new.opened).items c.self.inside.most c.args.file c.read_next.new.buffer c.read_next.result
 read_step c =
     let kept = with_items_is c.self.inside.opened c.read_next.new.opened (omega arith) in
     let read = rw (c.deref-2.ensures.value, c.deref_mut.ensures.value) at c.read_next.ensures.reads in
     rw kept read
 
 pub returns-clause-reads : goal.returns-clause-reads
-returns-clause-reads c = rw (← c.self.view_is) (reads-seen c.self.inside (with_items c.self.inside.opened c.read_next.new.opened) _ _ _ _ c.next_fails.ensures.calls (read_step (goal.at.returns-clause-reads c).After-read_next))
+returns-clause-reads c = rw (← c.self.view_is) (reads-seen c.self.inside c.self.invariant.most_some (with_items c.self.inside.opened c.read_next.new.opened) _ _ _ _ c.next_fails.ensures.calls (read_step (goal.at.returns-clause-reads c).After-read_next))
 
 pub returns-clause-count : goal.returns-clause-count
 returns-clause-count c =

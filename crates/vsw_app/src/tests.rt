@@ -71,13 +71,35 @@ fn host_of(
     files: &Files<'_>,
     failing: &[u64],
 ) -> Result<MemoryHost, Fail> {
-    let rules = joined(alloc, files.rules)?;
+    let policy = joined(
+        alloc,
+        &[POLICY_START, &joined(alloc, files.rules)?, POLICY_END],
+    )?;
+    host_with(
+        rt,
+        alloc,
+        &policy,
+        files.commands,
+        &joined(alloc, files.trace)?,
+        failing,
+    )
+}
+
+/// A host with room for the longest report here.
+fn host_with(
+    rt: &impl Abort,
+    alloc: Global,
+    policy: &[u8],
+    commands: &[u8],
+    trace: &[u8],
+    failing: &[u64],
+) -> Result<MemoryHost, Fail> {
     let mut held = Vec::new(alloc);
-    held.push(file(alloc, "policy", &[POLICY_START, &rules, POLICY_END])?)?;
-    held.push(file(alloc, "commands", &[files.commands])?)?;
-    held.push(file(alloc, "trace", files.trace)?)?;
+    held.push(file(alloc, "policy", &[policy])?)?;
+    held.push(file(alloc, "commands", &[commands])?)?;
+    held.push(file(alloc, "trace", &[trace])?)?;
     assert!(rt; are_distinct(&held));
-    Ok(MemoryHost::new(alloc, held, 4_096, failing.to_vec(alloc)?)?)
+    Ok(MemoryHost::new(alloc, held, 262_144, failing.to_vec(alloc)?)?)
 }
 
 fn words_of(alloc: Global, texts: &[&str]) -> Result<Vec<Word>, AllocError> {
@@ -295,4 +317,153 @@ fn words_outside_the_grammar_are_refused(rt: HostRuntime) -> Result<(), Fail> {
         check(&rt, alloc, host_of(&rt, alloc, &files, &[])?, words, wanted)?;
     }
     Ok(())
+}
+
+/// A trace of these packets, none of them snapped.
+fn trace_of(alloc: Global, packets: &[&[u8]]) -> Result<Vec<u8>, AllocError> {
+    let mut trace = HEADER.to_vec(alloc)?;
+    for packet in packets {
+        trace.extend_from_slice(&[0; 8])?;
+        trace.extend_from_slice(&(packet.len() as u32).to_le_bytes())?;
+        trace.extend_from_slice(&(packet.len() as u32).to_le_bytes())?;
+        trace.extend_from_slice(packet)?;
+    }
+    Ok(trace)
+}
+
+/// The query with one byte changed.
+fn changed(alloc: Global, at: usize, value: u8) -> Result<Vec<u8>, AllocError> {
+    joined(alloc, &[&QUERY[..at], &[value], &QUERY[at + 1..]])
+}
+
+#[test]
+fn malformed_packets_are_named_and_bytes_after_a_packet_pass(rt: HostRuntime) -> Result<(), Fail> {
+    let alloc = rt.alloc();
+    let version_4_words_4 = changed(alloc, 14, 0x44)?;
+    let total_length_31 = changed(alloc, 17, 31)?;
+    let version_6 = changed(alloc, 14, 0x65)?;
+    let udp_length_7 = changed(alloc, 39, 7)?;
+    let tcp = changed(alloc, 23, 6)?;
+    let padded = joined(alloc, &[QUERY, &[0; 16]])?;
+    let trace = trace_of(
+        alloc,
+        &[
+            &QUERY[..13],
+            &version_4_words_4,
+            &total_length_31,
+            &version_6,
+            &udp_length_7,
+            &tcp,
+            &padded,
+        ],
+    )?;
+    let lines =
+        b"w0 6 @0 pass 60 02000000009902000000000108004500001e00004000401126c20a0000050a00000904d20035000a7e5c686900000000000000000000000000000000\n";
+    let loose =
+        b"loose\n0 malformed 1 ShortEther\n1 malformed 4 IpLength\n2 malformed 4 IpLength\n3 malformed 3 IpVersion\n4 malformed 8 UdpLength\n5 malformed 5 ShortTcp\n";
+    let report: &[&[u8]] = &[HEAD, ROUND, lines, loose];
+    check_trace(&rt, alloc, &[&trace], &[], (Status::Done, report, b""))
+}
+
+#[test]
+fn a_capture_of_the_other_order_and_unit_is_read(rt: HostRuntime) -> Result<(), Fail> {
+    let header =
+        b"\xa1\xb2\x3c\x4d\x00\x02\x00\x04\x00\x00\x00\x00\x00\x00\x00\x00\x00\x04\x00\x00\x00\x00\x00\x01";
+    let record = b"\x00\x00\x00\x00\x00\x00\x00\x00\x00\x00\x00\x2c\x00\x00\x00\x2c";
+    let report: &[&[u8]] = &[HEAD, ROUND, QUERY_LINE, b"loose\n"];
+    let trace: &[&[u8]] = &[header, record, QUERY];
+    check_trace(&rt, rt.alloc(), trace, &[], (Status::Done, report, b""))
+}
+
+#[test]
+fn any_failing_call_leaves_a_front_of_the_report(rt: HostRuntime) -> Result<(), Fail> {
+    let alloc = rt.alloc();
+    let words = words_of(alloc, FORWARD)?;
+    let report = joined(alloc, &[HEAD, ROUND, QUERY_LINE, b"loose\n"])?;
+    let files = Files {
+        rules: &[ALLOW],
+        commands: b"",
+        trace: &[HEADER, RECORD, QUERY],
+    };
+    for call in 1..=10 {
+        let mut host = host_of(&rt, alloc, &files, &[call])?;
+        let status = run_words(alloc, &words, &mut host);
+        let wanted = if call < 9 {
+            Status::ReadFault
+        } else {
+            Status::WriteFault
+        };
+        assert_eq!(rt; status, wanted, "{call}");
+        assert!(rt; report.starts_with(host.written()));
+    }
+    let mut host = host_of(&rt, alloc, &files, &[11])?;
+    assert_eq!(rt; run_words(alloc, &words, &mut host), Status::Done);
+    assert_eq!(rt; host.written(), report.as_slice());
+    Ok(())
+}
+
+#[test]
+fn reads_of_any_size_give_the_same_report(rt: HostRuntime) -> Result<(), Fail> {
+    let alloc = rt.alloc();
+    let files = Files {
+        rules: &[ALLOW],
+        commands: b"",
+        trace: &[HEADER, RECORD, QUERY],
+    };
+    for most in [1, 7, 4_096] {
+        let mut host = host_of(&rt, alloc, &files, &[])?;
+        host.read_at_most(most);
+        let report: &[&[u8]] = &[HEAD, ROUND, QUERY_LINE, b"loose\n"];
+        check(&rt, alloc, host, FORWARD, (Status::Done, report, b""))?;
+    }
+    Ok(())
+}
+
+/// The status of a run over these bytes as policy and trace.
+fn status_of(rt: &impl Abort, alloc: Global, policy: &[u8], trace: &[u8]) -> Result<Status, Fail> {
+    let words = words_of(alloc, FORWARD)?;
+    let mut host = host_with(rt, alloc, policy, b"", trace, &[])?;
+    Ok(run_words(alloc, &words, &mut host))
+}
+
+#[test]
+fn every_front_of_the_files_has_its_status(rt: HostRuntime) -> Result<(), Fail> {
+    let alloc = rt.alloc();
+    let policy = joined(alloc, &[POLICY_START, ALLOW, POLICY_END])?;
+    let trace = trace_of(alloc, &[QUERY])?;
+    for len in 0..=trace.len() {
+        let whole = len == 24 || len == trace.len();
+        let wanted = if whole { Status::Done } else { Status::Refused };
+        assert_eq!(rt;
+            status_of(&rt, alloc, &policy, &trace[..len])?,
+            wanted,
+            "{len}"
+        );
+    }
+    for len in 0..policy.len() {
+        let status = status_of(&rt, alloc, &policy[..len], &trace)?;
+        assert_eq!(rt; status, Status::NotBuilt, "{len}");
+    }
+    Ok(())
+}
+
+#[test]
+fn many_packets_stand_in_rounds_of_1024(rt: HostRuntime) -> Result<(), Fail> {
+    let alloc = rt.alloc();
+    let mut packets = Vec::new(alloc);
+    let mut report = HEAD.to_vec(alloc)?;
+    for round in [0_u32, 1_024, 2_048] {
+        report.extend_from_slice(b"round ")?;
+        report.extend_from_slice(round.to_string(alloc)?.as_bytes())?;
+        report.extend_from_slice(b"\nport 1 0 0\n")?;
+        for packet in round..2_050.min(round + 1_024) {
+            packets.push(FAR)?;
+            report.extend_from_slice(b"w0 ")?;
+            report.extend_from_slice(packet.to_string(alloc)?.as_bytes())?;
+            report.extend_from_slice(b" @0 drop default 1/10 out\n")?;
+        }
+        report.extend_from_slice(b"loose\n")?;
+    }
+    let trace = trace_of(alloc, &packets)?;
+    check_trace(&rt, alloc, &[&trace], &[], (Status::Done, &[&report], b""))
 }

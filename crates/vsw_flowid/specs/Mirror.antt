@@ -1,5 +1,5 @@
 -- The mirror of a stack: the headers of its replies, and what a stack and its mirror have in common.
-use Rattle.std.specs.Prelude.{◌≡◌, ℕ, ◌*◌, List, [], ◌∷◌, ◌++◌, true, map, take}
+use Rattle.std.specs.Prelude.{◌≡◌, ◌*◌, List, ◌++◌, true, map, take}
 use Rattle.vsw_base.specs.declared.flow.LayerKey.{LayerKey}
 use Rattle.vsw_base.specs.declared.header.Header.{Header}
 use Rattle.vsw_base.specs.declared.header.Header.TheVariants.{Ether, Ip, Vxlan, Ports}

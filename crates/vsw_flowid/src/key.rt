@@ -1,7 +1,7 @@
 //! The keys by which a layer finds its pairs.
 
 ghost use Rattle.std.specs.Prelude.{◌≡◌, get_or};
-ghost use Rattle.vsw_flowid.specs.Key.{vnis, key_from, mirror_of};
+ghost use Rattle.vsw_flowid.specs.Key.{vnis, packet_of, ports_of, key_from, mirror_of};
 
 use vsw_base::{Header, Ip4, LayerKey, Stack};
 
@@ -22,70 +22,52 @@ fn vni_at(headers: &[Header], place: usize) -> u32
     }
 }
 
+/// Source, destination, protocol and fragment mark of inner headers.
+fn packet(headers: &[Header]) -> (Ip4, Ip4, u8, bool)
+    ensures { result ≡ packet_of headers.now }
+{
+    match headers {
+        [
+            _,
+            Header::Ip {
+                src,
+                dst,
+                proto,
+                part,
+            },
+            ..
+        ] => (*src, *dst, *proto, *part),
+        _ => (Ip4::of(0), Ip4::of(0), 0, false),
+    }
+}
+
+/// Source and destination port of inner headers.
+fn ports(headers: &[Header]) -> (u16, u16)
+    ensures { result ≡ ports_of headers.now }
+{
+    match headers {
+        [_, _, Header::Ports { src, dst, .. }, ..] => (*src, *dst),
+        _ => (0, 0),
+    }
+}
+
 /// The key of a stack: its VNIs, and the inner addresses, protocol, fragment mark and ports.
 pub fn key_of(stack: &Stack) -> LayerKey
     ensures { result ≡ key_from stack.now }
 {
-    let encaps = stack.encaps();
-    let vni_outer = vni_at(stack.headers(), 0);
-    let vni_second = vni_at(stack.headers(), 1);
-    match stack.inner() {
-        [
-            _,
-            Header::Ip {
-                src,
-                dst,
-                proto,
-                part,
-            },
-            Header::Ports {
-                src: src_port,
-                dst: dst_port,
-                ..
-            },
-            ..
-        ] => LayerKey {
-            encaps,
-            vni_outer,
-            vni_second,
-            src: *src,
-            dst: *dst,
-            proto: *proto,
-            part: *part,
-            src_port: *src_port,
-            dst_port: *dst_port,
-        },
-        [
-            _,
-            Header::Ip {
-                src,
-                dst,
-                proto,
-                part,
-            },
-            ..
-        ] => LayerKey {
-            encaps,
-            vni_outer,
-            vni_second,
-            src: *src,
-            dst: *dst,
-            proto: *proto,
-            part: *part,
-            src_port: 0,
-            dst_port: 0,
-        },
-        _ => LayerKey {
-            encaps,
-            vni_outer,
-            vni_second,
-            src: Ip4::of(0),
-            dst: Ip4::of(0),
-            proto: 0,
-            part: false,
-            src_port: 0,
-            dst_port: 0,
-        },
+    let headers = stack.inner();
+    let (src, dst, proto, part) = packet(headers);
+    let (src_port, dst_port) = ports(headers);
+    LayerKey {
+        encaps: stack.encaps(),
+        vni_outer: vni_at(stack.headers(), 0),
+        vni_second: vni_at(stack.headers(), 1),
+        src,
+        dst,
+        proto,
+        part,
+        src_port,
+        dst_port,
     }
 }
 

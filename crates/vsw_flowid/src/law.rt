@@ -4,8 +4,8 @@ ghost use Rattle.vsw_flowid.specs.Mirror.{IsStill, KeysMirror, SumsAlike, Mirror
 ghost use Rattle.vsw_flowid.specs.Port.{MeetsNone, OutWins};
 
 /// The mirrored stack is a stack, its key is the mirror of the key, its flow sum is the flow sum, and
-/// its mirror is the stack. No port is found exactly where neither address is a port's,
-/// and a packet is outbound exactly where its outermost source address is one.
+/// its mirror is the stack. No port is found exactly where neither address is a port's, and a packet
+/// is outbound exactly where its outermost source address is one.
 pub fn laws()
     ensures shape { IsStill }
     ensures key { KeysMirror }

@@ -1,6 +1,6 @@
 //! The port that a packet is at.
 
-ghost use Rattle.std.specs.Prelude.{◌≡◌, ◌<◌, ◌^◌, length, position, ◌==◌, IfSome, option_and_then};
+ghost use Rattle.std.specs.Prelude.{◌≡◌, ◌<◌, ◌^◌, length, IfSome, option_and_then};
 ghost use Rattle.vsw_flowid.specs.Port.{place_of, source_of, destination_of, choose};
 
 use vsw_base::{Dir, Header, Mac, Place, Stack};

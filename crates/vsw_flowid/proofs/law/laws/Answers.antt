@@ -1,0 +1,22 @@
+use Rattle.std.proofs.Common.{refl, ◌∙◌}
+use Rattle.vsw_flowid.proofs.Mirrors.{turns, sums_alike}
+use Rattle.vsw_flowid.proofs.Ports.{meets_none, out_wins}
+use Rattle.vsw_flowid.proofs.law.laws.Goals as goal
+
+pub returns-clause-shape : goal.returns-clause-shape
+returns-clause-shape c hs t = (turns hs t).0 ∙ t
+
+pub returns-clause-key : goal.returns-clause-key
+returns-clause-key c hs t = (turns hs t).1
+
+pub returns-clause-sum : goal.returns-clause-sum
+returns-clause-sum c = sums_alike
+
+pub returns-clause-back : goal.returns-clause-back
+returns-clause-back c = (λ hs t. (turns hs t).2, λ key. refl)
+
+pub returns-clause-none : goal.returns-clause-none
+returns-clause-none c = meets_none
+
+pub returns-clause-out : goal.returns-clause-out
+returns-clause-out c = out_wins

@@ -1,0 +1,4 @@
+pub mod Key
+pub mod Sum
+pub mod Mirror
+pub mod Port

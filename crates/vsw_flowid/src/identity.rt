@@ -1,0 +1,27 @@
+//! The identity of a unified flow.
+
+ghost use Rattle.std.specs.Prelude.{◌≡◌, ◌↔◌, IsTrue};
+
+use vsw_base::{Dir, LayerKey, Stack, Ufid};
+
+/// The id of a packet with this direction and these headers.
+pub fn ufid(dir: Dir, stack: &Stack) -> Ufid
+    ensures dir { result.dir ≡ dir }
+    ensures stack { result.stack ≡ stack.now }
+{
+    Ufid { dir, stack: *stack }
+}
+
+/// Whether two ids are one.
+pub fn same_id(a: &Ufid, b: &Ufid) -> bool
+    ensures { IsTrue result ↔ (a.now ≡ b.now) }
+{
+    *a == *b
+}
+
+/// Whether two keys are one.
+pub fn same_key(a: &LayerKey, b: &LayerKey) -> bool
+    ensures { IsTrue result ↔ (a.now ≡ b.now) }
+{
+    *a == *b
+}

@@ -210,7 +210,12 @@ fn bad_rules_are_refused_in_order(rt: HostRuntime) -> Result<(), Fail> {
         (edit(true, None), true, bad, Err(BadRule::StatefulAction)),
         (edit(false, None), true, bad, Err(BadRule::EmptyAction)),
         (Action::Allow, true, bad, Err(BadRule::BadRange)),
-        (Action::Allow, true, range(0, 0x1_0000), Err(BadRule::BadRange)),
+        (
+            Action::Allow,
+            true,
+            range(0, 0x1_0000),
+            Err(BadRule::BadRange),
+        ),
         (Action::Allow, true, prefix(1, 32), Err(BadRule::BadRange)),
         (Action::Drop, false, range(0, 0xffff), Ok(())),
     ];
@@ -220,6 +225,9 @@ fn bad_rules_are_refused_in_order(rt: HostRuntime) -> Result<(), Fail> {
         assert_eq!(rt; rule.check(), *answer);
         assert!(rt; rule.same(&rule));
     }
-    assert_eq!(rt; (BadRule::BadRange.number(), BadRule::BadRange.name()), (3, "BadRange"));
+    assert_eq!(rt;
+        (BadRule::BadRange.number(), BadRule::BadRange.name()),
+        (3, "BadRange")
+    );
     Ok(())
 }

@@ -53,6 +53,7 @@ pub list_knows : {A : Type 0} (e : A → A → Bool) → Knows e → Knows (poin
 list_knows e k [] = refl
 list_knows e k (a ∷ xs) = grind (arith, common_steps, k a, list_knows e k xs)
 
+-- two tests that hold together hold each
 pub both : (x y : Bool) → x && y ≡ true → (x ≡ true) × (y ≡ true)
 both true y h = (refl, h)
 both false y h = absurd (grind arith)
@@ -86,6 +87,7 @@ set_tells a b h =
 pub set_knows : (a : Set) → set.eq-value.it a a ≡ true
 set_knows a = grind (arith, common_steps, option_knows eqb number_knows a.dst_mac, option_knows eqb number_knows a.src_mac, option_knows eqb number_knows a.src_ip, option_knows eqb number_knows a.dst_ip, option_knows eqb number_knows a.src_port, option_knows eqb number_knows a.dst_port)
 
+-- the bound on the VNI has at most one proof, so the fields alone tell
 pub outer_tells : (a b : Outer) → outer.eq-value.it a b ≡ true → a ≡ b
 outer_tells a b h =
     let one = both _ _ h in let two = both _ _ one.1 in let three = both _ _ two.1 in let four = both _ _ three.1 in
@@ -144,5 +146,6 @@ rule_tells a b h =
 pub rule_knows : (a : Rule) → rule.eq-value.it a a ≡ true
 rule_knows a = grind (arith, common_steps, list_knows cond.eq-value.it cond_knows a.when, action_knows a.action)
 
+-- the answer of the comparison is the equality of the rules
 pub same_is : (r : Bool) (a b : Rule) → r ≡ rule.eq-value.it a b → (IsTrue r → a ≡ b) × (a ≡ b → IsTrue r)
 same_is r a b h = (λ t. rule_tells a b (grind (arith, common_steps)), λ e. grind (arith, common_steps, rule_knows a))

@@ -1,0 +1,233 @@
+//! Conditions and rules on two frames that were read by hand, and rules that are refused.
+
+use crate::{Action, BadRule, Cond, Field, Item, Rule};
+use std::alloc::{AllocError, Global};
+use std::test::Fail;
+use vsw_base::{BadShape, Header, Ip4, Items, Mac, Outer, Prefix, Set, Stack};
+
+/// Ethernet from 02:00:00:00:00:01 to 02:00:00:00:00:99.
+fn ether(kind: u16) -> Header {
+    Header::Ether {
+        dst: Mac::of(0x0200_0000_0099),
+        src: Mac::of(0x0200_0000_0001),
+        kind,
+    }
+}
+
+fn udp(src: u32, dst: u32) -> Header {
+    Header::Ip {
+        src: Ip4::of(src),
+        dst: Ip4::of(dst),
+        proto: 17,
+        part: false,
+    }
+}
+
+fn ports(src: u16, dst: u16) -> Header {
+    Header::Ports {
+        proto: 17,
+        src,
+        dst,
+    }
+}
+
+/// An encapsulation in network 5001, from 172.16.0.1 to 172.16.0.2.
+fn encap() -> [Header; 3] {
+    [
+        Header::Ether {
+            dst: Mac::of(0x0200_0000_0a02),
+            src: Mac::of(0x0200_0000_0a01),
+            kind: 0x0800,
+        },
+        udp(0xac10_0001, 0xac10_0002),
+        Header::Vxlan { vni: 5001 },
+    ]
+}
+
+/// UDP from port 1234 of 10.0.0.5 to port 53 of 10.0.0.9.
+fn plain() -> Result<Stack, BadShape> {
+    Stack::of(&[
+        ether(0x0800),
+        udp(0x0a00_0005, 0x0a00_0009),
+        ports(1234, 53),
+    ])
+}
+
+/// UDP from port 40000 of 192.0.2.7 to port 53 of 10.0.0.9, under one encapsulation.
+fn once() -> Result<Stack, BadShape> {
+    let [a, b, c] = encap();
+    Stack::of(&[
+        a,
+        b,
+        c,
+        ether(0x0800),
+        udp(0xc000_0207, 0x0a00_0009),
+        ports(40000, 53),
+    ])
+}
+
+/// ARP under two encapsulations.
+fn twice() -> Result<Stack, BadShape> {
+    let [a, b, c] = encap();
+    let [d, e, f] = encap();
+    Stack::of(&[a, b, c, d, e, f, ether(0x0806)])
+}
+
+fn condition(alloc: Global, field: Field, item: Item) -> Result<Cond, AllocError> {
+    Ok(Cond {
+        field,
+        items: Items::of(Vec::from_array(alloc, [item])?),
+    })
+}
+
+fn range(low: u64, high: u64) -> Item {
+    Item::Range { low, high }
+}
+
+fn prefix(value: u32, bits: u8) -> Item {
+    Item::Prefix(Prefix {
+        value: Ip4::of(value),
+        bits,
+    })
+}
+
+fn rule(when: Items<Cond>, action: &Action, stateful: bool) -> Rule {
+    Rule {
+        number: 1,
+        priority: 10,
+        when,
+        action: *action,
+        stateful,
+        last: false,
+    }
+}
+
+const SET_NONE: Set = Set {
+    dst_mac: None,
+    src_mac: None,
+    src_ip: None,
+    dst_ip: None,
+    src_port: None,
+    dst_port: None,
+};
+
+fn edit(decap: bool, encap: Option<Outer>) -> Action {
+    Action::Edit {
+        decap,
+        set: SET_NONE,
+        encap,
+    }
+}
+
+fn outer() -> Outer {
+    Outer {
+        dst_mac: Mac::of(0x0200_0000_0a02),
+        src_mac: Mac::of(0x0200_0000_0a01),
+        src_ip: Ip4::of(0xac10_0001),
+        dst_ip: Ip4::of(0xac10_0002),
+        vni: 5001,
+    }
+}
+
+#[test]
+fn fields_have_the_values_of_their_headers(rt: HostRuntime) -> Result<(), Fail> {
+    let alloc = rt.alloc();
+    let [plain, once] = [plain(), once()].map(|s| s.expect(&rt, "it has the shape"));
+    let inner = [
+        (Field::DstMac, 0x0200_0000_0099, 0x0200_0000_0099),
+        (Field::SrcMac, 0x0200_0000_0001, 0x0200_0000_0001),
+        (Field::Kind, 0x0800, 0x0800),
+        (Field::SrcIp, 0x0a00_0005, 0xc000_0207),
+        (Field::DstIp, 0x0a00_0009, 0x0a00_0009),
+        (Field::Proto, 17, 17),
+        (Field::Part, 0, 0),
+        (Field::SrcPort, 1234, 40000),
+        (Field::DstPort, 53, 53),
+    ];
+    for (field, value, under) in inner {
+        assert!(rt; condition(alloc, field, range(value, value))?.holds(&plain));
+        assert!(rt; condition(alloc, field, range(under, under))?.holds(&once));
+    }
+    let outer = [
+        (Field::OuterDstMac, 0x0200_0000_0a02),
+        (Field::OuterSrcMac, 0x0200_0000_0a01),
+        (Field::OuterSrcIp, 0xac10_0001),
+        (Field::OuterDstIp, 0xac10_0002),
+        (Field::Vni, 5001),
+    ];
+    for (field, value) in outer {
+        assert!(rt; condition(alloc, field, range(value, value))?.holds(&once));
+        assert!(rt; !condition(alloc, field, range(0, u64::MAX))?.holds(&plain));
+    }
+    Ok(())
+}
+
+#[test]
+fn items_hold_up_to_their_edges(rt: HostRuntime) -> Result<(), Fail> {
+    let alloc = rt.alloc();
+    let plain = plain().expect(&rt, "it has the shape");
+    let rows = [
+        (Field::SrcPort, range(1234, 2000), true),
+        (Field::SrcPort, range(1000, 1233), false),
+        (Field::SrcPort, range(1235, 1000), false),
+        (Field::SrcIp, prefix(0x0a00_0006, 30), true),
+        (Field::SrcIp, prefix(0x0a00_0006, 31), false),
+        (Field::SrcIp, prefix(0, 0), true),
+        (Field::SrcIp, prefix(0x0a00_0005, 33), false),
+        (Field::SrcPort, prefix(1234, 32), false),
+    ];
+    for (field, item, is_held) in rows {
+        assert_eq!(rt; condition(alloc, field, item)?.holds(&plain), is_held);
+    }
+    Ok(())
+}
+
+#[test]
+fn actions_ask_for_what_they_need(rt: HostRuntime) {
+    let alloc = rt.alloc();
+    let plain = plain().expect(&rt, "it has the shape");
+    let once = once().expect(&rt, "it has the shape");
+    let twice = twice().expect(&rt, "it has the shape");
+    let rows = [
+        (edit(true, None), false, [false, true, true]),
+        (edit(false, Some(outer())), false, [true, true, false]),
+        (edit(true, Some(outer())), false, [false, true, true]),
+        (Action::Allow, true, [true, true, false]),
+        (Action::Drop, false, [true, true, true]),
+    ];
+    for (action, stateful, matched) in &rows {
+        let rule = rule(Items::new(alloc), action, *stateful);
+        let found = [&plain, &once, &twice].map(|stack| rule.matches(stack));
+        assert_eq!(rt; &found, matched);
+    }
+}
+
+#[test]
+fn bad_rules_are_refused_in_order(rt: HostRuntime) -> Result<(), Fail> {
+    let alloc = rt.alloc();
+    let bad = range(2, 1);
+    let rows = [
+        (edit(true, None), true, bad, Err(BadRule::StatefulAction)),
+        (edit(false, None), true, bad, Err(BadRule::EmptyAction)),
+        (Action::Allow, true, bad, Err(BadRule::BadRange)),
+        (
+            Action::Allow,
+            true,
+            range(0, 0x1_0000),
+            Err(BadRule::BadRange),
+        ),
+        (Action::Allow, true, prefix(1, 32), Err(BadRule::BadRange)),
+        (Action::Drop, false, range(0, 0xffff), Ok(())),
+    ];
+    for (action, stateful, item, answer) in &rows {
+        let when = Vec::from_array(alloc, [condition(alloc, Field::DstPort, *item)?])?;
+        let rule = rule(Items::of(when), action, *stateful);
+        assert_eq!(rt; rule.check(), *answer);
+        assert!(rt; rule.same(&rule));
+    }
+    assert_eq!(rt;
+        (BadRule::BadRange.number(), BadRule::BadRange.name()),
+        (3, "BadRange")
+    );
+    Ok(())
+}

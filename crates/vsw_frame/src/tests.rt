@@ -229,3 +229,58 @@ fn frames_up_to_65600_bytes_are_read(rt: HostRuntime) {
     assert_eq!(rt; control(&bytes[1..]), Ok(Control::None));
     assert_eq!(rt; control(&bytes), Err(BadFrame::TooLong));
 }
+
+/// A frame's headers are these.
+fn has(rt: &impl Abort, bytes: &[u8], headers: &[Header]) {
+    match read_frame(bytes) {
+        Ok(frame) => assert_eq!(rt; frame.stack().headers(), headers),
+        Err(fault) => assert_eq!(rt; Some(fault), None),
+    }
+}
+
+/// Service, packet id, time to live, checksums and payload, and lengths, of UDP.
+#[test]
+fn fields_of_a_packet_do_not_show_in_its_stack(rt: HostRuntime) {
+    let headers = [
+        ether(0x0800),
+        ip(0x0a00_0005, 17, false),
+        ports(17, 1234, 53),
+    ];
+    for (at, byte) in [
+        (15, 0x28),
+        (18, 0x12),
+        (22, 7),
+        (24, 0),
+        (40, 0),
+        (42, 0x79),
+    ] {
+        has(&rt, &changed(at, byte), &headers);
+    }
+    let mut longer = [0; 50];
+    longer[..44].copy_from_slice(&PLAIN);
+    has(&rt, &longer, &headers);
+    longer[17] = 33;
+    longer[39] = 13;
+    has(&rt, &longer, &headers);
+}
+
+/// TCP numbers, and the UDP source port of an encapsulation.
+#[test]
+fn numbers_and_outer_ports_do_not_show_in_a_stack(rt: HostRuntime) {
+    let mut tcp = with_tcp();
+    tcp[41] = 9;
+    tcp[45] = 9;
+    let headers = [ether(0x0800), ip(0x0a00_0005, 6, false), ports(6, 1234, 80)];
+    has(&rt, &tcp, &headers);
+    let mut encap = ENCAP;
+    encap[34] = 0xc0;
+    let headers = [
+        outer_ether(),
+        outer_ip(),
+        vxlan(),
+        ether(0x0800),
+        ip(0xc000_0207, 17, false),
+        ports(17, 40000, 53),
+    ];
+    has(&rt, &encap, &headers);
+}

@@ -1,3 +1,4 @@
 pub mod Shorter
 pub mod Within
 pub mod Finds
+pub mod Tiles

@@ -33,13 +33,13 @@ cut h t bytes =
     ∙ ap (λ (front : List ℕ). front ++ drop t bytes) (sym (take-append-drop h (take t bytes)))
     ∙ append_assoc (take h (take t bytes)) (drop h (take t bytes)) (drop t bytes)
 
-ether_rest : (bytes : List ℕ) (e : EtherFields) → ether_of bytes ≡ Ok e → e.rest ≡ drop 14 bytes
+pub ether_rest : (bytes : List ℕ) (e : EtherFields) → ether_of bytes ≡ Ok e → e.rest ≡ drop 14 bytes
 ether_rest bytes e h = grind (arith, common_steps)
 
-ip_payload : (bytes : List ℕ) (i : IpFields) → ip_of bytes ≡ Ok i → i.payload ≡ drop (ip_header bytes) (take (ip_total bytes) bytes)
+pub ip_payload : (bytes : List ℕ) (i : IpFields) → ip_of bytes ≡ Ok i → i.payload ≡ drop (ip_header bytes) (take (ip_total bytes) bytes)
 ip_payload bytes i h = grind (arith, common_steps)
 
-ip_trailer : (bytes : List ℕ) (i : IpFields) → ip_of bytes ≡ Ok i → i.trailer ≡ drop (ip_total bytes) bytes
+pub ip_trailer : (bytes : List ℕ) (i : IpFields) → ip_of bytes ≡ Ok i → i.trailer ≡ drop (ip_total bytes) bytes
 ip_trailer bytes i h = grind (arith, common_steps)
 
 -- a TCP header's payload, once its two tests are passed
@@ -48,13 +48,13 @@ passed_tcp true c e f x y k p t h = absurd (cc)
 passed_tcp false true e f x y k p t h = absurd (cc)
 passed_tcp false false e f x y k p t h = cc
 
-tcp_payload : (bytes : List ℕ) (t : TcpFields) → tcp_of bytes ≡ Ok t → t.payload ≡ drop (tcp_header bytes) bytes
+pub tcp_payload : (bytes : List ℕ) (t : TcpFields) → tcp_of bytes ≡ Ok t → t.payload ≡ drop (tcp_header bytes) bytes
 tcp_payload bytes t h = search passed_tcp
 
-udp_payload : (bytes : List ℕ) (u : UdpFields) → udp_of bytes ≡ Ok u → u.payload ≡ drop 8 (take (udp_length bytes) bytes)
+pub udp_payload : (bytes : List ℕ) (u : UdpFields) → udp_of bytes ≡ Ok u → u.payload ≡ drop 8 (take (udp_length bytes) bytes)
 udp_payload bytes u h = grind (arith, common_steps)
 
-udp_slack : (bytes : List ℕ) (u : UdpFields) → udp_of bytes ≡ Ok u → u.slack ≡ drop (udp_length bytes) bytes
+pub udp_slack : (bytes : List ℕ) (u : UdpFields) → udp_of bytes ≡ Ok u → u.slack ≡ drop (udp_length bytes) bytes
 udp_slack bytes u h = grind (arith, common_steps)
 
 -- a front and what follows it

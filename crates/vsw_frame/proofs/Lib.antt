@@ -1,3 +1,6 @@
 pub mod Shorter
 pub mod Within
 pub mod Finds
+pub mod Tiles
+pub mod Alike
+pub mod Ends

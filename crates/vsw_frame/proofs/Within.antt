@@ -24,7 +24,7 @@ abbrev pub looked : (List ℕ → Result Parts BadFrame) → List ℕ → Opened
 looked inner bytes o None = Ok (plain_parts bytes o)
 looked inner bytes o (Some v) = inner v.1 >>= (λ parts. Ok (encap_parts bytes o v.0 parts))
 
-looked_in : (inner : List ℕ → Result Parts BadFrame) (bytes : List ℕ) (o : Opened) (w : Option (ℕ × List ℕ)) → w ≡ within o.end → looked inner bytes o w ≡ look_in inner bytes o
+pub looked_in : (inner : List ℕ → Result Parts BadFrame) (bytes : List ℕ) (o : Opened) (w : Option (ℕ × List ℕ)) → w ≡ within o.end → looked inner bytes o w ≡ look_in inner bytes o
 looked_in inner bytes o w e = elim w as (λ w. w ≡ within o.end → looked inner bytes o w ≡ look_in inner bytes o) [
   | None ↦ λ h. grind (arith, common_steps)
   | Some v ↦ λ h. grind (arith, common_steps)

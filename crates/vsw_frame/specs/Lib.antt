@@ -1,2 +1,4 @@
 pub mod Frame
 pub mod Seen
+pub mod Tiles
+pub mod Ends

@@ -3,10 +3,12 @@
 
 mod found;
 mod frame;
+mod law;
 mod opened;
 mod read;
 #[cfg(test)]
 mod tests;
 
 pub use frame::{Frame, Level};
+pub use law::laws;
 pub use read::read_frame;

@@ -4,6 +4,7 @@ ghost use Rattle.std.specs.Prelude.{◌≡◌, ◌≤◌, IfOk, OnOk, IsTrue, le
 ghost use Rattle.vsw_base.specs.Frame.{frame_of};
 ghost use Rattle.vsw_frame.specs.Frame.{parts, seen, IsOf};
 ghost use Rattle.vsw_frame.specs.Seen.{Finds, IsShort, found_parts, size_of};
+ghost use Rattle.vsw_frame.specs.Tiles.{Tiles};
 
 use crate::found::{Found, find};
 use crate::frame::{Frame, Level};
@@ -55,6 +56,7 @@ pub fn read_frame<'a>(bytes: &'a [u8]) -> Result<Frame<'a>, BadFrame>
     ensures parts { seen result ≡ frame_of bytes.now }
     ensures of { IfOk result (IsOf bytes.now) }
     ensures short { OnOk result (length bytes.now ≤ 65600) }
+    ensures tiles { IfOk result (λ f. Tiles bytes.now (parts f)) }
 {
     if bytes.len() > FRAME_MAX {
         return Err(BadFrame::TooLong);

@@ -16,10 +16,10 @@ life (Half d) idle linger = idle * 1000000
 abbrev pub later : ℕ → ℕ → ℕ
 later moment micros = min (moment + micros) (2 ^ 64 - 1)
 
--- a packet later than a quarter of the life after the last use renews it
-abbrev pub due : ℕ → ℕ → Pair → ℕ
-due idle linger p = later p.last_use (life p.state idle linger / 4)
+-- a packet after this moment, a quarter of the life after the last use, renews the last use
+abbrev pub due : ℕ → Track → ℕ → ℕ → ℕ
+due last state idle linger = later last (life state idle linger / 4)
 
--- the life ends at the last use and a life, that moment included
+-- a life ends a life after the last use, at that very moment
 abbrev pub is_over : ℕ → ℕ → ℕ → Pair → Bool
 is_over now idle linger p = nat_le (later p.last_use (life p.state idle linger)) now

@@ -65,6 +65,7 @@ impl Flows {
     /// Takes room for one more pair.
     pub fn reserve_one(&mut self) -> Result<(), NoMemory>
         ensures room { OnOk result (1 ≤ self.new.spare) }
+        ensures spare { self.old.spare ≤ self.new.spare }
         ensures same { self.new.pairs ≡ self.old.pairs }
     {
         if self.pairs.reserve(1).is_err() || self.places.reserve(2).is_err() {

@@ -4,6 +4,8 @@
 pub mod flows;
 mod maps;
 pub mod pair;
+#[cfg(test)]
+mod tests;
 
 pub use flows::Flows;
-pub use pair::Pair;
+pub use pair::{Pair, Probe, due, life};

@@ -79,6 +79,15 @@ pub fn life(state: Track, idle: u32, linger: u32) -> u64
     }
 }
 
+/// The moment after which a packet renews a last use, where the pair has this state. The layer's times
+/// are in seconds.
+pub fn due(last: Moment, state: Track, idle: u32, linger: u32) -> Moment
+    ensures { result ≡ due last state idle linger }
+{
+    let quarter = life(state, idle, linger) / 4;
+    Moment::of(last.micros().saturating_add(quarter))
+}
+
 impl Pair {
     /// What a packet of the pair's own direction looks for.
     pub fn front(&self) -> Probe
@@ -94,15 +103,7 @@ impl Pair {
         Probe::of(turned(self.dir), &self.reverse)
     }
 
-    /// The moment after which a packet of the pair renews its last use. The layer's times are in seconds.
-    pub fn due(&self, idle: u32, linger: u32) -> Moment
-        ensures { result ≡ due idle linger self.now }
-    {
-        let quarter = life(self.state, idle, linger) / 4;
-        Moment::of(self.last_use.micros().saturating_add(quarter))
-    }
-
-    /// Whether the pair's life has ended. The layer's times are in seconds.
+    /// Whether the pair's life has ended by `now`. The layer's times are in seconds.
     pub fn is_over(&self, now: Moment, idle: u32, linger: u32) -> bool
         ensures { result ≡ is_over now idle linger self.now }
     {

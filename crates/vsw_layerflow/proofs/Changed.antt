@@ -1,13 +1,12 @@
 -- The two maps after a pair came or went.
-use Rattle.std.proofs.Common.{◌≡◌, ℕ, ◌==◌, nat_eq, Bool, true, false, not, cond, if◌then◌else◌, ◌||◌, ◌&&◌, List, [], ◌∷◌, ◌++◌, filter, map, Option, None, Some, option_map, refl, sym, ap, subst, ◌∙◌, arith, rules, true≢false, is_some, get_or, length, ◌<◌, ◌-◌, ◌^◌}
-use Rattle.std.specs.Map.{keys_of, values_of, lookup, remove_entry, set_value}
-use Rattle.std.proofs.lemmas.Grind.{common_steps}
+use Rattle.std.proofs.Common.{◌≡◌, ℕ, ◌==◌, Bool, true, false, cond, if◌then◌else◌, ◌||◌, List, [], ◌∷◌, ◌++◌, map, Option, None, Some, option_map, refl, sym, ap, subst, ◌∙◌, arith, is_some, length, ◌<◌, ◌-◌, ◌^◌}
+use Rattle.std.specs.Map.{keys_of, values_of, lookup}
 use Rattle.vsw_layerflow.specs.declared.pair.Probe.{Probe}
 use Rattle.vsw_layerflow.specs.declared.pair.Pair.{Pair}
-use Rattle.vsw_layerflow.specs.Pairs.{front, back, same_dir, same_probe, holds, holder, numbered, touched, without, number_of, AllApart, AllBelow}
+use Rattle.vsw_layerflow.specs.Pairs.{front, back, same_probe, holds, holder, numbered, number_of, AllApart, AllBelow}
 use Rattle.vsw_layerflow.specs.Index.{IsIndex}
 use Rattle.vsw_layerflow.proofs.Order.{below-new, rising-push, few-push}
-use Rattle.vsw_layerflow.proofs.Lists.{eq_self, head_is, tail_is, at_number, at_holder, same_is, same_self, holder-push, numbered-push}
+use Rattle.vsw_layerflow.proofs.Lists.{head_is, tail_is, same_is, same_self, holder-push, numbered-push}
 
 keyed-push : (es : List (ℕ × Pair)) (p : Pair) → keys_of es ≡ map number_of (values_of es) → keys_of (es ++ (p.number, p) ∷ []) ≡ map number_of (values_of (es ++ (p.number, p) ∷ []))
 keyed-push [] p h = refl
@@ -86,18 +85,19 @@ pub added : (es : List (ℕ × Pair)) (ls : List (Probe × ℕ)) (p : Pair) (ms 
     → holder (front p) (values_of es) ≡ None → holder (back p) (values_of es) ≡ None → AllBelow p.number (values_of es) → length (values_of es) < 2 ^ 32 - 1
     → ((k : Probe) → lookup (same_probe k) ms ≡ cond (same_probe (back p) k) (Some p.number) (cond (same_probe (front p) k) (Some p.number) (lookup (same_probe k) ls)))
     → IsIndex (es ++ (p.number, p) ∷ []) ms
-added es ls p ms h f b l w u = record
-  { keyed = keyed-push es p h.keyed
-  ; indexed = at
-  ; apart = rw (values-push es p) (apart-push (values_of es) p h.apart f b (below-new p.number (values_of es) l))
-  ; rising = rw (values-push es p) (rising-push (values_of es) p h.rising l)
-  ; few = rw (values-push es p) (few-push (values_of es) p w)
-  }
+added es ls p ms h f b l w u = record {
+  keyed = keyed-push es p h.keyed;
+  indexed = at;
+  apart = rw (values-push es p) (apart-push (values_of es) p h.apart f b (below-new p.number (values_of es) l));
+  rising = rw (values-push es p) (rising-push (values_of es) p h.rising l);
+  few = rw (values-push es p) (few-push (values_of es) p w);
+}
   where
     by : (k : Probe) → (c d : Bool) → same_probe (back p) k ≡ c → same_probe (front p) k ≡ d → cond c (Some p.number) (cond d (Some p.number) (option_map number_of (holder k (values_of es)))) ≡ option_map number_of (holder k (values_of es ++ p ∷ []))
     by k true true s t = let i = same_is (back p) k s in let g : holder k (values_of es) ≡ None = rw (← i) b in rw (holder-push k (values_of es) p, g, s, t) refl
     by k true false s t = let i = same_is (back p) k s in let g : holder k (values_of es) ≡ None = rw (← i) b in rw (holder-push k (values_of es) p, g, s, t) refl
     by k false true s t = let i = same_is (front p) k t in let g : holder k (values_of es) ≡ None = rw (← i) f in rw (holder-push k (values_of es) p, g, s, t) refl
     by k false false s t = rw (holder-push k (values_of es) p, s, t) (ap (option_map number_of) (sym (as_it_is (holder k (values_of es)))))
+
     at : (k : Probe) → lookup (same_probe k) ms ≡ option_map number_of (holder k (values_of (es ++ (p.number, p) ∷ [])))
     at k = rw (u k, h.indexed k, values-push es p) (by k (same_probe (back p) k) (same_probe (front p) k) refl refl)

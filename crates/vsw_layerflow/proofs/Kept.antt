@@ -1,15 +1,14 @@
 -- The two maps after some of the pairs went.
-use Rattle.std.proofs.Common.{◌≡◌, ℕ, ◌==◌, nat_eq, Bool, true, false, not, cond, if◌then◌else◌, ◌||◌, ◌&&◌, List, [], ◌∷◌, ◌++◌, filter, map, Option, None, Some, option_map, refl, sym, ap, subst, ◌∙◌, arith, rules, true≢false, is_some, get_or}
-use Rattle.std.specs.Map.{keys_of, values_of, lookup, remove_entry, set_value}
-use Rattle.std.proofs.lemmas.Grind.{common_steps}
+use Rattle.std.proofs.Common.{◌≡◌, ℕ, ◌==◌, nat_eq, Bool, true, false, not, cond, if◌then◌else◌, ◌||◌, List, [], ◌∷◌, filter, map, Option, None, Some, option_map, refl, sym, ap, ◌∙◌, arith, true≢false, is_some}
+use Rattle.std.specs.Map.{keys_of, values_of, lookup, remove_entry}
 use Rattle.std.proofs.lemmas.Map.Entries.{option_filter}
 use Rattle.vsw_layerflow.specs.declared.pair.Probe.{Probe}
 use Rattle.vsw_layerflow.specs.declared.pair.Pair.{Pair}
 use Rattle.vsw_layerflow.specs.Pairs.{front, back, same_probe, holds, holder, numbered, without, number_of, AllApart}
 use Rattle.vsw_layerflow.specs.Index.{IsIndex}
 use Rattle.vsw_layerflow.proofs.Order.{rising-filter, few-filter}
-use Rattle.vsw_layerflow.proofs.Lists.{eq_self, head_is, tail_is, at_number, at_holder, same_is, same_self}
-use Rattle.vsw_layerflow.proofs.Changed.{not-held, not-held-rest, other_number, other_number-rest}
+use Rattle.vsw_layerflow.proofs.Lists.{head_is, tail_is, at_number, at_holder, same_is}
+use Rattle.vsw_layerflow.proofs.Changed.{other_number, other_number-rest}
 use Rattle.vsw_layerflow.proofs.Moved.{some_is}
 
 -- who holds a probe leaves it free in the rest
@@ -75,15 +74,16 @@ pub kept : (f : Pair → Bool) (es fs : List (ℕ × Pair)) (ls ms : List (Probe
     → ((q : Probe) → holder q (values_of es) ≡ None → lookup (same_probe q) ms ≡ None)
     → IsIndex fs ms × (values_of fs ≡ filter f (values_of es))
 kept f es fs ls ms h e some none =
-    let v : values_of fs ≡ filter f (values_of es) = ap values_of e ∙ values-filter f es in
-    ( record
-        { keyed = rw e (keyed-filter f es h.keyed)
-        ; indexed = λ q. rw (v, holder-filter f q (values_of es) h.apart) (by q (holder q (values_of es)) refl)
-        ; apart = rw v (apart-filter f (values_of es) h.apart)
-        ; rising = rw v (rising-filter f (values_of es) h.rising)
-        ; few = rw v (few-filter f (values_of es) h.few)
-        }
-    , v )
+    let v : values_of fs ≡ filter f (values_of es) = ap values_of e ∙ values-filter f es in (
+      record {
+        keyed = rw e (keyed-filter f es h.keyed);
+        indexed = λ q. rw (v, holder-filter f q (values_of es) h.apart) (by q (holder q (values_of es)) refl);
+        apart = rw v (apart-filter f (values_of es) h.apart);
+        rising = rw v (rising-filter f (values_of es) h.rising);
+        few = rw v (few-filter f (values_of es) h.few);
+      },
+      v,
+    )
   where
     by : (q : Probe) (o : Option Pair) → holder q (values_of es) ≡ o → lookup (same_probe q) ms ≡ option_map number_of (option_filter f o)
     by q None s = none q s
@@ -113,6 +113,7 @@ remove-filter n (e ∷ es) h a = by (n == e.1.number) refl (remove-filter n es (
   where
     i : e.0 ≡ e.1.number
     i = head_is h
+
     by : (b : Bool) → (n == e.1.number) ≡ b → remove_entry (nat_eq n) es ≡ filter (λ e. not (n == e.1.number)) es → remove_entry (nat_eq n) (e ∷ es) ≡ filter (λ e. not (n == e.1.number)) (e ∷ es)
     by true s ih =
         let u : n ≡ e.1.number = grind arith in
@@ -155,16 +156,20 @@ removed n p es ls ms h e u = kept (λ r. not (n == r.number)) es (remove_entry (
   where
     at : numbered n (values_of es) ≡ Some p
     at = sym (at_number n es h.keyed) ∙ e
+
     free : (b c : Bool) → cond b None (cond c None (option_map number_of None)) ≡ None
     free true c = refl
     free false true = refl
     free false false = refl
+
     none : (q : Probe) → holder q (values_of es) ≡ None → lookup (same_probe q) ms ≡ None
     none q s = u q ∙ rw (h.indexed q, s) (free (same_probe (back p) q) (same_probe (front p) q))
+
     gone : (q : Probe) (r : Pair) → holder q (values_of es) ≡ Some r → holds q p ≡ true → (n == r.number) ≡ true
     gone q r s t =
         let i : p ≡ r = some_is (sym (held q n p (values_of es) h.apart at t) ∙ s) in
         ap (λ x. n == number_of x) (sym i) ∙ number-found n p (values_of es) at
+
     by : (q : Probe) (r : Pair) → holder q (values_of es) ≡ Some r → (b c d : Bool) → same_probe (back p) q ≡ b → same_probe (front p) q ≡ c → (n == r.number) ≡ d → cond b None (cond c None (Some r.number)) ≡ cond (not d) (Some r.number) None
     by q r s true c d x y z =
         let k : d ≡ true = sym z ∙ gone q r s (or_right (same_probe (front p) q) (same_probe (back p) q) x) in
@@ -180,6 +185,7 @@ removed n p es ls ms h e u = kept (λ r. not (n == r.number)) es (remove_entry (
         let f : holds q p ≡ false = rw (x, y) refl in
         absurd (true≢false (sym t ∙ f))
     by q r s false false false x y z = refl
+
     some : (q : Probe) (r : Pair) → holder q (values_of es) ≡ Some r → lookup (same_probe q) ms ≡ option_filter (λ m. not (n == r.number)) (Some r.number)
     some q r s = u q ∙ rw (h.indexed q, s) (by q r s (same_probe (back p) q) (same_probe (front p) q) (n == r.number) refl refl refl)
 
@@ -195,13 +201,17 @@ swept f es fs ls ms h e u = kept f es fs ls ms h e some none
   where
     v : values_of fs ≡ filter f (values_of es)
     v = ap values_of e ∙ values-filter f es
+
     k : keys_of fs ≡ map number_of (values_of fs)
     k = rw e (keyed-filter f es h.keyed)
+
     there : (b : Bool) (p : Pair) → is_some (cond b (Some p) None) ≡ b
     there true p = refl
     there false p = refl
+
     none : (q : Probe) → holder q (values_of es) ≡ None → lookup (same_probe q) ms ≡ None
     none q s = u q ∙ rw (h.indexed q, s) refl
+
     some : (q : Probe) (p : Pair) → holder q (values_of es) ≡ Some p → lookup (same_probe q) ms ≡ option_filter (λ n. f p) (Some p.number)
     some q p s =
         let a = at_holder q (values_of es) p h.apart s in

@@ -1,17 +1,14 @@
 -- Of lists of pairs, and of entries under their numbers.
-use Rattle.std.proofs.Common.{◌≡◌, ℕ, ◌==◌, nat_eq, Bool, true, false, not, cond, if◌then◌else◌, ◌||◌, ◌&&◌, List, [], ◌∷◌, ◌++◌, filter, map, Option, None, Some, option_map, refl, sym, ap, subst, ◌∙◌, arith, rules, true≢false, is_some, get_or}
-use Rattle.std.proofs.lemmas.Map.Entries.{option_filter}
+use Rattle.std.proofs.Common.{◌≡◌, ℕ, ◌==◌, nat_eq, Bool, true, false, if◌then◌else◌, ◌&&◌, List, [], ◌∷◌, ◌++◌, map, Option, None, Some, option_map, refl, sym, ap, subst, ◌∙◌, arith, true≢false, is_some, get_or}
 use Rattle.std.specs.Prelude.{Result, Ok, Err, IsOk, OnOk}
 use Rattle.std.specs.Cmp.{IsEquivalence}
-use Rattle.std.specs.Map.{keys_of, values_of, lookup, remove_entry, set_value}
-use Rattle.std.proofs.lemmas.Grind.{common_steps}
+use Rattle.std.specs.Map.{keys_of, values_of, lookup}
 use Rattle.vsw_base.specs.declared.packet.Dir.{Dir}
 use Rattle.vsw_base.specs.declared.packet.Dir.TheVariants.{Out, In}
 use Rattle.vsw_base.specs.declared.flow.LayerKey.{LayerKey}
-use Rattle.vsw_base.specs.declared.flow.Track.{Track}
 use Rattle.vsw_layerflow.specs.declared.pair.Probe.{Probe}
 use Rattle.vsw_layerflow.specs.declared.pair.Pair.{Pair}
-use Rattle.vsw_layerflow.specs.Pairs.{front, back, same_dir, same_bool, same_key, same_probe, holds, holder, numbered, touched, without, number_of, AllApart}
+use Rattle.vsw_layerflow.specs.Pairs.{same_dir, same_bool, same_key, same_probe, holds, holder, numbered, number_of, AllApart}
 
 pub when_ok : {A E : Type 0} {P : Type 0} (r : Result A E) → IsOk r → OnOk r P → P
 when_ok (Ok x) i h = h
@@ -156,8 +153,8 @@ same_flip x y true false e f = let i = same_is x y e in sym (same_self x) ∙ su
 same_flip x y false true e f = let i = same_is y x f in sym e ∙ subst (λ z. same_probe x z ≡ true) (sym i) (same_self x)
 
 pub probe_laws : IsEquivalence same_probe
-probe_laws = record
-  { refl = same_self
-  ; symm = λ x y. same_flip x y (same_probe x y) (same_probe y x) refl refl
-  ; congr = λ x y z e. ap (λ w. same_probe w z) (same_is x y e)
-  }
+probe_laws = record {
+  refl = same_self;
+  symm = λ x y. same_flip x y (same_probe x y) (same_probe y x) refl refl;
+  congr = λ x y z e. ap (λ w. same_probe w z) (same_is x y e);
+}

@@ -1,15 +1,14 @@
 -- The two maps after a pair was touched or went.
-use Rattle.std.proofs.Common.{◌≡◌, ℕ, ◌==◌, nat_eq, Bool, true, false, not, cond, if◌then◌else◌, ◌||◌, ◌&&◌, List, [], ◌∷◌, ◌++◌, filter, map, Option, None, Some, option_map, refl, sym, ap, subst, ◌∙◌, arith, rules, true≢false, is_some, get_or}
-use Rattle.std.specs.Map.{keys_of, values_of, lookup, remove_entry, set_value}
-use Rattle.std.proofs.lemmas.Grind.{common_steps}
+use Rattle.std.proofs.Common.{◌≡◌, ℕ, ◌==◌, nat_eq, Bool, true, false, cond, if◌then◌else◌, List, [], ◌∷◌, map, Option, None, Some, option_map, refl, sym, ap, ◌∙◌, arith}
+use Rattle.std.specs.Map.{keys_of, values_of, lookup, set_value}
 use Rattle.vsw_layerflow.specs.declared.pair.Probe.{Probe}
 use Rattle.vsw_layerflow.specs.declared.pair.Pair.{Pair}
 use Rattle.vsw_base.specs.declared.flow.Track.{Track}
-use Rattle.vsw_layerflow.specs.Pairs.{front, back, same_dir, same_probe, holds, holder, numbered, with_use, touch_if, touched, without, number_of, AllApart}
+use Rattle.vsw_layerflow.specs.Pairs.{front, back, holds, holder, numbered, with_use, touch_if, touched, number_of, AllApart}
 use Rattle.vsw_layerflow.specs.Index.{IsIndex}
 use Rattle.vsw_layerflow.proofs.Order.{rising-touched, length-touched}
-use Rattle.vsw_layerflow.proofs.Lists.{eq_self, head_is, tail_is, at_number, at_holder, same_is, same_self}
-use Rattle.vsw_layerflow.proofs.Changed.{not-held, not-held-rest, other_number, other_number-rest}
+use Rattle.vsw_layerflow.proofs.Lists.{head_is, tail_is, at_number}
+use Rattle.vsw_layerflow.proofs.Changed.{other_number, other_number-rest}
 
 touched-holder : (n : ℕ) (t : Track) (m : ℕ) (k : Probe) (ps : List Pair) → holder k (touched n t m ps) ≡ option_map (touch_if n t m) (holder k ps)
 touched-holder n t m k [] = refl
@@ -25,11 +24,12 @@ touched-numbered n t m k (p ∷ ps) =
 
 touched-apart : (n : ℕ) (t : Track) (m : ℕ) (ps : List Pair) → AllApart ps → AllApart (touched n t m ps)
 touched-apart n t m [] h = tt
-touched-apart n t m (p ∷ ps) h =
-    ( touched-holder n t m (front p) ps ∙ rw h.0 refl
-    , touched-holder n t m (back p) ps ∙ rw h.1 refl
-    , touched-numbered n t m p.number ps ∙ rw h.2 refl
-    , touched-apart n t m ps h.3 )
+touched-apart n t m (p ∷ ps) h = (
+  touched-holder n t m (front p) ps ∙ rw h.0 refl,
+  touched-holder n t m (back p) ps ∙ rw h.1 refl,
+  touched-numbered n t m p.number ps ∙ rw h.2 refl,
+  touched-apart n t m ps h.3,
+)
 
 touched-none : (n : ℕ) (t : Track) (m : ℕ) (ps : List Pair) → numbered n ps ≡ None → touched n t m ps ≡ ps
 touched-none n t m [] h = refl
@@ -78,16 +78,19 @@ touch n t m es fs ls h some none = by (numbered n (values_of es)) refl
   where
     at : lookup (nat_eq n) es ≡ numbered n (values_of es)
     at = at_number n es h.keyed
+
     all : (values_of fs ≡ touched n t m (values_of es)) → keys_of fs ≡ keys_of es → IsIndex fs ls × (values_of fs ≡ touched n t m (values_of es))
-    all v k =
-        ( record
-            { keyed = k ∙ h.keyed ∙ sym (ap (map number_of) v ∙ numbers-touched n t m (values_of es))
-            ; indexed = λ q. h.indexed q ∙ sym (touched-same (touch_if n t m) (holder q (values_of es)) (λ p. refl)) ∙ ap (option_map number_of) (sym (touched-holder n t m q (values_of es))) ∙ ap (λ l. option_map number_of (holder q l)) (sym v)
-            ; apart = rw v (touched-apart n t m (values_of es) h.apart)
-            ; rising = rw v (rising-touched n t m (values_of es) h.rising)
-            ; few = rw (v, length-touched n t m (values_of es)) h.few
-            }
-        , v )
+    all v k = (
+      record {
+        keyed = k ∙ h.keyed ∙ sym (ap (map number_of) v ∙ numbers-touched n t m (values_of es));
+        indexed = λ q. h.indexed q ∙ sym (touched-same (touch_if n t m) (holder q (values_of es)) (λ p. refl)) ∙ ap (option_map number_of) (sym (touched-holder n t m q (values_of es))) ∙ ap (λ l. option_map number_of (holder q l)) (sym v);
+        apart = rw v (touched-apart n t m (values_of es) h.apart);
+        rising = rw v (rising-touched n t m (values_of es) h.rising);
+        few = rw (v, length-touched n t m (values_of es)) h.few;
+      },
+      v,
+    )
+
     by : (o : Option Pair) → numbered n (values_of es) ≡ o → IsIndex fs ls × (values_of fs ≡ touched n t m (values_of es))
     by None e = let s = none (at ∙ e) in all (ap values_of s ∙ sym (touched-none n t m (values_of es) e)) (ap keys_of s)
     by (Some p) e = let s = some p (at ∙ e) in all (ap values_of s ∙ touched-values n t m p es h.keyed h.apart e) (ap keys_of s ∙ keys-set n (with_use t m p) es)

@@ -1,5 +1,5 @@
 -- Of the order of numbers, and of how many pairs there are.
-use Rattle.std.proofs.Common.{suc, ◌≡◌, ◌<◌, ◌≤◌, ◌+◌, ◌-◌, ◌^◌, ℕ, ◌==◌, Bool, true, false, not, if◌then◌else◌, List, [], ◌∷◌, ◌++◌, filter, map, length, Option, None, Some, refl, sym, ap, ◌∙◌, arith, rules}
+use Rattle.std.proofs.Common.{suc, ◌≡◌, ◌<◌, ◌≤◌, ◌+◌, ◌-◌, ◌^◌, ℕ, ◌==◌, Bool, true, false, not, List, [], ◌∷◌, ◌++◌, filter, length, None, refl, ap, ◌∙◌, arith}
 use Rattle.std.specs.Map.{values_of}
 use Rattle.vsw_base.specs.declared.flow.Track.{Track}
 use Rattle.vsw_layerflow.specs.declared.pair.Pair.{Pair}

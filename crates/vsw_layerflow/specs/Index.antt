@@ -1,5 +1,5 @@
 -- How the two maps of a layer stand for its list of pairs.
-use Rattle.std.specs.Prelude.{◌≡◌, ◌<◌, ◌^◌, ℕ, List, length, map, Option, option_map}
+use Rattle.std.specs.Prelude.{◌≡◌, ◌<◌, ◌^◌, ℕ, List, length, map, option_map}
 use Rattle.std.specs.Map.{keys_of, values_of, lookup}
 use Rattle.vsw_layerflow.specs.declared.pair.Probe.{Probe}
 use Rattle.vsw_layerflow.specs.declared.pair.Pair.{Pair}

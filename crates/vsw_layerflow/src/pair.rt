@@ -115,5 +115,4 @@ impl Pair {
 /// Equal probes are those of one direction and one key.
 pub fn probes_agree()
     ensures { (a b : Probe) → ⟦<Probe as PartialEq>⟧.eq a b ≡ same_probe a b }
-{
-}
+{}

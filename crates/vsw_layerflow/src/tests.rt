@@ -64,7 +64,10 @@ fn a_pair_is_found_either_way_until_it_goes(rt: HostRuntime) {
     assert_eq!(rt; found(&flows, Dir::Out, &back), None);
     flows.touch(0, Track::Closed, Moment::of(2_000_000));
     assert_eq!(rt; found(&flows, Dir::In, &back), Some((0, Track::Closed)));
-    assert_eq!(rt; due(Moment::of(2_000_000), Track::Closed, 240, 10), Moment::of(4_500_000));
+    assert_eq!(rt;
+        due(Moment::of(2_000_000), Track::Closed, 240, 10),
+        Moment::of(4_500_000)
+    );
     assert_eq!(rt; flows.sweep(Moment::of(11_999_999), 240, 10), 0);
     assert_eq!(rt; flows.drop_rule(1, 7), 0);
     assert_eq!(rt; flows.sweep(Moment::of(12_000_000), 240, 10), 1);

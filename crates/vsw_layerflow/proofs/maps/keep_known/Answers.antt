@@ -1,4 +1,4 @@
-use Rattle.std.proofs.Common.{◌≡◌, ◌∙◌, ap, subst, sym, rules, nat_eq, is_some, Bool, ℕ}
+use Rattle.std.proofs.Common.{◌∙◌, ap, subst, rules, nat_eq, is_some, Bool, ℕ}
 use Rattle.std.specs.Map.{lookup, keys_of}
 use Rattle.std.specs.List.{IsDistinct}
 use Rattle.std.proofs.lemmas.Map.Entries.{lookup-filter-values}

@@ -1,7 +1,6 @@
-use Rattle.std.proofs.Common.{◌≡◌, ◌∙◌, ap, sym, refl, arith, rules, cond, None, Option, ℕ, Bool}
+use Rattle.std.proofs.Common.{◌∙◌, ap, sym, refl, Bool}
 use Rattle.std.specs.Map.{lookup}
 use Rattle.vsw_layerflow.specs.declared.pair.Probe.{Probe}
-use Rattle.vsw_layerflow.specs.Pairs.{same_probe}
 use Rattle.vsw_layerflow.proofs.Lists.{one_test}
 use Rattle.vsw_layerflow.proofs.maps.take_place.Goals as goal
 

@@ -1,11 +1,9 @@
-use Rattle.std.proofs.Common.{◌≡◌, ◌∙◌, ap, sym, refl, arith, rules, cond, Some, Option, ℕ}
-use Rattle.std.specs.Map.{lookup, values_of}
-use Rattle.vsw_layerflow.specs.declared.pair.Pair.{Pair}
+use Rattle.std.proofs.Common.{◌∙◌, ap, cond, Some, Option, ℕ}
 use Rattle.vsw_layerflow.specs.declared.pair.Probe.{Probe}
-use Rattle.vsw_layerflow.specs.Pairs.{same_probe, front, back, holder, numbered}
+use Rattle.vsw_layerflow.specs.Pairs.{same_probe, back}
 use Rattle.vsw_layerflow.proofs.Lists.{at_number}
 use Rattle.vsw_layerflow.proofs.Order.{below-new}
-use Rattle.vsw_layerflow.proofs.Changed.{added, values-push}
+use Rattle.vsw_layerflow.proofs.Changed.{added}
 use Rattle.vsw_layerflow.proofs.flows.Flows.add.Goals as goal
 
 pub put_pair-requires-clause-absent : goal.put_pair-requires-clause-absent

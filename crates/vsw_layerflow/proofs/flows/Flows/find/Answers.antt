@@ -1,7 +1,6 @@
-use Rattle.std.proofs.Common.{◌≡◌, ◌∙◌, ap, sym, arith, rules, option_copied, refl, Bool}
+use Rattle.std.proofs.Common.{◌∙◌, ap, sym, option_copied, refl, Bool}
 use Rattle.std.specs.Map.{lookup, values_of}
 use Rattle.vsw_layerflow.specs.declared.pair.Probe.{Probe}
-use Rattle.vsw_layerflow.specs.Pairs.{same_probe, probe}
 use Rattle.vsw_layerflow.proofs.Lists.{found, one_test}
 use Rattle.vsw_layerflow.proofs.flows.Flows.find.Goals as goal
 

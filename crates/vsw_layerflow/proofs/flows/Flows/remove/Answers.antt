@@ -1,17 +1,16 @@
-use Rattle.std.proofs.Common.{◌≡◌, ◌∙◌, ap, Some, sym, cond, None, Option, ℕ, rules, not, ◌==◌}
-use Rattle.std.specs.Map.{lookup, values_of}
+use Rattle.std.proofs.Common.{◌∙◌, ap, sym, cond, None, Option, ℕ, not, ◌==◌}
+use Rattle.std.specs.Map.{values_of}
 use Rattle.vsw_layerflow.specs.declared.pair.Probe.{Probe}
 use Rattle.vsw_layerflow.specs.declared.pair.Pair.{Pair}
-use Rattle.vsw_layerflow.specs.Pairs.{without, same_probe, front, back, numbered}
-use Rattle.vsw_layerflow.proofs.Lists.{at_number}
+use Rattle.vsw_layerflow.specs.Pairs.{without, same_probe, back}
 use Rattle.vsw_layerflow.proofs.Kept.{removed, remove-filter, values-filter}
 use Rattle.vsw_layerflow.proofs.flows.Flows.remove.Goals as goal
 
 pub returns-in_default-clause-gone : goal.returns-in_default-clause-gone
 returns-in_default-clause-gone c =
     ap values_of (c.shift_remove.ensures.entries ∙ remove-filter c.args.number c.self.inside.pairs.entries c.self.invariant.keyed c.self.invariant.apart)
-      ∙ values-filter (λ (p : Pair). not (c.args.number == p.number)) c.self.inside.pairs.entries
-      ∙ ap (λ w. without c.args.number w.pairs) c.self.view_is
+    ∙ values-filter (λ (p : Pair). not (c.args.number == p.number)) c.self.inside.pairs.entries
+    ∙ ap (λ w. without c.args.number w.pairs) c.self.view_is
 
 pub invariant_of-self-2 : goal.invariant_of-self-2
 invariant_of-self-2 c =
@@ -28,5 +27,5 @@ returns-clause-gone c =
     let p = c.in-Some.pair in
     let u = λ (k : Probe). j k ∙ ap (λ (o : Option ℕ). cond (same_probe (back p) k) None o) (i k) in
     ap values_of c.shift_remove.ensures.entries
-      ∙ (removed c.args.number p c.self.inside.pairs.entries c.self.inside.places.entries _ c.self.invariant (sym c.in-Some.ensures.value) u).1
-      ∙ ap (λ w. without c.args.number w.pairs) c.self.view_is
+    ∙ (removed c.args.number p c.self.inside.pairs.entries c.self.inside.places.entries _ c.self.invariant (sym c.in-Some.ensures.value) u).1
+    ∙ ap (λ w. without c.args.number w.pairs) c.self.view_is

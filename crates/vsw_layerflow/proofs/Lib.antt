@@ -1,0 +1,5 @@
+pub mod Lists
+pub mod Order
+pub mod Changed
+pub mod Moved
+pub mod Kept

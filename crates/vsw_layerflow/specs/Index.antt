@@ -1,0 +1,14 @@
+-- How the two maps of a layer stand for its list of pairs.
+use Rattle.std.specs.Prelude.{◌≡◌, ◌<◌, ◌^◌, ℕ, List, length, map, option_map}
+use Rattle.std.specs.Map.{keys_of, values_of, lookup}
+use Rattle.vsw_layerflow.specs.declared.pair.Probe.{Probe}
+use Rattle.vsw_layerflow.specs.declared.pair.Pair.{Pair}
+use Rattle.vsw_layerflow.specs.Pairs.{same_probe, holder, number_of, AllApart, AreRising}
+
+-- pairs stand under their numbers, in the order of these, and each probe leads to the number of its holder
+pub record IsIndex (pairs : List (ℕ × Pair)) (places : List (Probe × ℕ)) : Type 0 where
+  pub keyed : keys_of pairs ≡ map number_of (values_of pairs)
+  pub indexed : (k : Probe) → lookup (same_probe k) places ≡ option_map number_of (holder k (values_of pairs))
+  pub apart : AllApart (values_of pairs)
+  pub rising : AreRising (values_of pairs)
+  pub few : length (values_of pairs) < 2 ^ 32

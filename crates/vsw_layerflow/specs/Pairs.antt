@@ -1,0 +1,99 @@
+-- The pairs of a layer, as a list in order of number.
+use Rattle.std.specs.Prelude.{◌≡◌, ℕ, ◌<◌, ◌==◌, ◌&&◌, ◌||◌, List, [], ◌∷◌, Bool, true, false, not, filter, map, Option, Some, None, if◌then◌else◌}
+use Rattle.vsw_base.specs.declared.packet.Dir.{Dir}
+use Rattle.vsw_base.specs.declared.packet.Dir.TheVariants.{Out, In}
+use Rattle.vsw_base.specs.declared.flow.LayerKey.{LayerKey}
+use Rattle.vsw_base.specs.declared.flow.Track.{Track}
+use Rattle.vsw_layerflow.specs.declared.pair.Probe.{Probe}
+use Rattle.vsw_layerflow.specs.declared.pair.Pair.{Pair}
+
+abbrev pub turned : Dir → Dir
+turned Out = In
+turned In = Out
+
+abbrev pub same_dir : Dir → Dir → Bool
+same_dir Out Out = true
+same_dir In In = true
+same_dir d e = false
+
+abbrev pub same_bool : Bool → Bool → Bool
+same_bool true b = b
+same_bool false b = not b
+
+abbrev pub same_key : LayerKey → LayerKey → Bool
+same_key a b = a.encaps == b.encaps && (a.vni_outer == b.vni_outer && (a.vni_second == b.vni_second && (a.src == b.src && (a.dst == b.dst && (a.proto == b.proto && (same_bool a.part b.part && (a.src_port == b.src_port && a.dst_port == b.dst_port)))))))
+
+abbrev pub same_probe : Probe → Probe → Bool
+same_probe a b = same_dir a.dir b.dir && same_key a.key b.key
+
+abbrev pub probe : Dir → LayerKey → Probe
+probe d k = record { dir = d; key = k }
+
+-- a pair holds its forward key in its own direction, and its reverse key in the other
+abbrev pub front : Pair → Probe
+front p = probe p.dir p.forward
+
+abbrev pub back : Pair → Probe
+back p = probe (turned p.dir) p.reverse
+
+abbrev pub holds : Probe → Pair → Bool
+holds k p = same_probe (front p) k || same_probe (back p) k
+
+-- the pair that holds what is looked for
+abbrev pub holder : Probe → List Pair → Option Pair
+holder k [] = None
+holder k (p ∷ ps) = if holds k p then Some p else holder k ps
+
+-- the pair that holds a direction and a key
+abbrev pub pair_of : Dir → LayerKey → List Pair → Option Pair
+pair_of d k ps = holder (probe d k) ps
+
+-- the pair of a number
+abbrev pub numbered : ℕ → List Pair → Option Pair
+numbered n [] = None
+numbered n (p ∷ ps) = if n == p.number then Some p else numbered n ps
+
+-- a pair with another state and last use
+abbrev pub with_use : Track → ℕ → Pair → Pair
+with_use t m p = record { number = p.number; group = p.group; rule = p.rule; dir = p.dir; forward = p.forward; forward_set = p.forward_set; reverse = p.reverse; reverse_set = p.reverse_set; state = t; last_use = m }
+
+abbrev pub touch_if : ℕ → Track → ℕ → Pair → Pair
+touch_if n t m p = with_use (if n == p.number then t else p.state) (if n == p.number then m else p.last_use) p
+
+-- the pair of this number gets another state and last use
+abbrev pub touched : ℕ → Track → ℕ → List Pair → List Pair
+touched n t m ps = map (touch_if n t m) ps
+
+abbrev pub without : ℕ → List Pair → List Pair
+without n ps = filter (λ p. not (n == p.number)) ps
+
+-- whether a rule made this pair
+abbrev pub of_rule : ℕ → ℕ → Pair → Bool
+of_rule g r p = p.group == g && p.rule == r
+
+-- what a layer's pairs are, and for how many more there is room
+pub record Pairs : Type 0 where
+  pub pairs : List Pair
+  pub spare : ℕ
+
+abbrev pub number_of : Pair → ℕ
+number_of p = p.number
+
+-- every pair has a number below this
+abbrev pub AllBelow : ℕ → List Pair → Type 0
+AllBelow n [] = Unit {0}
+AllBelow n (p ∷ ps) = (p.number < n) × AllBelow n ps
+
+abbrev pub AllAbove : ℕ → List Pair → Type 0
+AllAbove n [] = Unit {0}
+AllAbove n (p ∷ ps) = (n < p.number) × AllAbove n ps
+
+-- each pair has a number above those before it
+abbrev pub AreRising : List Pair → Type 0
+AreRising [] = Unit {0}
+AreRising (p ∷ ps) = AllAbove p.number ps × AreRising ps
+
+-- no probe and no number is held twice
+abbrev pub AllApart : List Pair → Type 0
+AllApart [] = Unit {0}
+AllApart (p ∷ ps) = (holder (front p) ps ≡ None) × (holder (back p) ps ≡ None) × (numbered p.number ps ≡ None) × AllApart ps

@@ -1,0 +1,139 @@
+//! The pairs of a layer, found by what either direction of them looks for.
+
+ghost use Rattle.std.specs.Prelude.{◌≡◌, ◌≤◌, ◌<◌, ◌+◌, ◌-◌, ◌^◌, ◌++◌, ◌∷◌, [], OnOk, None, option_copied, length, filter, not};
+ghost use Rattle.vsw_layerflow.specs.declared.pair.Pair.{Pair};
+ghost use Rattle.vsw_layerflow.specs.Pairs.{pair_of, turned, touched, without, of_rule, AllBelow, AreRising};
+ghost use Rattle.vsw_layerflow.specs.Life.{is_over};
+
+use crate::maps::{keep_known, keep_living, keep_others, put_pair, put_place, set_use, take_place};
+use crate::pair::{Pair, Probe, probes_agree};
+use indexmap::IndexMap;
+use std::alloc::Global;
+use std::marker::Model;
+use vsw_base::{Dir, LayerKey, Moment, NoMemory, Track};
+
+/// The pairs of a layer, in the order of their numbers, and room for more. A direction and key leads
+/// to the number of its pair, and a number to the pair.
+#[derive(Drop)]
+pub struct Flows {
+    pairs: IndexMap<u32, Pair>,
+    places: IndexMap<Probe, u32>,
+}
+
+impl Model for Flows {
+    ghost use Rattle.std.specs.Prelude.{min, ◌/◌};
+    ghost use Rattle.indexmap.specs.IndexMap.{values, spare};
+    ghost use Rattle.vsw_layerflow.specs.Pairs.{Pairs};
+    ghost use Rattle.vsw_layerflow.specs.Index.{IsIndex};
+
+    ghost Value = { Pairs };
+
+    ghost view = { λ s. record { pairs = values s.pairs; spare = min (spare s.pairs) (spare s.places / 2) } };
+
+    ghost invariant = { λ s. IsIndex s.pairs.entries s.places.entries };
+}
+
+impl Flows {
+    /// No pairs. It takes no memory.
+    pub fn new(alloc: Global) -> Flows
+        ensures { result.pairs ≡ [] }
+    {
+        Flows {
+            pairs: IndexMap::new(alloc),
+            places: IndexMap::new(alloc),
+        }
+    }
+
+    /// How many pairs there are.
+    pub fn len(&self) -> u32
+        ensures count { result ≡ length self.now.pairs }
+        ensures in_order { AreRising self.now.pairs }
+    {
+        self.pairs.len() as u32
+    }
+
+    /// The pair that holds this direction and key: its own direction and its forward key, or the other
+    /// direction and its reverse key.
+    pub fn find(&self, dir: Dir, key: &LayerKey) -> Option<&Pair>
+        ensures { option_copied result ≡ pair_of dir key.now self.now.pairs }
+    {
+        probes_agree();
+        let number = self.places.get(&Probe::of(dir, key))?;
+        self.pairs.get(number)
+    }
+
+    /// Takes room for one more pair.
+    pub fn reserve_one(&mut self) -> Result<(), NoMemory>
+        ensures room { OnOk result (1 ≤ self.new.spare) }
+        ensures spare { self.old.spare ≤ self.new.spare }
+        ensures same { self.new.pairs ≡ self.old.pairs }
+    {
+        if self.pairs.reserve(1).is_err() || self.places.reserve(2).is_err() {
+            return Err(NoMemory);
+        }
+        Ok(())
+    }
+
+    /// Adds a pair. It takes no memory.
+    pub fn add(&mut self, pair: Pair)
+        requires room { 1 ≤ self.old.spare }
+        requires forward_free { pair_of pair.dir pair.forward self.old.pairs ≡ None }
+        requires reverse_free { pair_of (turned pair.dir) pair.reverse self.old.pairs ≡ None }
+        requires number_last { AllBelow pair.number self.old.pairs }
+        requires few { length self.old.pairs < 2 ^ 32 - 1 }
+        ensures added { self.new.pairs ≡ self.old.pairs ++ pair ∷ [] }
+        ensures spare { self.old.spare ≤ self.new.spare + 1 }
+    {
+        let front = pair.front();
+        let back = pair.back();
+        let number = pair.number;
+        put_pair(&mut self.pairs, pair);
+        put_place(&mut self.places, front, number);
+        put_place(&mut self.places, back, number);
+    }
+
+    /// The pair of this number gets another state and last use.
+    pub fn touch(&mut self, number: u32, state: Track, last: Moment)
+        ensures touched { self.new.pairs ≡ touched number state last self.old.pairs }
+        ensures spare { self.old.spare ≤ self.new.spare }
+    {
+        set_use(&mut self.pairs, number, state, last);
+    }
+
+    /// The pair of this number goes. The others stay in order.
+    pub fn remove(&mut self, number: u32)
+        ensures gone { self.new.pairs ≡ without number self.old.pairs }
+        ensures spare { self.old.spare ≤ self.new.spare }
+    {
+        let Some(pair) = self.pairs.shift_remove(&number) else {
+            return;
+        };
+        take_place(&mut self.places, pair.front());
+        take_place(&mut self.places, pair.back());
+    }
+
+    /// The pairs that this rule made go; answers how many. The others stay in order.
+    pub fn drop_rule(&mut self, group: u16, rule: u16) -> u32
+        ensures gone { self.new.pairs ≡ filter (λ p. not (of_rule group rule p)) self.old.pairs }
+        ensures count { result ≡ length (filter (of_rule group rule) self.old.pairs) }
+        ensures spare { self.old.spare ≤ self.new.spare }
+    {
+        let before = self.pairs.len();
+        keep_others(&mut self.pairs, group, rule);
+        keep_known(&mut self.places, &self.pairs);
+        (before - self.pairs.len()) as u32
+    }
+
+    /// The pairs whose life has ended by `now` go; answers how many. The others stay in order. The
+    /// times that a pair lives idle or closed are in seconds.
+    pub fn sweep(&mut self, now: Moment, idle: u32, linger: u32) -> u32
+        ensures gone { self.new.pairs ≡ filter (λ p. not (is_over now idle linger p)) self.old.pairs }
+        ensures count { result ≡ length (filter (is_over now idle linger) self.old.pairs) }
+        ensures spare { self.old.spare ≤ self.new.spare }
+    {
+        let before = self.pairs.len();
+        keep_living(&mut self.pairs, now, idle, linger);
+        keep_known(&mut self.places, &self.pairs);
+        (before - self.pairs.len()) as u32
+    }
+}

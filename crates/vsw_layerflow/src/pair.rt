@@ -1,0 +1,118 @@
+//! A pair, what it is found by, and how long it lives.
+
+ghost use Rattle.std.specs.Prelude.{◌≡◌};
+ghost use Rattle.vsw_layerflow.specs.declared.pair.Probe.{Probe};
+ghost use Rattle.vsw_layerflow.specs.Pairs.{front, back, turned, same_probe, probe};
+ghost use Rattle.vsw_layerflow.specs.Life.{life, due, is_over};
+
+use vsw_base::{Dir, LayerKey, Moment, Set, Track};
+
+/// Microseconds of a second.
+const MICROS: u64 = 1_000_000;
+
+/// A flow that a stateful rule let through, and the flow of its replies. A packet of either takes the
+/// pair's set for its direction.
+#[derive(Clone, Copy, Debug, PartialEq, Eq)]
+pub struct Pair {
+    /// Counted from 0 in its layer.
+    pub number: u32,
+    /// The group and the rule that made it.
+    pub group: u16,
+    pub rule: u16,
+    /// The direction of the packet that made it.
+    pub dir: Dir,
+    pub forward: LayerKey,
+    pub forward_set: Set,
+    /// The key of replies, which go in the other direction.
+    pub reverse: LayerKey,
+    pub reverse_set: Set,
+    pub state: Track,
+    pub last_use: Moment,
+}
+
+/// What a packet looks for among the pairs of a layer.
+#[derive(Clone, Copy, Debug, PartialEq, Eq, Hash)]
+pub struct Probe {
+    pub dir: Dir,
+    pub key: LayerKey,
+}
+
+impl Probe {
+    /// A packet of this direction and key.
+    pub fn of(dir: Dir, key: &LayerKey) -> Probe
+        ensures { result ≡ probe dir key.now }
+    {
+        Probe {
+            dir,
+            key: LayerKey {
+                encaps: key.encaps,
+                vni_outer: key.vni_outer,
+                vni_second: key.vni_second,
+                src: key.src,
+                dst: key.dst,
+                proto: key.proto,
+                part: key.part,
+                src_port: key.src_port,
+                dst_port: key.dst_port,
+            },
+        }
+    }
+}
+
+/// The other direction.
+fn turned(dir: Dir) -> Dir
+    ensures { result ≡ turned dir }
+{
+    match dir {
+        Dir::Out => Dir::In,
+        Dir::In => Dir::Out,
+    }
+}
+
+/// The life of a pair in this state, in microseconds, where the layer's times are in seconds.
+pub fn life(state: Track, idle: u32, linger: u32) -> u64
+    ensures { result ≡ life state idle linger }
+{
+    match state {
+        Track::Closed => u64::from(linger) * MICROS,
+        _ => u64::from(idle) * MICROS,
+    }
+}
+
+/// The moment after which a packet renews a last use, where the pair has this state. The layer's times
+/// are in seconds.
+pub fn due(last: Moment, state: Track, idle: u32, linger: u32) -> Moment
+    ensures { result ≡ due last state idle linger }
+{
+    let quarter = life(state, idle, linger) / 4;
+    Moment::of(last.micros().saturating_add(quarter))
+}
+
+impl Pair {
+    /// What a packet of the pair's own direction looks for.
+    pub fn front(&self) -> Probe
+        ensures { result ≡ front self.now }
+    {
+        Probe::of(self.dir, &self.forward)
+    }
+
+    /// What a reply looks for.
+    pub fn back(&self) -> Probe
+        ensures { result ≡ back self.now }
+    {
+        Probe::of(turned(self.dir), &self.reverse)
+    }
+
+    /// Whether the pair's life has ended by `now`. The layer's times are in seconds.
+    pub fn is_over(&self, now: Moment, idle: u32, linger: u32) -> bool
+        ensures { result ≡ is_over now idle linger self.now }
+    {
+        let life = life(self.state, idle, linger);
+        self.last_use.micros().saturating_add(life) <= now.micros()
+    }
+}
+
+/// Equal probes are those of one direction and one key.
+pub fn probes_agree()
+    ensures { (a b : Probe) → ⟦<Probe as PartialEq>⟧.eq a b ≡ same_probe a b }
+{}

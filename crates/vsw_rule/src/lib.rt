@@ -1,7 +1,9 @@
-//! Rules: what a condition looks at, which packets a rule matches, and what a rule may be.
+//! Rules: what a condition looks at, which packets a rule matches, which of a layer's rules is chosen,
+//! and what a rule may be.
 #![tactic(auto)]
 
 mod check;
+mod choice;
 mod field;
 mod matching;
 mod rule;
@@ -9,5 +11,6 @@ mod rule;
 mod tests;
 
 pub use check::BadRule;
+pub use choice::{Choice, choose, pick};
 pub use field::Field;
 pub use rule::{Action, Cond, Group, Item, Rule};

@@ -34,7 +34,7 @@ fn is_in_any(field: Field, value: u64, items: &[Item]) -> bool
     items.iter().any(|item| is_in(field, value, item))
 }
 
-fn all_hold(conditions: &[Cond], stack: &Stack) -> bool
+pub(crate) fn all_hold(conditions: &[Cond], stack: &Stack) -> bool
     ensures { result ≡ spec.all_hold conditions.now stack.now }
 {
     conditions.iter().all(|condition| condition.holds(stack))

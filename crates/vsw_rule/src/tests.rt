@@ -1,9 +1,9 @@
 //! Conditions and rules on two frames that were read by hand, and rules that are refused.
 
-use crate::{Action, BadRule, Cond, Field, Item, Rule};
+use crate::{Action, BadRule, Cond, Field, Group, Item, Rule, choose};
 use std::alloc::{AllocError, Global};
 use std::test::Fail;
-use vsw_base::{BadShape, Header, Ip4, Items, Mac, Outer, Prefix, Set, Stack};
+use vsw_base::{BadShape, Dir, Header, Ip4, Items, Mac, Outer, Prefix, Set, Stack};
 
 /// Ethernet from 02:00:00:00:00:01 to 02:00:00:00:00:99.
 fn ether(kind: u16) -> Header {
@@ -229,5 +229,85 @@ fn bad_rules_are_refused_in_order(rt: HostRuntime) -> Result<(), Fail> {
         (BadRule::BadRange.number(), BadRule::BadRange.name()),
         (3, "BadRange")
     );
+    Ok(())
+}
+
+/// A rule that packets to 10.0.0.0/24 meet.
+fn near(alloc: Global, number: u16, priority: u16, last: bool) -> Result<Rule, AllocError> {
+    let to = condition(alloc, Field::DstIp, prefix(0x0a00_0000, 24))?;
+    Ok(Rule {
+        number,
+        priority,
+        when: Items::of(Vec::from_array(alloc, [to])?),
+        action: Action::Allow,
+        stateful: false,
+        last,
+    })
+}
+
+fn group(number: u16, when: Vec<Cond>, rules: Vec<Rule>) -> Group {
+    Group {
+        number,
+        dir: Dir::Out,
+        when: Items::of(when),
+        rules: Items::of(rules),
+    }
+}
+
+/// The numbers of the group and of the rule that the plain packet meets.
+fn chosen(groups: &[Group], dir: Dir) -> Option<(u16, u16)> {
+    let stack = plain().ok()?;
+    let choice = choose(dir, groups, &stack)?;
+    Some((choice.group, choice.rule.number))
+}
+
+/// What the plain packet meets of rule 5 in group 1 and rule 7 in group 2, of these marks and condition.
+fn of_two(alloc: Global, last: bool, when: Vec<Cond>) -> Result<Option<(u16, u16)>, AllocError> {
+    let first = Vec::from_array(alloc, [near(alloc, 5, 10, last)?])?;
+    let second = Vec::from_array(alloc, [near(alloc, 7, 10, last)?])?;
+    let groups = Vec::from_array(
+        alloc,
+        [group(1, Vec::new(alloc), first), group(2, when, second)],
+    )?;
+    Ok(chosen(&groups, Dir::Out))
+}
+
+#[test]
+fn the_last_group_decides_or_the_first_that_is_marked(rt: HostRuntime) -> Result<(), Fail> {
+    let alloc = rt.alloc();
+    assert_eq!(rt; of_two(alloc, false, Vec::new(alloc))?, Some((2, 7)));
+    assert_eq!(rt; of_two(alloc, true, Vec::new(alloc))?, Some((1, 5)));
+    let web = Vec::from_array(alloc, [condition(alloc, Field::DstPort, range(80, 80))?])?;
+    assert_eq!(rt; of_two(alloc, false, web)?, Some((1, 5)));
+    Ok(())
+}
+
+/// What the plain packet meets of two rules of one group.
+fn of_rules(
+    alloc: Global,
+    first: Rule,
+    second: Rule,
+    dir: Dir,
+) -> Result<Option<(u16, u16)>, AllocError> {
+    let rules = Vec::from_array(alloc, [first, second])?;
+    let groups = Vec::from_array(alloc, [group(1, Vec::new(alloc), rules)])?;
+    Ok(chosen(&groups, dir))
+}
+
+#[test]
+fn the_least_priority_and_then_the_first_place_decides(rt: HostRuntime) -> Result<(), Fail> {
+    let alloc = rt.alloc();
+    let five = near(alloc, 5, 10, false)?;
+    let six = near(alloc, 6, 10, false)?;
+    assert_eq!(rt; of_rules(alloc, five, six, Dir::Out)?, Some((1, 5)));
+    let five = near(alloc, 5, 10, false)?;
+    let six = near(alloc, 6, 10, false)?;
+    assert_eq!(rt; of_rules(alloc, six, five, Dir::Out)?, Some((1, 6)));
+    let five = near(alloc, 5, 10, false)?;
+    let six = near(alloc, 6, 9, false)?;
+    assert_eq!(rt; of_rules(alloc, five, six, Dir::Out)?, Some((1, 6)));
+    let five = near(alloc, 5, 10, false)?;
+    let six = near(alloc, 6, 9, false)?;
+    assert_eq!(rt; of_rules(alloc, five, six, Dir::In)?, None);
     Ok(())
 }

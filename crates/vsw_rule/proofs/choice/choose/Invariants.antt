@@ -1,0 +1,13 @@
+use Rattle.std.proofs.Common.{◌≡◌, ◌≤◌, length, drop, option_map}
+use Rattle.vsw_rule.specs.Choice.{choose}
+use Rattle.vsw_rule.specs.ChoiceSeen.{seen}
+use Rattle.vsw_rule.proofs.choice.choose.Given as goal
+
+abbrev pub invariant-loop-left : goal.invariant-loop-left
+invariant-loop-left l = record {
+  found : option_map seen l.found ≡ choose l.dir (drop l.left l.groups) l.stack;
+  within : l.left ≤ length l.groups;
+}
+
+abbrev pub decreases-loop-left : goal.decreases-loop-left
+decreases-loop-left l = l.left

@@ -1,0 +1,7 @@
+use Rattle.std.specs.Prelude.{option_copied}
+use Rattle.vsw_rule.specs.Choice as spec
+use Rattle.vsw_rule.proofs.Picks.{pick_is}
+use Rattle.vsw_rule.proofs.choice.pick.Goals as goal
+
+pub returns-clause-picks : goal.returns-clause-picks
+returns-clause-picks c = rw c.least.ensures (pick_is c.args.rules.now c.args.stack.now)

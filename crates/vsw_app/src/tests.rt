@@ -71,35 +71,28 @@ fn host_of(
     files: &Files<'_>,
     failing: &[u64],
 ) -> Result<MemoryHost, Fail> {
-    let policy = joined(
-        alloc,
-        &[POLICY_START, &joined(alloc, files.rules)?, POLICY_END],
-    )?;
-    host_with(
-        rt,
-        alloc,
-        &policy,
-        files.commands,
-        &joined(alloc, files.trace)?,
-        failing,
-    )
+    let rules = joined(alloc, files.rules)?;
+    let mut held = Vec::new(alloc);
+    held.push(file(alloc, "policy", &[POLICY_START, &rules, POLICY_END])?)?;
+    held.push(file(alloc, "commands", &[files.commands])?)?;
+    held.push(file(alloc, "trace", files.trace)?)?;
+    assert!(rt; are_distinct(&held));
+    Ok(MemoryHost::new(alloc, held, 262_144, failing.to_vec(alloc)?)?)
 }
 
-/// A host with room for the longest report here.
+/// A host that holds this policy and this trace.
 fn host_with(
     rt: &impl Abort,
     alloc: Global,
     policy: &[u8],
-    commands: &[u8],
     trace: &[u8],
-    failing: &[u64],
 ) -> Result<MemoryHost, Fail> {
     let mut held = Vec::new(alloc);
     held.push(file(alloc, "policy", &[policy])?)?;
-    held.push(file(alloc, "commands", &[commands])?)?;
+    held.push(file(alloc, "commands", &[])?)?;
     held.push(file(alloc, "trace", &[trace])?)?;
     assert!(rt; are_distinct(&held));
-    Ok(MemoryHost::new(alloc, held, 262_144, failing.to_vec(alloc)?)?)
+    Ok(MemoryHost::new(alloc, held, 4_096, Vec::new(alloc))?)
 }
 
 fn words_of(alloc: Global, texts: &[&str]) -> Result<Vec<Word>, AllocError> {
@@ -319,44 +312,51 @@ fn words_outside_the_grammar_are_refused(rt: HostRuntime) -> Result<(), Fail> {
     Ok(())
 }
 
-/// A trace of these packets, none of them snapped.
-fn trace_of(alloc: Global, packets: &[&[u8]]) -> Result<Vec<u8>, AllocError> {
-    let mut trace = HEADER.to_vec(alloc)?;
-    for packet in packets {
-        trace.extend_from_slice(&[0; 8])?;
-        trace.extend_from_slice(&(packet.len() as u32).to_le_bytes())?;
-        trace.extend_from_slice(&(packet.len() as u32).to_le_bytes())?;
-        trace.extend_from_slice(packet)?;
+fn low(len: usize) -> u8 {
+    (len % 256) as u8
+}
+
+fn high(len: usize) -> u8 {
+    (len / 256 % 256) as u8
+}
+
+/// Appends the record of a packet of moment 0 that isn't snapped.
+fn add(trace: &mut Vec<u8>, packet: &[u8]) -> Result<(), AllocError> {
+    trace.extend_from_slice(&[0; 8])?;
+    for _ in 0..2 {
+        trace.extend_from_slice(&[low(packet.len()), high(packet.len()), 0, 0])?;
     }
-    Ok(trace)
+    trace.extend_from_slice(packet)?;
+    Ok(())
 }
 
 /// The query with one byte changed.
 fn changed(alloc: Global, at: usize, value: u8) -> Result<Vec<u8>, AllocError> {
-    joined(alloc, &[&QUERY[..at], &[value], &QUERY[at + 1..]])
+    let mut packet = QUERY.to_vec(alloc)?;
+    if at < packet.len() {
+        packet[at] = value;
+    }
+    Ok(packet)
+}
+
+/// The trace of six malformed packets, and of one with bytes after its IPv4 packet.
+fn malformed(alloc: Global) -> Result<Vec<u8>, AllocError> {
+    let mut trace = HEADER.to_vec(alloc)?;
+    add(&mut trace, &QUERY[..13])?;
+    for (at, value) in [(14, 0x44), (17, 31), (14, 0x65), (39, 7), (23, 6)] {
+        let packet = changed(alloc, at, value)?;
+        add(&mut trace, &packet)?;
+    }
+    let mut padded = QUERY.to_vec(alloc)?;
+    padded.extend_from_slice(&[0; 16])?;
+    add(&mut trace, &padded)?;
+    Ok(trace)
 }
 
 #[test]
 fn malformed_packets_are_named_and_bytes_after_a_packet_pass(rt: HostRuntime) -> Result<(), Fail> {
     let alloc = rt.alloc();
-    let version_4_words_4 = changed(alloc, 14, 0x44)?;
-    let total_length_31 = changed(alloc, 17, 31)?;
-    let version_6 = changed(alloc, 14, 0x65)?;
-    let udp_length_7 = changed(alloc, 39, 7)?;
-    let tcp = changed(alloc, 23, 6)?;
-    let padded = joined(alloc, &[QUERY, &[0; 16]])?;
-    let trace = trace_of(
-        alloc,
-        &[
-            &QUERY[..13],
-            &version_4_words_4,
-            &total_length_31,
-            &version_6,
-            &udp_length_7,
-            &tcp,
-            &padded,
-        ],
-    )?;
+    let trace = malformed(alloc)?;
     let lines =
         b"w0 6 @0 pass 60 02000000009902000000000108004500001e00004000401126c20a0000050a00000904d20035000a7e5c686900000000000000000000000000000000\n";
     let loose =
@@ -422,7 +422,7 @@ fn reads_of_any_size_give_the_same_report(rt: HostRuntime) -> Result<(), Fail> {
 /// The status of a run over these bytes as policy and trace.
 fn status_of(rt: &impl Abort, alloc: Global, policy: &[u8], trace: &[u8]) -> Result<Status, Fail> {
     let words = words_of(alloc, FORWARD)?;
-    let mut host = host_with(rt, alloc, policy, b"", trace, &[])?;
+    let mut host = host_with(rt, alloc, policy, trace)?;
     Ok(run_words(alloc, &words, &mut host))
 }
 
@@ -430,9 +430,10 @@ fn status_of(rt: &impl Abort, alloc: Global, policy: &[u8], trace: &[u8]) -> Res
 fn every_front_of_the_files_has_its_status(rt: HostRuntime) -> Result<(), Fail> {
     let alloc = rt.alloc();
     let policy = joined(alloc, &[POLICY_START, ALLOW, POLICY_END])?;
-    let trace = trace_of(alloc, &[QUERY])?;
-    for len in 0..=trace.len() {
-        let whole = len == 24 || len == trace.len();
+    let mut trace = HEADER.to_vec(alloc)?;
+    add(&mut trace, QUERY)?;
+    for len in 0..trace.len() {
+        let whole = len == 24;
         let wanted = if whole { Status::Done } else { Status::Refused };
         assert_eq!(rt;
             status_of(&rt, alloc, &policy, &trace[..len])?,
@@ -450,20 +451,19 @@ fn every_front_of_the_files_has_its_status(rt: HostRuntime) -> Result<(), Fail> 
 #[test]
 fn many_packets_stand_in_rounds_of_1024(rt: HostRuntime) -> Result<(), Fail> {
     let alloc = rt.alloc();
-    let mut packets = Vec::new(alloc);
+    let mut trace = HEADER.to_vec(alloc)?;
     let mut report = HEAD.to_vec(alloc)?;
     for round in [0_u32, 1_024, 2_048] {
         report.extend_from_slice(b"round ")?;
         report.extend_from_slice(round.to_string(alloc)?.as_bytes())?;
         report.extend_from_slice(b"\nport 1 0 0\n")?;
-        for packet in round..2_050.min(round + 1_024) {
-            packets.push(FAR)?;
+        for packet in round..2_050.min(round.saturating_add(1_024)) {
+            add(&mut trace, FAR)?;
             report.extend_from_slice(b"w0 ")?;
             report.extend_from_slice(packet.to_string(alloc)?.as_bytes())?;
             report.extend_from_slice(b" @0 drop default 1/10 out\n")?;
         }
         report.extend_from_slice(b"loose\n")?;
     }
-    let trace = trace_of(alloc, &packets)?;
     check_trace(&rt, alloc, &[&trace], &[], (Status::Done, &[&report], b""))
 }

@@ -5,6 +5,8 @@
 mod check;
 mod choice;
 mod field;
+#[cfg(test)]
+mod field_tests;
 mod matching;
 mod rule;
 #[cfg(test)]

@@ -6,7 +6,7 @@ use std::test::Fail;
 use vsw_base::{BadShape, Dir, Header, Ip4, Items, Mac, Outer, Prefix, Set, Stack};
 
 /// Ethernet from 02:00:00:00:00:01 to 02:00:00:00:00:99.
-fn ether(kind: u16) -> Header {
+pub fn ether(kind: u16) -> Header {
     Header::Ether {
         dst: Mac::of(0x0200_0000_0099),
         src: Mac::of(0x0200_0000_0001),
@@ -14,7 +14,7 @@ fn ether(kind: u16) -> Header {
     }
 }
 
-fn udp(src: u32, dst: u32) -> Header {
+pub fn udp(src: u32, dst: u32) -> Header {
     Header::Ip {
         src: Ip4::of(src),
         dst: Ip4::of(dst),
@@ -23,7 +23,7 @@ fn udp(src: u32, dst: u32) -> Header {
     }
 }
 
-fn ports(src: u16, dst: u16) -> Header {
+pub fn ports(src: u16, dst: u16) -> Header {
     Header::Ports {
         proto: 17,
         src,
@@ -32,7 +32,7 @@ fn ports(src: u16, dst: u16) -> Header {
 }
 
 /// An encapsulation in network 5001, from 172.16.0.1 to 172.16.0.2.
-fn encap() -> [Header; 3] {
+pub fn encap() -> [Header; 3] {
     [
         Header::Ether {
             dst: Mac::of(0x0200_0000_0a02),
@@ -45,7 +45,7 @@ fn encap() -> [Header; 3] {
 }
 
 /// UDP from port 1234 of 10.0.0.5 to port 53 of 10.0.0.9.
-fn plain() -> Result<Stack, BadShape> {
+pub fn plain() -> Result<Stack, BadShape> {
     Stack::of(&[
         ether(0x0800),
         udp(0x0a00_0005, 0x0a00_0009),
@@ -73,25 +73,25 @@ fn twice() -> Result<Stack, BadShape> {
     Stack::of(&[a, b, c, d, e, f, ether(0x0806)])
 }
 
-fn condition(alloc: Global, field: Field, item: Item) -> Result<Cond, AllocError> {
+pub fn condition(alloc: Global, field: Field, item: Item) -> Result<Cond, AllocError> {
     Ok(Cond {
         field,
         items: Items::of(Vec::from_array(alloc, [item])?),
     })
 }
 
-fn range(low: u64, high: u64) -> Item {
+pub fn range(low: u64, high: u64) -> Item {
     Item::Range { low, high }
 }
 
-fn prefix(value: u32, bits: u8) -> Item {
+pub fn prefix(value: u32, bits: u8) -> Item {
     Item::Prefix(Prefix {
         value: Ip4::of(value),
         bits,
     })
 }
 
-fn rule(when: Items<Cond>, action: &Action, stateful: bool) -> Rule {
+pub fn rule(when: Items<Cond>, action: &Action, stateful: bool) -> Rule {
     Rule {
         number: 1,
         priority: 10,
@@ -127,39 +127,6 @@ fn outer() -> Outer {
         dst_ip: Ip4::of(0xac10_0002),
         vni: 5001,
     }
-}
-
-#[test]
-fn fields_have_the_values_of_their_headers(rt: HostRuntime) -> Result<(), Fail> {
-    let alloc = rt.alloc();
-    let [plain, once] = [plain(), once()].map(|s| s.expect(&rt, "it has the shape"));
-    let inner = [
-        (Field::DstMac, 0x0200_0000_0099, 0x0200_0000_0099),
-        (Field::SrcMac, 0x0200_0000_0001, 0x0200_0000_0001),
-        (Field::Kind, 0x0800, 0x0800),
-        (Field::SrcIp, 0x0a00_0005, 0xc000_0207),
-        (Field::DstIp, 0x0a00_0009, 0x0a00_0009),
-        (Field::Proto, 17, 17),
-        (Field::Part, 0, 0),
-        (Field::SrcPort, 1234, 40000),
-        (Field::DstPort, 53, 53),
-    ];
-    for (field, value, under) in inner {
-        assert!(rt; condition(alloc, field, range(value, value))?.holds(&plain));
-        assert!(rt; condition(alloc, field, range(under, under))?.holds(&once));
-    }
-    let outer = [
-        (Field::OuterDstMac, 0x0200_0000_0a02),
-        (Field::OuterSrcMac, 0x0200_0000_0a01),
-        (Field::OuterSrcIp, 0xac10_0001),
-        (Field::OuterDstIp, 0xac10_0002),
-        (Field::Vni, 5001),
-    ];
-    for (field, value) in outer {
-        assert!(rt; condition(alloc, field, range(value, value))?.holds(&once));
-        assert!(rt; !condition(alloc, field, range(0, u64::MAX))?.holds(&plain));
-    }
-    Ok(())
 }
 
 #[test]
@@ -254,17 +221,36 @@ fn group(number: u16, when: Vec<Cond>, rules: Vec<Rule>) -> Group {
     }
 }
 
-/// The numbers of the group and of the rule that the plain packet meets.
-fn chosen(groups: &[Group], dir: Dir) -> Option<(u16, u16)> {
+/// What the plain packet meets: the numbers of the group and of the rule, and the rule's action.
+fn chosen(groups: &[Group], dir: Dir) -> Option<(u16, u16, Action)> {
     let stack = plain().ok()?;
     let choice = choose(dir, groups, &stack)?;
-    Some((choice.group, choice.rule.number))
+    Some((choice.group, choice.rule.number, choice.rule.action))
 }
 
-/// What the plain packet meets of rule 5 in group 1 and rule 7 in group 2, of these marks and condition.
-fn of_two(alloc: Global, last: bool, when: Vec<Cond>) -> Result<Option<(u16, u16)>, AllocError> {
-    let first = Vec::from_array(alloc, [near(alloc, 5, 10, last)?])?;
-    let second = Vec::from_array(alloc, [near(alloc, 7, 10, last)?])?;
+/// Rule 7, which drops packets to 10.0.0.9.
+fn dropping(alloc: Global, last: bool) -> Result<Rule, AllocError> {
+    let to = condition(alloc, Field::DstIp, prefix(0x0a00_0009, 32))?;
+    Ok(Rule {
+        number: 7,
+        priority: 10,
+        when: Items::of(Vec::from_array(alloc, [to])?),
+        action: Action::Drop,
+        stateful: false,
+        last,
+    })
+}
+
+/// What the plain packet meets of rule 5 in group 1, which allows it, and rule 7 in group 2, which drops
+/// it, of these marks and with this condition of group 2.
+fn of_two(
+    alloc: Global,
+    five_is_last: bool,
+    seven_is_last: bool,
+    when: Vec<Cond>,
+) -> Result<Option<(u16, u16, Action)>, AllocError> {
+    let first = Vec::from_array(alloc, [near(alloc, 5, 10, five_is_last)?])?;
+    let second = Vec::from_array(alloc, [dropping(alloc, seven_is_last)?])?;
     let groups = Vec::from_array(
         alloc,
         [group(1, Vec::new(alloc), first), group(2, when, second)],
@@ -275,10 +261,14 @@ fn of_two(alloc: Global, last: bool, when: Vec<Cond>) -> Result<Option<(u16, u16
 #[test]
 fn the_last_group_decides_or_the_first_that_is_marked(rt: HostRuntime) -> Result<(), Fail> {
     let alloc = rt.alloc();
-    assert_eq!(rt; of_two(alloc, false, Vec::new(alloc))?, Some((2, 7)));
-    assert_eq!(rt; of_two(alloc, true, Vec::new(alloc))?, Some((1, 5)));
+    let passes = Some((1, 5, Action::Allow));
+    let drops = Some((2, 7, Action::Drop));
+    assert_eq!(rt; of_two(alloc, false, false, Vec::new(alloc))?, drops);
+    assert_eq!(rt; of_two(alloc, false, true, Vec::new(alloc))?, drops);
+    assert_eq!(rt; of_two(alloc, true, false, Vec::new(alloc))?, passes);
+    assert_eq!(rt; of_two(alloc, true, true, Vec::new(alloc))?, passes);
     let web = Vec::from_array(alloc, [condition(alloc, Field::DstPort, range(80, 80))?])?;
-    assert_eq!(rt; of_two(alloc, false, web)?, Some((1, 5)));
+    assert_eq!(rt; of_two(alloc, false, false, web)?, passes);
     Ok(())
 }
 
@@ -288,7 +278,7 @@ fn of_rules(
     first: Rule,
     second: Rule,
     dir: Dir,
-) -> Result<Option<(u16, u16)>, AllocError> {
+) -> Result<Option<(u16, u16, Action)>, AllocError> {
     let rules = Vec::from_array(alloc, [first, second])?;
     let groups = Vec::from_array(alloc, [group(1, Vec::new(alloc), rules)])?;
     Ok(chosen(&groups, dir))
@@ -299,13 +289,22 @@ fn the_least_priority_and_then_the_first_place_decides(rt: HostRuntime) -> Resul
     let alloc = rt.alloc();
     let five = near(alloc, 5, 10, false)?;
     let six = near(alloc, 6, 10, false)?;
-    assert_eq!(rt; of_rules(alloc, five, six, Dir::Out)?, Some((1, 5)));
+    assert_eq!(rt;
+        of_rules(alloc, five, six, Dir::Out)?,
+        Some((1, 5, Action::Allow))
+    );
     let five = near(alloc, 5, 10, false)?;
     let six = near(alloc, 6, 10, false)?;
-    assert_eq!(rt; of_rules(alloc, six, five, Dir::Out)?, Some((1, 6)));
+    assert_eq!(rt;
+        of_rules(alloc, six, five, Dir::Out)?,
+        Some((1, 6, Action::Allow))
+    );
     let five = near(alloc, 5, 10, false)?;
     let six = near(alloc, 6, 9, false)?;
-    assert_eq!(rt; of_rules(alloc, five, six, Dir::Out)?, Some((1, 6)));
+    assert_eq!(rt;
+        of_rules(alloc, five, six, Dir::Out)?,
+        Some((1, 6, Action::Allow))
+    );
     let five = near(alloc, 5, 10, false)?;
     let six = near(alloc, 6, 9, false)?;
     assert_eq!(rt; of_rules(alloc, five, six, Dir::In)?, None);

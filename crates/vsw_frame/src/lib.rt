@@ -5,6 +5,8 @@ mod found;
 mod frame;
 mod law;
 mod opened;
+#[cfg(test)]
+mod plain;
 mod read;
 #[cfg(test)]
 mod tests;

@@ -1,5 +1,6 @@
 //! Frames that were written and read by hand.
 
+use crate::plain::REPLY;
 use crate::read_frame;
 use std::process::Abort;
 use vsw_base::{BadFrame, Control, Header, Ip4, Mac, Sizes};
@@ -28,6 +29,16 @@ const ENCAP: [u8; 94] = [
     0x45, 0x00, 0x00, 0x1e, 0x00, 0x00, 0x40, 0x00, 0x40, 0x11, 0x6e, 0xbf, 0xc0, 0x00, 0x02, 0x07,
     0x0a, 0x00, 0x00, 0x09, // UDP, 10 bytes
     0x9c, 0x40, 0x00, 0x35, 0x00, 0x0a, 0x2e, 0xeb, 0x68, 0x69,
+];
+
+/// "hi" over UDP from port 53 of 10.0.0.9 to port 1234 of 10.0.0.5.
+const ANSWER: [u8; 44] = [
+    // Ethernet
+    0x02, 0x00, 0x00, 0x00, 0x00, 0x01, 0x02, 0x00, 0x00, 0x00, 0x00, 0x99, 0x08, 0x00,
+    // IPv4, 30 bytes
+    0x45, 0x00, 0x00, 0x1e, 0x00, 0x00, 0x40, 0x00, 0x40, 0x11, 0x26, 0xc2, 0x0a, 0x00, 0x00, 0x09,
+    0x0a, 0x00, 0x00, 0x05, // UDP, 10 bytes
+    0x00, 0x35, 0x04, 0xd2, 0x00, 0x0a, 0x7e, 0x5c, 0x68, 0x69,
 ];
 
 /// TCP from port 1234 to port 80 with SYN and ACK and no payload.
@@ -145,6 +156,42 @@ fn an_encapsulated_frame_is_read(rt: HostRuntime) {
         ports(17, 40000, 53),
     ];
     reads(&rt, &ENCAP, &headers, b"hi", sizes(94, 44, 0));
+}
+
+/// UDP from 10.0.0.9 to this address, from port 53 to this port.
+fn answer_to(dst: u32, port: u16) -> [Header; 3] {
+    let ether = Header::Ether {
+        dst: Mac::of(0x0200_0000_0001),
+        src: Mac::of(0x0200_0000_0099),
+        kind: 0x0800,
+    };
+    let ip = Header::Ip {
+        src: Ip4::of(0x0a00_0009),
+        dst: Ip4::of(dst),
+        proto: 17,
+        part: false,
+    };
+    [ether, ip, ports(17, 53, port)]
+}
+
+#[test]
+fn replies_are_read(rt: HostRuntime) {
+    let outer_ether = Header::Ether {
+        dst: Mac::of(0x0200_0000_0a01),
+        src: Mac::of(0x0200_0000_0a02),
+        kind: 0x0800,
+    };
+    let outer_ip = Header::Ip {
+        src: Ip4::of(0xac10_0002),
+        dst: Ip4::of(0xac10_0001),
+        proto: 17,
+        part: false,
+    };
+    let [ether, ip, udp] = answer_to(0xc000_0207, 40_000);
+    let headers = [outer_ether, outer_ip, vxlan(), ether, ip, udp];
+    reads(&rt, &REPLY, &headers, b"hi", sizes(94, 44, 0));
+    let headers = answer_to(0x0a00_0005, 1234);
+    reads(&rt, &ANSWER, &headers, b"hi", sizes(44, 0, 0));
 }
 
 #[test]

@@ -1,0 +1,317 @@
+//! A plain program of what a frame says, written from the layouts alone (RFC 791, 768, 9293, 7348), and
+//! frames on which the reader is compared with it.
+
+ghost use Rattle.std.specs.Prelude.{◌≤◌, ◌<◌};
+
+use crate::read_frame;
+use std::alloc::Global;
+use std::process::Abort;
+use std::test::Fail;
+use vsw_base::{Control, Header, Headers, Ip4, Mac, Sizes};
+
+/// A datagram from port 53 of 10.0.0.9 to port 40000 of 192.0.2.7, in network 5001 from 172.16.0.2 to
+/// 172.16.0.1.
+pub const REPLY: [u8; 94] = [
+    // Ethernet
+    0x02, 0x00, 0x00, 0x00, 0x0a, 0x01, 0x02, 0x00, 0x00, 0x00, 0x0a, 0x02, 0x08, 0x00,
+    // IPv4, 80 bytes
+    0x45, 0x00, 0x00, 0x50, 0x00, 0x00, 0x40, 0x00, 0x40, 0x11, 0xe2, 0x79, 0xac, 0x10, 0x00, 0x02,
+    0xac, 0x10, 0x00, 0x01, // UDP, 60 bytes
+    0xf5, 0x30, 0x12, 0xb5, 0x00, 0x3c, 0x00, 0x00, // VXLAN
+    0x08, 0x00, 0x00, 0x00, 0x00, 0x13, 0x89, 0x00, // Ethernet
+    0x02, 0x00, 0x00, 0x00, 0x00, 0x01, 0x02, 0x00, 0x00, 0x00, 0x00, 0x99, 0x08, 0x00,
+    // IPv4, 30 bytes
+    0x45, 0x00, 0x00, 0x1e, 0x00, 0x00, 0x40, 0x00, 0x40, 0x11, 0x6e, 0xbf, 0x0a, 0x00, 0x00, 0x09,
+    0xc0, 0x00, 0x02, 0x07, // UDP, 10 bytes
+    0x00, 0x35, 0x9c, 0x40, 0x00, 0x0a, 0x2e, 0xeb, 0x68, 0x69,
+];
+
+/// TCP with 4 bytes of options and 2 of payload, from port 1234 of 10.0.0.5 to port 80 of 10.0.0.9.
+const SEGMENT: [u8; 60] = [
+    // Ethernet
+    0x02, 0x00, 0x00, 0x00, 0x00, 0x99, 0x02, 0x00, 0x00, 0x00, 0x00, 0x01, 0x08, 0x00,
+    // IPv4, 46 bytes
+    0x45, 0x00, 0x00, 0x2e, 0x00, 0x00, 0x40, 0x00, 0x40, 0x06, 0x26, 0xbd, 0x0a, 0x00, 0x00, 0x05,
+    0x0a, 0x00, 0x00, 0x09, // TCP
+    0x04, 0xd2, 0x00, 0x50, 0x00, 0x00, 0x00, 0x01, 0x00, 0x00, 0x00, 0x01, 0x60, 0x10, 0xff, 0xff,
+    0x00, 0x00, 0x00, 0x00, 0x01, 0x01, 0x01, 0x01, 0x68, 0x69,
+];
+
+/// What a frame says: its headers, control, bytes of its levels, and what follows the last header.
+#[derive(Drop)]
+struct Said<'a> {
+    headers: Headers,
+    control: Control,
+    sizes: [usize; 3],
+    payload: &'a [u8],
+}
+
+/// What stands behind a header that has no ports or is VXLAN: these bytes of its frame.
+enum Behind {
+    Inner(usize, usize),
+    Payload(usize, usize),
+}
+
+/// A byte, or 0 where it isn't there.
+fn byte(bytes: &[u8], at: usize) -> u8 {
+    match bytes.get(at) {
+        Some(byte) => *byte,
+        None => 0,
+    }
+}
+
+fn word(bytes: &[u8], at: usize) -> u16
+    requires { at ≤ 4096 }
+{
+    u16::from_be_bytes([byte(bytes, at), byte(bytes, at + 1)])
+}
+
+fn address(bytes: &[u8], at: usize) -> Ip4
+    requires { at ≤ 4000 }
+{
+    let [high, low] = [word(bytes, at), word(bytes, at + 2)];
+    Ip4::of(u32::from(high) * 0x1_0000 + u32::from(low))
+}
+
+fn mac(bytes: &[u8], at: usize) -> Mac
+    requires { at ≤ 4000 }
+{
+    let [high, middle, low] = [word(bytes, at), word(bytes, at + 2), word(bytes, at + 4)];
+    Mac::of(u64::from(high) * 0x1_0000_0000 + u64::from(middle) * 0x1_0000 + u64::from(low))
+}
+
+fn add(headers: &mut Headers, header: Header) {
+    if headers.as_slice().len() < 9 {
+        headers.push(header);
+    }
+}
+
+fn control_of(flags: u8) -> Control {
+    if flags / 4 % 2 == 1 {
+        Control::Rst
+    } else if flags % 2 == 1 {
+        Control::Fin
+    } else if flags / 2 % 2 == 0 {
+        Control::None
+    } else if flags / 16 % 2 == 1 {
+        Control::SynAck
+    } else {
+        Control::Syn
+    }
+}
+
+/// TCP in these bytes of a frame.
+fn tcp(frame: &[u8], from: usize, to: usize, said: &mut Said<'_>) -> Result<Behind, u8>
+    requires few { from ≤ 2048 }
+    requires order { from ≤ to }
+{
+    if to - from < 20 {
+        return Err(5);
+    }
+    let header = 4 * usize::from(byte(frame, from + 12) / 16);
+    if header < 20 || header > to - from {
+        return Err(6);
+    }
+    said.control = control_of(byte(frame, from + 13));
+    add(
+        &mut said.headers,
+        Header::Ports {
+            proto: 6,
+            src: word(frame, from),
+            dst: word(frame, from + 2),
+        },
+    );
+    Ok(Behind::Payload(from + header, to))
+}
+
+/// UDP in these bytes of a frame, which may hold a further encapsulation.
+fn udp(
+    frame: &[u8],
+    from: usize,
+    to: usize,
+    is_last: bool,
+    said: &mut Said<'_>,
+) -> Result<Behind, u8>
+    requires few { from ≤ 2048 }
+    requires order { from ≤ to }
+{
+    if to - from < 8 {
+        return Err(7);
+    }
+    let length = usize::from(word(frame, from + 4));
+    if length < 8 || length > to - from {
+        return Err(8);
+    }
+    let end = from + length;
+    let [src, dst] = [word(frame, from), word(frame, from + 2)];
+    let flag = byte(frame, from + 8) / 8 % 2;
+    if !is_last && dst == 4789 && length >= 16 && flag == 1 {
+        let vni = u32::from(word(frame, from + 12)) * 256 + u32::from(byte(frame, from + 14));
+        add(&mut said.headers, Header::Vxlan { vni });
+        return Ok(Behind::Inner(from + 16, end));
+    }
+    add(
+        &mut said.headers,
+        Header::Ports {
+            proto: 17,
+            src,
+            dst,
+        },
+    );
+    Ok(Behind::Payload(from + 8, end))
+}
+
+/// IPv4 behind the Ethernet header of a frame.
+fn ipv4(frame: &[u8], is_last: bool, said: &mut Said<'_>) -> Result<Behind, u8> {
+    if frame.len() < 34 {
+        return Err(2);
+    }
+    if byte(frame, 14) / 16 != 4 {
+        return Err(3);
+    }
+    let header = 4 * usize::from(byte(frame, 14) % 16);
+    let total = usize::from(word(frame, 16));
+    if header < 20 || total < header || total > frame.len() - 14 {
+        return Err(4);
+    }
+    let part = word(frame, 20) % 0x4000 != 0;
+    let proto = byte(frame, 23);
+    add(
+        &mut said.headers,
+        Header::Ip {
+            src: address(frame, 26),
+            dst: address(frame, 30),
+            proto,
+            part,
+        },
+    );
+    let [from, to] = [14 + header, 14 + total];
+    if part || proto != 6 && proto != 17 {
+        return Ok(Behind::Payload(from, to));
+    }
+    if proto == 6 {
+        tcp(frame, from, to, said)
+    } else {
+        udp(frame, from, to, is_last, said)
+    }
+}
+
+/// A frame, without what an encapsulation holds.
+fn level(frame: &[u8], is_last: bool, said: &mut Said<'_>) -> Result<Behind, u8> {
+    if frame.len() < 14 {
+        return Err(1);
+    }
+    let kind = word(frame, 12);
+    add(
+        &mut said.headers,
+        Header::Ether {
+            dst: mac(frame, 0),
+            src: mac(frame, 6),
+            kind,
+        },
+    );
+    if kind == 0x0800 {
+        ipv4(frame, is_last, said)
+    } else {
+        Ok(Behind::Payload(14, frame.len()))
+    }
+}
+
+/// These bytes of a frame.
+fn part_of(frame: &[u8], from: usize, to: usize) -> &[u8] {
+    match frame.get(from..to) {
+        Some(part) => part,
+        None => &[],
+    }
+}
+
+/// What a frame says, or the number of its first fault.
+fn plain<'a>(bytes: &'a [u8]) -> Result<Said<'a>, u8> {
+    if bytes.len() > 65_600 {
+        return Err(9);
+    }
+    let mut said = Said {
+        headers: Headers::new(),
+        control: Control::None,
+        sizes: [0; 3],
+        payload: &[],
+    };
+    let mut frame = bytes;
+    for encaps in 0..3 {
+        said.sizes[encaps] = frame.len();
+        match level(frame, encaps == 2, &mut said) {
+            Err(fault) => return Err(fault),
+            Ok(Behind::Payload(from, to)) => {
+                said.payload = part_of(frame, from, to);
+                return Ok(said);
+            }
+            Ok(Behind::Inner(from, to)) => frame = part_of(frame, from, to),
+        }
+    }
+    Ok(said)
+}
+
+fn widened(sizes: Sizes) -> [usize; 3] {
+    [sizes.whole, sizes.one, sizes.two].map(|size| size as usize)
+}
+
+/// The reader and the plain program say the same of these bytes.
+fn compare(rt: &impl Abort, bytes: &[u8], place: usize) {
+    match plain(bytes) {
+        Err(number) => match read_frame(bytes) {
+            Ok(_) => assert_eq!(rt; Some(number), None, "{place}"),
+            Err(fault) => assert_eq!(rt; fault.number(), number, "{place}"),
+        },
+        Ok(said) => match read_frame(bytes) {
+            Err(fault) => assert_eq!(rt; Some(fault), None, "{place}"),
+            Ok(frame) => {
+                assert_eq!(rt; frame.stack().headers(), said.headers.as_slice(), "{place}");
+                assert_eq!(rt; frame.control(), said.control, "{place}");
+                assert_eq!(rt; widened(frame.sizes()), said.sizes, "{place}");
+                assert_eq!(rt; frame.payload(), said.payload, "{place}");
+            }
+        },
+    }
+}
+
+/// Compares them on a frame, on each front of it, and with each byte of it set to every value.
+fn sweep(rt: &impl Abort, alloc: Global, frame: &[u8]) -> Result<(), Fail> {
+    compare(rt, frame, frame.len());
+    for at in 0..frame.len() {
+        compare(rt, part_of(frame, 0, at), at);
+        for value in 0..=255 {
+            let mut changed = frame.to_vec(alloc)?;
+            if at < changed.len() {
+                changed[at] = value;
+            }
+            compare(rt, &changed, at);
+        }
+    }
+    Ok(())
+}
+
+#[test]
+fn every_change_of_a_byte_is_read_as_the_plain_program_says(rt: HostRuntime) -> Result<(), Fail> {
+    let alloc = rt.alloc();
+    sweep(&rt, alloc, &REPLY)?;
+    sweep(&rt, alloc, &SEGMENT)
+}
+
+/// A reply within two further encapsulations, of which the outermost three are looked at.
+fn nested() -> [u8; 194] {
+    let mut bytes = [0; 194];
+    bytes[..50].copy_from_slice(&REPLY[..50]);
+    bytes[50..100].copy_from_slice(&REPLY[..50]);
+    bytes[100..].copy_from_slice(&REPLY);
+    // total and UDP lengths of the first and the second frame
+    bytes[17] = 180;
+    bytes[39] = 160;
+    bytes[67] = 130;
+    bytes[89] = 110;
+    bytes
+}
+
+#[test]
+fn frames_in_frames_are_read_as_the_plain_program_says(rt: HostRuntime) -> Result<(), Fail> {
+    sweep(&rt, rt.alloc(), &nested())
+}

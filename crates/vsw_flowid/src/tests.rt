@@ -45,17 +45,47 @@ fn plain() -> Result<Stack, BadShape> {
     Stack::of(&query(0x0a00_0005, 1234))
 }
 
-/// The query of 192.0.2.7, in network 5001 from 172.16.0.1 to 172.16.0.2.
-fn encapsulated() -> Result<Stack, BadShape> {
-    let [a, b, c] = query(0xc000_0207, 40_000);
-    Stack::of(&[
+/// An encapsulation in this network, from 172.16.0.1 to 172.16.0.2.
+fn encap(vni: u32) -> [Header; 3] {
+    [
         ether(0x0200_0000_0a02, 0x0200_0000_0a01, IPV4),
         ip(0xac10_0001, 0xac10_0002, false),
-        Header::Vxlan { vni: 5001 },
-        a,
-        b,
-        c,
-    ])
+        Header::Vxlan { vni },
+    ]
+}
+
+/// The query of 192.0.2.7, in network 5001.
+fn encapsulated() -> Result<Stack, BadShape> {
+    let [a, b, c] = encap(5001);
+    let [d, e, f] = query(0xc000_0207, 40_000);
+    Stack::of(&[a, b, c, d, e, f])
+}
+
+/// It with a further encapsulation about that one, in network 7.
+fn encapsulated_twice() -> Result<Stack, BadShape> {
+    let [a, b, c] = encap(7);
+    let [d, e, f] = encap(5001);
+    let [g, h, i] = query(0xc000_0207, 40_000);
+    Stack::of(&[a, b, c, d, e, f, g, h, i])
+}
+
+/// The answer to the query of 192.0.2.7.
+fn reply() -> [Header; 3] {
+    [
+        ether(0x0200_0000_0001, 0x0200_0000_0099, IPV4),
+        ip(0x0a00_0009, 0xc000_0207, false),
+        Header::Ports {
+            proto: 17,
+            src: 53,
+            dst: 40_000,
+        },
+    ]
+}
+
+fn encapsulated_reply() -> Result<Stack, BadShape> {
+    let [a, b, c] = encap(5001);
+    let [d, e, f] = reply();
+    Stack::of(&[a, b, c, d, e, f])
 }
 
 /// The key of the query of 10.0.0.5.
@@ -97,6 +127,58 @@ fn keys_are_of_the_networks_and_the_inner_headers(rt: HostRuntime) {
     assert!(rt; same_key(&key, &key) && !same_key(&key, &plain_key()));
 }
 
+/// The key of the query of 192.0.2.7 in these networks.
+fn key_in(encaps: u8, vni_outer: u32, vni_second: u32) -> LayerKey {
+    LayerKey {
+        encaps,
+        vni_outer,
+        vni_second,
+        src: Ip4::of(0xc000_0207),
+        dst: Ip4::of(0x0a00_0009),
+        proto: 17,
+        part: false,
+        src_port: 40_000,
+        dst_port: 53,
+    }
+}
+
+/// The key of its reply in these networks.
+fn reply_key_in(encaps: u8, vni_outer: u32) -> LayerKey {
+    LayerKey {
+        encaps,
+        vni_outer,
+        vni_second: 0,
+        src: Ip4::of(0x0a00_0009),
+        dst: Ip4::of(0xc000_0207),
+        proto: 17,
+        part: false,
+        src_port: 53,
+        dst_port: 40_000,
+    }
+}
+
+/// A layer that takes an encapsulation away sees it in the key, and the next one doesn't.
+#[test]
+fn each_layer_sees_the_key_of_what_came_to_it(rt: HostRuntime) {
+    let stacks = [
+        encapsulated_twice(),
+        encapsulated(),
+        Stack::of(&query(0xc000_0207, 40_000)),
+        encapsulated_reply(),
+        Stack::of(&reply()),
+    ];
+    let keys = [
+        key_in(2, 7, 5001),
+        key_in(1, 5001, 0),
+        key_in(0, 0, 0),
+        reply_key_in(1, 5001),
+        reply_key_in(0, 0),
+    ];
+    for (stack, key) in stacks.into_iter().zip(keys) {
+        assert_eq!(rt; key_of(&stack.expect(&rt, "it has the shape")), key);
+    }
+}
+
 #[test]
 fn what_a_stack_has_not_is_zero(rt: HostRuntime) {
     let [a, _, _] = query(0x0a00_0005, 1234);
@@ -130,6 +212,7 @@ fn replies_have_the_mirrored_key(rt: HostRuntime) {
         ..plain_key()
     };
     assert_eq!(rt; mirror(&plain_key()), key);
+    assert_eq!(rt; mirror(&key_in(1, 5001, 0)), reply_key_in(1, 5001));
 }
 
 #[test]

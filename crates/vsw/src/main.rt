@@ -2,11 +2,14 @@
 //! exit status is the run's.
 #![tactic(auto)]
 
-use std::alloc::AllocError;
+ghost use Rattle.std.specs.Prelude.{◌≡◌, ◌↔◌};
+ghost use Rattle.vsw.specs.Exit.{exit_of, Exits};
+
+use std::alloc::{AllocError, Global};
 use std::process::ExitCode;
 use std::{env, io};
 use vsw_app::{Status, Word, run_words};
-use vsw_host::RealHost;
+use vsw_host::{Host, RealHost};
 
 fn words(rt: &HostRuntime) -> io::Result<Vec<Word>> {
     let mut words = Vec::new(rt.alloc());
@@ -16,8 +19,11 @@ fn words(rt: &HostRuntime) -> io::Result<Vec<Word>> {
     Ok(words)
 }
 
-/// The exit status (docs/FORMATS.md).
-fn exit_code(status: Status) -> u8 {
+/// The exit status of how a run ended (docs/FORMATS.md).
+fn exit_code(status: Status) -> u8
+    ensures number { result ≡ exit_of status }
+    ensures done { (result ≡ 0) ↔ (status ≡ Status.Done) }
+{
     match status {
         Status::Done => 0,
         Status::Usage => 2,
@@ -30,10 +36,50 @@ fn exit_code(status: Status) -> u8 {
     }
 }
 
+/// Runs, and answers what the process ends with.
+fn run<H: Host>(alloc: Global, words: &[Word], host: &mut H) -> ExitCode
+    ensures { Exits words.now (H.outside host.old) (H.outside host.new) result }
+{
+    let status = run_words(alloc, words, host);
+    ExitCode::from(exit_code(status))
+}
+
 fn main(rt: HostRuntime) -> io::Result<ExitCode> {
     let words = words(&rt)?;
     let alloc = rt.alloc();
     let mut host = RealHost::new(alloc, rt);
-    let status = run_words(alloc, &words, &mut host);
-    Ok(ExitCode::from(exit_code(status)))
+    Ok(run(alloc, &words, &mut host))
+}
+
+#[cfg(test)]
+mod tests {
+    use crate::{exit_code, run};
+    use std::process::ExitCode;
+    use std::test::Fail;
+    use vsw_app::Status;
+    use vsw_host::MemoryHost;
+
+    #[test]
+    fn every_status_has_its_number(rt: HostRuntime) {
+        for (status, number) in [
+            (Status::Done, 0),
+            (Status::Usage, 2),
+            (Status::ReadFault, 3),
+            (Status::WriteFault, 4),
+            (Status::Refused, 5),
+            (Status::Limit, 6),
+            (Status::NotBuilt, 7),
+            (Status::Memory, 9),
+        ] {
+            assert_eq!(rt; exit_code(status), number);
+        }
+    }
+
+    #[test]
+    fn a_run_without_words_ends_as_usage(rt: HostRuntime) -> Result<(), Fail> {
+        let alloc = rt.alloc();
+        let mut host = MemoryHost::new(alloc, Vec::new(alloc), 4_096, Vec::new(alloc))?;
+        assert_eq!(rt; run(alloc, &[], &mut host), ExitCode::from(2));
+        Ok(())
+    }
 }

@@ -46,7 +46,7 @@ struct Said<'a> {
     payload: &'a [u8],
 }
 
-/// What stands behind a header that has no ports or is VXLAN: these bytes of its frame.
+/// What stands behind the headers of a level: these bytes of its frame.
 enum Behind {
     Inner(usize, usize),
     Payload(usize, usize),
@@ -297,7 +297,7 @@ fn every_change_of_a_byte_is_read_as_the_plain_program_says(rt: HostRuntime) -> 
     sweep(&rt, alloc, &SEGMENT)
 }
 
-/// A reply within two further encapsulations, of which the outermost three are looked at.
+/// The reply in two further encapsulations. Two of the three are looked for.
 fn nested() -> [u8; 194] {
     let mut bytes = [0; 194];
     bytes[..50].copy_from_slice(&REPLY[..50]);

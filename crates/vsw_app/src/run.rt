@@ -38,7 +38,7 @@ fn replay<H: Host>(alloc: Global, host: &mut H, policy: &PlainPolicy, trace_name
     ensures { Replays (H.outside host.old) (H.outside host.new) policy.now trace_name.now result }
 {
     match open_trace(alloc, host, trace_name) {
-        Ok(trace) => run_trace(alloc, host, policy, &trace),
+        Ok(trace) => run_trace(alloc, host, policy, trace),
         Err(ending) => ending,
     }
 }

@@ -13,7 +13,6 @@ use crate::ending::Ending;
 use crate::files::TraceBytes;
 use crate::round::{ROUND_SIZE, RoundRead, Stop, read_round};
 use std::alloc::Global;
-use vsw_base::NoMemory;
 use vsw_config::PlainPolicy;
 use vsw_host::Host;
 use vsw_pcap::{BadTrace, Reader};
@@ -62,29 +61,28 @@ fn put_text<H: Host>(host: &mut H, text: &[u8]) -> Result<(), Ending>
     }
 }
 
-/// Puts the text of a round at once.
-fn put_round<H: Host>(alloc: Global, host: &mut H, round: &Round) -> Result<(), Ending>
+/// Puts the text of a round at once. `text` is room that the next round's text finds again.
+fn put_round<H: Host>(host: &mut H, text: &mut Vec<u8>, round: &Round) -> Result<(), Ending>
     ensures puts { PutsText (H.outside host.old) (H.outside host.new) (round_text round.now) result }
     ensures rises { EndRises (H.outside host.old) (H.outside host.new) result }
     ensures only { OnlyPuts (H.outside host.old) (H.outside host.new) }
 {
-    let mut text = Vec::new(alloc);
-    match print_round(round, &mut text) {
-        Ok(()) => put_text(host, &text),
+    text.clear();
+    match print_round(round, text) {
+        Ok(()) => put_text(host, text),
         Err(_) => Err(Ending::Memory),
     }
 }
 
-/// A reader that holds what was read of the trace.
-fn fed(alloc: Global, trace: &TraceBytes) -> Result<Reader, NoMemory>
-    ensures { IfOk result (λ r. StandsIn r trace.now) }
+/// A reader over what was read of the trace.
+fn over(alloc: Global, trace: TraceBytes) -> Reader
+    ensures { StandsIn result trace }
 {
-    let mut reader = Reader::new(alloc);
-    reader.feed(&trace.bytes)?;
+    let mut reader = Reader::over(alloc, trace.bytes);
     if trace.whole {
         reader.finish();
     }
-    Ok(reader)
+    reader
 }
 
 /// Whether a round is put: it has packets, or it is the first of a trace that ended cleanly.
@@ -97,8 +95,8 @@ fn is_put(number: u32, count: u32, stop: Stop) -> bool
 /// Puts a round that was read, the `number`th from 0. A round without packets is put only where it is the
 /// first of a trace that ended cleanly.
 fn put_one<H: Host>(
-    alloc: Global,
     host: &mut H,
+    text: &mut Vec<u8>,
     number: u32,
     round: &RoundRead,
 ) -> Result<(), Ending>
@@ -107,7 +105,7 @@ fn put_one<H: Host>(
     ensures only { OnlyPuts (H.outside host.old) (H.outside host.new) }
 {
     if is_put(number, round.count, round.stop) {
-        put_round(alloc, host, &round.round)
+        put_round(host, text, &round.round)
     } else {
         Ok(())
     }
@@ -138,6 +136,7 @@ fn next_round(
 fn run_round<H: Host>(
     alloc: Global,
     host: &mut H,
+    text: &mut Vec<u8>,
     policy: &PlainPolicy,
     reader: &mut Reader,
     number: u32,
@@ -149,7 +148,7 @@ fn run_round<H: Host>(
     ensures rises { EndRises (H.outside host.old) (H.outside host.new) result }
     ensures only { OnlyPuts (H.outside host.old) (H.outside host.new) }
 {
-    match put_one(alloc, host, number, round) {
+    match put_one(host, text, number, round) {
         Ok(()) => next_round(alloc, policy, reader, number, round.stop),
         Err(ending) => Err(ending),
     }
@@ -179,8 +178,9 @@ fn run_rounds<H: Host>(
     ensures only { OnlyPuts (H.outside host.old) (H.outside host.new) }
 {
     let mut round = first;
+    let mut text = Vec::new(alloc);
     for number in 0..ROUNDS_MAX {
-        match run_round(alloc, host, policy, reader, number, &round) {
+        match run_round(alloc, host, &mut text, policy, reader, number, &round) {
             Ok(next) => round = next,
             Err(ending) => return ending,
         }
@@ -215,18 +215,16 @@ pub fn run_trace<H: Host>(
     alloc: Global,
     host: &mut H,
     policy: &PlainPolicy,
-    trace: &TraceBytes,
+    trace: TraceBytes,
 ) -> Ending
-    ensures puts { Puts policy.now trace.now.bytes.items trace.now.whole (H.outside host.old).put (H.outside host.new).put result }
+    ensures puts { Puts policy.now trace.bytes.items trace.whole (H.outside host.old).put (H.outside host.new).put result }
     ensures rises { WriteRises (H.outside host.old) (H.outside host.new) result }
     ensures only { OnlyPuts (H.outside host.old) (H.outside host.new) }
 {
-    let mut reader = match fed(alloc, trace) {
-        Ok(reader) => reader,
-        Err(_) => return Ending::Memory,
-    };
+    let size = trace.bytes.len();
+    let mut reader = over(alloc, trace);
     match read_round(alloc, policy, &mut reader, 0) {
-        Ok(first) => run_headed(alloc, host, policy, &mut reader, first, trace.bytes.len()),
+        Ok(first) => run_headed(alloc, host, policy, &mut reader, first, size),
         Err(_) => Ending::Memory,
     }
 }

@@ -115,6 +115,21 @@ impl Reader {
         }
     }
 
+    /// A reader that was fed these bytes. It keeps them, and copies none.
+    pub fn over(alloc: Global, bytes: Vec<u8>) -> Reader
+        ensures value { result ≡ fed_with bytes.items unfed }
+        ensures stands { Stands result bytes.items [] }
+    {
+        Reader {
+            alloc,
+            buffer: bytes,
+            from: 0,
+            at: 0,
+            form: None,
+            finished: false,
+        }
+    }
+
     /// Takes the next bytes of the capture.
     pub fn feed(&mut self, piece: &[u8]) -> Result<(), NoMemory>
         requires open { self.old.finished ≡ false }

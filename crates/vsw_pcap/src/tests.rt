@@ -100,6 +100,22 @@ fn two_records_are_read_however_they_are_fed(rt: HostRuntime) -> Result<(), Fail
 }
 
 #[test]
+fn a_capture_in_hand_is_read_alike(rt: HostRuntime) -> Result<(), Fail> {
+    let alloc = rt.alloc();
+    let capture = joined(alloc, &[LITTLE, AT_START, QUERY, &LITTLE[..3]])?;
+    let mut reader = Reader::over(alloc, capture);
+    let mut records = Vec::new(alloc);
+    let more = drain(&mut reader, &mut records)?;
+    assert!(rt; matches!(more, Next::More));
+    reader.finish();
+    let end = drain(&mut reader, &mut records)?;
+    assert!(rt; matches!(end, Next::Bad(BadTrace::Cut { at: 84 })));
+    assert_eq!(rt; records.len(), 1);
+    assert!(rt; is_record(&records[0], 0, 44, QUERY));
+    Ok(())
+}
+
+#[test]
 fn nanoseconds_in_the_other_order_are_rounded_down(rt: HostRuntime) -> Result<(), Fail> {
     let alloc = rt.alloc();
     let capture = joined(alloc, &[BIG_NANOS, LATER_NANOS, QUERY])?;

@@ -1,0 +1,4 @@
+pub mod Apply
+pub mod Form
+pub mod Fits
+pub mod Room

@@ -1,8 +1,9 @@
 //! Transpositions.
 
-ghost use Rattle.std.specs.Prelude.{◌≡◌, ◌↔◌, ◌*◌, ◌+◌, ◌≤◌, Ok, Err, IsTrue, List, if◌then◌else◌, length};
+ghost use Rattle.std.specs.Prelude.{◌≡◌, ◌↔◌, ◌*◌, ◌+◌, ◌≤◌, Ok, Err, IsTrue, List, if◌then◌else◌, length, replicate};
 ghost use Rattle.vsw_base.specs.declared.header.Header.{Header};
 ghost use Rattle.vsw_base.specs.Shape.{is_stack, encaps};
+ghost use Rattle.vsw_transpose.specs.declared.act.Act.TheVariants.{Ignore};
 ghost use Rattle.vsw_transpose.specs.Apply as spec;
 ghost use Rattle.vsw_transpose.specs.Fits as fit;
 ghost use Rattle.vsw_transpose.specs.Form.{is_form, pops};
@@ -48,6 +49,18 @@ fn copied(acts: &[Act]) -> Acts
         copy.push(*act);
     }
     copy
+}
+
+/// So many ignores.
+fn ignores(count: usize) -> Acts
+    requires { count ≤ 18 }
+    ensures { result ≡ replicate count Ignore }
+{
+    let mut acts = Acts::new();
+    for _ in 0..count {
+        acts.push(Act::Ignore);
+    }
+    acts
 }
 
 impl Transposition {
@@ -116,11 +129,9 @@ impl Transposition {
         ensures same { spec.apply result stack.now ≡ stack.now }
         ensures kept { fit.kept result ≡ encaps stack.now }
     {
-        let mut acts = Acts::new();
-        for _ in stack.headers() {
-            acts.push(Act::Ignore);
+        Transposition {
+            acts: ignores(stack.headers().len()),
         }
-        Transposition { acts }
     }
 
     /// Whether two transpositions have the same acts.

@@ -6,6 +6,7 @@ mod act;
 mod acts;
 mod doing;
 mod form;
+mod law;
 #[cfg(test)]
 mod tests;
 mod transposition;
@@ -13,4 +14,5 @@ mod transposition;
 pub use act::{Act, Change};
 pub use acts::Acts;
 pub use doing::changed;
+pub use law::laws;
 pub use transposition::{BadActs, Transposition};

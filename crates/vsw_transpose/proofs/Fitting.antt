@@ -91,5 +91,6 @@ suited n (Ignore ∷ xs) (h ∷ hs) e all = suited (n - 1) xs hs (omega (arith, 
 
 pub tells : (xs : List Act) (hs : List Header) → (fits xs hs ≡ true → Fitting xs hs) × (Fitting xs hs → fits xs hs ≡ true)
 tells xs hs = (
-    (λ t. let p = fits_parts xs hs t in let r = suiting (outer hs) xs hs p.0 in record { each = r.0; may = r.1; made = p.1 }),
-    (λ g. rw (suited (outer hs) xs hs g.each g.may) g.made))
+  (λ t. let p = fits_parts xs hs t in let r = suiting (outer hs) xs hs p.0 in record { each = r.0; may = r.1; made = p.1 }),
+  (λ g. rw (suited (outer hs) xs hs g.each g.may) g.made),
+)

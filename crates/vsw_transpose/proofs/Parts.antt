@@ -176,5 +176,5 @@ has_parts xs hs f s t =
     let kept_is : 3 * kept xs ≡ k = omega (arith, rest_is xs hs f s t) in
     let kept_first : take (3 * kept xs) (drop (pops xs) hs) ≡ take k r.rest = ap (λ (n : ℕ). take n (drop (pops xs) hs)) kept_is ∙ sym r.first in
     let inner_last : inner (apply xs hs) ≡ drop k r.rest =
-        ap (λ (n : ℕ). drop n (apply xs hs)) (outer_after xs hs f s u) ∙ ap (drop (left (outer hs) xs)) r.made ∙ drop-append-add (pushed xs) r.rest k in
+    ap (λ (n : ℕ). drop n (apply xs hs)) (outer_after xs hs f s u) ∙ ap (drop (left (outer hs) xs)) r.made ∙ drop-append-add (pushed xs) r.rest k in
     r.made ∙ ap (λ (l : List Header). pushed xs ++ l) (sym (take-append-drop k r.rest) ∙ sym (ap (λ (l : List Header). l ++ drop k r.rest) kept_first) ∙ sym (ap (λ (l : List Header). take (3 * kept xs) (drop (pops xs) hs) ++ l) inner_last))

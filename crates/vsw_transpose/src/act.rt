@@ -6,20 +6,11 @@ use vsw_base::{Header, Ip4, Mac};
 #[derive(Clone, Copy, Debug, PartialEq, Eq, Hash)]
 pub enum Change {
     /// The addresses of Ethernet.
-    Ether {
-        dst: Option<Mac>,
-        src: Option<Mac>,
-    },
+    Ether { dst: Option<Mac>, src: Option<Mac> },
     /// The addresses of IPv4.
-    Ip {
-        src: Option<Ip4>,
-        dst: Option<Ip4>,
-    },
+    Ip { src: Option<Ip4>, dst: Option<Ip4> },
     /// The ports of TCP or UDP.
-    Ports {
-        src: Option<u16>,
-        dst: Option<u16>,
-    },
+    Ports { src: Option<u16>, dst: Option<u16> },
 }
 
 /// What is done at a header, the outermost first.

@@ -39,3 +39,11 @@ composed xs bs hs f g s t u =
       fit = fit;
       kept_both = omega (arith, rest_is xs hs f s t, rest_is bs (apply xs hs) g a.1 u, rest_is (joined xs bs) hs form s fit, m, shape.1, (form_parts xs f).2, (form_parts bs g).2, encaps_three (pushed xs) (form_parts xs f).3, (counts (outer hs) xs hs a.0).2);
     }
+
+-- what calls tell of the transpositions and the shape
+pub composed_of : {x xs y bs : List Act} {k ks : List Header} → x ≡ xs → is_form x ≡ true → y ≡ bs → is_form y ≡ true → k ≡ ks → is_stack k ≡ true → fits xs ks ≡ true → fits bs (apply xs ks) ≡ true → Composed xs bs ks
+composed_of e f d g c s t u = composed _ _ _ (ap is_form (sym e) ∙ f) (ap is_form (sym d) ∙ g) (ap is_stack (sym c) ∙ s) t u
+
+-- what was joined in new room
+pub joined_is : {room out x y xs bs : List Act} → room ≡ [] → out ≡ room ++ joined x y → x ≡ xs → y ≡ bs → out ≡ joined xs bs
+joined_is room out first second = cc

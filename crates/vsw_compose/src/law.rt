@@ -4,7 +4,6 @@ ghost use Rattle.vsw_compose.specs.Law.{Associates, NoneFirst, NoneLast};
 
 /// Composing with the transposition that does nothing, on either side, changes nothing in what is done,
 /// and composing is associative in what it does.
-#[tactic(auto, using(crate::proofs::Composed::composed))]
 pub fn laws()
     ensures none_first { NoneFirst }
     ensures none_last { NoneLast }

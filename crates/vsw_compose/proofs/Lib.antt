@@ -5,3 +5,5 @@ pub mod Whole
 pub mod Composed
 pub mod Alike
 pub mod Algebra
+pub mod Edited
+pub mod Stacks

@@ -28,7 +28,7 @@ encaps_drop (suc (suc (suc k))) [] t z = t
 encaps_drop (suc (suc (suc k))) (Ether d s kind ∷ Ip a b proto part ∷ Vxlan vni ∷ hs) t z = encaps_drop k hs (grind (arith, common_steps)) (omega (arith, z))
 encaps_drop (suc (suc (suc k))) hs t z = grind arith
 
-form_of : (xs : List Act) → length xs ≤ 18 → are_ordered xs ≡ true → pops xs % 3 ≡ 0 → are_encaps (pushed xs) ≡ true → is_form xs ≡ true
+pub form_of : (xs : List Act) → length xs ≤ 18 → are_ordered xs ≡ true → pops xs % 3 ≡ 0 → are_encaps (pushed xs) ≡ true → is_form xs ≡ true
 form_of xs l o p w = grind (arith, common_steps)
 
 pub joined_form : (n m : ℕ) (xs bs : List Act) (hs : List Header) → is_form xs ≡ true → is_form bs ≡ true → m ≡ left n xs → suits n xs hs ≡ true → suits m bs (apply xs hs) ≡ true → length hs ≤ 9 → length (apply bs (apply xs hs)) ≤ 9 → is_form (joined xs bs) ≡ true

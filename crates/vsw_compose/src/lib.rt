@@ -2,7 +2,9 @@
 #![tactic(auto)]
 
 mod composition;
+mod edit;
 mod law;
 
 pub use composition::compose;
+pub use edit::act_of;
 pub use law::laws;

@@ -147,7 +147,7 @@ dropped_at hs m a b c p z l = elim (threes p z (omega (arith, m, l))) [
   ]
 ]
 
-plain_outer : (hs : List Header) → is_plain hs ≡ true → encaps hs ≡ 0
+pub plain_outer : (hs : List Header) → is_plain hs ≡ true → encaps hs ≡ 0
 plain_outer = plain_cases (λ hs. encaps hs ≡ 0) (λ d s k t. refl) (λ d s k a b p q t. refl) (λ d s k a b p q x y t. refl)
 
 dropped : (hs : List Header) → is_stack hs ≡ true → Dropped hs

@@ -19,7 +19,7 @@ none_alike [] (k ∷ ks) e = absurd e
 none_alike (h ∷ hs) [] e = absurd e
 none_alike (h ∷ hs) (k ∷ ks) e = ap (λ (l : List Act). Ignore ∷ l) (none_alike hs ks e.1)
 
-nothing : (hs ks : List Header) → alike hs ks → apply (none ks) hs ≡ hs
+pub nothing : (hs ks : List Header) → alike hs ks → apply (none ks) hs ≡ hs
 nothing hs ks e = ap (λ (l : List Act). apply l hs) (sym (none_alike hs ks e)) ∙ none_does hs
 
 pub none_first : NoneFirst

@@ -20,7 +20,6 @@ use Rattle.vsw_transpose.proofs.Kept.{few}
 use Rattle.vsw_transpose.proofs.Parts.{stays_pops, stays_pushed}
 use Rattle.vsw_compose.specs.Acts.{pop_acts, push_acts, modify_ether, modify_ip, modify_ports, act_for, stay_acts}
 use Rattle.vsw_compose.specs.Edit.{uncovered, written, with_set, cover, edited, kept_after}
-use Rattle.vsw_compose.specs.Edits.{Edits}
 use Rattle.vsw_compose.proofs.Suits.{late_ordered}
 use Rattle.vsw_compose.proofs.Whole.{form_of}
 use Rattle.vsw_compose.proofs.Stacks.{uncovers, covers, sets}
@@ -160,6 +159,13 @@ covered set (Some o) ks s room =
 abbrev pub edit_acts : Bool → Set → Option Outer → List Header → List Act
 edit_acts decap set encap hs = (pop_acts decap ++ push_acts encap) ++ stay_acts set (outer (uncovered decap hs)) (uncovered decap hs)
 
+-- what the acts are and do
+pub record Done (decap : Bool) (set : Set) (encap : Option Outer) (xs : List Act) (hs : List Header) : Type 0 where
+  pub form : is_form xs ≡ true
+  pub fit : fits xs hs ≡ true
+  pub does : apply xs hs ≡ edited (Edit decap set encap) hs
+  pub left : kept xs ≡ kept_after (Edit decap set encap) hs (encaps hs)
+
 above : (m n : ℕ) → nat_lt m n ≡ true → m < n
 above m n t = grind (arith, nat_tests)
 
@@ -170,7 +176,7 @@ room_of : (set : Set) (encap : Option Outer) (hs : List Header) → can_do (Edit
 room_of set None hs t = inl refl
 room_of set (Some o) hs t = inr (omega (arith, above (encaps hs) 2 t))
 
-stays_edit : (set : Set) (encap : Option Outer) (hs : List Header) → is_stack hs ≡ true → can_do (Edit false set encap) hs ≡ true → Edits false set encap (push_acts encap ++ stay_acts set (outer hs) hs) hs
+stays_edit : (set : Set) (encap : Option Outer) (hs : List Header) → is_stack hs ≡ true → can_do (Edit false set encap) hs ≡ true → Done false set encap (push_acts encap ++ stay_acts set (outer hs) hs) hs
 stays_edit set encap hs s t =
     let xs : List Act = push_acts encap ++ stay_acts set (outer hs) hs in
     let r : Covered xs set encap hs = covered set encap hs s (room_of set encap hs t) in
@@ -181,7 +187,7 @@ stays_edit set encap hs s t =
       left = omega (arith, r.each, few hs s);
     }
 
-decap_edit : (set : Set) (encap : Option Outer) (hs : List Header) → is_stack hs ≡ true → 1 ≤ encaps hs → (xs : List Act) → Covered xs set encap (drop 3 hs) → Edits true set encap (Pop ∷ Pop ∷ Pop ∷ xs) hs
+decap_edit : (set : Set) (encap : Option Outer) (hs : List Header) → is_stack hs ≡ true → 1 ≤ encaps hs → (xs : List Act) → Covered xs set encap (drop 3 hs) → Done true set encap (Pop ∷ Pop ∷ Pop ∷ xs) hs
 decap_edit set encap hs s e xs r =
     let u = uncovers hs s e in
     let f = in_front hs s in
@@ -196,9 +202,9 @@ decap_edit set encap hs s e xs r =
       left = rw (itself (encaps hs)) (omega (arith, r.each, few (drop 3 hs) u.0, u.1));
     }
 
-pub edits : (decap : Bool) (set : Set) (encap : Option Outer) (hs : List Header) → is_stack hs ≡ true → can_do (Edit decap set encap) hs ≡ true → Edits decap set encap (edit_acts decap set encap hs) hs
-edits false set encap hs s t = stays_edit set encap hs s t
-edits true set encap hs s t =
+pub done : (decap : Bool) (set : Set) (encap : Option Outer) (hs : List Header) → is_stack hs ≡ true → can_do (Edit decap set encap) hs ≡ true → Done decap set encap (edit_acts decap set encap hs) hs
+done false set encap hs s t = stays_edit set encap hs s t
+done true set encap hs s t =
     let e : 1 ≤ encaps hs = omega (arith, above 0 (encaps hs) t) in
     let u = uncovers hs s e in
     let f = in_front hs s in

@@ -1,14 +1,15 @@
 //! The transpositions of actions.
 
-ghost use Rattle.std.specs.Prelude.{◌≡◌, ◌≤◌, ◌+◌, ◌-◌, ◌++◌, IsTrue, length, if◌then◌else◌};
-ghost use Rattle.vsw_base.specs.Shape.{encaps};
+ghost use Rattle.std.specs.Prelude.{◌≡◌, ◌≤◌, ◌+◌, ◌-◌, ◌++◌, IsTrue, List, length, if◌then◌else◌};
+ghost use Rattle.vsw_base.specs.declared.header.Header.{Header};
+ghost use Rattle.vsw_base.specs.Shape.{encaps, is_stack};
 ghost use Rattle.vsw_compose.specs.Acts as acts;
 ghost use Rattle.vsw_compose.specs.Edit as spec;
 ghost use Rattle.vsw_compose.specs.Edits.{Edits};
 ghost use Rattle.vsw_rule.specs.declared.rule.Action.TheVariants.{Edit};
 ghost use Rattle.vsw_rule.specs.Match.{can_do};
 ghost use Rattle.vsw_transpose.specs.Apply.{apply};
-ghost use Rattle.vsw_transpose.specs.Fits.{fits, kept};
+ghost use Rattle.vsw_transpose.specs.Fits.{alike, fits, kept};
 
 use vsw_base::{Header, Outer, Set, Stack};
 use vsw_rule::Action;
@@ -122,10 +123,11 @@ pub fn act_of(action: &Action, stack: &Stack) -> Transposition
     requires can { IsTrue (can_do action.now stack.now) }
     ensures fits { IsTrue (fits result stack.now) }
     ensures edit { apply result stack.now ≡ spec.edited action.now stack.now }
+    ensures alike { (hs : List Header) → IsTrue (is_stack hs) → alike hs stack.now → apply result hs ≡ spec.edited action.now hs }
     ensures kept { kept result ≡ spec.kept_after action.now stack.now (encaps stack.now) }
 {
     match action {
         Action::Edit { decap, set, encap } => edit(*decap, set, encap, stack),
-        _ => Transposition::none(stack),
+        Action::Allow | Action::Drop => Transposition::none(stack),
     }
 }

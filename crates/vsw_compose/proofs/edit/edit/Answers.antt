@@ -3,7 +3,8 @@ use Rattle.vsw_base.specs.Shape.{is_stack}
 use Rattle.vsw_transpose.specs.declared.act.Act.{Act}
 use Rattle.vsw_transpose.specs.Form.{is_form}
 use Rattle.vsw_compose.specs.Edits.{Edits}
-use Rattle.vsw_compose.proofs.Edited.{edits, made_is}
+use Rattle.vsw_compose.proofs.Edited.{made_is}
+use Rattle.vsw_compose.proofs.EditAlike.{edits}
 use Rattle.vsw_compose.proofs.edit.edit.Goals as goal
 
 pub new-requires : goal.new-requires

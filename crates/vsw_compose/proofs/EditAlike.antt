@@ -67,7 +67,7 @@ edit_alike decap set encap hs ks e =
     let u = uncovered_alike decap hs ks e in
     let n : outer (uncovered decap hs) ≡ outer (uncovered decap ks) = ap (λ (n : ℕ). 3 * n) (encaps_alike (uncovered decap hs) (uncovered decap ks) u) in
     ap (λ (l : List Act). (pop_acts decap ++ push_acts encap) ++ l)
-        (ap (λ (n : ℕ). stay_acts set n (uncovered decap hs)) n ∙ stay_alike set (outer (uncovered decap ks)) (uncovered decap hs) (uncovered decap ks) u)
+    (ap (λ (n : ℕ). stay_acts set n (uncovered decap hs)) n ∙ stay_alike set (outer (uncovered decap ks)) (uncovered decap hs) (uncovered decap ks) u)
 
 done_alike : (decap : Bool) (set : Set) (encap : Option Outer) (hs ks : List Header) → alike hs ks → can_do (Edit decap set encap) hs ≡ can_do (Edit decap set encap) ks
 done_alike true set encap hs ks e = ap (λ (n : ℕ). nat_lt 0 n) (encaps_alike hs ks e)

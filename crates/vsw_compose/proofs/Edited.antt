@@ -143,7 +143,7 @@ covered set None ks s room =
     }
 covered set (Some o) ks s room =
     let r = stay_stays set (outer ks) ks in
-    let few_encaps : encaps ks ≤ 1 = elim room [ | inl e ↦ absurd (omega (arith, e)) | inr l ↦ l ] in
+    let few_encaps : encaps ks ≤ 1 = elim room [ inl e ↦ absurd (omega (arith, e)) | inr l ↦ l ] in
     let set_stack : is_stack (with_set set ks) ≡ true = (sets ks s set).0 ∙ s in
     record {
       suit = r.0;

@@ -82,10 +82,10 @@ modify_shapes c xs ih n m bs [] o p e t u = grind arith
 modify_shapes c xs ih n m [] (h ∷ hs) o p e t u = before_nil (Modify c ∷ xs) o
 modify_shapes c xs ih n m (Push q ∷ bs) (h ∷ hs) o p e t u = let r = modify_shapes c xs ih n m bs (h ∷ hs) o (late_ordered bs p) e t u in (ordered_late (joined (Modify c ∷ xs) bs) r.0 (omega (arith, r.1, late_pops bs p, stays_pops xs o)), omega (arith, r.1), ap (λ (l : List Header). q ∷ l) r.2)
 modify_shapes c xs ih n m (Pop ∷ bs) (h ∷ hs) o p e t u = grind (arith, common_steps, stays_pushed xs o)
-modify_shapes c xs ih n m (Modify d ∷ bs) (h ∷ hs) o p e t u = 
+modify_shapes c xs ih n m (Modify d ∷ bs) (h ∷ hs) o p e t u =
     let r = ih n m bs hs (stays_ordered xs o) (stays_ordered bs p) e (grind (arith, common_steps)) (grind (arith, common_steps)) in
     (joined_stays Ignore xs o bs r (stays_ordered bs p) (stays_pops bs p, stays_pushed bs p), r.1, r.2)
-modify_shapes c xs ih n m (Ignore ∷ bs) (h ∷ hs) o p e t u = 
+modify_shapes c xs ih n m (Ignore ∷ bs) (h ∷ hs) o p e t u =
     let r = ih n (m - 1) bs hs (stays_ordered xs o) (stays_ordered bs p) (grind (arith, common_steps, stays_pushed xs o)) (grind (arith, common_steps)) u in
     (joined_stays Ignore xs o bs r (stays_ordered bs p) (stays_pops bs p, stays_pushed bs p), r.1, r.2)
 
@@ -93,13 +93,13 @@ ignore_shapes : (xs : List Act) → Shapes xs → Shapes (Ignore ∷ xs)
 ignore_shapes xs ih n m bs [] o p e t u = grind arith
 ignore_shapes xs ih n m [] (h ∷ hs) o p e t u = before_nil (Ignore ∷ xs) o
 ignore_shapes xs ih n m (Push q ∷ bs) (h ∷ hs) o p e t u = let r = ignore_shapes xs ih n m bs (h ∷ hs) o (late_ordered bs p) e t u in (ordered_late (joined (Ignore ∷ xs) bs) r.0 (omega (arith, r.1, late_pops bs p, stays_pops xs o)), omega (arith, r.1), ap (λ (l : List Header). q ∷ l) r.2)
-ignore_shapes xs ih n m (Pop ∷ bs) (h ∷ hs) o p e t u = 
+ignore_shapes xs ih n m (Pop ∷ bs) (h ∷ hs) o p e t u =
     let r = ih (n - 1) (m - 1) bs hs (stays_ordered xs o) p (grind (arith, common_steps, stays_pushed xs o, stays_pops xs o)) t (grind (arith, common_steps)) in
     (r.0, grind (arith, r.1, stays_pushed xs o), grind (arith, r.2, drop_none (pops bs) (pushed xs) (stays_pushed xs o), drop_none (pops bs + 1) (pushed xs) (stays_pushed xs o)))
-ignore_shapes xs ih n m (Modify d ∷ bs) (h ∷ hs) o p e t u = 
+ignore_shapes xs ih n m (Modify d ∷ bs) (h ∷ hs) o p e t u =
     let r = ih (n - 1) (m - 1) bs hs (stays_ordered xs o) (stays_ordered bs p) (grind (arith, common_steps, stays_pushed xs o, stays_pops xs o)) t (grind (arith, common_steps)) in
     (joined_stays Ignore xs o bs r (stays_ordered bs p) (stays_pops bs p, stays_pushed bs p), r.1, r.2)
-ignore_shapes xs ih n m (Ignore ∷ bs) (h ∷ hs) o p e t u = 
+ignore_shapes xs ih n m (Ignore ∷ bs) (h ∷ hs) o p e t u =
     let r = ih (n - 1) (m - 1) bs hs (stays_ordered xs o) (stays_ordered bs p) (grind (arith, common_steps, stays_pushed xs o, stays_pops xs o)) t u in
     (joined_stays Ignore xs o bs r (stays_ordered bs p) (stays_pops bs p, stays_pushed bs p), r.1, r.2)
 

@@ -1,5 +1,5 @@
 -- What a transposition makes of a stack: what it pushes, the encapsulations that it keeps, and the inner headers.
-use Rattle.std.proofs.Common.{◌≡◌, ℕ, ◌+◌, ◌-◌, ◌*◌, ◌%◌, ◌≤◌, ◌<◌, ◌==◌, ◌&&◌, List, [], ◌∷◌, ◌++◌, refl, sym, ◌∙◌, ap, subst, arith, true, false, Bool, length, take, drop, suc, zero, ◌⊎◌, inl, inr}
+use Rattle.std.proofs.Common.{◌≡◌, ℕ, ◌+◌, ◌-◌, ◌*◌, ◌%◌, ◌≤◌, List, [], ◌∷◌, ◌++◌, refl, sym, ◌∙◌, ap, subst, arith, true, length, take, drop, suc, zero, ◌⊎◌, inl, inr}
 use Rattle.std.proofs.Math.Seq.{drop-append-add}
 use Rattle.std.proofs.lemmas.List.{take-append-drop}
 use Rattle.std.proofs.lemmas.Grind.{common_steps}
@@ -11,9 +11,9 @@ use Rattle.vsw_transpose.specs.declared.act.Change.{Change}
 use Rattle.vsw_transpose.specs.declared.act.Change.TheVariants as of
 use Rattle.vsw_transpose.specs.declared.act.Act.{Act}
 use Rattle.vsw_transpose.specs.declared.act.Act.TheVariants.{Push, Pop, Modify, Ignore}
-use Rattle.vsw_transpose.specs.Apply.{apply, changed, is_of}
-use Rattle.vsw_transpose.specs.Form.{are_stays, are_late, are_ordered, pops, pushed, are_encaps, is_form}
-use Rattle.vsw_transpose.specs.Fits.{suits, outer, fits, stays, kept}
+use Rattle.vsw_transpose.specs.Apply.{apply, changed}
+use Rattle.vsw_transpose.specs.Form.{are_stays, are_late, are_ordered, pops, pushed, is_form}
+use Rattle.vsw_transpose.specs.Fits.{suits, outer, fits, kept}
 use Rattle.vsw_transpose.proofs.Encaps.{encaps_three}
 use Rattle.vsw_transpose.proofs.Kept.{counts, fits_parts, form_parts, rest_is}
 

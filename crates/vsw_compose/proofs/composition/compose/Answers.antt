@@ -22,7 +22,7 @@ new-requires c =
 pub returns-clause-law : goal.returns-clause-law
 returns-clause-law c hs e =
     ap (λ (l : List Act). apply l hs) (c.new.ensures ∙ joined_is c.new-acts.ensures c.join.ensures c.acts.ensures.all c.acts-2.ensures.all)
-        ∙ joined_alike (outer c.args.shape.now) c.args.first.now c.args.second.now c.args.shape.now hs e (fits_parts c.args.first.now c.args.shape.now c.requires.first).0
+    ∙ joined_alike (outer c.args.shape.now) c.args.first.now c.args.second.now c.args.shape.now hs e (fits_parts c.args.first.now c.args.shape.now c.requires.first).0
 
 pub returns-clause-fits : goal.returns-clause-fits
 returns-clause-fits c =

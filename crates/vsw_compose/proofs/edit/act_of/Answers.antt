@@ -10,7 +10,7 @@ use Rattle.vsw_compose.proofs.Algebra.{nothing}
 use Rattle.vsw_compose.proofs.edit.act_of.Goals as goal
 
 unedited : (a : Action) (hs : List Header) → (a ≡ Allow) ⊎ (a ≡ Drop) → edited a hs ≡ hs
-unedited a hs e = elim e [ | inl f ↦ ap (λ (b : Action). edited b hs) f | inr f ↦ ap (λ (b : Action). edited b hs) f ]
+unedited a hs e = elim e [ inl f ↦ ap (λ (b : Action). edited b hs) f | inr f ↦ ap (λ (b : Action). edited b hs) f ]
 
 pub returns-in-Edit-clause-edit : goal.returns-in-Edit-clause-edit
 returns-in-Edit-clause-edit c = c.edit.ensures.does ∙ sym (ap (λ (a : Action). edited a c.args.stack.now) c.in-Edit.is)

@@ -1,7 +1,4 @@
-use Rattle.std.proofs.Common.{◌≡◌, ◌∙◌, sym, ap}
-use Rattle.std.specs.Prelude.{List, length, replicate}
-use Rattle.vsw_base.specs.declared.header.Header.{Header}
-use Rattle.vsw_transpose.specs.declared.act.Act.TheVariants.{Ignore}
+use Rattle.std.proofs.Common.{◌∙◌, sym, ap}
 use Rattle.vsw_base.specs.Shape.{is_stack}
 use Rattle.vsw_transpose.specs.Fits.{kept, none}
 use Rattle.vsw_transpose.proofs.None.{none_kept}

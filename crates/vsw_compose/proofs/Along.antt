@@ -1,11 +1,9 @@
 -- What actions keep, layer after layer.
-use Rattle.std.proofs.Common.{◌≡◌, ◌≢◌, ◌≤◌, ◌<◌, ℕ, ◌-◌, ◌==◌, List, refl, sym, ◌∙◌, ap, arith, true, false, Bool, if◌then◌else◌}
-use Rattle.std.specs.Prelude.{min, nat_lt, Option, Some, None}
+use Rattle.std.proofs.Common.{◌≡◌, ◌≢◌, ◌≤◌, ◌<◌, ℕ, ◌-◌, ◌==◌, refl, arith, true, false, Bool, if◌then◌else◌}
+use Rattle.std.specs.Prelude.{min}
 use Rattle.std.proofs.lemmas.Bool.Decides.{nat_tests}
-use Rattle.std.proofs.lemmas.Grind.{common_steps}
 use Rattle.vsw_base.specs.Shape.{encaps}
 use Rattle.vsw_rule.specs.declared.rule.Action.TheVariants.{Allow, Drop, Edit}
-use Rattle.vsw_compose.specs.Edit.{kept_after}
 use Rattle.vsw_compose.specs.Law.{KeepsAlong}
 
 itself : (n : ℕ) → (n == n) ≡ true

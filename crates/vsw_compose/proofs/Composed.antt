@@ -1,15 +1,15 @@
 -- The joined acts of two transpositions are a transposition that fits.
-use Rattle.std.proofs.Common.{◌≡◌, ℕ, ◌+◌, ◌-◌, ◌*◌, ◌≤◌, ◌&&◌, List, [], ◌∷◌, ◌++◌, refl, sym, ◌∙◌, ap, arith, true, length, IsTrue}
+use Rattle.std.proofs.Common.{◌≡◌, ◌≤◌, List, [], ◌++◌, sym, ◌∙◌, ap, arith, true, length}
 use Rattle.std.specs.Prelude.{min}
 use Rattle.vsw_base.specs.declared.header.Header.{Header}
 use Rattle.vsw_base.specs.Shape.{is_stack}
 use Rattle.vsw_base.proofs.Stacks.{stack_short}
 use Rattle.vsw_transpose.specs.declared.act.Act.{Act}
 use Rattle.vsw_transpose.specs.Apply.{apply}
-use Rattle.vsw_transpose.specs.Form.{is_form, pops, pushed}
+use Rattle.vsw_transpose.specs.Form.{is_form, pushed}
 use Rattle.vsw_transpose.specs.Fits.{suits, outer, fits, kept}
 use Rattle.vsw_transpose.proofs.Kept.{fits_parts, form_parts, rest_is, counts}
-use Rattle.vsw_transpose.proofs.Parts.{left, outer_after}
+use Rattle.vsw_transpose.proofs.Parts.{outer_after}
 use Rattle.vsw_transpose.proofs.Encaps.{encaps_three}
 use Rattle.vsw_compose.specs.Joined.{joined}
 use Rattle.vsw_compose.proofs.Does.{joined_does}

@@ -1,5 +1,5 @@
 -- What the acts of an edit do.
-use Rattle.std.proofs.Common.{◌≡◌, ℕ, ◌+◌, ◌-◌, ◌*◌, ◌%◌, ◌^◌, ◌≤◌, ◌<◌, ◌==◌, ◌&&◌, List, [], ◌∷◌, ◌++◌, refl, sym, ◌∙◌, ap, arith, true, false, Bool, nat_lt, length, map, take, drop, suc, zero, if◌then◌else◌, ◌⊎◌, inl, inr}
+use Rattle.std.proofs.Common.{◌≡◌, ℕ, ◌+◌, ◌-◌, ◌*◌, ◌^◌, ◌≤◌, ◌<◌, ◌==◌, List, [], ◌∷◌, ◌++◌, refl, sym, ◌∙◌, ap, arith, true, false, Bool, nat_lt, length, map, take, drop, suc, zero, if◌then◌else◌, ◌⊎◌, inl, inr}
 use Rattle.std.specs.Prelude.{Option, Some, None}
 use Rattle.std.proofs.lemmas.Bool.Decides.{nat_tests}
 use Rattle.std.proofs.lemmas.Grind.{common_steps}
@@ -7,14 +7,14 @@ use Rattle.vsw_base.specs.declared.flow.Set.{Set}
 use Rattle.vsw_base.specs.declared.flow.Outer.{Outer}
 use Rattle.vsw_base.specs.declared.header.Header.{Header}
 use Rattle.vsw_base.specs.declared.header.Header.TheVariants.{Ether, Ip, Vxlan, Ports}
-use Rattle.vsw_base.specs.Shape.{is_stack, is_plain, encaps, inner}
-use Rattle.vsw_base.proofs.Stacks.{plain_cases, stack_cases, stack_short, in_front}
+use Rattle.vsw_base.specs.Shape.{is_stack, encaps}
+use Rattle.vsw_base.proofs.Stacks.{stack_short, in_front}
 use Rattle.vsw_rule.specs.declared.rule.Action.TheVariants.{Edit}
 use Rattle.vsw_rule.specs.Match.{can_do}
 use Rattle.vsw_transpose.specs.declared.act.Act.{Act}
 use Rattle.vsw_transpose.specs.declared.act.Act.TheVariants.{Push, Pop, Modify, Ignore}
 use Rattle.vsw_transpose.specs.Apply.{apply}
-use Rattle.vsw_transpose.specs.Form.{are_stays, are_late, are_ordered, pops, pushed, are_encaps, is_form}
+use Rattle.vsw_transpose.specs.Form.{are_stays, are_late, pops, pushed, are_encaps, is_form}
 use Rattle.vsw_transpose.specs.Fits.{suits, outer, fits, stays, kept}
 use Rattle.vsw_transpose.proofs.Kept.{few}
 use Rattle.vsw_transpose.proofs.Parts.{stays_pops, stays_pushed}

@@ -1,14 +1,14 @@
 -- The order, the pops and the pushes of joined acts.
-use Rattle.std.proofs.Common.{◌≡◌, ℕ, ◌+◌, ◌-◌, ◌≤◌, ◌<◌, ◌==◌, ◌&&◌, List, [], ◌∷◌, ◌++◌, refl, sym, ◌∙◌, ap, arith, true, false, Bool, nat_lt, length, drop, suc}
+use Rattle.std.proofs.Common.{◌≡◌, ℕ, ◌+◌, ◌-◌, List, [], ◌∷◌, ◌++◌, refl, sym, ◌∙◌, ap, arith, true, length, drop}
 use Rattle.std.proofs.lemmas.Grind.{common_steps}
 use Rattle.std.proofs.lemmas.List.{drop_all}
 use Rattle.vsw_base.specs.declared.header.Header.{Header}
 use Rattle.vsw_transpose.specs.declared.act.Change.{Change}
 use Rattle.vsw_transpose.specs.declared.act.Act.{Act}
 use Rattle.vsw_transpose.specs.declared.act.Act.TheVariants.{Push, Pop, Modify, Ignore}
-use Rattle.vsw_transpose.specs.Apply.{changed, is_of, apply}
+use Rattle.vsw_transpose.specs.Apply.{apply}
 use Rattle.vsw_transpose.specs.Fits.{suits}
-use Rattle.vsw_compose.specs.Joined.{merged, joined}
+use Rattle.vsw_compose.specs.Joined.{joined}
 use Rattle.vsw_transpose.specs.Form.{are_stays, are_late, are_ordered, pops, pushed}
 use Rattle.vsw_transpose.proofs.Parts.{left, stays_pops, stays_pushed}
 use Rattle.vsw_compose.proofs.Suits.{late_ordered, stays_ordered}

@@ -1,16 +1,12 @@
 -- Stacks stay stacks without an encapsulation, with inner fields written, and with a further encapsulation in front.
-use Rattle.std.proofs.Common.{◌≡◌, ℕ, ◌+◌, ◌-◌, ◌*◌, ◌^◌, ◌≤◌, ◌<◌, ◌==◌, ◌&&◌, List, [], ◌∷◌, ◌++◌, refl, sym, ◌∙◌, ap, arith, true, false, Bool, nat_lt, length, map, take, drop, suc, zero}
-use Rattle.std.specs.Prelude.{Option, Some, None}
+use Rattle.std.proofs.Common.{◌≡◌, ℕ, ◌+◌, ◌^◌, ◌≤◌, ◌<◌, List, refl, arith, true, nat_lt, drop}
 use Rattle.std.proofs.lemmas.Bool.Decides.{nat_tests}
-use Rattle.std.proofs.lemmas.Grind.{common_steps}
 use Rattle.vsw_base.specs.declared.flow.Set.{Set}
-use Rattle.vsw_base.specs.declared.flow.Outer.{Outer}
 use Rattle.vsw_base.specs.declared.header.Header.{Header}
-use Rattle.vsw_base.specs.declared.header.Header.TheVariants.{Ether, Ip, Vxlan, Ports}
 use Rattle.vsw_base.specs.Shape.{is_stack, is_plain, encaps}
 use Rattle.vsw_base.proofs.Stacks.{plain_cases, stack_cases, encapped}
 use Rattle.vsw_transpose.proofs.Parts.{plain_outer}
-use Rattle.vsw_compose.specs.Edit.{written, with_set, cover}
+use Rattle.vsw_compose.specs.Edit.{with_set}
 
 less : (m n : ℕ) → m < n → nat_lt m n ≡ true
 less m n l = grind (arith, nat_tests)

@@ -1,8 +1,8 @@
 -- The joined acts suit what the first list suits.
-use Rattle.std.proofs.Common.{◌≡◌, ℕ, ◌+◌, ◌-◌, ◌≤◌, ◌<◌, ◌==◌, ◌&&◌, List, [], ◌∷◌, refl, sym, ◌∙◌, ap, arith, true, false, Bool, nat_lt, length}
+use Rattle.std.proofs.Common.{◌≡◌, ℕ, ◌+◌, ◌-◌, ◌≤◌, List, [], ◌∷◌, refl, arith, true, length}
 use Rattle.std.proofs.lemmas.Grind.{common_steps}
 use Rattle.vsw_base.specs.declared.header.Header.{Header}
-use Rattle.vsw_base.specs.declared.header.Header.TheVariants.{Ether, Ip, Vxlan, Ports}
+use Rattle.vsw_base.specs.declared.header.Header.TheVariants.{Ether, Ip, Ports}
 use Rattle.vsw_transpose.specs.declared.act.Change.{Change}
 use Rattle.vsw_transpose.specs.declared.act.Change.TheVariants as of
 use Rattle.vsw_transpose.specs.declared.act.Act.{Act}
@@ -10,7 +10,7 @@ use Rattle.vsw_transpose.specs.declared.act.Act.TheVariants.{Push, Pop, Modify, 
 use Rattle.vsw_transpose.specs.Apply.{changed, is_of, apply}
 use Rattle.vsw_transpose.specs.Fits.{suits}
 use Rattle.vsw_compose.specs.Joined.{merged, joined}
-use Rattle.vsw_transpose.specs.Form.{are_stays, are_late, are_ordered, pops, pushed}
+use Rattle.vsw_transpose.specs.Form.{are_stays, are_late, are_ordered}
 use Rattle.vsw_transpose.proofs.Parts.{left, stays_pops, stays_pushed}
 
 -- the law for what is left of the first list

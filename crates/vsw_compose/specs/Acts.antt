@@ -1,10 +1,9 @@
 -- The acts of an edit.
-use Rattle.std.specs.Prelude.{ℕ, List, [], ◌∷◌, ◌++◌, Bool, true, false, Option, Some, None, map, zero, suc}
+use Rattle.std.specs.Prelude.{ℕ, List, [], ◌∷◌, Bool, true, false, Option, None, map, zero, suc}
 use Rattle.vsw_base.specs.declared.flow.Set.{Set}
 use Rattle.vsw_base.specs.declared.flow.Outer.{Outer}
 use Rattle.vsw_base.specs.declared.header.Header.{Header}
 use Rattle.vsw_base.specs.declared.header.Header.TheVariants.{Ether, Ip, Vxlan, Ports}
-use Rattle.vsw_transpose.specs.declared.act.Change.{Change}
 use Rattle.vsw_transpose.specs.declared.act.Change.TheVariants as of
 use Rattle.vsw_transpose.specs.declared.act.Act.{Act}
 use Rattle.vsw_transpose.specs.declared.act.Act.TheVariants.{Push, Pop, Modify, Ignore}

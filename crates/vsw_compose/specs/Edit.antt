@@ -7,7 +7,7 @@ use Rattle.vsw_base.specs.declared.header.Header.{Header}
 use Rattle.vsw_base.specs.declared.header.Header.TheVariants.{Ether, Ip, Vxlan, Ports}
 use Rattle.vsw_base.specs.Shape.{encaps, inner}
 use Rattle.vsw_rule.specs.declared.rule.Action.{Action}
-use Rattle.vsw_rule.specs.declared.rule.Action.TheVariants.{Allow, Drop, Edit}
+use Rattle.vsw_rule.specs.declared.rule.Action.TheVariants.{Drop, Edit}
 use Rattle.vsw_transpose.specs.Apply.{or_old}
 use Rattle.vsw_transpose.specs.Fits.{outer}
 

@@ -1,5 +1,4 @@
-use Rattle.std.proofs.Common.{◌≡◌, ◌∙◌, sym, ap, arith, length, List}
-use Rattle.vsw_base.specs.declared.header.Header.{Header}
+use Rattle.std.proofs.Common.{◌∙◌, ap, arith, length, List}
 use Rattle.vsw_transpose.specs.declared.act.Act.{Act}
 use Rattle.vsw_transpose.specs.Apply.{apply}
 use Rattle.vsw_transpose.specs.Form.{is_form}

@@ -1,4 +1,4 @@
-use Rattle.std.proofs.Common.{◌≡◌, ◌∙◌, sym, ap, subst, List}
+use Rattle.std.proofs.Common.{◌∙◌, sym, ap, subst, List}
 use Rattle.vsw_base.specs.Shape.{is_stack}
 use Rattle.vsw_transpose.specs.declared.act.Act.{Act}
 use Rattle.vsw_transpose.specs.Form.{is_form}

@@ -98,8 +98,8 @@ fn join(out: &mut Acts, first: &[Act], second: &[Act])
 }
 
 /// The transposition that does what `first` and then `second` do, on every list of headers of the kinds
-/// that `shape` has. The encapsulations of a frame go from the outside inwards, so of those of `shape`
-/// both keep as many as the one that keeps fewer.
+/// that `shape` has. Encapsulations are popped from the outside, so of those of `shape` as many are kept
+/// by both as the one that keeps fewer keeps.
 pub fn compose(first: &Transposition, second: &Transposition, shape: &Stack) -> Transposition
     requires first { IsTrue (fit.fits first.now shape.now) }
     requires second { IsTrue (fit.fits second.now (apply first.now shape.now)) }
@@ -107,6 +107,8 @@ pub fn compose(first: &Transposition, second: &Transposition, shape: &Stack) -> 
     ensures fits { IsTrue (fit.fits result shape.now) }
     ensures kept { fit.kept result ≡ min (fit.kept first.now) (fit.kept second.now) }
 {
+    // The acts alone say what is done. The headers tell the proof that `shape` is a stack, so that
+    // eighteen acts are enough: at most nine headers go in, and nine come out.
     let _ = shape.headers();
     let mut acts = Acts::new();
     join(&mut acts, first.acts(), second.acts());

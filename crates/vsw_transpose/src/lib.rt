@@ -1,5 +1,5 @@
-//! Header transpositions (Firestone, "VFP: A Virtual Switch Platform for Host SDN in the Public Cloud",
-//! section 5.1): what is done to the headers of a packet, one act for each.
+//! Header transpositions, as of VFP (Firestone, NSDI 2017): what is done to the headers of a packet, one
+//! act at each header and one for each that is put in front.
 #![tactic(auto)]
 
 mod act;

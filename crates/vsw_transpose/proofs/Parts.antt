@@ -45,9 +45,6 @@ stays_pushed (Pop ∷ xs) h = absurd (grind arith)
 stays_pushed (Modify c ∷ xs) h = stays_pushed xs h
 stays_pushed (Ignore ∷ xs) h = stays_pushed xs h
 
-take_zero : (hs : List Header) → take 0 hs ≡ []
-take_zero hs = refl
-
 take_same : (n : ℕ) (h : Header) (hs ks : List Header) → take (n - 1) hs ≡ take (n - 1) ks → take n (h ∷ hs) ≡ take n (h ∷ ks)
 take_same zero h hs ks e = refl
 take_same (suc n) h hs ks e =

@@ -1,0 +1,5 @@
+pub mod Fits
+pub mod Least
+pub mod Ordered
+pub mod Chains
+pub mod Places

@@ -3,3 +3,4 @@ pub mod Least
 pub mod Ordered
 pub mod Chains
 pub mod Places
+pub mod Agreed

@@ -1,9 +1,10 @@
 -- Spans in order, each with the way to the wider spans around it.
 use Rattle.std.specs.Prelude.{◌≡◌, ℕ, ◌<◌, ◌≤◌, ◌+◌, ◌-◌, ◌*◌, ◌&&◌, List, Bool, nat_le, length, Option, Some, None, All, slice_index_or}
 use Rattle.std.specs.List.{AllWithin}
+use Rattle.vsw_trie.specs.declared.placed.PlacedPrefix.{PlacedPrefix}
 use Rattle.vsw_trie.specs.declared.span.Span.{Span}
 use Rattle.vsw_trie.specs.declared.chain.Node.{Node}
-use Rattle.vsw_trie.specs.Least.{least_by, lesser}
+use Rattle.vsw_trie.specs.Least.{least_by, lesser, least_of}
 
 -- the span holds the address and isn't before `from`
 abbrev pub span_counts : ℕ → ℕ → Span → Bool
@@ -49,3 +50,7 @@ key s = (s.low * 4294967296 + (4294967295 - s.high)) * 4294967296 + s.place
 
 abbrev pub AreInOrder : List Span → Type 0
 AreInOrder spans = (i j : ℕ) (d : Span) → i ≤ j → j < length spans → IsAfter (slice_index_or spans i d) (slice_index_or spans j d)
+
+-- the nodes answer as the list of items does
+abbrev pub Agrees : List PlacedPrefix → List Node → Type 0
+Agrees items nodes = (address from : ℕ) → least_in nodes address from ≡ least_of items address from

@@ -12,4 +12,5 @@ mod tests;
 mod trie;
 
 pub use placed::PlacedPrefix;
+pub use trie::Trie;
 

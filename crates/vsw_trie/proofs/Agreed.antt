@@ -1,8 +1,8 @@
 -- The chain of spans answers as the list of items does.
-use Rattle.std.proofs.Common.{◌≡◌, ◌≤◌, ◌<◌, ◌+◌, ◌-◌, ◌*◌, ◌/◌, ◌^◌, ◌==◌, ◌&&◌, zero, ℕ, Bool, true, false, cond, leb, eqb, List, [], ◌∷◌, Option, Some, None, map, filter, get_or, refl, sym, ap, subst, ◌∙◌, inl, inr, arith}
+use Rattle.std.proofs.Common.{◌≡◌, ◌≤◌, ◌<◌, ◌+◌, ◌-◌, ◌*◌, ◌/◌, ◌^◌, ◌==◌, ◌&&◌, zero, ℕ, Bool, true, false, cond, leb, List, [], ◌∷◌, Option, Some, None, map, filter, get_or, refl, sym, ap, subst, ◌∙◌, inl, inr, arith}
 use Rattle.std.specs.Prelude.{if◌then◌else◌}
 use Rattle.std.specs.Option.{MatchOption}
-use Rattle.std.specs.List.{All, filter_map, cons_option, Contains}
+use Rattle.std.specs.List.{filter_map, cons_option}
 use Rattle.std.specs.List.Sorted.{IsPermutation}
 use Rattle.std.proofs.lemmas.Bool.{cases_order, le-leb, lt-leb, leb-true, leb-false, eq-eqb, ne_eqb, and_left, and_right, and_from, and_parts}
 use Rattle.std.proofs.lemmas.Nat.{pow_pos}
@@ -10,10 +10,10 @@ use Rattle.std.proofs.Math.Nat.{div-lt_iff_lt-mul, le-div_iff_mul-le, div-mul-le
 use Rattle.vsw_trie.specs.declared.placed.PlacedPrefix.{PlacedPrefix}
 use Rattle.vsw_trie.specs.declared.span.Span.{Span}
 use Rattle.vsw_trie.specs.declared.chain.Node.{Node}
-use Rattle.vsw_trie.specs.Least.{holds, lesser, least, least_by, counts, least_of, IsLeast, Answers}
+use Rattle.vsw_trie.specs.Least.{holds, lesser, least, least_by, counts, least_of, Answers}
 use Rattle.vsw_trie.specs.Span.{span_of}
-use Rattle.vsw_trie.specs.Chain.{span_counts, node_counts, least_in, Agrees}
-use Rattle.vsw_trie.proofs.Least.{Best, IsBest, stands, least_by-IsPermutation}
+use Rattle.vsw_trie.specs.Chain.{span_counts, Agrees}
+use Rattle.vsw_trie.proofs.Least.{Best, stands, least_by-IsPermutation}
 
 -- the addresses that agree with a prefix are those between its ends
 between : (a v d : ℕ) → zero < d → (leb (v / d * d) a && leb a ((v / d + 1) * d - 1)) ≡ (a / d == v / d)
@@ -60,6 +60,7 @@ least_by-filter_map {X} {Y} t p s q h agree (y ∷ ys) = by (h y) (agree y) (lea
     same : (x : X) (b : Bool) → p x ≡ q y → least_by t p (filter_map h ys) ≡ least_by s q ys → least (map p (cond b (x ∷ filter t (filter_map h ys)) (filter t (filter_map h ys)))) ≡ least (map q (cond b (y ∷ filter s ys) (filter s ys)))
     same x true at e = ap (λ (n : ℕ). lesser n (least_by t p (filter_map h ys))) at ∙ ap (lesser (q y)) e
     same x false at e = e
+
     by : (o : Option X) → MatchOption o (s y ≡ false) (λ (x : X). (t x ≡ s y) × (p x ≡ q y)) → least_by t p (filter_map h ys) ≡ least_by s q ys → least (map p (filter t (cons_option o (filter_map h ys)))) ≡ least (map q (cond (s y) (y ∷ filter s ys) (filter s ys)))
     by None none e = rw none e
     by (Some x) is e = rw is.0 (same x (s y) is.1 e)

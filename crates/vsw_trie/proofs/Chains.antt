@@ -1,9 +1,9 @@
 -- Nodes one by one.
-use Rattle.std.proofs.Common.{◌≡◌, ◌≤◌, ◌<◌, ◌+◌, ℕ, List, [], ◌∷◌, ◌++◌, length, get_or, map, take, refl, sym, ap, subst, ◌∙◌, arith, min}
+use Rattle.std.proofs.Common.{◌≡◌, ◌≤◌, ◌<◌, ℕ, List, [], ◌∷◌, ◌++◌, length, get_or, map, take, sym, ap, subst, ◌∙◌, arith}
 use Rattle.std.specs.List.{All, AllWithin}
 use Rattle.std.proofs.lemmas.Bool.{cases_lt}
 use Rattle.std.proofs.Common.{inl, inr}
-use Rattle.std.proofs.lemmas.List.{get_or_append_left, get_or_push, get_or-map, get_or-take, length-map, length-take-le, length_push, get_or_default, take_all}
+use Rattle.std.proofs.lemmas.List.{get_or_append_left, get_or_push, get_or-map, get_or-take, length-map, length-take-le, length_push, take_all}
 use Rattle.vsw_trie.specs.declared.span.Span.{Span}
 use Rattle.vsw_trie.specs.declared.chain.Node.{Node}
 use Rattle.vsw_trie.specs.Chain.{IsNode, AreNodes, AreInOrder, IsAfter, IsChain}
@@ -52,10 +52,10 @@ pub chained : (nodes : List Node) (spans : List Span) → AreInOrder spans → m
 chained nodes spans ordered same are = record {
   linked = are;
   in_order = λ i j d le within.
-    let whole : map (λ (n : Node). n.span) nodes ≡ take (length spans) spans = same ∙ sym (take_all (length spans) spans (omega arith)) in
-    let at_j = span_at nodes spans (length spans) whole (omega arith) j d d.span within in
-    let at_i = span_at nodes spans (length spans) whole (omega arith) i d d.span (omega arith) in
-    let P : Span → Type 0 = λ x. IsAfter x (get_or nodes j d).span in
-    let Q : Span → Type 0 = λ x. IsAfter (get_or spans i d.span) x in
-    subst P (sym at_i.1) (subst Q (sym at_j.1) (ordered i j d.span le at_j.0));
+      let whole : map (λ (n : Node). n.span) nodes ≡ take (length spans) spans = same ∙ sym (take_all (length spans) spans (omega arith)) in
+      let at_j = span_at nodes spans (length spans) whole (omega arith) j d d.span within in
+      let at_i = span_at nodes spans (length spans) whole (omega arith) i d d.span (omega arith) in
+      let P : Span → Type 0 = λ x. IsAfter x (get_or nodes j d).span in
+      let Q : Span → Type 0 = λ x. IsAfter (get_or spans i d.span) x in
+      subst P (sym at_i.1) (subst Q (sym at_j.1) (ordered i j d.span le at_j.0));
 }

@@ -1,6 +1,6 @@
 -- The ends of a prefix's addresses fit 32 bits.
 use Rattle.std.proofs.Common.{◌≡◌, ◌≤◌, ◌<◌, ◌+◌, ◌-◌, ◌*◌, ◌/◌, ◌%◌, ◌^◌, ℕ, arith, ◌∙◌, sym, ap}
-use Rattle.std.proofs.lemmas.Nat.{pow_pos, pow-add, shr_below, row_fits, shl_whole}
+use Rattle.std.proofs.lemmas.Nat.{pow-add, shr_below, row_fits}
 
 pub next_fits : (value bits : ℕ) → value < 2 ^ 32 → bits ≤ 32 → (value / 2 ^ (32 - bits) + 1) * 2 ^ (32 - bits) ≤ 2 ^ 32
 next_fits value bits small few =

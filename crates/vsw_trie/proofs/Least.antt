@@ -1,10 +1,10 @@
 -- The least place of the items that pass a test.
-use Rattle.std.proofs.Common.{◌≡◌, ◌≤◌, ◌<◌, ◌+◌, ◌-◌, ℕ, min, suc, Bool, true, false, cond, List, [], ◌∷◌, ◌++◌, Option, Some, None, length, get_or, map, filter, take, drop, refl, sym, ap, subst, ◌∙◌, inl, inr, arith, true≢false}
+use Rattle.std.proofs.Common.{◌≡◌, ◌≤◌, ◌<◌, ◌+◌, ◌-◌, ℕ, min, suc, Bool, true, false, cond, List, [], ◌∷◌, Option, Some, None, length, get_or, map, filter, take, drop, refl, sym, ap, subst, ◌∙◌, inl, inr, arith, true≢false}
 use Rattle.std.specs.List.{All, AllWithin, HoldsAt, Contains}
 use Rattle.std.specs.List.Sorted.{IsPermutation}
 use Rattle.std.proofs.lemmas.Bool.{cases_lt}
 use Rattle.std.proofs.lemmas.List.{get_or-take, get_or-drop, get_or_default, length-take-le, length-drop}
-use Rattle.std.proofs.lemmas.List.Elements.{All-nil, All-cons, All-head, All-tail, All-contains, Contains-get_or}
+use Rattle.std.proofs.lemmas.List.Elements.{All-nil, All-cons, All-contains, Contains-get_or}
 use Rattle.std.proofs.lemmas.List.Sorted.{All-permutation, Contains-permutation}
 use Rattle.vsw_trie.specs.Least.{lesser, least, least_by}
 use Rattle.vsw_trie.specs.Chain.{lesser_of}
@@ -208,14 +208,14 @@ part {X} t s p xs low high le up agree (Some n) b =
       from = omega arith;
       before = omega arith;
       passes = λ d.
-        let here : get_or xs (low + b.is_item.0) d ≡ b.item = get_or_default xs (low + b.is_item.0) d b.item within ∙ there in
-        let same : t (get_or xs (low + b.is_item.0) d) ≡ s (get_or xs (low + b.is_item.0) d) = agree (low + b.is_item.0) d (omega arith) (omega arith) in
-        (same ∙ ap s here ∙ b.passes, ap p here ∙ b.at_place);
+          let here : get_or xs (low + b.is_item.0) d ≡ b.item = get_or_default xs (low + b.is_item.0) d b.item within ∙ there in
+          let same : t (get_or xs (low + b.is_item.0) d) ≡ s (get_or xs (low + b.is_item.0) d) = agree (low + b.is_item.0) d (omega arith) (omega arith) in
+          (same ∙ ap s here ∙ b.passes, ap p here ∙ b.at_place);
       none_before = λ k d from before passes_it.
-        let under' : k - low < high - low = omega arith in
-        let in' : k - low < length (take (high - low) (drop low xs)) = omega arith in
-        let e : low + (k - low) ≡ k = omega arith in
-        let P : X → Type 0 = λ x. s x ≡ true → n ≤ p x in
-        let Q : ℕ → Type 0 = λ i. s (get_or xs i d) ≡ true → n ≤ p (get_or xs i d) in
-        subst Q e (subst P (part_at xs low (high - low) (k - low) d under') (b.none_before (k - low) d in')) (sym (agree k d from before) ∙ passes_it);
+          let under' : k - low < high - low = omega arith in
+          let in' : k - low < length (take (high - low) (drop low xs)) = omega arith in
+          let e : low + (k - low) ≡ k = omega arith in
+          let P : X → Type 0 = λ x. s x ≡ true → n ≤ p x in
+          let Q : ℕ → Type 0 = λ i. s (get_or xs i d) ≡ true → n ≤ p (get_or xs i d) in
+          subst Q e (subst P (part_at xs low (high - low) (k - low) d under') (b.none_before (k - low) d in')) (sym (agree k d from before) ∙ passes_it);
     }

@@ -1,5 +1,5 @@
 -- What the order of keys says of spans.
-use Rattle.std.proofs.Common.{◌≡◌, ◌≤◌, ◌<◌, ◌^◌, ℕ, List, length, get_or, arith}
+use Rattle.std.proofs.Common.{◌≤◌, ◌<◌, ◌^◌, List, get_or, arith}
 use Rattle.std.specs.List.{All}
 use Rattle.std.specs.List.Sorted.{IsNonDecreasingBy}
 use Rattle.vsw_trie.specs.declared.span.Span.{Span}

@@ -1,11 +1,11 @@
 -- The first place from a bound on, and the walk to wider and wider spans.
 use Rattle.std.proofs.Common.{◌≡◌, ◌≤◌, ◌<◌, ◌+◌, ◌-◌, ℕ, Bool, true, false, ◌&&◌, ltb, leb, List, Option, Some, None, length, get_or, take, drop, refl, sym, ap, subst, ◌∙◌, inl, inr, arith}
-use Rattle.std.specs.List.{All, AllWithin}
+use Rattle.std.specs.List.{AllWithin}
 use Rattle.std.specs.List.Sorted.{IsNonDecreasingBy}
-use Rattle.std.proofs.lemmas.Bool.{cases_lt, ltb-true, ltb-false, leb-true, le-leb, lt-leb, and_left, and_right, and_from}
+use Rattle.std.proofs.lemmas.Bool.{cases_lt, ltb-true, ltb-false, le-leb, lt-leb, and_left, and_right, and_from}
 use Rattle.std.proofs.lemmas.List.{get_or_default, length-take-le, length-drop}
 use Rattle.vsw_trie.specs.declared.chain.Node.{Node}
-use Rattle.vsw_trie.specs.Chain.{IsNode, IsChain, IsAfter, node_counts, first_place, lesser_of, least_in}
+use Rattle.vsw_trie.specs.Chain.{IsNode, IsChain, node_counts, first_place, lesser_of, least_in}
 use Rattle.vsw_trie.proofs.Least.{Best, BestWithin, found, part, part_at, stands, joined}
 
 pub none_from : (nodes : List Node) (from : ℕ) → AllWithin (λ (n : Node). ltb n.span.place from ≡ true) nodes 0 (length nodes) → None ≡ first_place nodes from
@@ -92,9 +92,9 @@ climbed_past nodes address from left e o chain some within below over best =
     let before : (get_or nodes (left - 1) e).first ≤ left - 1 = is.first_before in
     let up : (get_or nodes (left - 1) e).up ≤ (get_or nodes (left - 1) e).first = is.up_first in
     let group : BestWithin (node_counts address from) (λ (n : Node). n.span.place) nodes (get_or nodes (left - 1) e).first left None = λ k d low high.
-      let ends = same_ends nodes left e is some within k d low high in
-      let high_is : (get_or nodes k d).span.high ≡ (get_or nodes (left - 1) e).span.high = ends.1 in
-      ends_before address from (get_or nodes k d) (omega arith)
+    let ends = same_ends nodes left e is some within k d low high in
+    let high_is : (get_or nodes k d).span.high ≡ (get_or nodes (left - 1) e).span.high = ends.1 in
+    ends_before address from (get_or nodes k d) (omega arith)
     in
     let skipped = passed_none nodes address from left e is (below (left - 1) e (omega arith) (omega arith)) in
     joined (node_counts address from) (λ (n : Node). n.span.place) nodes (get_or nodes (left - 1) e).up (get_or nodes (left - 1) e).first (length nodes) None o up (omega arith) skipped
@@ -107,9 +107,9 @@ climbed_into nodes address from left e g o chain some within below under first_i
     let before : (get_or nodes (left - 1) e).first ≤ left - 1 = is.first_before in
     let up : (get_or nodes (left - 1) e).up ≤ (get_or nodes (left - 1) e).first = is.up_first in
     let agree : AllWithin (λ (n : Node). node_counts address from n ≡ leb from n.span.place) nodes (get_or nodes (left - 1) e).first left = λ k d low high.
-      let ends = same_ends nodes left e is some within k d low high in
-      let high_is : (get_or nodes k d).span.high ≡ (get_or nodes (left - 1) e).span.high = ends.1 in
-      holds_it address from (get_or nodes k d) (below k d (omega arith) high) (omega arith)
+    let ends = same_ends nodes left e is some within k d low high in
+    let high_is : (get_or nodes k d).span.high ≡ (get_or nodes (left - 1) e).span.high = ends.1 in
+    holds_it address from (get_or nodes k d) (below k d (omega arith) high) (omega arith)
     in
     let P : Option ℕ → Type 0 = Best (λ (n : Node). leb from n.span.place) (λ (n : Node). n.span.place) (take (left - first) (drop first nodes)) in
     let least_is : P g = subst P (sym first_is) (stands (λ (n : Node). leb from n.span.place) (λ (n : Node). n.span.place) (take (left - first) (drop first nodes))) in

@@ -31,11 +31,11 @@ fn reaching(nodes: &[Node], low: u32) -> usize
 {
     let mut left = nodes.len();
     while left > 0 {
-        let node = &nodes[left - 1];
-        if low <= node.span.high {
+        let last = &nodes[left - 1];
+        if low <= last.span.high {
             break;
         }
-        left = node.up;
+        left = last.up;
     }
     left
 }

@@ -13,4 +13,3 @@ mod trie;
 
 pub use placed::PlacedPrefix;
 pub use trie::Trie;
-

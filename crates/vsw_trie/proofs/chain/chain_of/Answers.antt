@@ -1,7 +1,6 @@
-use Rattle.std.proofs.Common.{◌≡◌, ◌∙◌, arith, sym, map, take}
+use Rattle.std.proofs.Common.{◌∙◌, arith}
 use Rattle.std.proofs.lemmas.Grind.{common_steps}
-use Rattle.std.proofs.lemmas.List.{take_all, map_push, take_more}
-use Rattle.vsw_trie.specs.declared.chain.Node.{Node}
+use Rattle.std.proofs.lemmas.List.{take_all}
 use Rattle.vsw_trie.proofs.Chains.{AreNodes-push, below_next, chained}
 use Rattle.vsw_trie.proofs.chain.chain_of.Goals as goal
 

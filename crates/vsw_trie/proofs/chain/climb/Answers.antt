@@ -1,4 +1,4 @@
-use Rattle.std.proofs.Common.{leb, rules, arith, ◌≡◌, ◌<◌, ◌≤◌, ◌-◌, ℕ, length, get_or}
+use Rattle.std.proofs.Common.{leb, rules, arith, ◌<◌, ◌-◌, get_or}
 use Rattle.std.proofs.lemmas.Bool.{leb-true, leb-false}
 use Rattle.std.proofs.lemmas.List.Sorted.{IsPartitionPoint-from_clause, IsPartitionedBy-leb}
 use Rattle.vsw_trie.specs.declared.chain.Node.{Node}

@@ -5,6 +5,7 @@ ghost use Rattle.std.specs.List.Sorted.{IsNonDecreasingBy, IsPermutation};
 ghost use Rattle.vsw_interval.specs.Least.{least_of, Answers};
 
 use crate::block::{Block, blocks_of};
+use crate::near::{Near, look};
 use crate::placed::PlacedRange;
 use crate::search::search;
 use std::alloc::Global;
@@ -15,8 +16,9 @@ use vsw_base::NoMemory;
 #[derive(Drop)]
 pub struct Interval {
     items: Vec<PlacedRange>,
-    /// The same by their low ends.
-    ranges: Vec<PlacedRange>,
+    by_place: Vec<PlacedRange>,
+    by_low: Vec<PlacedRange>,
+    /// A block for each place in `by_low`.
     blocks: Vec<Block>,
 }
 
@@ -26,11 +28,11 @@ impl Model for Interval {
 
     ghost Value = { List PlacedRange };
 
-    ghost use Rattle.vsw_interval.specs.Block.{IsIndex, Agrees};
+    ghost use Rattle.vsw_interval.specs.Near.{IsInterval};
 
     ghost view = { λ s. s.items.items };
 
-    ghost invariant = { λ s. IsIndex s.ranges.items s.blocks.items × Agrees s.items.items s.ranges.items };
+    ghost invariant = { λ s. IsInterval s.items.items s.by_place.items s.by_low.items s.blocks.items };
 }
 
 fn copy(alloc: Global, items: &[PlacedRange]) -> Result<Vec<PlacedRange>, NoMemory>
@@ -42,7 +44,17 @@ fn copy(alloc: Global, items: &[PlacedRange]) -> Result<Vec<PlacedRange>, NoMemo
     }
 }
 
-/// Puts ranges by their low ends; those of one low end stay in order.
+fn put_by_place(ranges: &mut Vec<PlacedRange>) -> Result<(), NoMemory>
+    ensures permutation { IsPermutation ranges.old.items ranges.new.items }
+    ensures by_place { OnOk result (IsNonDecreasingBy (λ r. r.place) ranges.new.items) }
+{
+    match ranges.sort_by_key(|range| range.place) {
+        Ok(()) => Ok(()),
+        Err(_) => Err(NoMemory),
+    }
+}
+
+/// Those of one low end stay in order.
 fn put_by_low(ranges: &mut Vec<PlacedRange>) -> Result<(), NoMemory>
     ensures permutation { IsPermutation ranges.old.items ranges.new.items }
     ensures by_low { OnOk result (IsNonDecreasingBy (λ r. r.low) ranges.new.items) }
@@ -58,13 +70,16 @@ impl Interval {
     pub fn build(alloc: Global, items: &[PlacedRange]) -> Result<Interval, NoMemory>
         ensures { IfOk result (λ t. t ≡ items.now) }
     {
-        let mut ranges = copy(alloc, items)?;
-        put_by_low(&mut ranges)?;
-        let blocks = blocks_of(alloc, &ranges)?;
+        let mut by_place = copy(alloc, items)?;
+        put_by_place(&mut by_place)?;
+        let mut by_low = copy(alloc, &by_place)?;
+        put_by_low(&mut by_low)?;
+        let blocks = blocks_of(alloc, &by_low)?;
         let items = copy(alloc, items)?;
         Ok(Interval {
             items,
-            ranges,
+            by_place,
+            by_low,
             blocks,
         })
     }
@@ -81,6 +96,16 @@ impl Interval {
         ensures value { result ≡ least_of self.now value from }
         ensures answers { Answers self.now value from result }
     {
-        search(&self.ranges, &self.blocks, value, from)
+        self.find(value, from)
+    }
+
+    fn find(&self, value: u64, from: u32) -> Option<u32>
+        ensures { result ≡ least_of self.now value from }
+    {
+        match look(&self.by_place, value, from) {
+            Near::Place(place) => Some(place),
+            Near::Nowhere => None,
+            Near::Farther => search(&self.by_low, &self.blocks, value, from),
+        }
     }
 }

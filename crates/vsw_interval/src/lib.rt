@@ -3,6 +3,7 @@
 
 mod block;
 mod interval;
+mod near;
 mod placed;
 mod search;
 #[cfg(test)]

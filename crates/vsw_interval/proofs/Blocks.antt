@@ -1,14 +1,14 @@
 -- Blocks one by one, and what passing one leaves.
-use Rattle.std.proofs.Common.{◌≡◌, ◌≤◌, ◌<◌, ◌+◌, ◌-◌, ℕ, suc, Bool, true, false, ◌&&◌, ◌||◌, leb, ltb, List, [], ◌∷◌, ◌++◌, Option, Some, None, length, get_or, take, drop, refl, sym, ap, subst, ◌∙◌, inl, inr, arith}
+use Rattle.std.proofs.Common.{◌≡◌, ◌≤◌, ◌<◌, ◌+◌, ◌-◌, ℕ, Bool, true, false, ◌&&◌, leb, List, [], ◌∷◌, ◌++◌, Option, Some, None, length, get_or, take, drop, refl, sym, ap, subst, ◌∙◌, inl, inr, arith}
 use Rattle.std.specs.Prelude.{if◌then◌else◌}
-use Rattle.std.specs.List.{AllWithin, HoldsAt}
-use Rattle.std.proofs.lemmas.Bool.{cases_lt, leb-true, leb-false, ltb-true, le-leb, lt-leb, and_left, and_right, and_parts, or_cases, false_from_ne_true}
+use Rattle.std.specs.List.{AllWithin}
+use Rattle.std.proofs.lemmas.Bool.{cases_lt, leb-true, and_parts, false_from_ne_true}
 use Rattle.std.proofs.lemmas.List.{get_or_append_left, get_or_push, get_or-take, get_or-drop, get_or_default, length_push, length-take-le, length-drop}
 use Rattle.vsw_interval.specs.declared.placed.PlacedRange.{PlacedRange}
 use Rattle.vsw_interval.specs.declared.block.Block.{Block}
-use Rattle.vsw_interval.specs.Least.{counts, lesser}
-use Rattle.vsw_interval.specs.Block.{IsWithin, IsBlock, AreBlocks, place_of, lesser_of, reaches, is_passed}
-use Rattle.vsw_interval.proofs.Least.{BestWithin, IsBestWithin, joined, front_first}
+use Rattle.vsw_interval.specs.Least.{counts}
+use Rattle.vsw_interval.specs.Block.{IsWithin, IsBlock, AreBlocks, place_of, lesser_of, reaches}
+use Rattle.vsw_interval.proofs.Least.{BestWithin, joined, front_first}
 
 -- the bounds of a part of the list
 pub part_bounds : (b : Block) (ranges : List PlacedRange) (low high : ℕ) → low ≤ high → high ≤ length ranges → AllWithin (IsWithin b) (take (high - low) (drop low ranges)) 0 (length (take (high - low) (drop low ranges))) → AllWithin (IsWithin b) ranges low high
@@ -37,10 +37,10 @@ AreBlocks-push ranges blocks b are is k d within =
 -- where no later item is less than what was found
 kept : (value from : ℕ) (ranges : List PlacedRange) (low mid high : ℕ) (o : Option ℕ) → low ≤ mid → mid ≤ high → BestWithin (counts value from) (λ (r : PlacedRange). r.place) ranges low mid o → AllWithin (λ (r : PlacedRange). counts value from r ≡ true → reaches o r.place ≡ true) ranges mid high → BestWithin (counts value from) (λ (r : PlacedRange). r.place) ranges low high o
 kept value from ranges low mid high None le up best rest = λ k d first under.
-  elim (cases_lt k mid) [
-    | inl u ↦ best k d first u
-    | inr v ↦ false_from_ne_true (counts value from (get_or ranges k d)) (λ is. let never : false ≡ true = rest k d v under is in cc)
-  ]
+    elim (cases_lt k mid) [
+      | inl u ↦ best k d first u
+      | inr v ↦ false_from_ne_true (counts value from (get_or ranges k d)) (λ is. let never : false ≡ true = rest k d v under is in cc)
+    ]
 kept value from ranges low mid high (Some n) le up best rest =
     front_first (counts value from) (λ (r : PlacedRange). r.place) ranges low mid high n le up best (λ k d first under is. leb-true n (get_or ranges k d).place (rest k d first under is))
 
@@ -53,6 +53,7 @@ looked value from ranges at e o within best =
     same k d first under =
         let e' : k ≡ at = omega arith in
         ap (λ (n : ℕ). get_or ranges n d) e' ∙ get_or_default ranges at d e within
+
     here : (b : Bool) → counts value from (get_or ranges at e) ≡ b → BestWithin (counts value from) (λ (r : PlacedRange). r.place) ranges at (at + 1) (if b then Some (get_or ranges at e).place else None)
     here true is = record {
       at = at;
@@ -67,8 +68,8 @@ looked value from ranges at e o within best =
 pub all_looked : (value from : ℕ) (ranges : List PlacedRange) (behind at : ℕ) (o : Option ℕ) → behind ≤ at → at ≤ length ranges → AllWithin (λ (r : PlacedRange). value < r.low) ranges behind (length ranges) → BestWithin (counts value from) (λ (r : PlacedRange). r.place) ranges 0 at o → BestWithin (counts value from) (λ (r : PlacedRange). r.place) ranges 0 (length ranges) o
 all_looked value from ranges behind at o le up later best =
     kept value from ranges 0 at (length ranges) o (omega arith) up best (λ k d first under counted.
-      let less : value < (get_or ranges k d).low = later k d (omega arith) under in
-      let parts = and_parts (leb (get_or ranges k d).low value && leb value (get_or ranges k d).high) (leb from (get_or ranges k d).place) counted in
-      let ends = and_parts (leb (get_or ranges k d).low value) (leb value (get_or ranges k d).high) parts.0 in
-      let low : (get_or ranges k d).low ≤ value = leb-true (get_or ranges k d).low value ends.0 in
-      absurd (omega arith))
+    let less : value < (get_or ranges k d).low = later k d (omega arith) under in
+    let parts = and_parts (leb (get_or ranges k d).low value && leb value (get_or ranges k d).high) (leb from (get_or ranges k d).place) counted in
+    let ends = and_parts (leb (get_or ranges k d).low value) (leb value (get_or ranges k d).high) parts.0 in
+    let low : (get_or ranges k d).low ≤ value = leb-true (get_or ranges k d).low value ends.0 in
+    absurd (omega arith))

@@ -9,6 +9,5 @@ mod search;
 #[cfg(test)]
 mod tests;
 
-
 pub use interval::Interval;
 pub use placed::PlacedRange;

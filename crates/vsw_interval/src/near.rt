@@ -8,7 +8,7 @@ ghost use Rattle.vsw_interval.specs.declared.placed.PlacedRange.{PlacedRange};
 use crate::placed::PlacedRange;
 
 /// How many ranges are looked at.
-const FEW: usize = 32;
+const FEW: usize = 16;
 
 /// What the first look tells.
 #[derive(Clone, Copy)]
@@ -36,5 +36,9 @@ pub fn look(ranges: &[PlacedRange], value: u64, from: u32) -> Near
             return Near::Place(range.place);
         }
     }
-    if end == ranges.len() { Near::Nowhere } else { Near::Farther }
+    if end == ranges.len() {
+        Near::Nowhere
+    } else {
+        Near::Farther
+    }
 }

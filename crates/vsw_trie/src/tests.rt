@@ -106,6 +106,7 @@ fn many(alloc: Global) -> Result<Vec<PlacedPrefix>, AllocError> {
 fn many_items_answer_as_their_list(rt: HostRuntime) -> Result<(), Fail> {
     let items = many(rt.alloc())?;
     let trie = Trie::build(rt.alloc(), &items).expect(&rt, "there is memory");
+    assert_eq!(rt; trie.items().len(), 200);
     let mut state = 2u64;
     for _ in 0..2_000u32 {
         state = stirred(state);

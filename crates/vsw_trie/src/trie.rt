@@ -52,6 +52,13 @@ impl Trie {
         Ok(Trie { items, nodes })
     }
 
+    /// The items, as they were given.
+    pub fn items(&self) -> &[PlacedPrefix]
+        ensures { result.now ≡ self.now }
+    {
+        &self.items
+    }
+
     /// The least place at or above `from` whose prefix holds the address `value`.
     pub fn least(&self, value: u32, from: u32) -> Option<u32>
         ensures value { result ≡ least_of self.now value from }

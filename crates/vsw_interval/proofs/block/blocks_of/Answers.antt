@@ -1,4 +1,4 @@
-use Rattle.std.proofs.Common.{◌≡◌, ◌≤◌, ◌<◌, ℕ, length, arith, sym, subst}
+use Rattle.std.proofs.Common.{◌≤◌, ◌<◌, ℕ, length, arith, sym, subst}
 use Rattle.std.specs.List.{AllWithin}
 use Rattle.std.proofs.lemmas.List.{length_push}
 use Rattle.vsw_interval.specs.Block.{IsWithin, IsBlock}

@@ -1,4 +1,4 @@
-use Rattle.std.proofs.Common.{◌≡◌, ◌≤◌, ◌<◌, ltb, rules, arith, length, get_or}
+use Rattle.std.proofs.Common.{◌≤◌, ◌<◌, ltb, rules, arith, length, get_or}
 use Rattle.std.proofs.lemmas.Bool.{ltb-true, ltb-false}
 use Rattle.std.proofs.lemmas.List.Sorted.{IsPartitionPoint-from_clause, IsPartitionedBy-ltb}
 use Rattle.vsw_interval.specs.declared.placed.PlacedRange.{PlacedRange}

@@ -1,4 +1,4 @@
-use Rattle.std.proofs.Common.{◌≡◌, ◌≤◌, false, length}
+use Rattle.std.proofs.Common.{◌≡◌, false}
 use Rattle.std.specs.List.{AllWithin}
 use Rattle.vsw_interval.specs.declared.placed.PlacedRange.{PlacedRange}
 use Rattle.vsw_interval.specs.Least.{counts}

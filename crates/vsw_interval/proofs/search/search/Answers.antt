@@ -1,4 +1,4 @@
-use Rattle.std.proofs.Common.{◌≡◌, ◌≤◌, ◌<◌, ℕ, length, leb, arith, rules, get_or}
+use Rattle.std.proofs.Common.{◌<◌, length, leb, arith, rules, get_or}
 use Rattle.std.proofs.lemmas.Bool.{leb-false}
 use Rattle.std.proofs.lemmas.List.Sorted.{IsPartitionPoint-from_clause, IsPartitionedBy-leb}
 use Rattle.vsw_interval.specs.declared.placed.PlacedRange.{PlacedRange}

@@ -1,4 +1,3 @@
-use Rattle.std.proofs.Common.{◌∙◌}
 use Rattle.std.proofs.lemmas.List.Sorted.{IsPermutation-trans}
 use Rattle.vsw_interval.proofs.Agreed.{agrees}
 use Rattle.vsw_interval.proofs.interval.Interval.build.Goals as goal

@@ -1,4 +1,3 @@
-use Rattle.vsw_interval.specs.Least.{least_of}
 use Rattle.vsw_interval.proofs.Agreed.{answers}
 use Rattle.vsw_interval.proofs.interval.Interval.least.Goals as goal
 

@@ -1,0 +1,4 @@
+pub mod Least
+pub mod Blocks
+pub mod Agreed
+pub mod Nearby

@@ -1,0 +1,3 @@
+pub mod Least
+pub mod Block
+pub mod Near

@@ -1,0 +1,6 @@
+pub mod Fits
+pub mod Least
+pub mod Ordered
+pub mod Chains
+pub mod Places
+pub mod Agreed

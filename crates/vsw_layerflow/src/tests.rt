@@ -1,6 +1,6 @@
 //! Pairs found either way, kept apart, touched, taken away and swept, and a full layer of them.
 
-ghost use Rattle.std.specs.Prelude.{◌≡◌, ◌+◌, []};
+ghost use Rattle.std.specs.Prelude.{◌≡◌, ◌+◌, [], IsTrue};
 ghost use Rattle.vsw_layerflow.specs.Pairs.{AllBelow};
 
 use crate::{Flows, Pair, due};
@@ -93,12 +93,39 @@ fn put(flows: &mut Flows, pair: Pair) -> bool
 /// Adds a pair for each number below this.
 fn fill(flows: &mut Flows, count: u32) -> bool
     requires none { flows.old.pairs ≡ [] }
+    ensures below { IsTrue result → AllBelow count flows.new.pairs }
 {
     for number in 0..count {
         if !put(
             flows,
             pair(number, Dir::Out, there_of(number), back_of(number)),
         ) {
+            return false;
+        }
+    }
+    true
+}
+
+/// Takes a pair away, and adds one with its keys under a new number.
+#[tactic(auto, using(crate::proofs::Order::below_filter))]
+fn reopen(flows: &mut Flows, number: u32, next: u32) -> bool
+    requires number_last { AllBelow next flows.old.pairs }
+    ensures number_last { AllBelow (next + 1) flows.new.pairs }
+{
+    flows.remove(number);
+    put(
+        flows,
+        pair(next, Dir::Out, there_of(number), back_of(number)),
+    )
+}
+
+/// Opens the pairs of every third number again, each under a number that is greater by `MOST`.
+#[tactic(auto, using(crate::proofs::Order::below_next))]
+fn reopen_thirds(flows: &mut Flows) -> bool
+    requires number_last { AllBelow 65536 flows.old.pairs }
+{
+    for number in 0..MOST {
+        if number % 3 == 0 && !reopen(flows, number, MOST + number) {
             return false;
         }
     }
@@ -168,15 +195,6 @@ fn count_found(flows: &Flows, count: u32) -> u32 {
     there
 }
 
-/// Takes away the pairs of every third number.
-fn remove_thirds(flows: &mut Flows, count: u32) {
-    for number in 0..count {
-        if number % 3 == 0 {
-            flows.remove(number);
-        }
-    }
-}
-
 /// Opens the pairs of these numbers, each used a second later than the one before.
 fn open_all(flows: &mut Flows, count: u32) {
     for number in 0..count {
@@ -190,23 +208,26 @@ fn open_all(flows: &mut Flows, count: u32) {
 }
 
 #[test]
-fn a_full_layer_is_touched_thinned_and_swept(rt: HostRuntime) {
+fn a_full_layer_is_touched_opened_again_and_swept(rt: HostRuntime) {
     let mut flows = Flows::new(rt.alloc());
     assert!(rt; fill(&mut flows, MOST));
     assert_eq!(rt; flows.len(), 65_536);
+    assert!(rt; reopen_thirds(&mut flows));
+    assert_eq!(rt; flows.len(), 65_536);
     assert_eq!(rt; count_found(&flows, MOST), 0);
     open_all(&mut flows, MOST);
-    assert_eq!(rt; count_found(&flows, MOST), 65_536);
-    remove_thirds(&mut flows, MOST);
-    assert_eq!(rt; flows.len(), 43_690);
     assert_eq!(rt; count_found(&flows, MOST), 43_690);
-    // Those up to number 32,767 were last used by second 32,768, and live 240 seconds more.
-    assert_eq!(rt; flows.sweep(Moment::of(33_008_000_000), 240, 10), 21_845);
-    assert_eq!(rt; found(&flows, Dir::Out, &there_of(32_767)), None);
+    let third = Some((MOST + 3, Track::Opening));
+    assert_eq!(rt; found(&flows, Dir::Out, &there_of(3)), third);
+    assert_eq!(rt; found(&flows, Dir::In, &back_of(3)), third);
+    // Those up to number 32,767 were last used by second 32,768, those opened again at second 1.
     assert_eq!(rt;
-        found(&flows, Dir::Out, &there_of(32_768)),
-        Some((32_768, Track::Open))
+        flows.sweep(Moment::of(33_008_000_000), 240, 10),
+        21_846 + 21_845
     );
+    assert_eq!(rt; found(&flows, Dir::Out, &there_of(32_767)), None);
+    let first = Some((32_768, Track::Open));
+    assert_eq!(rt; found(&flows, Dir::Out, &there_of(32_768)), first);
     assert_eq!(rt; count_found(&flows, MOST), 21_845);
     assert_eq!(rt; flows.drop_rule(2, 7), 21_845);
     assert_eq!(rt; flows.len(), 0);

@@ -18,10 +18,12 @@ use Rattle.vsw_layerflow.proofs.Taken.{taken}
 pub added-in_order : (es : List (ℕ × Pair)) (ls : List (Probe × ℕ)) (p : Pair) (ms : List (Probe × ℕ)) → IsIndex (in_order es) ls
     → holder (front p) (values_of (in_order es)) ≡ None → holder (back p) (values_of (in_order es)) ≡ None → AllBelow p.number (values_of (in_order es)) → length (values_of (in_order es)) < 2 ^ 32 - 1
     → ((k : Probe) → lookup (same_probe k) ms ≡ cond (same_probe (back p) k) (Some p.number) (cond (same_probe (front p) k) (Some p.number) (lookup (same_probe k) ls)))
-    → IsIndex (in_order (es ++ (p.number, p) ∷ [])) ms × (values_of (in_order (es ++ (p.number, p) ∷ [])) ≡ values_of (in_order es) ++ p ∷ [])
-added-in_order es ls p ms h f b l w u =
-    let o = order-push p es h.keyed l in
-    (rw o (added (in_order es) ls p ms h f b l w u), rw o (values-push (in_order es) p))
+    → IsIndex (in_order (es ++ (p.number, p) ∷ [])) ms
+added-in_order es ls p ms h f b l w u = rw (order-push p es h.keyed l) (added (in_order es) ls p ms h f b l w u)
+
+pub added-pairs : (es : List (ℕ × Pair)) (ls : List (Probe × ℕ)) (p : Pair) → IsIndex (in_order es) ls → AllBelow p.number (values_of (in_order es))
+    → values_of (in_order (es ++ (p.number, p) ∷ [])) ≡ values_of (in_order es) ++ p ∷ []
+added-pairs es ls p h l = ap values_of (order-push p es h.keyed l) ∙ values-push (in_order es) p
 
 pub touched-in_order : (n : ℕ) (t : Track) (m : ℕ) (es fs : List (ℕ × Pair)) (ls : List (Probe × ℕ)) → IsIndex (in_order es) ls
     → ((p : Pair) → lookup (nat_eq n) es ≡ Some p → fs ≡ set_value (nat_eq n) es (with_use t m p))

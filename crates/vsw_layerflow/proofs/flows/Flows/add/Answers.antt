@@ -6,7 +6,7 @@ use Rattle.vsw_layerflow.specs.Index.{in_order}
 use Rattle.vsw_layerflow.proofs.Lists.{at_number}
 use Rattle.vsw_layerflow.proofs.Order.{below-new}
 use Rattle.vsw_layerflow.proofs.InOrder.{lookup-in_order}
-use Rattle.vsw_layerflow.proofs.Unordered.{added-in_order}
+use Rattle.vsw_layerflow.proofs.Unordered.{added-in_order, added-pairs}
 use Rattle.vsw_layerflow.proofs.flows.Flows.add.Goals as goal
 
 pub put_pair-requires-clause-absent : goal.put_pair-requires-clause-absent
@@ -26,19 +26,13 @@ invariant_of-self c =
     let i = rw c.front-front.ensures at c.put_place.ensures.place in
     let j = rw c.back-back.ensures at c.put_place-2.ensures.place in
     let u = λ (k : Probe). j k ∙ ap (λ (o : Option ℕ). cond (same_probe (back p) k) (Some p.number) o) (i k) in
-    rw c.put_pair.ensures.entries (added-in_order c.self.inside.pairs.entries c.self.inside.places.entries p _ c.self.invariant f b n w u).0
+    rw c.put_pair.ensures.entries (added-in_order c.self.inside.pairs.entries c.self.inside.places.entries p _ c.self.invariant f b n w u)
 
 pub returns-clause-added : goal.returns-clause-added
 returns-clause-added c =
     let v = ap (λ w. w.pairs) c.self.view_is in
     let p = c.args.pair in
-    let f = rw (← v) at c.requires.forward_free in
-    let b = rw (← v) at c.requires.reverse_free in
     let n = rw (← v) at c.requires.number_last in
-    let w = rw (← v) at c.requires.few in
-    let i = rw c.front-front.ensures at c.put_place.ensures.place in
-    let j = rw c.back-back.ensures at c.put_place-2.ensures.place in
-    let u = λ (k : Probe). j k ∙ ap (λ (o : Option ℕ). cond (same_probe (back p) k) (Some p.number) o) (i k) in
     ap (λ es. values_of (in_order es)) c.put_pair.ensures.entries
-    ∙ (added-in_order c.self.inside.pairs.entries c.self.inside.places.entries p _ c.self.invariant f b n w u).1
+    ∙ added-pairs c.self.inside.pairs.entries c.self.inside.places.entries p c.self.invariant n
     ∙ ap (λ ps. ps ++ p ∷ []) v

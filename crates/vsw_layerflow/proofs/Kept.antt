@@ -151,8 +151,8 @@ or_left a b e = rw e refl
 -- after one pair went, and both probes of it
 pub removed : (n : ℕ) (p : Pair) (es : List (ℕ × Pair)) (ls ms : List (Probe × ℕ)) → IsIndex es ls → lookup (nat_eq n) es ≡ Some p
     → ((q : Probe) → lookup (same_probe q) ms ≡ cond (same_probe (back p) q) None (cond (same_probe (front p) q) None (lookup (same_probe q) ls)))
-    → IsIndex (remove_entry (nat_eq n) es) ms × (values_of (remove_entry (nat_eq n) es) ≡ without n (values_of es))
-removed n p es ls ms h e u = kept (λ r. not (n == r.number)) es (remove_entry (nat_eq n) es) ls ms h (remove-filter n es h.keyed h.apart) some none
+    → IsIndex (remove_entry (nat_eq n) es) ms
+removed n p es ls ms h e u = (kept (λ r. not (n == r.number)) es (remove_entry (nat_eq n) es) ls ms h (remove-filter n es h.keyed h.apart) some none).0
   where
     at : numbered n (values_of es) ≡ Some p
     at = sym (at_number n es h.keyed) ∙ e

@@ -92,3 +92,20 @@ counted f es fs before after b a e =
     let s : after ≡ length (filter (λ e. not (f e.1)) es) = a ∙ ap length e in
     let p = entries-parts f es in
     (grind arith, grind arith)
+
+pub below_next : (n : ℕ) (ps : List Pair) → AllBelow n ps → AllBelow (n + 1) ps
+below_next n [] h = tt
+below_next n (p ∷ ps) h = let i : p.number < n = h.0 in (grind arith, below_next n ps h.1)
+
+-- a counter that numbers the pairs stays above them
+pub below_push : (ps : List Pair) (p : Pair) → AllBelow p.number ps → AllBelow (p.number + 1) (ps ++ p ∷ [])
+below_push [] p h = (grind arith, tt)
+below_push (q ∷ ps) p h = let i : q.number < p.number = h.0 in (grind arith, below_push ps p h.1)
+
+pub below_filter : (f : Pair → Bool) (n : ℕ) (ps : List Pair) → AllBelow n ps → AllBelow n (filter f ps)
+below_filter f n [] h = tt
+below_filter f n (p ∷ ps) h = by (f p) refl (below_filter f n ps h.1)
+  where
+    by : (c : Bool) → f p ≡ c → AllBelow n (filter f ps) → AllBelow n (filter f (p ∷ ps))
+    by true t ih = rw t (h.0, ih)
+    by false t ih = rw t ih

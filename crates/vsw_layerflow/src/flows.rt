@@ -13,7 +13,8 @@ use std::marker::Model;
 use vsw_base::{Dir, LayerKey, Moment, NoMemory, Track};
 
 /// The pairs of a layer, in the order of their numbers, and room for more. A direction and key leads
-/// to the number of its pair, and a number to the pair.
+/// to the number of its pair, and a number to the pair. No call reads the pairs in their order, so the
+/// map keeps them in any: a pair that goes leaves its place to the last.
 #[derive(Drop)]
 pub struct Flows {
     pairs: IndexMap<u32, Pair>,
@@ -22,15 +23,16 @@ pub struct Flows {
 
 impl Model for Flows {
     ghost use Rattle.std.specs.Prelude.{min, ◌/◌};
-    ghost use Rattle.indexmap.specs.IndexMap.{values, spare};
+    ghost use Rattle.std.specs.Map.{values_of};
+    ghost use Rattle.indexmap.specs.IndexMap.{spare};
     ghost use Rattle.vsw_layerflow.specs.Pairs.{Pairs};
-    ghost use Rattle.vsw_layerflow.specs.Index.{IsIndex};
+    ghost use Rattle.vsw_layerflow.specs.Index.{in_order, IsIndex};
 
     ghost Value = { Pairs };
 
-    ghost view = { λ s. record { pairs = values s.pairs; spare = min (spare s.pairs) (spare s.places / 2) } };
+    ghost view = { λ s. record { pairs = values_of (in_order s.pairs.entries); spare = min (spare s.pairs) (spare s.places / 2) } };
 
-    ghost invariant = { λ s. IsIndex s.pairs.entries s.places.entries };
+    ghost invariant = { λ s. IsIndex (in_order s.pairs.entries) s.places.entries };
 }
 
 impl Flows {
@@ -105,7 +107,7 @@ impl Flows {
         ensures gone { self.new.pairs ≡ without number self.old.pairs }
         ensures spare { self.old.spare ≤ self.new.spare }
     {
-        let Some(pair) = self.pairs.shift_remove(&number) else {
+        let Some(pair) = self.pairs.swap_remove(&number) else {
             return;
         };
         take_place(&mut self.places, pair.front());

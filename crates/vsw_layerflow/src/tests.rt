@@ -1,7 +1,13 @@
-//! One run over a layer's pairs.
+//! Pairs found either way, kept apart, touched, taken away and swept, and a full layer of them.
+
+ghost use Rattle.std.specs.Prelude.{◌≡◌, ◌+◌, [], IsTrue};
+ghost use Rattle.vsw_layerflow.specs.Pairs.{AllBelow};
 
 use crate::{Flows, Pair, due};
 use vsw_base::{Dir, Ip4, LayerKey, Moment, Set, Track};
+
+/// The most pairs that a layer may have.
+const MOST: u32 = 65_536;
 
 /// TCP between these addresses and ports.
 fn key(src: u32, dst: u32, src_port: u16, dst_port: u16) -> LayerKey {
@@ -18,6 +24,15 @@ fn key(src: u32, dst: u32, src_port: u16, dst_port: u16) -> LayerKey {
     }
 }
 
+/// 10.0.0.5, port 40000, to 10.0.0.9, port 80, and back.
+fn there() -> LayerKey {
+    key(0x0a00_0005, 0x0a00_0009, 40000, 80)
+}
+
+fn back() -> LayerKey {
+    key(0x0a00_0009, 0x0a00_0005, 80, 40000)
+}
+
 fn set() -> Set {
     Set {
         dst_mac: None,
@@ -29,20 +44,92 @@ fn set() -> Set {
     }
 }
 
-/// A pair of rule 7 in group 2, from 10.0.0.5 to 10.0.0.9, last used a second after the epoch.
-fn pair() -> Pair {
+/// A pair of rule 7 in group 2, last used a second after the epoch.
+fn pair(number: u32, dir: Dir, forward: LayerKey, reverse: LayerKey) -> Pair
+    ensures { result.number ≡ number }
+{
     Pair {
-        number: 0,
+        number,
         group: 2,
         rule: 7,
-        dir: Dir::Out,
-        forward: key(0x0a00_0005, 0x0a00_0009, 40000, 80),
+        dir,
+        forward,
         forward_set: set(),
-        reverse: key(0x0a00_0009, 0x0a00_0005, 80, 40000),
+        reverse,
         reverse_set: set(),
         state: Track::Opening,
         last_use: Moment::of(1_000_000),
     }
+}
+
+/// The key of a flow for each number, and that of its replies.
+fn there_of(number: u32) -> LayerKey {
+    key(0x0a00_0000 | number % MOST, 0x0b00_0001, 40000, 80)
+}
+
+fn back_of(number: u32) -> LayerKey {
+    key(0x0b00_0001, 0x0a00_0000 | number % MOST, 80, 40000)
+}
+
+/// Adds a pair whose keys are free, and tells whether it did.
+#[tactic(auto, using(crate::proofs::Order::below_next, crate::proofs::Order::below_push))]
+fn put(flows: &mut Flows, pair: Pair) -> bool
+    requires number_last { AllBelow pair.number flows.old.pairs }
+    ensures number_last { AllBelow (pair.number + 1) flows.new.pairs }
+{
+    if flows.find(pair.dir, &pair.forward).is_some() {
+        return false;
+    }
+    if flows.find(pair.back().dir, &pair.reverse).is_some() {
+        return false;
+    }
+    if flows.len() == u32::MAX || flows.reserve_one().is_err() {
+        return false;
+    }
+    flows.add(pair);
+    true
+}
+
+/// Adds a pair for each number below this.
+fn fill(flows: &mut Flows, count: u32) -> bool
+    requires none { flows.old.pairs ≡ [] }
+    ensures below { IsTrue result → AllBelow count flows.new.pairs }
+{
+    for number in 0..count {
+        if !put(
+            flows,
+            pair(number, Dir::Out, there_of(number), back_of(number)),
+        ) {
+            return false;
+        }
+    }
+    true
+}
+
+/// Takes a pair away, and adds one with its keys under a new number.
+#[tactic(auto, using(crate::proofs::Order::below_filter))]
+fn reopen(flows: &mut Flows, number: u32, next: u32) -> bool
+    requires number_last { AllBelow next flows.old.pairs }
+    ensures number_last { AllBelow (next + 1) flows.new.pairs }
+{
+    flows.remove(number);
+    put(
+        flows,
+        pair(next, Dir::Out, there_of(number), back_of(number)),
+    )
+}
+
+/// Opens the pairs of every third number again, each under a number that is greater by `MOST`.
+#[tactic(auto, using(crate::proofs::Order::below_next))]
+fn reopen_thirds(flows: &mut Flows) -> bool
+    requires number_last { AllBelow 65536 flows.old.pairs }
+{
+    for number in 0..MOST {
+        if number % 3 == 0 && !reopen(flows, number, MOST + number) {
+            return false;
+        }
+    }
+    true
 }
 
 /// The number and the state of the pair that is found.
@@ -53,39 +140,174 @@ fn found(flows: &Flows, dir: Dir, key: &LayerKey) -> Option<(u32, Track)> {
 
 #[test]
 fn a_pair_is_found_either_way_until_it_goes(rt: HostRuntime) {
-    let (there, back) = (pair().forward, pair().reverse);
     let mut flows = Flows::new(rt.alloc());
-    flows.reserve_one().expect(&rt, "there is memory");
-    flows.add(pair());
+    assert!(rt; put(&mut flows, pair(0, Dir::Out, there(), back())));
     assert_eq!(rt; flows.len(), 1);
-    assert_eq!(rt; found(&flows, Dir::Out, &there), Some((0, Track::Opening)));
-    assert_eq!(rt; found(&flows, Dir::In, &back), Some((0, Track::Opening)));
-    assert_eq!(rt; found(&flows, Dir::In, &there), None);
-    assert_eq!(rt; found(&flows, Dir::Out, &back), None);
-    flows.touch(0, Track::Closed, Moment::of(2_000_000));
-    assert_eq!(rt; found(&flows, Dir::In, &back), Some((0, Track::Closed)));
     assert_eq!(rt;
-        due(Moment::of(2_000_000), Track::Closed, 240, 10),
-        Moment::of(4_500_000)
+        found(&flows, Dir::Out, &there()),
+        Some((0, Track::Opening))
     );
-    assert_eq!(rt; flows.sweep(Moment::of(11_999_999), 240, 10), 0);
-    assert_eq!(rt; flows.drop_rule(1, 7), 0);
-    assert_eq!(rt; flows.sweep(Moment::of(12_000_000), 240, 10), 1);
-    assert_eq!(rt; found(&flows, Dir::Out, &there), None);
-    assert_eq!(rt; found(&flows, Dir::In, &back), None);
-}
-
-#[test]
-fn pairs_go_by_number_and_by_rule(rt: HostRuntime) {
-    let mut flows = Flows::new(rt.alloc());
-    flows.reserve_one().expect(&rt, "there is memory");
-    flows.add(pair());
+    assert_eq!(rt; found(&flows, Dir::In, &back()), Some((0, Track::Opening)));
+    assert_eq!(rt; found(&flows, Dir::In, &there()), None);
+    assert_eq!(rt; found(&flows, Dir::Out, &back()), None);
+    flows.touch(0, Track::Closed, Moment::of(2_000_000));
+    assert_eq!(rt; found(&flows, Dir::In, &back()), Some((0, Track::Closed)));
     flows.remove(1);
     assert_eq!(rt; flows.len(), 1);
     flows.remove(0);
     assert_eq!(rt; flows.len(), 0);
-    flows.reserve_one().expect(&rt, "there is memory");
-    flows.add(pair());
-    assert_eq!(rt; flows.drop_rule(2, 7), 1);
+    assert_eq!(rt; found(&flows, Dir::Out, &there()), None);
+    assert_eq!(rt; found(&flows, Dir::In, &back()), None);
+}
+
+#[test]
+fn pairs_whose_keys_touch_stay_apart(rt: HostRuntime) {
+    let mut flows = Flows::new(rt.alloc());
+    let next = key(0x0a00_0005, 0x0a00_0009, 40001, 80);
+    // The second goes the other way with the keys of the first, the third differs by one port.
+    assert!(rt; put(&mut flows, pair(0, Dir::Out, there(), back())));
+    assert!(rt; put(&mut flows, pair(1, Dir::In, there(), back())));
+    assert!(rt; put(&mut flows, pair(2, Dir::Out, next, next)));
+    // The fourth's replies are those of the first.
+    assert!(rt; !put(&mut flows, pair(3, Dir::Out, key(1, 2, 3, 4), back())));
+    assert_eq!(rt; found(&flows, Dir::In, &back()), Some((0, Track::Opening)));
+    assert_eq!(rt; found(&flows, Dir::In, &there()), Some((1, Track::Opening)));
+    flows.touch(1, Track::Open, Moment::of(2_000_000));
+    flows.remove(0);
+    assert_eq!(rt; found(&flows, Dir::Out, &there()), None);
+    assert_eq!(rt; found(&flows, Dir::In, &back()), None);
+    assert_eq!(rt; found(&flows, Dir::In, &there()), Some((1, Track::Open)));
+    assert_eq!(rt; found(&flows, Dir::Out, &back()), Some((1, Track::Open)));
+    assert_eq!(rt; found(&flows, Dir::Out, &next), Some((2, Track::Opening)));
+    assert_eq!(rt; found(&flows, Dir::In, &next), Some((2, Track::Opening)));
+}
+
+/// How many of the numbers below this have a pair that both of its keys lead to.
+fn count_found(flows: &Flows, count: u32) -> u32 {
+    let mut there = 0u32;
+    for number in 0..count {
+        let front = found(flows, Dir::Out, &there_of(number));
+        let back = found(flows, Dir::In, &back_of(number));
+        if front == Some((number, Track::Open)) && back == front {
+            there = there.wrapping_add(1);
+        }
+    }
+    there
+}
+
+/// Opens the pairs of these numbers, each used a second later than the one before.
+fn open_all(flows: &mut Flows, count: u32) {
+    for number in 0..count {
+        let seconds = u64::from(number).wrapping_add(1);
+        flows.touch(
+            number,
+            Track::Open,
+            Moment::of(seconds.wrapping_mul(1_000_000)),
+        );
+    }
+}
+
+#[test]
+fn a_full_layer_is_touched_opened_again_and_swept(rt: HostRuntime) {
+    let mut flows = Flows::new(rt.alloc());
+    assert!(rt; fill(&mut flows, MOST));
+    assert_eq!(rt; flows.len(), 65_536);
+    assert!(rt; reopen_thirds(&mut flows));
+    assert_eq!(rt; flows.len(), 65_536);
+    assert_eq!(rt; count_found(&flows, MOST), 0);
+    open_all(&mut flows, MOST);
+    assert_eq!(rt; count_found(&flows, MOST), 43_690);
+    let third = Some((MOST + 3, Track::Opening));
+    assert_eq!(rt; found(&flows, Dir::Out, &there_of(3)), third);
+    assert_eq!(rt; found(&flows, Dir::In, &back_of(3)), third);
+    // Those up to number 32,767 were last used by second 32,768, those opened again at second 1.
+    assert_eq!(rt;
+        flows.sweep(Moment::of(33_008_000_000), 240, 10),
+        21_846 + 21_845
+    );
+    assert_eq!(rt; found(&flows, Dir::Out, &there_of(32_767)), None);
+    let first = Some((32_768, Track::Open));
+    assert_eq!(rt; found(&flows, Dir::Out, &there_of(32_768)), first);
+    assert_eq!(rt; count_found(&flows, MOST), 21_845);
+    assert_eq!(rt; flows.drop_rule(2, 7), 21_845);
     assert_eq!(rt; flows.len(), 0);
+    assert_eq!(rt; count_found(&flows, MOST), 0);
+}
+
+/// The state of a pair, the moment it was last used, and the last moment at which a sweep leaves it,
+/// where the layer's idle and linger times are 240 and 10 seconds.
+const LIVES: [(Track, u64, u64); 6] = [
+    (Track::Plain, 1_000_000, 240_999_999),
+    (Track::Opening, 0, 239_999_999),
+    (Track::Half(Dir::In), 7, 240_000_006),
+    (Track::Closed, 1_000_000, 10_999_999),
+    (Track::Open, u64::MAX, u64::MAX - 1),
+    (Track::Closed, u64::MAX - 10_000_000, u64::MAX - 1),
+];
+
+#[test]
+fn a_sweep_takes_a_pair_at_the_end_of_its_life(rt: HostRuntime) {
+    for (state, last, stays) in LIVES {
+        let mut flows = Flows::new(rt.alloc());
+        assert!(rt; fill(&mut flows, 1));
+        flows.touch(0, state, Moment::of(last));
+        assert_eq!(rt; flows.sweep(Moment::of(stays), 240, 10), 0);
+        assert_eq!(rt; flows.sweep(Moment::of(stays.wrapping_add(1)), 240, 10), 1);
+        assert_eq!(rt; flows.len(), 0);
+    }
+}
+
+#[test]
+fn a_sweep_at_the_greatest_moment_takes_every_pair(rt: HostRuntime) {
+    let mut flows = Flows::new(rt.alloc());
+    assert!(rt; fill(&mut flows, 3));
+    flows.touch(1, Track::Open, Moment::of(u64::MAX));
+    flows.touch(2, Track::Closed, Moment::of(u64::MAX - 1));
+    assert_eq!(rt; flows.sweep(Moment::of(u64::MAX), u32::MAX, u32::MAX), 3);
+}
+
+#[test]
+fn a_packet_is_due_after_a_quarter_of_the_life(rt: HostRuntime) {
+    let last = Moment::of(2_000_000);
+    assert_eq!(rt; due(last, Track::Closed, 240, 10), Moment::of(4_500_000));
+    assert_eq!(rt;
+        due(last, Track::Half(Dir::Out), 240, 10),
+        Moment::of(62_000_000)
+    );
+    assert_eq!(rt; due(last, Track::Open, 1, 0), Moment::of(2_250_000));
+    assert_eq!(rt;
+        due(Moment::of(u64::MAX - 1), Track::Open, 240, 10),
+        Moment::of(u64::MAX)
+    );
+}
+
+/// A pair of this rule, with keys of its number's own.
+fn pair_by(number: u32, group: u16, rule: u16) -> Pair
+    ensures { result.number ≡ number }
+{
+    let mut pair = pair(number, Dir::Out, there_of(number), back_of(number));
+    pair.group = group;
+    pair.rule = rule;
+    pair
+}
+
+#[test]
+fn pairs_go_with_their_rule_alone(rt: HostRuntime) {
+    let mut flows = Flows::new(rt.alloc());
+    assert!(rt; put(&mut flows, pair_by(0, 2, 7)));
+    assert!(rt; put(&mut flows, pair_by(1, 3, 7)));
+    assert!(rt; put(&mut flows, pair_by(2, 2, 8)));
+    assert!(rt; put(&mut flows, pair_by(3, 2, 7)));
+    assert_eq!(rt; flows.drop_rule(1, 7), 0);
+    assert_eq!(rt; flows.drop_rule(2, 7), 2);
+    assert_eq!(rt; found(&flows, Dir::Out, &there_of(0)), None);
+    assert_eq!(rt;
+        found(&flows, Dir::In, &back_of(1)),
+        Some((1, Track::Opening))
+    );
+    assert_eq!(rt;
+        found(&flows, Dir::Out, &there_of(2)),
+        Some((2, Track::Opening))
+    );
+    assert_eq!(rt; found(&flows, Dir::In, &back_of(3)), None);
 }

@@ -1,15 +1,19 @@
-use Rattle.std.proofs.Common.{◌∙◌, ap, cond, Some, Option, ℕ}
+use Rattle.std.proofs.Common.{◌∙◌, ◌∷◌, ◌++◌, [], ap, sym, cond, Some, Option, ℕ}
+use Rattle.std.specs.Map.{values_of}
 use Rattle.vsw_layerflow.specs.declared.pair.Probe.{Probe}
 use Rattle.vsw_layerflow.specs.Pairs.{same_probe, back}
+use Rattle.vsw_layerflow.specs.Index.{in_order}
 use Rattle.vsw_layerflow.proofs.Lists.{at_number}
 use Rattle.vsw_layerflow.proofs.Order.{below-new}
-use Rattle.vsw_layerflow.proofs.Changed.{added}
+use Rattle.vsw_layerflow.proofs.InOrder.{lookup-in_order}
+use Rattle.vsw_layerflow.proofs.Unordered.{added-in_order, added-pairs}
 use Rattle.vsw_layerflow.proofs.flows.Flows.add.Goals as goal
 
 pub put_pair-requires-clause-absent : goal.put_pair-requires-clause-absent
 put_pair-requires-clause-absent c =
     let v = ap (λ w. w.pairs) c.self.view_is in
-    at_number c.args.pair.number c.self.inside.pairs.entries c.self.invariant.keyed ∙ rw v (below-new c.args.pair.number _ c.requires.number_last)
+    let es = c.self.inside.pairs.entries in
+    sym (lookup-in_order c.args.pair.number es) ∙ at_number c.args.pair.number (in_order es) c.self.invariant.keyed ∙ rw v (below-new c.args.pair.number _ c.requires.number_last)
 
 pub invariant_of-self : goal.invariant_of-self
 invariant_of-self c =
@@ -22,4 +26,13 @@ invariant_of-self c =
     let i = rw c.front-front.ensures at c.put_place.ensures.place in
     let j = rw c.back-back.ensures at c.put_place-2.ensures.place in
     let u = λ (k : Probe). j k ∙ ap (λ (o : Option ℕ). cond (same_probe (back p) k) (Some p.number) o) (i k) in
-    rw c.put_pair.ensures.entries (added c.self.inside.pairs.entries c.self.inside.places.entries p _ c.self.invariant f b n w u)
+    rw c.put_pair.ensures.entries (added-in_order c.self.inside.pairs.entries c.self.inside.places.entries p _ c.self.invariant f b n w u)
+
+pub returns-clause-added : goal.returns-clause-added
+returns-clause-added c =
+    let v = ap (λ w. w.pairs) c.self.view_is in
+    let p = c.args.pair in
+    let n = rw (← v) at c.requires.number_last in
+    ap (λ es. values_of (in_order es)) c.put_pair.ensures.entries
+    ∙ added-pairs c.self.inside.pairs.entries c.self.inside.places.entries p c.self.invariant n
+    ∙ ap (λ ps. ps ++ p ∷ []) v

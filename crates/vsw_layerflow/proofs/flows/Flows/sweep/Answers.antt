@@ -1,22 +1,28 @@
-use Rattle.std.proofs.Common.{◌∙◌, ap, not, filter, length}
+use Rattle.std.proofs.Common.{rules, ◌∙◌, ap, not, filter, length}
 use Rattle.vsw_layerflow.specs.declared.pair.Pair.{Pair}
 use Rattle.vsw_layerflow.specs.Life.{is_over}
-use Rattle.vsw_layerflow.proofs.Order.{counted}
-use Rattle.vsw_layerflow.proofs.Kept.{swept}
+use Rattle.vsw_layerflow.proofs.InOrder.{count-in_order}
+use Rattle.vsw_layerflow.proofs.Unordered.{counted-in_order, swept-in_order}
 use Rattle.vsw_layerflow.proofs.flows.Flows.sweep.Goals as goal
 
 pub invariant_of-self : goal.invariant_of-self
-invariant_of-self c = (swept (λ (p : Pair). not (is_over c.args.now c.args.idle c.args.linger p)) c.self.inside.pairs.entries _ c.self.inside.places.entries _ c.self.invariant c.keep_living.ensures.entries c.keep_known.ensures.place).0
+invariant_of-self c = (swept-in_order (λ (p : Pair). not (is_over c.args.now c.args.idle c.args.linger p)) c.self.inside.pairs.entries _ c.self.inside.places.entries _ c.self.invariant c.keep_living.ensures.entries c.keep_known.ensures.place).0
 
 pub returns-clause-gone : goal.returns-clause-gone
 returns-clause-gone c =
-    (swept (λ (p : Pair). not (is_over c.args.now c.args.idle c.args.linger p)) c.self.inside.pairs.entries _ c.self.inside.places.entries _ c.self.invariant c.keep_living.ensures.entries c.keep_known.ensures.place).1
+    (swept-in_order (λ (p : Pair). not (is_over c.args.now c.args.idle c.args.linger p)) c.self.inside.pairs.entries _ c.self.inside.places.entries _ c.self.invariant c.keep_living.ensures.entries c.keep_known.ensures.place).1
     ∙ ap (λ w. filter (λ (p : Pair). not (is_over c.args.now c.args.idle c.args.linger p)) w.pairs) c.self.view_is
 
 pub overflow_sub-result : goal.overflow_sub-result
-overflow_sub-result c = (counted (is_over c.args.now c.args.idle c.args.linger) c.self.inside.pairs.entries _ _ _ c.len-before.ensures.len c.len.ensures.len c.keep_living.ensures.entries).0
+overflow_sub-result c = (counted-in_order (is_over c.args.now c.args.idle c.args.linger) c.self.inside.pairs.entries _ _ _ c.len-before.ensures.len c.len.ensures.len c.keep_living.ensures.entries).0
 
 pub returns-clause-count : goal.returns-clause-count
 returns-clause-count c =
-    (counted (is_over c.args.now c.args.idle c.args.linger) c.self.inside.pairs.entries _ _ _ c.len-before.ensures.len c.len.ensures.len c.keep_living.ensures.entries).1
+    (counted-in_order (is_over c.args.now c.args.idle c.args.linger) c.self.inside.pairs.entries _ _ _ c.len-before.ensures.len c.len.ensures.len c.keep_living.ensures.entries).1
     ∙ ap (λ w. length (filter (is_over c.args.now c.args.idle c.args.linger) w.pairs)) c.self.view_is
+
+pub overflow_cast-result : goal.overflow_cast-result
+overflow_cast-result c =
+    let e = count-in_order c.self.inside.pairs.entries in
+    let f = c.self.invariant.few in
+    search rules

@@ -27,13 +27,14 @@ abbrev pub lesser_of : Option ℕ → Option ℕ → Option ℕ
 lesser_of None found = found
 lesser_of (Some n) found = lesser n found
 
--- of the nodes before place k: those from `first` on are of the same prefix as node n, and those from `up` to
--- `first` end before it begins
+-- of the nodes before place k: those from `first` on are of the same prefix as node n, those from `up` to
+-- `first` end before it begins, and the one before `up` reaches it
 pub record IsNode (nodes : List Node) (k : ℕ) (n : Node) : Type 0 where
   pub up_first : n.up ≤ n.first
   pub first_before : n.first ≤ k
   pub same : AllWithin (λ m. (m.span.low ≡ n.span.low) × (m.span.high ≡ n.span.high)) nodes n.first k
   pub passed : AllWithin (λ m. m.span.high < n.span.low) nodes n.up n.first
+  pub reached : (d : Node) → 0 < n.up → n.span.low ≤ (slice_index_or nodes (n.up - 1) d).span.high
 
 -- each node is linked so
 abbrev pub AreNodes : List Node → Type 0

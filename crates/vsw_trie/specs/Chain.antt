@@ -1,5 +1,5 @@
 -- Spans in order, each with the way to the wider spans around it.
-use Rattle.std.specs.Prelude.{◌≡◌, ℕ, ◌<◌, ◌≤◌, ◌+◌, ◌-◌, ◌*◌, ◌&&◌, List, Bool, nat_le, length, Option, Some, None, slice_index_or}
+use Rattle.std.specs.Prelude.{◌≡◌, ◌≢◌, ℕ, ◌<◌, ◌≤◌, ◌+◌, ◌-◌, ◌*◌, ◌&&◌, List, Bool, nat_le, length, Option, Some, None, slice_index_or}
 use Rattle.std.specs.List.{AllWithin}
 use Rattle.vsw_trie.specs.declared.placed.PlacedPrefix.{PlacedPrefix}
 use Rattle.vsw_trie.specs.declared.span.Span.{Span}
@@ -27,12 +27,13 @@ abbrev pub lesser_of : Option ℕ → Option ℕ → Option ℕ
 lesser_of None found = found
 lesser_of (Some n) found = lesser n found
 
--- of the nodes before place k: those from `first` on are of the same prefix as node n, those from `up` to
--- `first` end before it begins, and the one before `up` reaches it
+-- of the nodes before place k: those from `first` on, and no others before them, are of the same prefix as
+-- node n; those from `up` to `first` end before it begins, and the one before `up` reaches it
 pub record IsNode (nodes : List Node) (k : ℕ) (n : Node) : Type 0 where
   pub up_first : n.up ≤ n.first
   pub first_before : n.first ≤ k
   pub same : AllWithin (λ m. (m.span.low ≡ n.span.low) × (m.span.high ≡ n.span.high)) nodes n.first k
+  pub alone : (d : Node) → 0 < n.first → (slice_index_or nodes (n.first - 1) d).span.low ≡ n.span.low → (slice_index_or nodes (n.first - 1) d).span.high ≢ n.span.high
   pub passed : AllWithin (λ m. m.span.high < n.span.low) nodes n.up n.first
   pub reached : (d : Node) → 0 < n.up → n.span.low ≤ (slice_index_or nodes (n.up - 1) d).span.high
 

@@ -10,15 +10,17 @@ use Rattle.vsw_interval.specs.Least.{lesser, counts, least_of}
 abbrev pub IsWithin : Block → PlacedRange → Type 0
 IsWithin b r = (r.high ≤ b.most_high) × (b.least_place ≤ r.place) × (r.place ≤ b.most_place)
 
--- a block from place k on
+-- a block of the ranges from place k on up to its end, which are within its bounds
 pub record IsBlock (ranges : List PlacedRange) (k : ℕ) (b : Block) : Type 0 where
   pub behind : k < b.end
   pub ends : b.end ≤ length ranges
   pub bounds : AllWithin (IsWithin b) ranges k b.end
 
+-- at each place of the list of blocks is one from there on
 abbrev pub AreBlocks : List PlacedRange → List Block → Type 0
 AreBlocks ranges blocks = (k : ℕ) (d : Block) → k < length blocks → IsBlock ranges k (slice_index_or blocks k d)
 
+-- ranges that rise by low end, and a block for each place
 pub record IsIndex (ranges : List PlacedRange) (blocks : List Block) : Type 0 where
   pub by_low : IsNonDecreasingBy (λ r. r.low) ranges
   pub blocks_are : AreBlocks ranges blocks

@@ -42,6 +42,7 @@ pub record IsLeast (items : List PlacedRange) (value from place : ℕ) : Type 0 
 abbrev pub HasNone : List PlacedRange → ℕ → ℕ → Type 0
 HasNone items value from = All (λ r. holds value r ≡ true → r.place < from) items
 
+-- what an answer tells of the items
 abbrev pub Answers : List PlacedRange → ℕ → ℕ → Option ℕ → Type 0
 Answers items value from None = HasNone items value from
 Answers items value from (Some place) = IsLeast items value from place

@@ -1,5 +1,5 @@
 -- Nodes one by one.
-use Rattle.std.proofs.Common.{◌≡◌, ◌≤◌, ◌<◌, ℕ, List, [], ◌∷◌, ◌++◌, length, get_or, map, take, sym, ap, subst, ◌∙◌, arith}
+use Rattle.std.proofs.Common.{◌≡◌, ◌≢◌, ◌≤◌, ◌<◌, ◌-◌, ℕ, List, [], ◌∷◌, ◌++◌, length, get_or, map, take, sym, ap, subst, ◌∙◌, arith}
 use Rattle.std.specs.List.{All, AllWithin}
 use Rattle.std.proofs.lemmas.Bool.{cases_lt}
 use Rattle.std.proofs.Common.{inl, inr}
@@ -19,7 +19,18 @@ is_node_more nodes n k m le is = record {
   up_first = is.up_first;
   first_before = is.first_before;
   same = within_more (λ x. (x.span.low ≡ m.span.low) × (x.span.high ≡ m.span.high)) nodes n m.first k le is.same;
+  alone = λ d some.
+      let first : m.first ≤ k = is.first_before in
+      let inside : m.first - 1 < length nodes = omega arith in
+      let P : Node → Type 0 = λ x. x.span.low ≡ m.span.low → x.span.high ≢ m.span.high in
+      subst P (sym (get_or_append_left nodes (n ∷ []) d (m.first - 1) inside)) (is.alone d some);
   passed = within_more (λ x. x.span.high < m.span.low) nodes n m.up m.first (let a : m.first ≤ k = is.first_before in omega arith) is.passed;
+  reached = λ d some.
+      let up : m.up ≤ m.first = is.up_first in
+      let first : m.first ≤ k = is.first_before in
+      let inside : m.up - 1 < length nodes = omega arith in
+      let P : Node → Type 0 = λ x. m.span.low ≤ x.span.high in
+      subst P (sym (get_or_append_left nodes (n ∷ []) d (m.up - 1) inside)) (is.reached d some);
 }
 
 pub AreNodes-push : (nodes : List Node) (n : Node) → AreNodes nodes → IsNode nodes (length nodes) n → AreNodes (nodes ++ n ∷ [])

@@ -1,5 +1,5 @@
 -- Spans in order, each with the way to the wider spans around it.
-use Rattle.std.specs.Prelude.{◌≡◌, ℕ, ◌<◌, ◌≤◌, ◌+◌, ◌-◌, ◌*◌, ◌&&◌, List, Bool, nat_le, length, Option, Some, None, slice_index_or}
+use Rattle.std.specs.Prelude.{◌≡◌, ◌≢◌, ℕ, ◌<◌, ◌≤◌, ◌+◌, ◌-◌, ◌*◌, ◌&&◌, List, Bool, nat_le, length, Option, Some, None, slice_index_or}
 use Rattle.std.specs.List.{AllWithin}
 use Rattle.vsw_trie.specs.declared.placed.PlacedPrefix.{PlacedPrefix}
 use Rattle.vsw_trie.specs.declared.span.Span.{Span}
@@ -10,9 +10,11 @@ use Rattle.vsw_trie.specs.Least.{least_by, lesser, least_of}
 abbrev pub span_counts : ℕ → ℕ → Span → Bool
 span_counts address from s = nat_le s.low address && nat_le address s.high && nat_le from s.place
 
+-- the same of a node's span
 abbrev pub node_counts : ℕ → ℕ → Node → Bool
 node_counts address from n = span_counts address from n.span
 
+-- the least place, from `from` on, of a node whose span holds the address
 abbrev pub least_in : List Node → ℕ → ℕ → Option ℕ
 least_in nodes address from = least_by (node_counts address from) (λ n. n.span.place) nodes
 
@@ -25,14 +27,17 @@ abbrev pub lesser_of : Option ℕ → Option ℕ → Option ℕ
 lesser_of None found = found
 lesser_of (Some n) found = lesser n found
 
--- of the nodes before place k: those from `first` on are of the same prefix as node n, and those from `up` to
--- `first` end before it begins
+-- of the nodes before place k: those from `first` on, and no others before them, are of the same prefix as
+-- node n; those from `up` to `first` end before it begins, and the one before `up` reaches it
 pub record IsNode (nodes : List Node) (k : ℕ) (n : Node) : Type 0 where
   pub up_first : n.up ≤ n.first
   pub first_before : n.first ≤ k
   pub same : AllWithin (λ m. (m.span.low ≡ n.span.low) × (m.span.high ≡ n.span.high)) nodes n.first k
+  pub alone : (d : Node) → 0 < n.first → (slice_index_or nodes (n.first - 1) d).span.low ≡ n.span.low → (slice_index_or nodes (n.first - 1) d).span.high ≢ n.span.high
   pub passed : AllWithin (λ m. m.span.high < n.span.low) nodes n.up n.first
+  pub reached : (d : Node) → 0 < n.up → n.span.low ≤ (slice_index_or nodes (n.up - 1) d).span.high
 
+-- each node is linked so
 abbrev pub AreNodes : List Node → Type 0
 AreNodes nodes = (k : ℕ) (d : Node) → k < length nodes → IsNode nodes k (slice_index_or nodes k d)
 
@@ -40,6 +45,7 @@ AreNodes nodes = (k : ℕ) (d : Node) → k < length nodes → IsNode nodes k (s
 abbrev pub IsAfter : Span → Span → Type 0
 IsAfter s t = (s.low ≤ t.low) × (s.low ≡ t.low → s.high ≡ t.high → s.place ≤ t.place)
 
+-- linked nodes in the order of their spans
 pub record IsChain (nodes : List Node) : Type 0 where
   pub linked : AreNodes nodes
   pub in_order : (i j : ℕ) (d : Node) → i ≤ j → j < length nodes → IsAfter (slice_index_or nodes i d).span (slice_index_or nodes j d).span
@@ -48,6 +54,7 @@ pub record IsChain (nodes : List Node) : Type 0 where
 abbrev pub key : Span → ℕ
 key s = (s.low * 4294967296 + (4294967295 - s.high)) * 4294967296 + s.place
 
+-- no span is after a later one
 abbrev pub AreInOrder : List Span → Type 0
 AreInOrder spans = (i j : ℕ) (d : Span) → i ≤ j → j < length spans → IsAfter (slice_index_or spans i d) (slice_index_or spans j d)
 

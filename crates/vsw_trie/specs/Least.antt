@@ -42,6 +42,7 @@ pub record IsLeast (items : List PlacedPrefix) (address from place : ℕ) : Type
 abbrev pub HasNone : List PlacedPrefix → ℕ → ℕ → Type 0
 HasNone items address from = All (λ p. holds address p ≡ true → p.place < from) items
 
+-- what an answer tells of the items
 abbrev pub Answers : List PlacedPrefix → ℕ → ℕ → Option ℕ → Type 0
 Answers items address from None = HasNone items address from
 Answers items address from (Some place) = IsLeast items address from place

@@ -1,6 +1,6 @@
 //! Spans in order, each with the way to the wider spans around it.
 
-ghost use Rattle.std.specs.Prelude.{◌≡◌, ℕ, ◌<◌, ◌≤◌, IfOk, IfSome, All, length, map};
+ghost use Rattle.std.specs.Prelude.{◌≡◌, ℕ, ◌<◌, ◌≤◌, ◌-◌, IfOk, IfSome, All, length, map, slice_index_or};
 ghost use Rattle.std.specs.List.{AllWithin};
 ghost use Rattle.std.specs.List.Sorted.{IsNonDecreasingBy};
 ghost use Rattle.vsw_trie.specs.Chain.{AreNodes, AreInOrder, IsNode, IsChain, least_in, first_place, lesser_of};
@@ -28,6 +28,7 @@ fn reaching(nodes: &[Node], low: u32) -> usize
     requires below { All (λ (n : Node). n.span.low ≤ low) nodes.now }
     ensures within { result ≤ length nodes.now }
     ensures passed { AllWithin (λ (n : Node). n.span.high < low) nodes.now result (length nodes.now) }
+    ensures reached { (d : Node) → 0 < result → low ≤ (slice_index_or nodes.now (result - 1) d).span.high }
 {
     let mut left = nodes.len();
     while left > 0 {

@@ -16,6 +16,7 @@ pub struct Span {
     pub place: u32,
 }
 
+/// The span of these ends.
 fn between(low: u32, high: u32, place: u32) -> Span
     ensures ends { (result.low ≡ low) × (result.high ≡ high) }
     ensures place { result.place ≡ place }

@@ -4,3 +4,4 @@ pub mod Finds
 pub mod Tiles
 pub mod Alike
 pub mod Ends
+pub mod Written

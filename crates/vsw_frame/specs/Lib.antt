@@ -2,3 +2,5 @@ pub mod Frame
 pub mod Seen
 pub mod Tiles
 pub mod Ends
+pub mod Bytes
+pub mod Vectors

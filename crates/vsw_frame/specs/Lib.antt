@@ -4,3 +4,4 @@ pub mod Tiles
 pub mod Ends
 pub mod Bytes
 pub mod Vectors
+pub mod Layout

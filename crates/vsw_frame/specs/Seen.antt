@@ -36,6 +36,10 @@ abbrev pub more_levels : Option Level → List frame.Level
 more_levels None = []
 more_levels (Some l) = level_fields l ∷ []
 
+-- levels, outermost first
+abbrev pub levels_in : Level → Option Level → Option Level → List frame.Level
+levels_in first second third = level_fields first ∷ (more_levels second ++ more_levels third)
+
 -- what was found in a frame
 abbrev pub found_parts : Found → frame.Parts
 found_parts f = record { stack = f.headers; control = f.control; levels = level_fields f.first ∷ (more_levels f.second ++ more_levels f.third); payload = f.payload.now }

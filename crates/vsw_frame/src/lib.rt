@@ -1,10 +1,12 @@
 //! Whole frames: any bytes are read as a frame, or refused with their first fault.
 #![tactic(auto)]
 
+mod change;
 mod found;
 mod frame;
 mod law;
 mod opened;
+mod push;
 mod read;
 #[cfg(test)]
 mod tests;

@@ -1,0 +1,81 @@
+//! Encapsulations in front of a frame.
+
+ghost use Rattle.std.specs.Prelude.{◌≡◌, ◌≤◌, ◌<◌, ◌^◌, ◌+◌, ◌*◌, length, drop};
+ghost use Rattle.vsw_base.specs.Shape.{encaps};
+ghost use Rattle.vsw_frame.specs.Bytes.{encap_pushed, pushed};
+ghost use Rattle.vsw_frame.specs.Layout.{AreEncaps};
+
+use vsw_base::{Header, Ip4, Mac};
+use vsw_ipv4::write_ip;
+use vsw_l4::write_udp_vxlan;
+use vsw_link::write_ether;
+
+/// The Ethernet type of IPv4 (RFC 894).
+const IPV4: u16 = 0x0800;
+
+/// Bytes of an Ethernet header.
+const ETHER_LEN: usize = 14;
+
+/// Bytes of an Ethernet and an IPv4 header.
+const IP_END: usize = 34;
+
+/// Bytes of an encapsulation: Ethernet, IPv4, UDP and VXLAN.
+pub const ENCAP_LEN: usize = 50;
+
+/// The headers that an encapsulation is made of.
+struct Outer {
+    dst: Mac,
+    src: Mac,
+    src_ip: Ip4,
+    dst_ip: Ip4,
+    vni: u32,
+}
+
+/// Writes an encapsulation in front of the frame that stands behind its room.
+fn write_encap(out: &mut [u8], port: u16, outer: &Outer)
+    requires room { 50 ≤ length out.old }
+    requires fits { length out.old ≤ 65549 }
+    requires small { outer.now.vni < 2 ^ 24 }
+    ensures { out.new ≡ encap_pushed port outer.now.dst outer.now.src outer.now.src_ip outer.now.dst_ip outer.now.vni (drop 50 out.old) }
+{
+    let inner = out.len() - ENCAP_LEN;
+    write_ether(out, outer.dst, outer.src, IPV4);
+    write_ip(
+        &mut out[ETHER_LEN..],
+        outer.src_ip,
+        outer.dst_ip,
+        (inner + 36) as u16,
+    );
+    write_udp_vxlan(&mut out[IP_END..], port, inner as u32, outer.vni);
+}
+
+/// Writes encapsulations in front of the frame that stands behind their room, the innermost first.
+pub fn write_encaps(out: &mut [u8], port: u16, headers: &[Header])
+    requires whole { AreEncaps headers.now }
+    requires room { 50 * encaps headers.now ≤ length out.old }
+    requires fits { length out.old ≤ 65549 }
+    ensures { out.new ≡ pushed port headers.now (drop (50 * encaps headers.now) out.old) }
+{
+    let [
+        Header::Ether { dst, src, .. },
+        Header::Ip {
+            src: src_ip,
+            dst: dst_ip,
+            ..
+        },
+        Header::Vxlan { vni },
+        rest @ ..,
+    ] = headers
+    else {
+        return;
+    };
+    write_encaps(&mut out[ENCAP_LEN..], port, rest);
+    let outer = Outer {
+        dst: *dst,
+        src: *src,
+        src_ip: *src_ip,
+        dst_ip: *dst_ip,
+        vni: *vni,
+    };
+    write_encap(out, port, &outer);
+}

@@ -5,3 +5,5 @@ pub mod Tiles
 pub mod Alike
 pub mod Ends
 pub mod Written
+pub mod Places
+pub mod Pushes

@@ -15,7 +15,7 @@ put_rest k xs ys front rest h e f =
     ap (λ (l : List ℕ). take k xs ++ (ys ++ l)) none ∙ ap (λ (l : List ℕ). take k xs ++ l) (append-nil ys) ∙ ap (λ (l : List ℕ). l ++ ys) e ∙ ap (λ (l : List ℕ). front ++ l) f
 
 -- the rest of a slice from k on is what drops k
-pub rest_of : (k : ℕ) (xs : List ℕ) → take (length xs - k) (drop k xs) ≡ drop k xs
+pub rest_of : {A : Type 0} (k : ℕ) (xs : List A) → take (length xs - k) (drop k xs) ≡ drop k xs
 rest_of k xs = take_all (length xs - k) (drop k xs) (omega (arith, length-drop k xs))
 
 -- what stands before k is written, and then what stands behind it

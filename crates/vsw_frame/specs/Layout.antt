@@ -6,6 +6,7 @@ use Rattle.vsw_base.specs.Frame.{Level}
 use Rattle.vsw_base.specs.Ipv4.{ip_header}
 use Rattle.vsw_frame.specs.Bytes.{udp_at}
 use Rattle.vsw_frame.specs.declared.change.Ends.{Ends}
+use Rattle.vsw_frame.specs.declared.push.Outer.{Outer}
 
 -- bytes of a TCP or UDP header without options
 abbrev pub ports_len : ℕ → ℕ
@@ -47,3 +48,8 @@ abbrev pub ends_of : List Header → Option Ends
 ends_of (Ip a b p f ∷ Ports proto x y ∷ hs) = Some (record { at = record { src = a; dst = b; src_port = x; dst_port = y }; over = Some proto })
 ends_of (Ip a b p f ∷ hs) = Some (record { at = record { src = a; dst = b; src_port = 0; dst_port = 0 }; over = None })
 ends_of hs = None
+
+-- the encapsulation that headers begin with
+abbrev pub outer_of : List Header → Option Outer
+outer_of (Ether d s k ∷ Ip a b p f ∷ Vxlan v ∷ hs) = Some (record { dst = d; src = s; src_ip = a; dst_ip = b; vni = v })
+outer_of hs = None

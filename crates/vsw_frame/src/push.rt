@@ -3,7 +3,7 @@
 ghost use Rattle.std.specs.Prelude.{◌≡◌, ◌≤◌, ◌<◌, ◌^◌, ◌+◌, ◌*◌, length, drop};
 ghost use Rattle.vsw_base.specs.Shape.{encaps};
 ghost use Rattle.vsw_frame.specs.Bytes.{encap_pushed, packet_pushed, pushed};
-ghost use Rattle.vsw_frame.specs.Layout.{AreEncaps};
+ghost use Rattle.vsw_frame.specs.Layout.{AreEncaps, outer_of};
 
 use vsw_base::{Header, Ip4, Mac};
 use vsw_ipv4::write_ip;
@@ -33,6 +33,31 @@ struct Outer {
     src_ip: Ip4,
     dst_ip: Ip4,
     vni: u32,
+}
+
+/// The encapsulation that the headers begin with.
+fn outermost(headers: &[Header]) -> Option<Outer>
+    ensures { result ≡ outer_of headers.now }
+{
+    match headers {
+        [
+            Header::Ether { dst, src, .. },
+            Header::Ip {
+                src: src_ip,
+                dst: dst_ip,
+                ..
+            },
+            Header::Vxlan { vni },
+            ..,
+        ] => Some(Outer {
+            dst: *dst,
+            src: *src,
+            src_ip: *src_ip,
+            dst_ip: *dst_ip,
+            vni: *vni,
+        }),
+        _ => None,
+    }
 }
 
 /// Writes the IPv4, UDP and VXLAN headers in front of the frame that stands behind their room.
@@ -65,26 +90,9 @@ pub fn write_encaps(out: &mut [u8], port: u16, headers: &[Header])
     requires fits { length out.old ≤ 65549 }
     ensures { out.new ≡ pushed port headers.now (drop (50 * encaps headers.now) out.old) }
 {
-    let [
-        Header::Ether { dst, src, .. },
-        Header::Ip {
-            src: src_ip,
-            dst: dst_ip,
-            ..
-        },
-        Header::Vxlan { vni },
-        rest @ ..,
-    ] = headers
-    else {
+    let Some(outer) = outermost(headers) else {
         return;
     };
-    write_encaps(&mut out[ENCAP_LEN..], port, rest);
-    let outer = Outer {
-        dst: *dst,
-        src: *src,
-        src_ip: *src_ip,
-        dst_ip: *dst_ip,
-        vni: *vni,
-    };
+    write_encaps(&mut out[ENCAP_LEN..], port, &headers[3..]);
     write_encap(out, port, &outer);
 }

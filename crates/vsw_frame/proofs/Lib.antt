@@ -7,3 +7,5 @@ pub mod Ends
 pub mod Written
 pub mod Places
 pub mod Pushes
+pub mod Cases
+pub mod Laid

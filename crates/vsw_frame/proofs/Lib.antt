@@ -9,3 +9,4 @@ pub mod Places
 pub mod Pushes
 pub mod Cases
 pub mod Laid
+pub mod Opens

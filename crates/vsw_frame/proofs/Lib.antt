@@ -10,3 +10,4 @@ pub mod Pushes
 pub mod Cases
 pub mod Laid
 pub mod Opens
+pub mod Kept

@@ -4,11 +4,14 @@ ghost use Rattle.std.specs.Prelude.{◌≡◌, ◌≤◌, ◌<◌, ◌+◌, ◌+
 ghost use Rattle.vsw_base.specs.Ipv4.{ip_header};
 ghost use Rattle.vsw_frame.specs.Bytes as outgoing;
 ghost use Rattle.vsw_frame.specs.Bytes.{segment_changed, packet_changed, frame_changed, udp_kept, levels_changed};
+ghost use Rattle.vsw_frame.specs.Levels.{levels_of, Stand};
 ghost use Rattle.vsw_ipv4.specs.Change.{ip_changed};
 ghost use Rattle.vsw_frame.specs.Layout.{HasPacket, HasFrame, AreLaid, ports_len, ends_of};
 
 
 
+use crate::frame::Levels;
+use crate::levels::within;
 use vsw_base::Header;
 use vsw_ipv4::{change_ip, header_len};
 use vsw_l4::{Endpoints, change_tcp, change_udp, uncheck_udp};
@@ -172,4 +175,41 @@ pub fn change_frame(bytes: &mut [u8], from: &[Header], to: &[Header])
     };
     change_ether(&mut bytes[..ETHER_LEN], *dst, *src);
     change_packet(&mut bytes[ETHER_LEN..], from, to);
+}
+
+/// Where UDP stands in an encapsulation: behind Ethernet and IPv4 with its options.
+fn udp_at(bytes: &[u8]) -> usize
+    requires { 15 ≤ length bytes.now }
+    ensures value { result ≡ outgoing.udp_at bytes.now }
+    ensures small { result ≤ 74 }
+{
+    ETHER_LEN + header_len(&bytes[ETHER_LEN..])
+}
+
+/// Takes the checksum from UDP and VXLAN headers whose inner frame is changed.
+fn change_udp_vxlan(bytes: &mut [u8], is_changed: bool)
+    requires { 8 ≤ length bytes.old }
+    ensures { bytes.new ≡ udp_kept is_changed bytes.old }
+{
+    if is_changed {
+        uncheck_udp(bytes);
+    }
+}
+
+/// Changes the inner frame in place, and the encapsulations around it.
+pub fn change_levels(bytes: &mut [u8], levels: &Levels<'_>, from: &[Header], to: &[Header])
+    requires same { bytes.old ≡ levels.now.first.bytes.now }
+    requires stand { Stand to.now levels.now }
+    ensures { bytes.new ≡ levels_changed from.now to.now (levels_of levels.now) }
+{
+    let Some(_) = levels.second else {
+        change_frame(bytes, from, to);
+        return;
+    };
+    let inner = within(levels);
+    let udp = udp_at(bytes);
+    let front = udp + UDP_VXLAN_LEN;
+    change_udp_vxlan(&mut bytes[udp..front], differ(from, to));
+    let end = front + inner.first.bytes.len();
+    change_levels(&mut bytes[front..end], &inner, from, to);
 }

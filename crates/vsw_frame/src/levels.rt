@@ -22,7 +22,7 @@ pub fn all_levels<'a>(frame: &Frame<'a>) -> Levels<'a>
 }
 
 /// The levels without their first.
-fn within<'a>(levels: &Levels<'a>) -> Levels<'a>
+pub fn within<'a>(levels: &Levels<'a>) -> Levels<'a>
     requires more { 1 < length (levels_of levels.now) }
     requires in_order { IsInOrder levels.now }
     ensures levels { levels_of result ≡ drop 1 (levels_of levels.now) }

@@ -11,3 +11,4 @@ pub mod Cases
 pub mod Laid
 pub mod Opens
 pub mod Kept
+pub mod Edits

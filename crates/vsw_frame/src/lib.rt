@@ -9,6 +9,7 @@ mod levels;
 mod opened;
 mod push;
 mod read;
+mod rewrite;
 #[cfg(test)]
 mod tests;
 

@@ -1,0 +1,69 @@
+-- What is known of edited stacks.
+use Rattle.std.proofs.Common.{◌≡◌, ℕ, zero, suc, ◌+◌, ◌-◌, ◌*◌, ◌^◌, ◌≤◌, ◌<◌, List, [], ◌∷◌, ◌++◌, true, false, take, drop, length, refl, sym, ◌∙◌, ap, subst, arith}
+use borrow.Rule.Slice.PartMut.{put_mid}
+use Rattle.vsw_base.specs.declared.header.Header.{Header}
+use Rattle.vsw_base.specs.declared.header.Header.TheVariants.{Ether, Ip, Vxlan, Ports}
+use Rattle.vsw_base.specs.Frame.{Level}
+use Rattle.vsw_base.specs.Shape.{is_stack, is_plain, encaps}
+use Rattle.vsw_base.proofs.Stacks.{plain_cases, stack_cases, encapped}
+use Rattle.vsw_frame.specs.declared.frame.Levels.{Levels}
+use Rattle.vsw_frame.specs.Bytes.{AreLike}
+use Rattle.vsw_frame.specs.Layout.{HasPacket, HasFrame, AreLaid, AreEncaps, ports_len}
+use Rattle.vsw_frame.specs.Levels.{Stand, levels_of}
+
+-- room for headers is room for headers of the same kinds
+like_packet : (hs gs : List Header) (bytes : List ℕ) → AreLike hs gs → HasPacket hs bytes → HasPacket gs bytes
+like_packet [] [] bytes a h = tt
+like_packet (Ip a b p f ∷ Ports q x y ∷ hs) (Ip c d r g ∷ Ports s u v ∷ gs) bytes l h = (h.0, let e : ports_len s ≡ ports_len q = ap ports_len l.1.0 in omega (arith, h.1, e))
+like_packet (Ip a b p f ∷ []) (Ip c d r g ∷ []) bytes l h = h
+like_packet (Ip a b p f ∷ Ether m n o ∷ hs) (Ip c d r g ∷ Ether i j k ∷ gs) bytes l h = h
+like_packet (Ip a b p f ∷ Ip m n o q ∷ hs) (Ip c d r g ∷ Ip i j k s ∷ gs) bytes l h = h
+like_packet (Ip a b p f ∷ Vxlan v ∷ hs) (Ip c d r g ∷ Vxlan w ∷ gs) bytes l h = h
+like_packet (Ether d s k ∷ hs) (Ether e t l ∷ gs) bytes a h = tt
+like_packet (Vxlan v ∷ hs) (Vxlan w ∷ gs) bytes a h = tt
+like_packet (Ports p x y ∷ hs) (Ports q u v ∷ gs) bytes a h = tt
+like_packet hs gs bytes a h = absurd (grind arith)
+
+like_frame : (hs gs : List Header) (bytes : List ℕ) → AreLike hs gs → HasFrame hs bytes → HasFrame gs bytes
+like_frame [] [] bytes a h = tt
+like_frame (Ether d s k ∷ hs) (Ether e t l ∷ gs) bytes a h = (h.0, like_packet hs gs (drop 14 bytes) a.1 h.1)
+like_frame (Ip a b p f ∷ hs) (Ip c d r g ∷ gs) bytes l h = tt
+like_frame (Vxlan v ∷ hs) (Vxlan w ∷ gs) bytes a h = tt
+like_frame (Ports p x y ∷ hs) (Ports q u v ∷ gs) bytes a h = tt
+like_frame hs gs bytes a h = absurd (grind arith)
+
+like_laid : (hs gs : List Header) (ls : List Level) → AreLike hs gs → AreLaid hs ls → AreLaid gs ls
+like_laid hs gs [] a h = h
+like_laid hs gs (l ∷ []) a h = like_frame hs gs l.bytes a h
+like_laid hs gs (l ∷ m ∷ ls) a h = (h.0, like_laid hs gs (m ∷ ls) a h.1)
+
+pub like_stand : (hs gs : List Header) (l : Levels) → AreLike hs gs → Stand hs l → Stand gs l
+like_stand hs gs l a s = record { in_order = s.in_order; laid = like_laid hs gs (levels_of l) a s.laid; short = s.short }
+
+plain_inner : (hs : List Header) → is_plain hs ≡ true → encaps hs ≡ 0
+plain_inner = plain_cases (λ hs. encaps hs ≡ 0) (λ d s k t. refl) (λ d s k a b p q t. refl) (λ d s k a b p q x y t. refl)
+
+-- the first encapsulations of a stack
+abbrev pub AreOuter : ℕ → List Header → Type 0
+AreOuter k hs = AreEncaps (take (3 * k) hs) × (encaps (take (3 * k) hs) ≡ k)
+
+outer_none : (hs : List Header) (k : ℕ) → k ≤ 0 → AreOuter k hs
+outer_none hs zero h = (tt, refl)
+outer_none hs (suc k) h = absurd (omega (arith, h))
+
+outer_one : (d s a b v : ℕ) (hs : List Header) (k : ℕ) → v < 2 ^ 24 → k ≤ 1 → AreOuter k (encapped d s a b v hs)
+outer_one d s a b v hs zero n h = (tt, refl)
+outer_one d s a b v hs (suc zero) n h = ((n, tt), refl)
+outer_one d s a b v hs (suc (suc k)) n h = absurd (omega (arith, h))
+
+outer_two : (d s a b v d' s' a' b' w : ℕ) (hs : List Header) (k : ℕ) → v < 2 ^ 24 → w < 2 ^ 24 → k ≤ 2 → AreOuter k (encapped d s a b v (encapped d' s' a' b' w hs))
+outer_two d s a b v d' s' a' b' w hs zero n m h = (tt, refl)
+outer_two d s a b v d' s' a' b' w hs (suc zero) n m h = ((n, tt), refl)
+outer_two d s a b v d' s' a' b' w hs (suc (suc zero)) n m h = ((n, (m, tt)), refl)
+outer_two d s a b v d' s' a' b' w hs (suc (suc (suc k))) n m h = absurd (omega (arith, h))
+
+pub outer_are : (hs : List Header) → is_stack hs ≡ true → (k : ℕ) → k ≤ encaps hs → AreOuter k hs
+outer_are = stack_cases (λ hs. (k : ℕ) → k ≤ encaps hs → AreOuter k hs)
+    (λ hs t k h. outer_none hs k (omega (arith, h, plain_inner hs t)))
+    (λ hs t d s a b v n k h. outer_one d s a b v hs k n (omega (arith, h, plain_inner hs t)))
+    (λ hs t d' s' a' b' w m d s a b v n k h. outer_two d s a b v d' s' a' b' w hs k n m (omega (arith, h, plain_inner hs t)))

@@ -1,15 +1,22 @@
 -- What is known of edited stacks.
-use Rattle.std.proofs.Common.{◌≡◌, ℕ, zero, suc, ◌+◌, ◌-◌, ◌*◌, ◌^◌, ◌≤◌, ◌<◌, List, [], ◌∷◌, ◌++◌, true, false, take, drop, length, refl, sym, ◌∙◌, ap, subst, arith}
-use borrow.Rule.Slice.PartMut.{put_mid}
+use Rattle.std.proofs.Common.{◌≡◌, ℕ, zero, suc, ◌+◌, ◌-◌, ◌*◌, ◌^◌, ◌≤◌, ◌<◌, List, [], ◌∷◌, ◌++◌, true, false, Bool, nat_lt, if◌then◌else◌, Result, Ok, Err, take, drop, length, refl, sym, ◌∙◌, ap, subst, arith}
+use Rattle.std.proofs.lemmas.Grind.{common_steps}
 use Rattle.vsw_base.specs.declared.header.Header.{Header}
 use Rattle.vsw_base.specs.declared.header.Header.TheVariants.{Ether, Ip, Vxlan, Ports}
-use Rattle.vsw_base.specs.Frame.{Level}
-use Rattle.vsw_base.specs.Shape.{is_stack, is_plain, encaps}
+use Rattle.vsw_base.specs.declared.fault.Long.{Long}
+use Rattle.vsw_base.specs.Frame.{Level, Parts, size_at}
+use Rattle.vsw_base.specs.Shape.{is_stack, is_plain, encaps, inner}
 use Rattle.vsw_base.proofs.Stacks.{plain_cases, stack_cases, encapped}
 use Rattle.vsw_frame.specs.declared.frame.Levels.{Levels}
-use Rattle.vsw_frame.specs.Bytes.{AreLike}
+use Rattle.vsw_frame.specs.Bytes.{AreLike, answer, levels_changed, outer_total, outgoing, pushed, source_port, total_over}
 use Rattle.vsw_frame.specs.Layout.{HasPacket, HasFrame, AreLaid, AreEncaps, ports_len}
 use Rattle.vsw_frame.specs.Levels.{Stand, levels_of}
+
+lt_true : (m n : ℕ) → m < n → nat_lt m n ≡ true
+lt_true m n h = grind (arith, common_steps)
+
+lt_false : (m n : ℕ) → n ≤ m → nat_lt m n ≡ false
+lt_false m n h = grind (arith, common_steps)
 
 -- room for headers is room for headers of the same kinds
 like_packet : (hs gs : List Header) (bytes : List ℕ) → AreLike hs gs → HasPacket hs bytes → HasPacket gs bytes
@@ -67,3 +74,50 @@ outer_are = stack_cases (λ hs. (k : ℕ) → k ≤ encaps hs → AreOuter k hs)
     (λ hs t k h. outer_none hs k (omega (arith, h, plain_inner hs t)))
     (λ hs t d s a b v n k h. outer_one d s a b v hs k n (omega (arith, h, plain_inner hs t)))
     (λ hs t d' s' a' b' w m d s a b v n k h. outer_two d s a b v d' s' a' b' w hs k n m (omega (arith, h, plain_inner hs t)))
+
+-- the bytes of a level, by its place
+size_first : (ls : List Level) (k : ℕ) (l : Level) (rest : List Level) → l ∷ rest ≡ drop k ls → size_at k ls ≡ length l.bytes
+size_first [] zero l rest e = absurd (cc)
+size_first [] (suc k) l rest e = absurd (cc)
+size_first (m ∷ ls) zero l rest e = let s : m ≡ l = cc in ap (λ (x : Level). length x.bytes) s
+size_first (m ∷ ls) (suc k) l rest e = size_first ls k l rest e
+
+-- the answer and its parts, as they were computed
+pub record Computes (p : Parts) (edited : List Header) (kept : ℕ) (l : Level) (rest : List Level) (from to total : ℕ) : Type 0 where
+  pub of_stack : from ≡ encaps p.stack
+  pub of_edited : to ≡ encaps edited
+  pub levels : l ∷ rest ≡ drop (from - kept) p.levels
+  pub total_is : total ≡ total_over (to - kept) (length l.bytes)
+
+outer_is : (p : Parts) (edited : List Header) (kept : ℕ) (l : Level) (rest : List Level) (from to total : ℕ) → Computes p edited kept l rest from to total → total ≡ outer_total p edited kept
+outer_is p edited kept l rest from to total c =
+    let size : size_at (encaps p.stack - kept) p.levels ≡ length l.bytes = size_first p.levels (encaps p.stack - kept) l rest (c.levels ∙ ap (λ (n : ℕ). drop (n - kept) p.levels) c.of_stack) in
+    c.total_is ∙ ap (λ (n : ℕ). total_over (n - kept) (length l.bytes)) c.of_edited ∙ ap (total_over (encaps edited - kept)) (sym size)
+
+abbrev told : Bool → ℕ → ℕ → Result ℕ Long
+told b total n = if b then Err (record { total = total }) else Ok n
+
+pub long_answer : (p : Parts) (edited : List Header) (kept : ℕ) (l : Level) (rest : List Level) (from to total : ℕ) → Computes p edited kept l rest from to total → 65535 < total → told true total 0 ≡ answer p edited kept
+long_answer p edited kept l rest from to total c h =
+    let t = outer_is p edited kept l rest from to total c in
+    let b : true ≡ nat_lt 65535 (outer_total p edited kept) = sym (lt_true 65535 (outer_total p edited kept) (omega (arith, h, t))) in
+    ap (λ (n : ℕ). told true n (length (outgoing p edited kept))) t ∙ ap (λ (x : Bool). told x (outer_total p edited kept) (length (outgoing p edited kept))) b
+
+pub short_answer : (p : Parts) (edited : List Header) (kept : ℕ) (l : Level) (rest : List Level) (from to total n : ℕ) → Computes p edited kept l rest from to total → total ≤ 65535 → n ≡ length (outgoing p edited kept) → told false 0 n ≡ answer p edited kept
+short_answer p edited kept l rest from to total n c h e =
+    let t = outer_is p edited kept l rest from to total c in
+    let b : false ≡ nat_lt 65535 (outer_total p edited kept) = sym (lt_false 65535 (outer_total p edited kept) (omega (arith, h, t))) in
+    ap (told false (outer_total p edited kept)) e ∙ ap (λ (x : Bool). told x (outer_total p edited kept) (length (outgoing p edited kept))) b
+
+total_room : (k n : ℕ) → 0 < k → total_over k n + 14 ≡ 50 * k + n
+total_room zero n h = absurd (omega (arith, h))
+total_room (suc k) n h = omega arith
+
+pub room_fits : (k n : ℕ) → total_over k n ≤ 65535 → 0 < k → 50 * k + n ≤ 65549
+room_fits k n h g = omega (arith, h, total_room k n g)
+
+pub outgoing_is : (p : Parts) (edited : List Header) (kept : ℕ) (hs : List Header) (ls : List Level) (from to : ℕ) → from ≡ encaps p.stack → to ≡ encaps edited → hs ≡ inner p.stack → ls ≡ drop (from - kept) p.levels → pushed (source_port edited) (take (3 * (to - kept)) edited) (levels_changed hs (inner edited) ls) ≡ outgoing p edited kept
+outgoing_is p edited kept hs ls from to e f g h =
+    ap (λ (n : ℕ). pushed (source_port edited) (take (3 * (n - kept)) edited) (levels_changed hs (inner edited) ls)) f
+    ∙ ap (λ (x : List Header). pushed (source_port edited) (take (3 * (encaps edited - kept)) edited) (levels_changed x (inner edited) ls)) g
+    ∙ ap (λ (x : List Level). pushed (source_port edited) (take (3 * (encaps edited - kept)) edited) (levels_changed (inner p.stack) (inner edited) x)) (h ∙ ap (λ (n : ℕ). drop (n - kept) p.levels) e)

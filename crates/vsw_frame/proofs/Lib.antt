@@ -12,3 +12,4 @@ pub mod Laid
 pub mod Opens
 pub mod Kept
 pub mod Edits
+pub mod Fitting

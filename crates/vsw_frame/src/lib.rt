@@ -9,10 +9,12 @@ mod levels;
 mod opened;
 mod push;
 mod read;
-mod rewrite;
+
 #[cfg(test)]
 mod tests;
+mod writing;
 
 pub use frame::{Frame, Level};
 pub use law::laws;
 pub use read::read_frame;
+pub use writing::rewrite;

@@ -8,6 +8,8 @@ ghost use Rattle.vsw_frame.specs.Bytes.{AreLike, IsEdit, answer, levels_changed,
 ghost use Rattle.vsw_frame.specs.Frame.{parts};
 ghost use Rattle.vsw_frame.specs.Layout.{AreEncaps};
 ghost use Rattle.vsw_frame.specs.Levels.{levels_of, Stand};
+ghost use Rattle.vsw_transpose.specs.Apply.{apply};
+ghost use Rattle.vsw_transpose.specs.Fits.{fits, kept};
 
 use crate::change::change_levels;
 use crate::frame::{Frame, Levels};
@@ -15,6 +17,7 @@ use crate::levels::{all_levels, levels_without};
 use crate::push::{ENCAP_LEN, write_encaps};
 use vsw_base::{Header, Long, Stack};
 use vsw_flowid::flow_sum;
+use vsw_transpose::Transposition;
 
 /// Bytes that an IPv4 header can say (RFC 791, section 3.1).
 const TOTAL_MAX: u32 = 65_535;
@@ -74,8 +77,19 @@ fn write(out: &mut [u8], levels: &Levels<'_>, from: &[Header], edited: &Stack, p
     write_encaps(out, source_port(edited), outer(edited, pushes));
 }
 
+/// The stack that a transposition makes of one that it fits.
+fn edited(stack: &Stack, by: &Transposition) -> Stack
+    requires { IsTrue (fits by.now stack.now) }
+    ensures done { result ≡ apply by.now stack.now }
+    ensures edit { IsEdit stack.now result (kept by.now) }
+{
+    // Of a stack's headers and a transposition's acts more is known than of any lists.
+    let (_headers, _acts) = (stack.headers(), by.acts());
+    by.apply(stack)
+}
+
 /// Writes a frame's bytes as its stack was edited, at the front of `out`, and answers their number.
-pub fn rewrite_to(
+fn rewrite_to(
     frame: &Frame<'_>,
     edited: &Stack,
     kept: u8,
@@ -98,4 +112,24 @@ pub fn rewrite_to(
     let end = ENCAP_LEN * usize::from(pushes) + len;
     write(&mut out[..end], &levels, stack.inner(), edited, pushes);
     Ok(end)
+}
+
+/// Writes the bytes of a frame, as the transposition makes its headers, at the front of `out`, and
+/// answers their number. Headers that are dropped go with what surrounds their inner frame. In the inner
+/// frame addresses and ports are written over the old ones, and checksums are updated (RFC 1624). An
+/// encapsulation that stays keeps all but its UDP checksum, which is 0 where an inner field differs.
+/// Pushed encapsulations stand in front (RFC 7348, section 5).
+///
+/// `Long` tells the outermost IPv4 total length where it is above what its field can say.
+
+pub fn rewrite(frame: &Frame<'_>, by: &Transposition, out: &mut [u8]) -> Result<usize, Long>
+    requires fits { IsTrue (fits by.now (parts frame.now).stack) }
+    requires room { 65700 ≤ length out.old }
+    ensures answer { result ≡ answer (parts frame.now) (apply by.now (parts frame.now).stack) (kept by.now) }
+    ensures written { OnOk result (out.new ≡ outgoing (parts frame.now) (apply by.now (parts frame.now).stack) (kept by.now) ++ drop (length (outgoing (parts frame.now) (apply by.now (parts frame.now).stack) (kept by.now))) out.old) }
+    ensures unchanged { OnErr result (out.new ≡ out.old) }
+{
+    let stack = frame.stack();
+    let edited = edited(stack, by);
+    rewrite_to(frame, &edited, by.kept(), out)
 }

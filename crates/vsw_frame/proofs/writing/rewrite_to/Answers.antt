@@ -6,7 +6,7 @@ use Rattle.vsw_frame.specs.Bytes.{outgoing}
 use Rattle.vsw_frame.specs.Frame.{parts}
 use Rattle.vsw_frame.specs.Levels.{Stand, level_fields, levels_of, more_levels}
 use Rattle.vsw_frame.proofs.Edits.{Computes, long_answer, short_answer, room_fits, outgoing_is}
-use Rattle.vsw_frame.proofs.rewrite.rewrite_to.Goals as goal
+use Rattle.vsw_frame.proofs.writing.rewrite_to.Goals as goal
 
 pub returns-then-total-gt-TOTAL_MAX-clause-answer : goal.returns-then-total-gt-TOTAL_MAX-clause-answer
 returns-then-total-gt-TOTAL_MAX-clause-answer c =

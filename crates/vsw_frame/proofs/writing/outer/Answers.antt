@@ -3,7 +3,7 @@ use Rattle.vsw_base.specs.declared.header.Header.{Header}
 use Rattle.vsw_base.specs.Shape.{encaps}
 use Rattle.vsw_frame.specs.Layout.{AreEncaps}
 use Rattle.vsw_frame.proofs.Edits.{outer_are, AreOuter}
-use Rattle.vsw_frame.proofs.rewrite.outer.Goals as goal
+use Rattle.vsw_frame.proofs.writing.outer.Goals as goal
 
 pub returns-clause-whole : goal.returns-clause-whole
 returns-clause-whole c =

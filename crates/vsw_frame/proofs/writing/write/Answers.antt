@@ -2,7 +2,7 @@ use Rattle.std.proofs.Common.{◌≡◌, List, sym, subst}
 use Rattle.vsw_base.specs.declared.header.Header.{Header}
 use Rattle.vsw_frame.specs.Bytes.{AreLike}
 use Rattle.vsw_frame.proofs.Edits.{like_stand}
-use Rattle.vsw_frame.proofs.rewrite.write.Goals as goal
+use Rattle.vsw_frame.proofs.writing.write.Goals as goal
 
 pub change_levels-requires-clause-stand : goal.change_levels-requires-clause-stand
 change_levels-requires-clause-stand c =

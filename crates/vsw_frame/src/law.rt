@@ -6,12 +6,3 @@ ghost use Rattle.vsw_frame.specs.Ends.{EndsAreUnread};
 pub fn laws()
     ensures ends { EndsAreUnread }
 {}
-
-ghost use Rattle.vsw_frame.specs.Vectors.{WritesEncapsulated, WritesAnswer};
-
-/// The definition of outgoing bytes, evaluated.
-fn definition()
-    ensures encapsulated { WritesEncapsulated }
-    ensures answer { WritesAnswer }
-{}
-

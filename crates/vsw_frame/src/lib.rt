@@ -9,10 +9,11 @@ mod levels;
 mod opened;
 mod push;
 mod read;
-
 #[cfg(test)]
 mod tests;
 mod writing;
+#[cfg(test)]
+mod writing_tests;
 
 pub use frame::{Frame, Level};
 pub use law::laws;

@@ -48,7 +48,7 @@ fn outermost(headers: &[Header]) -> Option<Outer>
                 ..
             },
             Header::Vxlan { vni },
-            ..,
+            ..
         ] => Some(Outer {
             dst: *dst,
             src: *src,

@@ -89,12 +89,7 @@ fn edited(stack: &Stack, by: &Transposition) -> Stack
 }
 
 /// Writes a frame's bytes as its stack was edited, at the front of `out`, and answers their number.
-fn rewrite_to(
-    frame: &Frame<'_>,
-    edited: &Stack,
-    kept: u8,
-    out: &mut [u8],
-) -> Result<usize, Long>
+fn rewrite_to(frame: &Frame<'_>, edited: &Stack, kept: u8, out: &mut [u8]) -> Result<usize, Long>
     requires edit { IsEdit (parts frame.now).stack edited.now kept }
     requires room { 65700 ≤ length out.old }
     ensures answer { result ≡ answer (parts frame.now) edited.now kept }

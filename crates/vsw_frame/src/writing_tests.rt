@@ -150,8 +150,8 @@ fn written(rt: &impl Abort, bytes: &[u8], acts: &[Act], out: &mut [u8]) -> Resul
 /// A frame becomes these bytes, and what stands behind them is left.
 fn becomes(rt: &impl Abort, bytes: &[u8], acts: &[Act], expected: &[u8]) {
     let mut out = [OLD; ROOM];
-    let result = written(rt, bytes, acts, &mut out);
-    assert_eq!(rt; result, Ok(expected.len()));
+    let answer = written(rt, bytes, acts, &mut out);
+    assert_eq!(rt; answer, Ok(expected.len()));
     assert!(rt; expected.len() < ROOM);
     assert_eq!(rt; &out[..expected.len()], expected);
     assert_eq!(rt; out[expected.len()], OLD);
@@ -220,11 +220,11 @@ fn a_frame_in_two_networks_has_one_source_port(rt: HostRuntime) {
 
 #[test]
 fn tcp_keeps_a_right_checksum(rt: HostRuntime) {
-    let mut expected = TCP;
-    expected[24..30].copy_from_slice(&[0x6e, 0xbb, 0xc0, 0x00, 0x02, 0x07]);
-    expected[34..36].copy_from_slice(&[0x9c, 0x40]);
-    expected[50..52].copy_from_slice(&[0x03, 0x53]);
-    becomes(&rt, &TCP, &translation(), &expected);
+    let mut changed = TCP;
+    changed[24..30].copy_from_slice(&[0x6e, 0xbb, 0xc0, 0x00, 0x02, 0x07]);
+    changed[34..36].copy_from_slice(&[0x9c, 0x40]);
+    changed[50..52].copy_from_slice(&[0x03, 0x53]);
+    becomes(&rt, &TCP, &translation(), &changed);
 }
 
 #[test]
@@ -311,7 +311,7 @@ fn an_address_of_ethernet_is_in_no_inner_checksum(rt: HostRuntime) {
 
 #[test]
 fn what_is_not_edited_stays(rt: HostRuntime) {
-    let same = [
+    let acts = [
         Act::Ignore,
         Act::Modify(Change::Ip {
             src: Some(Ip4::of(0x0a00_0005)),
@@ -319,7 +319,7 @@ fn what_is_not_edited_stays(rt: HostRuntime) {
         }),
         Act::Ignore,
     ];
-    becomes(&rt, &ENDS, &kept(same), &ENDS);
+    becomes(&rt, &ENDS, &kept(acts), &ENDS);
 }
 
 #[test]
@@ -356,12 +356,12 @@ fn encapsulated(rt: &impl Abort, bytes: &[u8], out: &mut [u8]) -> Result<usize, 
 
 #[test]
 fn a_total_length_of_65535_is_written(rt: HostRuntime) {
-    let mut bytes = [0; 65_499];
-    long(&mut bytes, 65_485);
+    let mut frame = [0; 65_499];
+    long(&mut frame, 65_485);
     let mut out = [OLD; ROOM];
-    assert_eq!(rt; encapsulated(&rt, &bytes, &mut out), Ok(65_549));
+    assert_eq!(rt; encapsulated(&rt, &frame, &mut out), Ok(65_549));
     assert_eq!(rt; &out[16..18], [0xff, 0xff].as_slice());
-    assert!(rt; &out[50..65_549] == bytes.as_slice());
+    assert!(rt; &out[50..65_549] == frame.as_slice());
 }
 
 #[test]

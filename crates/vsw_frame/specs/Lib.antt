@@ -2,3 +2,8 @@ pub mod Frame
 pub mod Seen
 pub mod Tiles
 pub mod Ends
+pub mod Bytes
+pub mod Vectors
+pub mod Layout
+pub mod Levels
+pub mod Read

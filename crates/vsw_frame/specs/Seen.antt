@@ -1,5 +1,5 @@
 -- What the reader's values say, in the words of the definition of a frame.
-use Rattle.std.specs.Prelude.{◌≡◌, ◌≤◌, ◌+◌, ◌*◌, true, ◌<◌, ◌||◌, ◌&&◌, ℕ, zero, suc, Bool, List, [], ◌∷◌, ◌++◌, length, take, drop, Option, Some, None, Result, Ok, Err}
+use Rattle.std.specs.Prelude.{◌≡◌, ◌≤◌, ◌+◌, ◌*◌, true, ◌<◌, ◌||◌, ◌&&◌, ℕ, zero, suc, Bool, List, ◌∷◌, ◌++◌, length, take, drop, Option, Some, None, Result, Ok, Err}
 use Rattle.vsw_base.specs.declared.fault.BadFrame.{BadFrame}
 use Rattle.vsw_base.specs.Frame as frame
 use Rattle.vsw_l4.specs.Tcp.{tcp_view}
@@ -10,6 +10,7 @@ use Rattle.vsw_frame.specs.declared.opened.Opened.{Opened}
 use Rattle.vsw_frame.specs.declared.opened.Inner.{Inner}
 use Rattle.vsw_frame.specs.declared.found.Found.{Found}
 use Rattle.vsw_frame.specs.declared.frame.Level.{Level}
+use Rattle.vsw_frame.specs.Levels.{level_fields, more_levels}
 use Rattle.vsw_base.specs.declared.header.Header.{Header}
 use Rattle.vsw_base.specs.Shape.{is_plain, is_encap}
 
@@ -28,13 +29,6 @@ opened_fields o = record { front = o.front; trailer = o.trailer.now; end = end_f
 abbrev pub opened_seen : Result Opened BadFrame → Result frame.Opened BadFrame
 opened_seen (Ok o) = Ok (opened_fields o)
 opened_seen (Err e) = Err e
-
-abbrev pub level_fields : Level → frame.Level
-level_fields l = record { bytes = l.bytes.now; trailer = l.trailer.now; slack = l.slack.now }
-
-abbrev pub more_levels : Option Level → List frame.Level
-more_levels None = []
-more_levels (Some l) = level_fields l ∷ []
 
 -- what was found in a frame
 abbrev pub found_parts : Found → frame.Parts

@@ -1,16 +1,23 @@
 //! Whole frames: any bytes are read as a frame, or refused with their first fault.
 #![tactic(auto)]
 
+mod change;
 mod found;
 mod frame;
 mod law;
+mod levels;
 mod opened;
 #[cfg(test)]
 mod plain;
+mod push;
 mod read;
 #[cfg(test)]
 mod tests;
+mod writing;
+#[cfg(test)]
+mod writing_tests;
 
 pub use frame::{Frame, Level};
 pub use law::laws;
 pub use read::read_frame;
+pub use writing::rewrite;

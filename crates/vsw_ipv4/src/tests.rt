@@ -1,6 +1,6 @@
 //! Headers from other sources.
 
-use crate::{IpPart, read_ip, write_ip};
+use crate::{IpPart, change_ip, header_len, read_ip, write_ip};
 use vsw_base::{BadFrame, Ip4};
 
 /// 127.0.0.1, to which Linux wrote the packets below.
@@ -72,4 +72,14 @@ fn a_header_is_written_at_the_front(rt: HostRuntime) {
     // 80 bytes from 172.16.0.1 to 172.16.0.2
     write_ip(&mut out, Ip4::of(0xac10_0001), Ip4::of(0xac10_0002), 80);
     assert_eq!(rt; &out[10..12], [0xe2, 0x79].as_slice());
+}
+
+#[test]
+fn addresses_are_changed_in_place(rt: HostRuntime) {
+    let mut packet = PACKET;
+    change_ip(&mut packet, Ip4::of(0xc000_0207), Ip4::of(0x0a00_0009));
+    let mut changed = PACKET;
+    changed[10..16].copy_from_slice(&[0x6e, 0xbf, 0xc0, 0x00, 0x02, 0x07]);
+    assert_eq!(rt; packet, changed);
+    assert_eq!(rt; header_len(&packet), 20);
 }

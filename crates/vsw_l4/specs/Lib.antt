@@ -1,3 +1,4 @@
 pub mod Tcp
 pub mod Udp
 pub mod Vxlan
+pub mod Change

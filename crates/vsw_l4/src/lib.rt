@@ -1,6 +1,7 @@
 //! TCP, UDP and VXLAN headers.
 #![tactic(auto)]
 
+mod change;
 mod law;
 mod tcp;
 #[cfg(test)]
@@ -8,6 +9,7 @@ mod tests;
 mod udp;
 mod vxlan;
 
+pub use change::{Endpoints, change_tcp, change_udp, uncheck_udp};
 pub use law::laws;
 pub use tcp::{TcpPart, read_tcp};
 pub use udp::{UdpPart, read_udp};

@@ -1,7 +1,10 @@
 //! Headers from other sources.
 
-use crate::{TcpPart, UdpPart, read_tcp, read_udp, read_vxlan, write_udp_vxlan};
-use vsw_base::{BadFrame, Control};
+use crate::{
+    Endpoints, TcpPart, UdpPart, change_tcp, change_udp, read_tcp, read_udp, read_vxlan,
+    uncheck_udp, write_udp_vxlan,
+};
+use vsw_base::{BadFrame, Control, Ip4};
 
 /// The first packet of a connection, with 20 bytes of options, as Linux wrote it.
 const SYN: [u8; 40] = [
@@ -69,4 +72,51 @@ fn an_encapsulation_is_read_and_written(rt: HostRuntime) {
     write_udp_vxlan(&mut out, 62768, 44, 5001);
     assert_eq!(rt; &out[..16], &ENCAP[..]);
     assert_eq!(rt; &out[16..], [0xee, 0xee].as_slice());
+}
+
+/// From this port of this address to port 53 of 10.0.0.9.
+fn query(src: u32, src_port: u16) -> Endpoints {
+    Endpoints {
+        src: Ip4::of(src),
+        dst: Ip4::of(0x0a00_0009),
+        src_port,
+        dst_port: 53,
+    }
+}
+
+/// Checksums that were computed anew by another program.
+#[test]
+fn endpoints_are_changed_in_place(rt: HostRuntime) {
+    let (from, to) = (query(0x0a00_0005, 1234), query(0xc000_0207, 40_000));
+    let mut bytes = [0x04, 0xd2, 0x00, 0x35, 0x00, 0x0a, 0x7e, 0x5c, 0x68, 0x69];
+    change_udp(&mut bytes, &from, &to);
+    let changed = [0x9c, 0x40, 0x00, 0x35, 0x00, 0x0a, 0x2e, 0xeb, 0x68, 0x69];
+    assert_eq!(rt; bytes, changed);
+    // without a checksum
+    uncheck_udp(&mut bytes);
+    change_udp(&mut bytes, &to, &from);
+    let changed = [0x04, 0xd2, 0x00, 0x35, 0x00, 0x0a, 0x00, 0x00, 0x68, 0x69];
+    assert_eq!(rt; bytes, changed);
+    // an updated checksum of 0
+    bytes[6..].copy_from_slice(&[0x4f, 0x71, 0x97, 0x54]);
+    change_udp(&mut bytes, &from, &to);
+    let changed = [0x9c, 0x40, 0x00, 0x35, 0x00, 0x0a, 0xff, 0xff, 0x97, 0x54];
+    assert_eq!(rt; bytes, changed);
+}
+
+#[test]
+fn endpoints_of_tcp_are_changed_in_place(rt: HostRuntime) {
+    let mut from = query(0x0a00_0005, 1234);
+    from.dst_port = 80;
+    let mut to = query(0xc000_0207, 40_000);
+    to.dst_port = 80;
+    let mut bytes = [
+        0x04, 0xd2, 0x00, 0x50, 0x00, 0x00, 0x00, 0x01, 0x00, 0x00, 0x00, 0x01, 0x50, 0x18, 0xff,
+        0xff, 0x52, 0xc4, 0x00, 0x00, 0x68, 0x65, 0x6c, 0x6c, 0x6f,
+    ];
+    let mut changed = bytes;
+    changed[..2].copy_from_slice(&[0x9c, 0x40]);
+    changed[16..18].copy_from_slice(&[0x03, 0x53]);
+    change_tcp(&mut bytes, &from, &to);
+    assert_eq!(rt; bytes, changed);
 }

@@ -1,11 +1,12 @@
 //! The Ethernet header (RFC 894): destination (6 bytes), source (6), type (2). Numbers have their
 //! highest byte first.
 
-ghost use Rattle.std.specs.Prelude.{◌≡◌, ◌≤◌, IfOk, drop, length, take};
-ghost use Rattle.byteorder.specs.Endian.{big_number};
+ghost use Rattle.std.specs.Prelude.{◌≡◌, ◌≤◌, ◌++◌, IfOk, drop, length, take};
+ghost use Rattle.byteorder.specs.Endian.{big_bytes, big_number};
 ghost use Rattle.vsw_base.specs.Ethernet.{ether_of};
 ghost use Rattle.vsw_base.specs.Fits.{IsFit};
 ghost use Rattle.vsw_base.specs.declared.header.Header.TheVariants.{Ether};
+ghost use Rattle.vsw_link.specs.Change.{ether_changed};
 ghost use Rattle.vsw_link.specs.Ether.{ether_bytes, ether_seen};
 
 use byteorder::{BigEndian, ByteOrder};
@@ -71,4 +72,22 @@ pub fn write_ether(out: &mut [u8], dst: Mac, src: Mac, kind: u16)
     ensures rest { drop 14 out.new ≡ drop 14 out.old }
 {
     out[..ETHER_LEN].copy_from_slice(&header(dst, src, kind));
+}
+
+/// The bytes of two addresses.
+fn addresses(dst: Mac, src: Mac) -> [u8; KIND]
+    ensures bytes { result ≡ big_bytes 6 dst ++ big_bytes 6 src }
+    ensures len { length result ≡ 12 }
+{
+    let [_, _, d0, d1, d2, d3, d4, d5] = dst.number().to_be_bytes();
+    let [_, _, s0, s1, s2, s3, s4, s5] = src.number().to_be_bytes();
+    [d0, d1, d2, d3, d4, d5, s0, s1, s2, s3, s4, s5]
+}
+
+/// Changes the addresses of the header that the bytes begin with.
+pub fn change_ether(bytes: &mut [u8], dst: Mac, src: Mac)
+    requires { 14 ≤ length bytes.old }
+    ensures { bytes.new ≡ ether_changed dst src bytes.old }
+{
+    bytes[..KIND].copy_from_slice(&addresses(dst, src));
 }

@@ -6,5 +6,5 @@ mod law;
 #[cfg(test)]
 mod tests;
 
-pub use ether::{EtherPart, read_ether, write_ether};
+pub use ether::{EtherPart, change_ether, read_ether, write_ether};
 pub use law::laws;

@@ -1,6 +1,6 @@
 //! Headers from other sources.
 
-use crate::{EtherPart, read_ether, write_ether};
+use crate::{EtherPart, change_ether, read_ether, write_ether};
 use vsw_base::{BadFrame, Mac};
 
 /// From 02:00:00:00:00:01 to 02:00:00:00:00:99, IPv4.
@@ -31,4 +31,18 @@ fn a_header_is_written_at_the_front(rt: HostRuntime) {
     );
     assert_eq!(rt; &out[..14], &HEADER[..]);
     assert_eq!(rt; &out[14..], [0xee, 0xee].as_slice());
+}
+
+#[test]
+fn addresses_are_changed_in_place(rt: HostRuntime) {
+    let mut bytes = HEADER;
+    change_ether(
+        &mut bytes,
+        Mac::of(0x0200_0000_0a02),
+        Mac::of(0x0200_0000_0a01),
+    );
+    let changed = [
+        0x02, 0x00, 0x00, 0x00, 0x0a, 0x02, 0x02, 0x00, 0x00, 0x00, 0x0a, 0x01, 0x08, 0x00,
+    ];
+    assert_eq!(rt; bytes, changed);
 }

@@ -1,2 +1,3 @@
 pub mod Ip
 pub mod Change
+pub mod Right

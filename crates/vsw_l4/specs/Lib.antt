@@ -2,3 +2,4 @@ pub mod Tcp
 pub mod Udp
 pub mod Vxlan
 pub mod Change
+pub mod Right

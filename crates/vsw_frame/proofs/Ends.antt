@@ -271,7 +271,7 @@ udp_within true (Some u) v p inner h =
     let e : (u, drop 8 p) ≡ (v, inner) = cc in
     (refl, ap (λ (x : ℕ × List ℕ). Some x.0) e, ap (λ (x : ℕ × List ℕ). x.1) e)
 
-within_long : (end : End) (v : ℕ) (inner : List ℕ) → within end ≡ Some (v, inner) → length (payload_in end) ≡ 8 + length inner
+pub within_long : (end : End) (v : ℕ) (inner : List ℕ) → within end ≡ Some (v, inner) → length (payload_in end) ≡ 8 + length inner
 within_long (frame.Rest p) v inner h = absurd (cc)
 within_long (frame.OverTcp t) v inner h = absurd (cc)
 within_long (frame.OverUdp u) v inner h =

@@ -7,7 +7,8 @@ use Rattle.vsw_base.specs.Frame.{End, ports, within}
 use Rattle.vsw_base.specs.Frame as frame
 use Rattle.vsw_frame.specs.declared.frame.Level.{Level}
 use Rattle.vsw_frame.specs.declared.found.Found.{Found}
-use Rattle.vsw_frame.specs.Seen.{IsShort, Finds, is_within, level_fields, more_levels, size_of}
+use Rattle.vsw_frame.specs.Levels.{level_fields, more_levels}
+use Rattle.vsw_frame.specs.Seen.{IsShort, Finds, is_within, size_of}
 use Rattle.vsw_base.specs.Frame.{sizes_of}
 use Rattle.vsw_frame.proofs.Within.{plain_within, encap_within}
 

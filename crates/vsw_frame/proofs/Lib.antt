@@ -5,3 +5,9 @@ pub mod Tiles
 pub mod Alike
 pub mod Ends
 pub mod Written
+pub mod Places
+pub mod Pushes
+pub mod Cases
+pub mod Laid
+pub mod Opens
+pub mod Kept

@@ -110,7 +110,7 @@ udp_end bytes (Ok u) end q h = let e : frame.OverUdp u ≡ end = cc in subst (En
 udp_end bytes (Err f) end q h = absurd (cc)
 
 -- one of two, whichever a test chooses
-either : {A : Type 0} (P : A → Type 0) (b : Bool) (x y : A) → P x → P y → P (cond b x y)
+pub either : {A : Type 0} (P : A → Type 0) (b : Bool) (x y : A) → P x → P y → P (cond b x y)
 either P true x y p q = p
 either P false x y p q = q
 
@@ -169,7 +169,7 @@ ether_ends bytes (Ok e) o q h =
     let rest : P (Ok (record { front = frame.ether_header e ∷ []; trailer = []; end = frame.Rest e.rest })) = plain_ends bytes e o q in
     either P (e.kind == ipv4_kind) _ _ ip rest h
 
-opened_ends : (bytes : List ℕ) (o : Opened) → opened_of bytes ≡ Ok o → Ends bytes o
+pub opened_ends : (bytes : List ℕ) (o : Opened) → opened_of bytes ≡ Ok o → Ends bytes o
 opened_ends bytes o h = ether_ends bytes (ether_of bytes) o refl h
 
 plain_tiles : (bytes : List ℕ) (o : Opened) (p : Parts) → opened_of bytes ≡ Ok o → ok_parts (plain_parts bytes o) ≡ Ok p → Tiles bytes p
@@ -179,14 +179,14 @@ plain_tiles bytes o p q h =
     subst (Tiles bytes) t tiles
 
 -- the frame in an encapsulation follows the VXLAN header
-vxlan_follows : (end : End) (v : ℕ) (inner : List ℕ) → within end ≡ Some (v, inner) → Follows (payload_in end) inner
+pub vxlan_follows : (end : End) (v : ℕ) (inner : List ℕ) → within end ≡ Some (v, inner) → Follows (payload_in end) inner
 vxlan_follows (frame.Rest p) v inner h = absurd (cc)
 vxlan_follows (frame.OverTcp t) v inner h = absurd (cc)
 vxlan_follows (frame.OverUdp u) v inner h =
     let e : drop 8 u.payload ≡ inner = grind (arith, common_steps) in
     (take 8 u.payload, sym (take-append-drop 8 u.payload) ∙ ap (λ (x : List ℕ). take 8 u.payload ++ x) e)
 
-inner_ends : (bytes payload inner ends : List ℕ) → Follows bytes (payload ++ ends) → Follows payload inner → Follows bytes (inner ++ ends)
+pub inner_ends : (bytes payload inner ends : List ℕ) → Follows bytes (payload ++ ends) → Follows payload inner → Follows bytes (inner ++ ends)
 inner_ends bytes payload inner ends f g = (
   f.0 ++ g.0,
   f.1

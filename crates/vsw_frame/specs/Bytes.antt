@@ -70,9 +70,12 @@ levels_changed from to (l ∷ m ∷ ls) = encap_kept (differ from to) l (levels_
 abbrev pub source_port : List Header → ℕ
 source_port edited = 49152 + flow_sum_of edited % 16384
 
--- a pushed encapsulation: 50 bytes in front of a frame
+-- a pushed encapsulation, 50 bytes in front of a frame: IPv4, UDP and VXLAN, and Ethernet in front of them
+abbrev pub packet_pushed : ℕ → ℕ → ℕ → ℕ → List ℕ → List ℕ
+packet_pushed port src_ip dst_ip vni frame = pushed_ip_bytes src_ip dst_ip (length frame + 36) ++ (udp_vxlan_bytes port (length frame) vni ++ frame)
+
 abbrev pub encap_pushed : ℕ → ℕ → ℕ → ℕ → ℕ → ℕ → List ℕ → List ℕ
-encap_pushed port dst src a b vni frame = ether_bytes dst src ipv4_kind ++ (pushed_ip_bytes a b (length frame + 36) ++ (udp_vxlan_bytes port (length frame) vni ++ frame))
+encap_pushed port dst src src_ip dst_ip vni frame = ether_bytes dst src ipv4_kind ++ packet_pushed port src_ip dst_ip vni frame
 
 -- encapsulations in front of a frame, the innermost put there first
 abbrev pub pushed : ℕ → List Header → List ℕ → List ℕ

@@ -2,7 +2,7 @@
 use Rattle.std.specs.Prelude.{◌≡◌, ℕ, List, ◌∷◌, ◌++◌, Result, Ok, Err}
 use Rattle.vsw_base.specs.declared.fault.BadFrame.{BadFrame}
 use Rattle.vsw_base.specs.Frame as definition
-use Rattle.vsw_frame.specs.Seen.{level_fields, more_levels}
+use Rattle.vsw_frame.specs.Levels.{level_fields, more_levels}
 use Rattle.vsw_frame.specs.declared.frame.Frame.{Frame}
 
 abbrev pub parts : Frame → definition.Parts

@@ -1,10 +1,12 @@
 -- Where the headers of a frame's levels stand.
-use Rattle.std.specs.Prelude.{◌≡◌, ◌≤◌, ◌<◌, ◌^◌, ℕ, ◌+◌, ◌==◌, List, [], ◌∷◌, ◌++◌, length, take, drop, if◌then◌else◌}
+use Rattle.std.specs.Prelude.{◌≡◌, ◌≤◌, ◌<◌, ◌^◌, ℕ, ◌+◌, ◌==◌, List, [], ◌∷◌, ◌++◌, length, take, drop, if◌then◌else◌, Option, Some, None}
 use Rattle.vsw_base.specs.declared.header.Header.{Header}
 use Rattle.vsw_base.specs.declared.header.Header.TheVariants.{Ether, Ip, Vxlan, Ports}
 use Rattle.vsw_base.specs.Frame.{Level}
 use Rattle.vsw_base.specs.Ipv4.{ip_header}
 use Rattle.vsw_frame.specs.Bytes.{udp_at}
+use Rattle.vsw_frame.specs.declared.change.Ends.{Ends}
+use Rattle.vsw_frame.specs.declared.push.Outer.{Outer}
 
 -- bytes of a TCP or UDP header without options
 abbrev pub ports_len : ℕ → ℕ
@@ -40,3 +42,14 @@ abbrev pub AreEncaps : List Header → Type 0
 AreEncaps [] = Unit {0}
 AreEncaps (Ether d s k ∷ Ip a b p f ∷ Vxlan vni ∷ hs) = (vni < 2 ^ 24) × AreEncaps hs
 AreEncaps hs = ⊥
+
+-- what is edited of the packet that headers begin with
+abbrev pub ends_of : List Header → Option Ends
+ends_of (Ip a b p f ∷ Ports proto x y ∷ hs) = Some (record { at = record { src = a; dst = b; src_port = x; dst_port = y }; over = Some proto })
+ends_of (Ip a b p f ∷ hs) = Some (record { at = record { src = a; dst = b; src_port = 0; dst_port = 0 }; over = None })
+ends_of hs = None
+
+-- the encapsulation that headers begin with
+abbrev pub outer_of : List Header → Option Outer
+outer_of (Ether d s k ∷ Ip a b p f ∷ Vxlan v ∷ hs) = Some (record { dst = d; src = s; src_ip = a; dst_ip = b; vni = v })
+outer_of hs = None

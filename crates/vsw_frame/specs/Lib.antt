@@ -5,3 +5,5 @@ pub mod Ends
 pub mod Bytes
 pub mod Vectors
 pub mod Layout
+pub mod Levels
+pub mod Read

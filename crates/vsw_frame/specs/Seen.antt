@@ -10,6 +10,7 @@ use Rattle.vsw_frame.specs.declared.opened.Opened.{Opened}
 use Rattle.vsw_frame.specs.declared.opened.Inner.{Inner}
 use Rattle.vsw_frame.specs.declared.found.Found.{Found}
 use Rattle.vsw_frame.specs.declared.frame.Level.{Level}
+use Rattle.vsw_frame.specs.Levels.{level_fields, more_levels}
 use Rattle.vsw_base.specs.declared.header.Header.{Header}
 use Rattle.vsw_base.specs.Shape.{is_plain, is_encap}
 
@@ -28,17 +29,6 @@ opened_fields o = record { front = o.front; trailer = o.trailer.now; end = end_f
 abbrev pub opened_seen : Result Opened BadFrame → Result frame.Opened BadFrame
 opened_seen (Ok o) = Ok (opened_fields o)
 opened_seen (Err e) = Err e
-
-abbrev pub level_fields : Level → frame.Level
-level_fields l = record { bytes = l.bytes.now; trailer = l.trailer.now; slack = l.slack.now }
-
-abbrev pub more_levels : Option Level → List frame.Level
-more_levels None = []
-more_levels (Some l) = level_fields l ∷ []
-
--- levels, outermost first
-abbrev pub levels_in : Level → Option Level → Option Level → List frame.Level
-levels_in first second third = level_fields first ∷ (more_levels second ++ more_levels third)
 
 -- what was found in a frame
 abbrev pub found_parts : Found → frame.Parts

@@ -4,7 +4,8 @@ ghost use Rattle.std.specs.Prelude.{◌≡◌, ◌≤◌, ◌<◌, ◌^◌, ◌+
 ghost use Rattle.vsw_base.specs.Shape.{is_plain, is_encap};
 ghost use Rattle.vsw_base.specs.declared.header.Header.TheVariants.{Vxlan};
 ghost use Rattle.vsw_base.specs.Frame.{frame_in, plain_parts, encap_parts, ports, control_in, payload_in, slack_in};
-ghost use Rattle.vsw_frame.specs.Seen.{end_fields, opened_fields, found_parts, found_seen, level_fields, Finds};
+ghost use Rattle.vsw_frame.specs.Levels.{level_fields};
+ghost use Rattle.vsw_frame.specs.Seen.{end_fields, opened_fields, found_parts, found_seen, Finds};
 
 use crate::frame::Level;
 use crate::opened::{End, Inner, Opened, look_within, read_headers};

@@ -1,6 +1,7 @@
 //! A frame that was read.
 
-ghost use Rattle.std.specs.Prelude.{◌≡◌};
+ghost use Rattle.std.specs.Prelude.{◌≡◌, ◌≤◌};
+ghost use Rattle.vsw_frame.specs.Read.{IsRead};
 
 use vsw_base::{Control, Sizes, Stack};
 
@@ -16,6 +17,14 @@ pub struct Level<'a> {
     pub slack: &'a [u8],
 }
 
+/// What is left of a frame once encapsulations went, outermost level first.
+#[derive(Clone, Copy, Debug)]
+pub(crate) struct Levels<'a> {
+    pub first: Level<'a>,
+    pub second: Option<Level<'a>>,
+    pub third: Option<Level<'a>>,
+}
+
 /// A frame that was read. It borrows the frame's bytes.
 #[derive(Drop)]
 pub struct Frame<'a> {
@@ -27,6 +36,7 @@ pub struct Frame<'a> {
     pub(crate) second: Option<Level<'a>>,
     pub(crate) third: Option<Level<'a>>,
     pub(crate) payload: &'a [u8],
+    ghost read: { ∥ IsRead stack control first second third payload.now ∥₁ },
 }
 
 impl<'a> Frame<'a> {

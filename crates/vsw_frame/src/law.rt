@@ -14,3 +14,4 @@ fn definition()
     ensures encapsulated { WritesEncapsulated }
     ensures answer { WritesAnswer }
 {}
+

@@ -5,6 +5,7 @@ mod change;
 mod found;
 mod frame;
 mod law;
+mod levels;
 mod opened;
 mod push;
 mod read;

@@ -1,6 +1,6 @@
 //! Reading whole frames.
 
-ghost use Rattle.std.specs.Prelude.{◌≡◌, ◌≤◌, IfOk, OnOk, IsTrue, length};
+ghost use Rattle.std.specs.Prelude.{◌≡◌, ◌≤◌, Ok, IfOk, OnOk, IsTrue, length};
 ghost use Rattle.vsw_base.specs.Frame.{frame_of};
 ghost use Rattle.vsw_frame.specs.Frame.{parts, seen, IsOf};
 ghost use Rattle.vsw_frame.specs.Seen.{Finds, IsShort, found_parts, size_of};
@@ -29,7 +29,7 @@ fn size(level: &Option<Level<'_>>) -> u32
 #[tactic(auto, using(crate::proofs::Finds::sizes_are, crate::proofs::Within::within_stack, crate::proofs::Finds::shorter))]
 fn framed<'a>(bytes: &'a [u8], found: &Found<'a>) -> Frame<'a>
     requires finds { Finds 2 bytes.now found.now }
-    requires short { length bytes.now ≤ 65600 }
+    requires read { frame_of bytes.now ≡ Ok (found_parts found.now) }
     ensures same { parts result ≡ found_parts found.now }
     ensures of { IsOf bytes.now result }
 {

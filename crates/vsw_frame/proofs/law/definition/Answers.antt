@@ -1,3 +1,4 @@
+use Rattle.vsw_frame.proofs.Laid.{levels_laid}
 use Rattle.vsw_frame.proofs.Written.{writes_encapsulated, writes_answer}
 use Rattle.vsw_frame.proofs.law.definition.Goals as goal
 

@@ -1,0 +1,13 @@
+-- What is known of a frame that was read.
+use Rattle.std.specs.Prelude.{◌≡◌, List, Option, None, Result, Ok}
+use Rattle.vsw_base.specs.declared.header.Header.{Header}
+use Rattle.vsw_base.specs.declared.packet.Control.{Control}
+use Rattle.vsw_base.specs.Frame.{frame_of}
+use Rattle.vsw_frame.specs.Levels.{levels_in}
+use Rattle.vsw_frame.specs.declared.frame.Level.{Level}
+use Rattle.std.specs.Prelude.{ℕ}
+
+-- the parts are what the first level's bytes say, and no level is left out
+pub record IsRead (stack : List Header) (control : Control) (first : Level) (second third : Option Level) (payload : List ℕ) : Type 0 where
+  pub parts : frame_of first.bytes.now ≡ Ok (record { stack = stack; control = control; levels = levels_in first second third; payload = payload })
+  pub in_order : second ≡ None → third ≡ None

@@ -11,3 +11,16 @@ pub mod Cases
 pub mod Laid
 pub mod Opens
 pub mod Kept
+pub mod Inverted
+pub mod Rewritten
+pub mod RewrittenEnds
+pub mod Openings
+pub mod KeptRead
+pub mod KeptEncap
+pub mod Likes
+pub mod RewrittenFrame
+pub mod PushedRead
+pub mod Around
+pub mod TripKept
+pub mod TripPushed
+pub mod Trip

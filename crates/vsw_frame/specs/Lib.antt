@@ -7,3 +7,4 @@ pub mod Vectors
 pub mod Layout
 pub mod Levels
 pub mod Read
+pub mod RoundTrip

@@ -18,6 +18,8 @@ pub mod Openings
 pub mod KeptRead
 pub mod KeptEncap
 pub mod Likes
+pub mod InnerCases
+pub mod RewrittenPacket
 pub mod RewrittenFrame
 pub mod PushedRead
 pub mod Around

@@ -26,3 +26,5 @@ pub mod Around
 pub mod TripKept
 pub mod TripPushed
 pub mod Trip
+pub mod Edits
+pub mod Fitting

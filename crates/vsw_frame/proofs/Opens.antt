@@ -56,7 +56,7 @@ short_is n h = grind (arith, common_steps)
 pub known : (stack : List Header) (control : Control) (l : Levels) (payload : List ℕ) → ∥ IsRead stack control l.first l.second l.third payload ∥₁ → Known stack l
 known stack control l payload t =
     ∥∥₁_elim t (known_prop stack l) (λ r.
-        let p : frame.Parts = record { stack = stack; control = control; levels = levels_of l; payload = payload } in
-        let a : LevelsAre l.first.bytes.now p = levels_laid l.first.bytes.now p r.parts in
-        let x : Known stack l = record { order = in_order l.second l.third r.in_order; laid = a.laid; short = short_is (length l.first.bytes.now) (read_in l.first.bytes.now p r.parts).0; count = a.count } in
-        x)
+    let p : frame.Parts = record { stack = stack; control = control; levels = levels_of l; payload = payload } in
+    let a : LevelsAre l.first.bytes.now p = levels_laid l.first.bytes.now p r.parts in
+    let x : Known stack l = record { order = in_order l.second l.third r.in_order; laid = a.laid; short = short_is (length l.first.bytes.now) (read_in l.first.bytes.now p r.parts).0; count = a.count } in
+    x)

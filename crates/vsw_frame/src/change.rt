@@ -8,8 +8,6 @@ ghost use Rattle.vsw_frame.specs.Levels.{levels_of, Stand};
 ghost use Rattle.vsw_ipv4.specs.Change.{ip_changed};
 ghost use Rattle.vsw_frame.specs.Layout.{HasPacket, HasFrame, AreLaid, ports_len, ends_of};
 
-
-
 use crate::frame::Levels;
 use crate::levels::within;
 use vsw_base::Header;
@@ -40,7 +38,10 @@ fn is_same(header: &Header, other: &Header) -> bool
         ) => dst == to_dst && src == to_src && kind == to_kind,
         (
             Header::Ip {
-                src, dst, proto, ..
+                src,
+                dst,
+                proto,
+                ..
             },
             Header::Ip {
                 src: to_src,
@@ -107,7 +108,7 @@ fn read_ends(headers: &[Header]) -> Option<Ends>
                 src: src_port,
                 dst: dst_port,
             },
-            ..,
+            ..
         ] => Some(Ends {
             at: Endpoints {
                 src: *src,

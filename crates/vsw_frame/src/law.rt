@@ -11,12 +11,3 @@ pub fn laws()
     ensures round_trip { RoundTrip }
     ensures deeper { ReadsDeeper }
 {}
-
-ghost use Rattle.vsw_frame.specs.Vectors.{WritesEncapsulated, WritesAnswer};
-
-/// The definition of outgoing bytes, evaluated.
-fn definition()
-    ensures encapsulated { WritesEncapsulated }
-    ensures answer { WritesAnswer }
-{}
-

@@ -11,7 +11,11 @@ mod push;
 mod read;
 #[cfg(test)]
 mod tests;
+mod writing;
+#[cfg(test)]
+mod writing_tests;
 
 pub use frame::{Frame, Level};
 pub use law::laws;
 pub use read::read_frame;
+pub use writing::rewrite;

@@ -48,7 +48,7 @@ fn outermost(headers: &[Header]) -> Option<Outer>
                 ..
             },
             Header::Vxlan { vni },
-            ..,
+            ..
         ] => Some(Outer {
             dst: *dst,
             src: *src,
@@ -87,7 +87,7 @@ fn write_encap(out: &mut [u8], port: u16, outer: &Outer)
 pub fn write_encaps(out: &mut [u8], port: u16, headers: &[Header])
     requires whole { AreEncaps headers.now }
     requires room { 50 * encaps headers.now ≤ length out.old }
-    requires fits { length out.old ≤ 65549 }
+    requires fits { 0 < encaps headers.now → length out.old ≤ 65549 }
     ensures { out.new ≡ pushed port headers.now (drop (50 * encaps headers.now) out.old) }
 {
     let Some(outer) = outermost(headers) else {

@@ -5,7 +5,7 @@ use std::process::Abort;
 use vsw_base::{BadFrame, Control, Header, Ip4, Mac, Sizes};
 
 /// "hi" over UDP from port 1234 of 10.0.0.5 to port 53 of 10.0.0.9.
-const PLAIN: [u8; 44] = [
+pub const PLAIN: [u8; 44] = [
     // Ethernet
     0x02, 0x00, 0x00, 0x00, 0x00, 0x99, 0x02, 0x00, 0x00, 0x00, 0x00, 0x01, 0x08, 0x00,
     // IPv4, 30 bytes
@@ -15,7 +15,7 @@ const PLAIN: [u8; 44] = [
 ];
 
 /// A datagram from port 40000 of 192.0.2.7 to port 53 of 10.0.0.9, in network 5001.
-const ENCAP: [u8; 94] = [
+pub const ENCAP: [u8; 94] = [
     // Ethernet
     0x02, 0x00, 0x00, 0x00, 0x0a, 0x02, 0x02, 0x00, 0x00, 0x00, 0x0a, 0x01, 0x08, 0x00,
     // IPv4, 80 bytes

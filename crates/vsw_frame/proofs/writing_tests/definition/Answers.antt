@@ -1,6 +1,5 @@
-use Rattle.vsw_frame.proofs.Laid.{levels_laid}
 use Rattle.vsw_frame.proofs.Written.{writes_encapsulated, writes_answer}
-use Rattle.vsw_frame.proofs.law.definition.Goals as goal
+use Rattle.vsw_frame.proofs.writing_tests.definition.Goals as goal
 
 pub returns-clause-encapsulated : goal.returns-clause-encapsulated
 returns-clause-encapsulated c = writes_encapsulated

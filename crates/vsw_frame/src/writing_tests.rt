@@ -1,0 +1,364 @@
+//! Frames that were rewritten by another program, and decoded by tcpdump.
+
+ghost use Rattle.std.specs.Prelude.{◌≡◌, ◌≤◌, ◌<◌, length};
+ghost use Rattle.vsw_frame.specs.Vectors.{WritesEncapsulated, WritesAnswer};
+
+use crate::tests::{ENCAP, PLAIN};
+use crate::{read_frame, rewrite};
+use std::process::Abort;
+use vsw_base::{Header, Ip4, Long, Mac};
+use vsw_transpose::{Act, Change, Transposition};
+
+/// Bytes that `rewrite` asks for.
+const ROOM: usize = 65_700;
+
+/// What stands in them before.
+const OLD: u8 = 0xee;
+
+/// The answer to the datagram of `ENCAP`, as it comes in.
+const ANSWER: [u8; 94] = [
+    // Ethernet
+    0x02, 0x00, 0x00, 0x00, 0x0a, 0x01, 0x02, 0x00, 0x00, 0x00, 0x0a, 0x02, 0x08, 0x00,
+    // IPv4, 80 bytes
+    0x45, 0x00, 0x00, 0x50, 0x00, 0x00, 0x40, 0x00, 0x40, 0x11, 0xe2, 0x79, 0xac, 0x10, 0x00, 0x02,
+    0xac, 0x10, 0x00, 0x01,
+    // UDP, 60 bytes, and VXLAN
+    0xf5, 0x30, 0x12, 0xb5, 0x00, 0x3c, 0x00, 0x00, 0x08, 0x00, 0x00, 0x00, 0x00, 0x13, 0x89, 0x00,
+    // Ethernet
+    0x02, 0x00, 0x00, 0x00, 0x00, 0x01, 0x02, 0x00, 0x00, 0x00, 0x00, 0x99, 0x08, 0x00,
+    // IPv4, 30 bytes
+    0x45, 0x00, 0x00, 0x1e, 0x00, 0x00, 0x40, 0x00, 0x40, 0x11, 0x6e, 0xbf, 0x0a, 0x00, 0x00, 0x09,
+    0xc0, 0x00, 0x02, 0x07,
+    // UDP, 10 bytes
+    0x00, 0x35, 0x9c, 0x40, 0x00, 0x0a, 0x2e, 0xeb, 0x68, 0x69,
+];
+
+/// The answer to the datagram of `PLAIN`.
+const ANSWER_IN: [u8; 44] = [
+    // Ethernet
+    0x02, 0x00, 0x00, 0x00, 0x00, 0x01, 0x02, 0x00, 0x00, 0x00, 0x00, 0x99, 0x08, 0x00,
+    // IPv4, 30 bytes
+    0x45, 0x00, 0x00, 0x1e, 0x00, 0x00, 0x40, 0x00, 0x40, 0x11, 0x26, 0xc2, 0x0a, 0x00, 0x00, 0x09,
+    0x0a, 0x00, 0x00, 0x05,
+    // UDP, 10 bytes
+    0x00, 0x35, 0x04, 0xd2, 0x00, 0x0a, 0x7e, 0x5c, 0x68, 0x69,
+];
+
+/// "hello" over TCP from port 1234 of 10.0.0.5 to port 80 of 10.0.0.9.
+const TCP: [u8; 59] = [
+    // Ethernet
+    0x02, 0x00, 0x00, 0x00, 0x00, 0x99, 0x02, 0x00, 0x00, 0x00, 0x00, 0x01, 0x08, 0x00,
+    // IPv4, 45 bytes
+    0x45, 0x00, 0x00, 0x2d, 0x00, 0x00, 0x40, 0x00, 0x40, 0x06, 0x26, 0xbe, 0x0a, 0x00, 0x00, 0x05,
+    0x0a, 0x00, 0x00, 0x09,
+    // TCP
+    0x04, 0xd2, 0x00, 0x50, 0x00, 0x00, 0x00, 0x01, 0x00, 0x00, 0x00, 0x01, 0x50, 0x18, 0xff, 0xff,
+    0x52, 0xc4, 0x00, 0x00,
+    // "hello"
+    0x68, 0x65, 0x6c, 0x6c, 0x6f,
+];
+
+/// "abc" over UDP, with four bytes of IPv4 options.
+const OPTIONS: [u8; 49] = [
+    // Ethernet
+    0x02, 0x00, 0x00, 0x00, 0x00, 0x99, 0x02, 0x00, 0x00, 0x00, 0x00, 0x01, 0x08, 0x00,
+    // IPv4, 35 bytes
+    0x46, 0x00, 0x00, 0x23, 0x00, 0x00, 0x40, 0x00, 0x40, 0x11, 0x23, 0xbb, 0x0a, 0x00, 0x00, 0x05,
+    0x0a, 0x00, 0x00, 0x09, 0x01, 0x01, 0x01, 0x01,
+    // UDP, 11 bytes
+    0x04, 0xd2, 0x00, 0x35, 0x00, 0x0b, 0x22, 0x61, 0x61, 0x62, 0x63,
+];
+
+/// The datagram of `PLAIN` in network 5001, with a UDP checksum outside, and with bytes that no length covers
+/// at each level.
+const ENDS: [u8; 102] = [
+    // Ethernet
+    0x02, 0x00, 0x00, 0x00, 0x0a, 0x02, 0x02, 0x00, 0x00, 0x00, 0x0a, 0x01, 0x08, 0x00,
+    // IPv4, 86 bytes
+    0x45, 0x00, 0x00, 0x56, 0x00, 0x00, 0x40, 0x00, 0x40, 0x11, 0xe2, 0x73, 0xac, 0x10, 0x00, 0x01,
+    0xac, 0x10, 0x00, 0x02,
+    // UDP, 64 bytes, and VXLAN
+    0xc0, 0x00, 0x12, 0xb5, 0x00, 0x40, 0xbe, 0xef, 0x08, 0x00, 0x00, 0x00, 0x00, 0x13, 0x89, 0x00,
+    // Ethernet
+    0x02, 0x00, 0x00, 0x00, 0x00, 0x99, 0x02, 0x00, 0x00, 0x00, 0x00, 0x01, 0x08, 0x00,
+    // IPv4, 32 bytes
+    0x45, 0x00, 0x00, 0x20, 0x00, 0x00, 0x40, 0x00, 0x40, 0x11, 0x26, 0xc0, 0x0a, 0x00, 0x00, 0x05,
+    0x0a, 0x00, 0x00, 0x09,
+    // UDP, 10 bytes
+    0x04, 0xd2, 0x00, 0x35, 0x00, 0x0a, 0x7e, 0x5c, 0x68, 0x69,
+    // slack and trailer inside, slack and trailer outside
+    0x73, 0x6c, 0x74, 0x72, 0x53, 0x4c, 0x54, 0x52,
+];
+
+/// The definition of outgoing bytes, evaluated on frames that were rewritten by hand.
+fn definition()
+    ensures encapsulated { WritesEncapsulated }
+    ensures answer { WritesAnswer }
+{}
+
+#[test]
+fn the_definition_writes_frames(_rt: HostRuntime) {
+    definition();
+}
+
+fn encap() -> [Act; 3] {
+    [
+        Act::Push(Header::Ether {
+            dst: Mac::of(0x0200_0000_0a02),
+            src: Mac::of(0x0200_0000_0a01),
+            kind: 0x0800,
+        }),
+        Act::Push(Header::Ip {
+            src: Ip4::of(0xac10_0001),
+            dst: Ip4::of(0xac10_0002),
+            proto: 17,
+            part: false,
+        }),
+        Act::Push(Header::Vxlan { vni: 5001 }),
+    ]
+}
+
+/// The source becomes port 40000 of 192.0.2.7.
+fn translation() -> [Act; 3] {
+    [
+        Act::Ignore,
+        Act::Modify(Change::Ip {
+            src: Some(Ip4::of(0xc000_0207)),
+            dst: None,
+        }),
+        Act::Modify(Change::Ports {
+            src: Some(40_000),
+            dst: None,
+        }),
+    ]
+}
+
+/// Rewrites a frame by these acts.
+fn written(rt: &impl Abort, bytes: &[u8], acts: &[Act], out: &mut [u8]) -> Result<usize, Long>
+    requires { 65700 ≤ length out.old }
+{
+    let by = Transposition::of(acts).expect(rt, "the acts are of the form");
+    match read_frame(bytes) {
+        Ok(frame) => {
+            assert!(rt; by.fits(frame.stack()));
+            rewrite(&frame, &by, out)
+        }
+        Err(fault) => panic!(rt; "it is no frame: {}", fault.name()),
+    }
+}
+
+/// A frame becomes these bytes, and what stands behind them is left.
+fn becomes(rt: &impl Abort, bytes: &[u8], acts: &[Act], expected: &[u8]) {
+    let mut out = [OLD; ROOM];
+    let result = written(rt, bytes, acts, &mut out);
+    assert_eq!(rt; result, Ok(expected.len()));
+    assert!(rt; expected.len() < ROOM);
+    assert_eq!(rt; &out[..expected.len()], expected);
+    assert_eq!(rt; out[expected.len()], OLD);
+}
+
+#[test]
+fn a_translated_query_leaves_in_a_network(rt: HostRuntime) {
+    let [a, b, c] = encap();
+    let [d, e, f] = translation();
+    becomes(&rt, &PLAIN, &[a, b, c, d, e, f], &ENCAP);
+}
+
+#[test]
+fn an_answer_is_translated_back(rt: HostRuntime) {
+    let acts = [
+        Act::Pop,
+        Act::Pop,
+        Act::Pop,
+        Act::Ignore,
+        Act::Modify(Change::Ip {
+            src: None,
+            dst: Some(Ip4::of(0x0a00_0005)),
+        }),
+        Act::Modify(Change::Ports {
+            src: None,
+            dst: Some(1234),
+        }),
+    ];
+    becomes(&rt, &ANSWER, &acts, &ANSWER_IN);
+}
+
+#[test]
+fn a_frame_in_two_networks_has_one_source_port(rt: HostRuntime) {
+    let [a, b, c] = encap();
+    let [d, e, f] = translation();
+    let acts = [
+        Act::Push(Header::Ether {
+            dst: Mac::of(0x0200_0000_0b02),
+            src: Mac::of(0x0200_0000_0b01),
+            kind: 0x0800,
+        }),
+        Act::Push(Header::Ip {
+            src: Ip4::of(0xac11_0001),
+            dst: Ip4::of(0xac11_0002),
+            proto: 17,
+            part: false,
+        }),
+        Act::Push(Header::Vxlan { vni: 7 }),
+        a,
+        b,
+        c,
+        d,
+        e,
+        f,
+    ];
+    let mut expected = [0; 144];
+    expected[..50].copy_from_slice(&[
+        0x02, 0x00, 0x00, 0x00, 0x0b, 0x02, 0x02, 0x00, 0x00, 0x00, 0x0b, 0x01, 0x08, 0x00, 0x45,
+        0x00, 0x00, 0x82, 0x00, 0x00, 0x40, 0x00, 0x40, 0x11, 0xe2, 0x45, 0xac, 0x11, 0x00, 0x01,
+        0xac, 0x11, 0x00, 0x02, 0xf5, 0x30, 0x12, 0xb5, 0x00, 0x6e, 0x00, 0x00, 0x08, 0x00, 0x00,
+        0x00, 0x00, 0x00, 0x07, 0x00,
+    ]);
+    expected[50..].copy_from_slice(&ENCAP);
+    becomes(&rt, &PLAIN, &acts, &expected);
+}
+
+#[test]
+fn tcp_keeps_a_right_checksum(rt: HostRuntime) {
+    let mut expected = TCP;
+    expected[24..30].copy_from_slice(&[0x6e, 0xbb, 0xc0, 0x00, 0x02, 0x07]);
+    expected[34..36].copy_from_slice(&[0x9c, 0x40]);
+    expected[50..52].copy_from_slice(&[0x03, 0x53]);
+    becomes(&rt, &TCP, &translation(), &expected);
+}
+
+#[test]
+fn an_odd_payload_behind_options_keeps_a_right_checksum(rt: HostRuntime) {
+    let mut expected = OPTIONS;
+    expected[24..30].copy_from_slice(&[0x6b, 0xb8, 0xc0, 0x00, 0x02, 0x07]);
+    expected[38..40].copy_from_slice(&[0x9c, 0x40]);
+    expected[44..46].copy_from_slice(&[0xd2, 0xef]);
+    becomes(&rt, &OPTIONS, &translation(), &expected);
+}
+
+/// `PLAIN` with this UDP checksum and this payload.
+fn datagram(checksum: [u8; 2], payload: [u8; 2]) -> [u8; 44] {
+    let mut bytes = PLAIN;
+    bytes[40..42].copy_from_slice(&checksum);
+    bytes[42..].copy_from_slice(&payload);
+    bytes
+}
+
+/// It, translated.
+fn translated(checksum: [u8; 2], payload: [u8; 2]) -> [u8; 44] {
+    let mut bytes = datagram(checksum, payload);
+    bytes[24..30].copy_from_slice(&[0x6e, 0xbf, 0xc0, 0x00, 0x02, 0x07]);
+    bytes[34..36].copy_from_slice(&[0x9c, 0x40]);
+    bytes
+}
+
+#[test]
+fn udp_checksums_of_zero(rt: HostRuntime) {
+    // none stays none
+    let (bytes, expected) = (datagram([0, 0], *b"hi"), translated([0, 0], *b"hi"));
+    becomes(&rt, &bytes, &translation(), &expected);
+    // one that is 0 is written as 0xffff
+    let (bytes, expected) = (
+        datagram([0x4f, 0x71], [0x97, 0x54]),
+        translated([0xff, 0xff], [0x97, 0x54]),
+    );
+    becomes(&rt, &bytes, &translation(), &expected);
+}
+
+#[test]
+fn the_payload_of_a_fragment_stays(rt: HostRuntime) {
+    // more fragments follow
+    let mut bytes = PLAIN;
+    bytes[20] = 0x20;
+    bytes[24] = 0x46;
+    let mut expected = bytes;
+    expected[24..30].copy_from_slice(&[0x8e, 0xbf, 0xc0, 0x00, 0x02, 0x07]);
+    let [a, b, _] = translation();
+    becomes(&rt, &bytes, &[a, b], &expected);
+}
+
+/// The acts for `ENDS` that leave its encapsulation as it is.
+fn kept(inner: [Act; 3]) -> [Act; 6] {
+    let [a, b, c] = inner;
+    [Act::Ignore, Act::Ignore, Act::Ignore, a, b, c]
+}
+
+#[test]
+fn a_kept_encapsulation_loses_its_checksum_alone(rt: HostRuntime) {
+    let mut expected = ENDS;
+    expected[40..42].copy_from_slice(&[0, 0]);
+    expected[74..80].copy_from_slice(&[0x6e, 0xbd, 0xc0, 0x00, 0x02, 0x07]);
+    expected[84..86].copy_from_slice(&[0x9c, 0x40]);
+    expected[90..92].copy_from_slice(&[0x2e, 0xeb]);
+    becomes(&rt, &ENDS, &kept(translation()), &expected);
+}
+
+#[test]
+fn an_address_of_ethernet_is_in_no_inner_checksum(rt: HostRuntime) {
+    let acts = [
+        Act::Modify(Change::Ether {
+            dst: Some(Mac::of(0x0200_0000_0077)),
+            src: None,
+        }),
+        Act::Ignore,
+        Act::Ignore,
+    ];
+    let mut expected = ENDS;
+    expected[40..42].copy_from_slice(&[0, 0]);
+    expected[55] = 0x77;
+    becomes(&rt, &ENDS, &kept(acts), &expected);
+}
+
+#[test]
+fn what_is_not_edited_stays(rt: HostRuntime) {
+    let same = [
+        Act::Ignore,
+        Act::Modify(Change::Ip {
+            src: Some(Ip4::of(0x0a00_0005)),
+            dst: None,
+        }),
+        Act::Ignore,
+    ];
+    becomes(&rt, &ENDS, &kept(same), &ENDS);
+}
+
+#[test]
+fn a_dropped_encapsulation_goes_with_what_surrounds_its_frame(rt: HostRuntime) {
+    let acts = [
+        Act::Pop,
+        Act::Pop,
+        Act::Pop,
+        Act::Ignore,
+        Act::Ignore,
+        Act::Ignore,
+    ];
+    becomes(&rt, &ENDS, &acts, &ENDS[50..98]);
+}
+
+/// A frame of this IPv4 length, of a protocol without ports.
+fn long(bytes: &mut [u8], total: u16)
+    requires { 34 ≤ length bytes.old }
+{
+    bytes[..34].copy_from_slice(&PLAIN[..34]);
+    let [high, low] = total.to_be_bytes();
+    bytes[16] = high;
+    bytes[17] = low;
+    bytes[23] = 47;
+}
+
+#[test]
+fn a_total_length_of_65536_is_long(rt: HostRuntime) {
+    let [a, b, c] = encap();
+    let acts = [a, b, c, Act::Ignore, Act::Ignore];
+    let mut bytes = [0; 65_500];
+    let mut out = [OLD; ROOM];
+    long(&mut bytes, 65_486);
+    let result = written(&rt, &bytes, &acts, &mut out);
+    assert_eq!(rt; result, Err(Long { total: 65_536 }));
+    assert!(rt; out == [OLD; ROOM]);
+    long(&mut bytes, 65_485);
+    let result = written(&rt, &bytes[..65_499], &acts, &mut out);
+    assert_eq!(rt; result, Ok(65_549));
+    assert_eq!(rt; &out[16..18], [0xff, 0xff].as_slice());
+    assert!(rt; out[50..65_549] == bytes[..65_499]);
+}

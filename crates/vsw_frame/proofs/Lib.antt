@@ -28,3 +28,9 @@ pub mod TripPushed
 pub mod Trip
 pub mod Edits
 pub mod Fitting
+pub mod SumsPushed
+pub mod SumsInner
+pub mod SumsEnds
+pub mod SumsFrame
+pub mod SumsLevels
+pub mod SumsTrip

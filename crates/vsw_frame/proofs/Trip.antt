@@ -50,7 +50,7 @@ deeper_by : (bytes : List ℕ) (o : Opened) → OpenedBy bytes o → SaysDeeper 
 deeper_by bytes o (inl x) = subst SaysDeeper (sym x.1.is) refl
 deeper_by bytes o (inr x) = subst SaysDeeper (sym x.3.is) (end_deeper x.0 x.1 x.2 (end_by x.1 x.2 x.3.ends))
 
-fit_drop : (n : ℕ) (hs : List Header) → AreFit hs → AreFit (drop n hs)
+pub fit_drop : (n : ℕ) (hs : List Header) → AreFit hs → AreFit (drop n hs)
 fit_drop zero hs f = f
 fit_drop (suc n) [] f = tt
 fit_drop (suc n) (h ∷ hs) f = fit_drop n hs f.1

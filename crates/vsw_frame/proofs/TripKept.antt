@@ -1,6 +1,7 @@
 -- Kept levels are read around the changed inner frame.
 use Rattle.std.proofs.Common.{◌≡◌, ℕ, zero, suc, ◌+◌, ◌-◌, ◌*◌, ◌≤◌, List, [], ◌∷◌, ◌++◌, take, drop, length, Option, Some, None, Result, Ok, Err, refl, sym, ◌∙◌, ap, subst, arith, length-append}
 use Rattle.std.proofs.lemmas.List.{drop-drop}
+use Rattle.std.proofs.Math.Seq.{drop-append_seam, take-append_seam}
 use Rattle.vsw_base.specs.declared.fault.BadFrame.{BadFrame}
 use Rattle.vsw_base.specs.declared.header.Header.{Header}
 use Rattle.vsw_base.specs.declared.header.Header.TheVariants.{Ether, Ip, Vxlan, Ports}
@@ -8,11 +9,14 @@ use Rattle.vsw_base.specs.Fits.{AreFit}
 use Rattle.vsw_base.specs.Shape.{encaps, inner}
 use Rattle.vsw_base.specs.Frame.{Level, Parts, Opened, control_in, encap_parts, frame_in, level_of, opened_of, payload_in, plain_parts, ports, size_at, slack_in, within}
 use Rattle.vsw_frame.specs.Bytes.{AreLike, differ, encap_kept, frame_changed, levels_changed}
+use Rattle.vsw_ipv4.specs.Right.{AreBytes}
 use Rattle.vsw_frame.specs.RoundTrip.{levels_kept}
+use Rattle.vsw_frame.specs.Sums.{innermost}
 use Rattle.vsw_frame.proofs.Around.{TwoInFront, around, around_none, around_twice, encap_step, none_plain, two_in_front}
 use Rattle.vsw_frame.proofs.Cases.{FrameCases, frame_cases}
 use Rattle.vsw_frame.proofs.KeptEncap.{EncapNew, KeptAs, encap_kept_read}
 use Rattle.vsw_frame.proofs.RewrittenFrame.{InnerNew, inner_read}
+use Rattle.vsw_frame.proofs.SumsInner.{bytes_dropped, bytes_taken}
 use Rattle.vsw_frame.proofs.Tiles.{inner_ends, opened_ends, vxlan_follows}
 
 abbrev pub written_level : Opened → List ℕ → Level
@@ -29,6 +33,8 @@ pub record KeptRead (k : ℕ) (bytes : List ℕ) (p : Parts) (from to : List Hea
   pub read : (m : ℕ) → frame_in (encaps p.stack - k + m) (levels_changed from to (drop k p.levels)) ≡ around (take (3 * (encaps p.stack - k)) (drop (3 * k) p.stack)) outer (frame_in m (frame_changed from to last))
   pub there : length (levels_changed from to (drop k p.levels)) ≡ size_at k p.levels
   pub short : size_at k p.levels ≤ length bytes
+  pub inmost : innermost p.levels ≡ last
+  pub are_bytes : AreBytes bytes → AreBytes last
 
 abbrev HasKept : ℕ → List ℕ → Parts → List Header → List Header → Type 0
 HasKept k bytes p from to = (last : List ℕ) × (o : Opened) × (outer : List Level) × KeptRead k bytes p from to last o outer
@@ -59,6 +65,8 @@ plain_kept bytes o zero from to h l e like fit =
             ap (λ (i : ℕ). frame_in i new) (omega (arith, none)) ∙ sym (around_none (frame_in m new)) ∙ ap (λ (i : ℕ). around (take (3 * (i - 0)) hs) [] (frame_in m new)) (sym none);
         there = ap (λ (x : List Header). length (frame_changed x to bytes)) all ∙ n.1.there;
         short = omega arith;
+        inmost = refl;
+        are_bytes = λ are. are;
       },
     )
 
@@ -72,6 +80,17 @@ inner_short bytes o v inside h w =
     let ends = slack_in o.end ++ o.trailer in
     let f = inner_ends bytes (payload_in o.end) inside ends (opened_ends bytes o h) (vxlan_follows o.end v inside w) in
     omega (arith, ap length f.1, length-append f.0 (inside ++ ends), length-append inside ends)
+
+inner_bytes : (bytes : List ℕ) (o : Opened) (v : ℕ) (inside : List ℕ) → opened_of bytes ≡ Ok o → within o.end ≡ Some (v, inside) → AreBytes bytes → AreBytes inside
+inner_bytes bytes o v inside h w are =
+    let ends = slack_in o.end ++ o.trailer in
+    let f = inner_ends bytes (payload_in o.end) inside ends (opened_ends bytes o h) (vxlan_follows o.end v inside w) in
+    let cut : take (length inside) (drop (length f.0) bytes) ≡ inside = ap (λ (x : List ℕ). take (length inside) (drop (length f.0) x)) f.1 ∙ ap (take (length inside)) (drop-append_seam f.0 (inside ++ ends)) ∙ take-append_seam inside ends in
+    subst AreBytes cut (bytes_taken (length inside) (drop (length f.0) bytes) (bytes_dropped (length f.0) bytes are))
+
+innermost_more : (l : Level) (ls : List Level) → 1 ≤ length ls → innermost (l ∷ ls) ≡ innermost ls
+innermost_more l [] h = absurd (omega (arith, h))
+innermost_more l (m ∷ ls) h = refl
 
 inner_of : (o : Opened) (v : ℕ) (hs : List Header) → TwoInFront o v → inner (o.front ++ Vxlan v ∷ hs) ≡ inner hs
 inner_of o v hs two =
@@ -120,12 +139,14 @@ front_kept bytes o v inside p from to h w whole some ih =
             ∙ ap (λ (x : List Header). around x (written_level o other ∷ outer) r) (sym (two.before p.stack (3 * (encaps p.stack - 0))) ∙ ap (λ (i : ℕ). take i stack) (omega (arith, two.count p.stack)));
         there = ap length e ∙ n.there;
         short = omega arith;
+        inmost = innermost_more l p.levels some ∙ a.inmost;
+        are_bytes = λ are. a.are_bytes (inner_bytes bytes o v inside h w are);
       },
     )
 
 -- a level that is dropped
-dropped_kept : (k : ℕ) (bytes : List ℕ) (o : Opened) (v : ℕ) (inside : List ℕ) (p : Parts) (from to : List Header) → opened_of bytes ≡ Ok o → within o.end ≡ Some (v, inside) → HasKept k inside p from to → HasKept (suc k) bytes (encap_parts bytes o v p) from to
-dropped_kept k bytes o v inside p from to h w ih =
+dropped_kept : (k : ℕ) (bytes : List ℕ) (o : Opened) (v : ℕ) (inside : List ℕ) (p : Parts) (from to : List Header) → opened_of bytes ≡ Ok o → within o.end ≡ Some (v, inside) → 1 ≤ length p.levels → HasKept k inside p from to → HasKept (suc k) bytes (encap_parts bytes o v p) from to
+dropped_kept k bytes o v inside p from to h w some ih =
     let last = ih.0 in
     let a = ih.3 in
     let outer = ih.2 in
@@ -148,6 +169,8 @@ dropped_kept k bytes o v inside p from to h w ih =
             ap (λ (i : ℕ). frame_in (i + m) bytes') count ∙ a.read m ∙ ap (λ (hs : List Header). around (take (3 * (encaps p.stack - k)) hs) outer r) (sym behind) ∙ ap (λ (i : ℕ). around (take (3 * i) (drop (3 * suc k) stack)) outer r) (sym count);
         there = a.there;
         short = omega (arith, a.short, inner_short bytes o v inside h w);
+        inmost = innermost_more (level_of bytes o) p.levels some ∙ a.inmost;
+        are_bytes = λ are. a.are_bytes (inner_bytes bytes o v inside h w are);
       },
     )
 
@@ -156,7 +179,7 @@ encap_kept_at zero bytes o v inside p from to h w ih l e like fit =
     front_kept bytes o v inside p from to h w ih.whole ih.some (ih.kept 0 from to (omega arith) (e ∙ inner_of o v p.stack (two_in_front bytes o v inside h w)) like fit)
 encap_kept_at (suc k) bytes o v inside p from to h w ih l e like fit =
     let two = two_in_front bytes o v inside h w in
-    dropped_kept k bytes o v inside p from to h w (ih.kept k from to (omega (arith, l, two.count p.stack)) (e ∙ inner_of o v p.stack two) like fit)
+    dropped_kept k bytes o v inside p from to h w ih.some (ih.kept k from to (omega (arith, l, two.count p.stack)) (e ∙ inner_of o v p.stack two) like fit)
 
 pub levels_read : (n : ℕ) (bytes : List ℕ) (p : Parts) → frame_in n bytes ≡ Ok p → IsKept bytes p
 levels_read n bytes p h =

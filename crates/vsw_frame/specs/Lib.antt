@@ -8,3 +8,4 @@ pub mod Layout
 pub mod Levels
 pub mod Read
 pub mod RoundTrip
+pub mod Sums

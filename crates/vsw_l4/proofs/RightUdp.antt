@@ -2,12 +2,13 @@
 use Rattle.std.proofs.Common.{◌≡◌, ℕ, zero, suc, ◌+◌, ◌*◌, ◌-◌, ◌/◌, ◌%◌, ◌<◌, ◌≤◌, ◌==◌, List, [], ◌∷◌, refl, sym, ◌∙◌, ap, arith, length, take, drop, if◌then◌else◌, Bool, true, false, length-take}
 use Rattle.std.proofs.lemmas.Grind.{common_steps}
 use Rattle.std.proofs.Math.Seq.{take-add}
+use Rattle.byteorder.specs.Endian.{big_number}
 use Rattle.vsw_base.specs.Udp.{udp_length}
 use Rattle.vsw_sum.specs.Sum.{AreWords, checksum, words_of}
 use Rattle.vsw_sum.specs.Update.{written}
 use Rattle.vsw_sum.proofs.Folds.{are_words}
 use Rattle.vsw_l4.specs.Change.{checksum_changed, udp_changed, udp_checksum_changed}
-use Rattle.vsw_l4.specs.Right.{AreBytes, IsChange, IsDatagram, UdpStaysRight, UdpStaysWithout, UdpStaysWrong, datagram, udp_checksum, udp_words}
+use Rattle.vsw_l4.specs.Right.{AreBytes, IsChange, IsDatagram, UdpStaysRight, UdpStaysWith, UdpStaysWithout, UdpStaysWrong, datagram, udp_checksum, udp_words}
 use Rattle.vsw_l4.specs.declared.change.Endpoints.{Endpoints}
 use Rattle.vsw_l4.proofs.Update.{ends_were, ends_written, words}
 use Rattle.vsw_l4.proofs.Right.{word_is, words_are}
@@ -92,3 +93,15 @@ udp_stays_wrong from to bytes h l some e =
 pub udp_stays_without : UdpStaysWithout
 udp_stays_without from to (b0 ∷ b1 ∷ b2 ∷ b3 ∷ b4 ∷ b5 ∷ b6 ∷ b7 ∷ rest) l e = grind (arith, common_steps, e)
 udp_stays_without from to bytes l e = absurd (omega (arith, l))
+
+some_new : (old new : ℕ) → (old ≡ 0 → ⊥) → new < 65536 → (if old == 0 then 0 else written new) / 256 % 256 * 256 + ((if old == 0 then 0 else written new) % 256 * 1 + 0) ≡ 0 → ⊥
+some_new old new h l e =
+    let u = updated old new h in
+    let w : written new < 65536 = written_fits false new l in
+    let some : 0 < written new = grind arith in
+    let f : written new / 256 % 256 * 256 + (written new % 256 * 1 + 0) ≡ 0 = rw u at e in
+    omega (arith, f, w, some)
+
+pub udp_stays_with : UdpStaysWith
+udp_stays_with from to (b0 ∷ b1 ∷ b2 ∷ b3 ∷ b4 ∷ b5 ∷ b6 ∷ b7 ∷ rest) l h e = some_new (big_number 2 (b6 ∷ b7 ∷ [])) (checksum_changed (big_number 2 (b6 ∷ b7 ∷ [])) from to) h (omega arith) e
+udp_stays_with from to bytes l h e = absurd (omega (arith, l))

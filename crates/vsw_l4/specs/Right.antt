@@ -78,3 +78,7 @@ UdpStaysWrong = (from to : Endpoints) (bytes : List ℕ) → IsChange from to by
 -- where there is no checksum, there is none
 abbrev pub UdpStaysWithout : Type 0
 UdpStaysWithout = (from to : Endpoints) (bytes : List ℕ) → 8 ≤ length bytes → udp_checksum bytes ≡ 0 → udp_checksum (udp_changed from to bytes) ≡ 0
+
+-- and where there is one, there is one
+abbrev pub UdpStaysWith : Type 0
+UdpStaysWith = (from to : Endpoints) (bytes : List ℕ) → 8 ≤ length bytes → udp_checksum bytes ≢ 0 → udp_checksum (udp_changed from to bytes) ≢ 0

@@ -1,11 +1,11 @@
 //! What holds of the headers' bytes.
 
-ghost use Rattle.vsw_l4.specs.Right.{TcpStaysRight, TcpStaysWrong, UdpStaysRight, UdpStaysWithout, UdpStaysWrong};
+ghost use Rattle.vsw_l4.specs.Right.{TcpStaysRight, TcpStaysWrong, UdpStaysRight, UdpStaysWith, UdpStaysWithout, UdpStaysWrong};
 ghost use Rattle.vsw_l4.specs.Vxlan.{ReadsUdpBack, ReadsVniBack};
 
 /// The readers give back what the writer was given. A checksum that is right for a segment and its
 /// endpoints is right for the new ones once they are changed; one that is wrong stays wrong; and a
-/// UDP checksum of 0 stays.
+/// UDP checksum of 0 stays, as no other does.
 pub fn laws()
     ensures udp { ReadsUdpBack }
     ensures vni { ReadsVniBack }
@@ -14,4 +14,5 @@ pub fn laws()
     ensures udp_right { UdpStaysRight }
     ensures udp_wrong { UdpStaysWrong }
     ensures udp_without { UdpStaysWithout }
+    ensures udp_with { UdpStaysWith }
 {}

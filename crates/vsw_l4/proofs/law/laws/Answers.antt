@@ -1,6 +1,6 @@
 use Rattle.vsw_l4.proofs.Back.{reads_udp_back, reads_vni_back}
 use Rattle.vsw_l4.proofs.Right.{tcp_stays_right, tcp_stays_wrong}
-use Rattle.vsw_l4.proofs.RightUdp.{udp_stays_right, udp_stays_without, udp_stays_wrong}
+use Rattle.vsw_l4.proofs.RightUdp.{udp_stays_right, udp_stays_with, udp_stays_without, udp_stays_wrong}
 use Rattle.vsw_l4.proofs.law.laws.Goals as goal
 
 pub returns-clause-udp : goal.returns-clause-udp
@@ -23,3 +23,6 @@ returns-clause-udp_wrong c = udp_stays_wrong
 
 pub returns-clause-udp_without : goal.returns-clause-udp_without
 returns-clause-udp_without c = udp_stays_without
+
+pub returns-clause-udp_with : goal.returns-clause-udp_with
+returns-clause-udp_with c = udp_stays_with

@@ -1,6 +1,5 @@
 -- What holds of all frames, by the cases of their definition.
-use Rattle.std.proofs.Common.{◌≡◌, ℕ, zero, suc, ◌==◌, nat_lt, List, [], ◌∷◌, Bool, true, false, cond, if◌then◌else◌, length, Option, Some, None, Result, Ok, Err, refl, sym, ◌∙◌, ap, subst, arith}
-use Rattle.std.proofs.lemmas.Bool.{cond-false}
+use Rattle.std.proofs.Common.{◌≡◌, ℕ, zero, suc, ◌==◌, nat_lt, List, [], ◌∷◌, Bool, true, false, cond, if◌then◌else◌, length, Option, Some, None, Result, Ok, Err, refl, ◌∙◌, subst}
 use Rattle.vsw_base.specs.declared.fault.BadFrame.{BadFrame}
 use Rattle.vsw_base.specs.declared.fault.BadFrame.TheVariants.{TooLong}
 use Rattle.vsw_base.specs.Ethernet.{EtherFields, ether_of}

@@ -1,5 +1,5 @@
 -- What a fitting transposition makes of a stack is an edit that bytes can follow.
-use Rattle.std.proofs.Common.{◌≡◌, ℕ, zero, suc, ◌+◌, ◌-◌, ◌*◌, ◌≤◌, ◌<◌, List, [], ◌∷◌, ◌++◌, true, take, drop, length, refl, sym, ◌∙◌, ap, subst, arith, length-drop, length-take}
+use Rattle.std.proofs.Common.{◌≡◌, ℕ, zero, suc, ◌+◌, ◌-◌, ◌*◌, List, [], ◌∷◌, ◌++◌, true, take, drop, length, refl, sym, ◌∙◌, ap, subst, arith, length-drop, length-take}
 use Rattle.std.proofs.lemmas.Grind.{common_steps}
 use Rattle.std.proofs.Math.Seq.{take-append_seam, drop-append_seam}
 use Rattle.vsw_base.specs.declared.header.Header.{Header}
@@ -14,7 +14,7 @@ use Rattle.vsw_transpose.specs.Apply.{apply, changed}
 use Rattle.vsw_transpose.specs.Form.{are_stays, are_late, are_ordered, pops, is_form}
 use Rattle.vsw_transpose.specs.Form as form
 use Rattle.vsw_transpose.specs.Fits.{suits, outer, fits, kept}
-use Rattle.vsw_transpose.proofs.Kept.{counts, fits_parts, form_parts, rest_is}
+use Rattle.vsw_transpose.proofs.Kept.{fits_parts, form_parts, rest_is}
 use Rattle.vsw_transpose.proofs.Parts.{has_parts, left, outer_after, stays_pops, stays_pushed}
 use Rattle.vsw_frame.specs.Bytes.{IsLike, AreLike, IsEdit, kept_headers}
 

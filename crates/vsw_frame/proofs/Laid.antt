@@ -1,24 +1,23 @@
 -- Where the headers of a frame that was read stand.
-use Rattle.std.proofs.Common.{◌≡◌, ℕ, zero, suc, ◌+◌, ◌-◌, ◌*◌, ◌≤◌, List, [], ◌∷◌, ◌++◌, true, false, take, drop, length, nat_lt, Option, Some, None, Result, Ok, Err, refl, sym, ◌∙◌, ap, subst, arith, length-drop, length-take, length-append}
+use Rattle.std.proofs.Common.{◌≡◌, ℕ, ◌+◌, ◌-◌, ◌*◌, ◌≤◌, List, [], ◌∷◌, ◌++◌, take, drop, length, Some, Ok, refl, sym, ◌∙◌, ap, subst, arith, length-drop, length-take, length-append}
 use Rattle.std.proofs.lemmas.Grind.{common_steps}
 use Rattle.std.proofs.lemmas.List.{drop-drop}
 use Rattle.std.proofs.Math.Seq.{take-append_seam, drop-append_seam}
 use Rattle.vsw_base.specs.declared.header.Header.{Header}
-use Rattle.vsw_base.specs.declared.header.Header.TheVariants.{Ether, Ip, Vxlan, Ports}
+use Rattle.vsw_base.specs.declared.header.Header.TheVariants.{Vxlan}
 use Rattle.vsw_base.specs.Ethernet.{EtherFields, ether_of}
 use Rattle.vsw_base.specs.Ipv4.{IpFields, ip_of, ip_header, ip_total}
-use Rattle.vsw_base.specs.Tcp.{TcpFields, tcp_of, tcp_header}
 use Rattle.vsw_base.specs.Udp.{UdpFields, udp_of, udp_length}
 use Rattle.vsw_base.specs.Shape.{encaps, inner}
 use Rattle.vsw_base.specs.Frame as frame
 use Rattle.vsw_base.specs.Frame.{Level, Parts, Opened, End, within, end_of, opened_of, frame_of, frame_in, level_of, plain_parts, encap_parts, payload_in, slack_in, ports}
 use Rattle.vsw_frame.specs.Bytes.{udp_at}
 use Rattle.vsw_frame.specs.Layout.{HasPacket, HasFrame, IsAround, AreLaid}
-use Rattle.vsw_frame.specs.Tiles.{Surrounds, Tiles, outermost}
+use Rattle.vsw_frame.specs.Tiles.{Surrounds, outermost}
 use Rattle.vsw_frame.proofs.Alike.{ip_bounds, tcp_bounds, udp_bounds}
 use Rattle.vsw_frame.proofs.Ends.{within_long}
-use Rattle.vsw_frame.proofs.Tiles.{ether_rest, ip_payload, ip_trailer, udp_payload, udp_slack, opened_ends, vxlan_follows, inner_ends, frame_tiles}
-use Rattle.vsw_frame.proofs.Cases.{EndCases, OpenedCases, FrameCases, end_cases, opened_cases, frame_cases, read_in, not_ip, over_ip}
+use Rattle.vsw_frame.proofs.Tiles.{ether_rest, ip_payload, ip_trailer, udp_payload, udp_slack, opened_ends, vxlan_follows, inner_ends}
+use Rattle.vsw_frame.proofs.Cases.{EndCases, OpenedCases, FrameCases, end_cases, opened_cases, frame_cases, read_in}
 
 ether_bound : (bytes : List ℕ) (e : EtherFields) → ether_of bytes ≡ Ok e → 14 ≤ length bytes
 ether_bound bytes e h = grind (arith, common_steps)

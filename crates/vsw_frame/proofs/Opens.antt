@@ -1,16 +1,16 @@
 -- What is known of a frame's levels.
-use Rattle.std.proofs.Common.{◌≡◌, ℕ, ◌+◌, ◌≤◌, nat_lt, false, List, [], ◌∷◌, ◌++◌, length, Option, Some, None, Ok, refl, sym, ap, arith}
+use Rattle.std.proofs.Common.{◌≡◌, ℕ, ◌+◌, ◌≤◌, nat_lt, false, List, [], ◌∷◌, length, Option, Some, None, refl, arith}
 use Rattle.std.proofs.Props.{props}
 use Rattle.std.proofs.Math.Logic.{∥∥₁_elim}
 use Rattle.std.specs.Coded.{×_prop, Unit-prop, le_prop}
 use Rattle.std.proofs.lemmas.Grind.{common_steps}
 use Rattle.vsw_base.specs.declared.header.Header.{Header}
-use Rattle.vsw_base.specs.declared.header.Header.TheVariants.{Ether, Ip, Vxlan, Ports}
+use Rattle.vsw_base.specs.declared.header.Header.TheVariants.{Ether, Ip, Ports}
 use Rattle.vsw_base.specs.declared.packet.Control.{Control}
 use Rattle.vsw_base.specs.Shape.{encaps, inner}
 use Rattle.vsw_base.specs.Frame as frame
 use Rattle.vsw_frame.specs.Layout.{HasPacket, HasFrame, IsAround, AreLaid}
-use Rattle.vsw_frame.specs.Levels.{levels_of, levels_in, more_levels, IsInOrder, Stand}
+use Rattle.vsw_frame.specs.Levels.{levels_of, more_levels, IsInOrder}
 use Rattle.vsw_frame.specs.Read.{IsRead}
 use Rattle.vsw_frame.specs.declared.frame.Level.{Level}
 use Rattle.vsw_frame.specs.declared.frame.Levels.{Levels}

@@ -1,5 +1,5 @@
 -- Levels of a frame, in the words of the definition of a frame.
-use Rattle.std.specs.Prelude.{◌≡◌, ◌≤◌, length, List, [], ◌∷◌, ◌++◌, Option, Some, None}
+use Rattle.std.specs.Prelude.{◌≤◌, length, List, [], ◌∷◌, ◌++◌, Option, Some, None}
 use Rattle.vsw_base.specs.Frame as frame
 use Rattle.vsw_frame.specs.declared.frame.Level.{Level}
 use Rattle.vsw_frame.specs.declared.frame.Levels.{Levels}

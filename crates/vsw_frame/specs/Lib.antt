@@ -7,5 +7,3 @@ pub mod Vectors
 pub mod Layout
 pub mod Levels
 pub mod Read
-pub mod RoundTrip
-pub mod Sums

@@ -1,5 +1,5 @@
 -- What is known of a frame that was read.
-use Rattle.std.specs.Prelude.{◌≡◌, List, Option, None, Result, Ok}
+use Rattle.std.specs.Prelude.{◌≡◌, List, Option, None, Ok}
 use Rattle.vsw_base.specs.declared.header.Header.{Header}
 use Rattle.vsw_base.specs.declared.packet.Control.{Control}
 use Rattle.vsw_base.specs.Frame.{frame_of}

@@ -346,19 +346,32 @@ fn long(bytes: &mut [u8], total: u16)
     bytes[23] = 47;
 }
 
+/// Writes a frame behind one encapsulation.
+fn encapsulated(rt: &impl Abort, bytes: &[u8], out: &mut [u8]) -> Result<usize, Long>
+    requires { 65700 ≤ length out.old }
+{
+    let [a, b, c] = encap();
+    written(rt, bytes, &[a, b, c, Act::Ignore, Act::Ignore], out)
+}
+
+#[test]
+fn a_total_length_of_65535_is_written(rt: HostRuntime) {
+    let mut bytes = [0; 65_499];
+    long(&mut bytes, 65_485);
+    let mut out = [OLD; ROOM];
+    assert_eq!(rt; encapsulated(&rt, &bytes, &mut out), Ok(65_549));
+    assert_eq!(rt; &out[16..18], [0xff, 0xff].as_slice());
+    assert!(rt; &out[50..65_549] == bytes.as_slice());
+}
+
 #[test]
 fn a_total_length_of_65536_is_long(rt: HostRuntime) {
-    let [a, b, c] = encap();
-    let acts = [a, b, c, Act::Ignore, Act::Ignore];
     let mut bytes = [0; 65_500];
-    let mut out = [OLD; ROOM];
     long(&mut bytes, 65_486);
-    let result = written(&rt, &bytes, &acts, &mut out);
-    assert_eq!(rt; result, Err(Long { total: 65_536 }));
+    let mut out = [OLD; ROOM];
+    assert_eq!(rt;
+        encapsulated(&rt, &bytes, &mut out),
+        Err(Long { total: 65_536 })
+    );
     assert!(rt; out == [OLD; ROOM]);
-    long(&mut bytes, 65_485);
-    let result = written(&rt, &bytes[..65_499], &acts, &mut out);
-    assert_eq!(rt; result, Ok(65_549));
-    assert_eq!(rt; &out[16..18], [0xff, 0xff].as_slice());
-    assert!(rt; out[50..65_549] == bytes[..65_499]);
 }

@@ -2,7 +2,7 @@
 
 use crate::{
     Endpoints, TcpPart, UdpPart, change_tcp, change_udp, read_tcp, read_udp, read_vxlan,
-    write_udp_vxlan,
+    uncheck_udp, write_udp_vxlan,
 };
 use vsw_base::{BadFrame, Control, Ip4};
 
@@ -74,24 +74,58 @@ fn an_encapsulation_is_read_and_written(rt: HostRuntime) {
     assert_eq!(rt; &out[16..], [0xee, 0xee].as_slice());
 }
 
-/// From 10.0.0.5, port 1234, to 10.0.0.9, port 53.
-fn query() -> Endpoints {
+/// From this port of this address to port 53 of 10.0.0.9.
+fn query(src: u32, src_port: u16) -> Endpoints {
     Endpoints {
-        src: Ip4::of(0x0a00_0005),
+        src: Ip4::of(src),
         dst: Ip4::of(0x0a00_0009),
-        src_port: 1234,
+        src_port,
         dst_port: 53,
     }
 }
 
+/// Checksums that were computed anew by another program.
+#[test]
+fn endpoints_are_changed_in_place(rt: HostRuntime) {
+    let (from, to) = (query(0x0a00_0005, 1234), query(0xc000_0207, 40_000));
+    let mut bytes = [0x04, 0xd2, 0x00, 0x35, 0x00, 0x0a, 0x7e, 0x5c, 0x68, 0x69];
+    change_udp(&mut bytes, &from, &to);
+    let changed = [0x9c, 0x40, 0x00, 0x35, 0x00, 0x0a, 0x2e, 0xeb, 0x68, 0x69];
+    assert_eq!(rt; bytes, changed);
+    // without a checksum
+    uncheck_udp(&mut bytes);
+    change_udp(&mut bytes, &to, &from);
+    let changed = [0x04, 0xd2, 0x00, 0x35, 0x00, 0x0a, 0x00, 0x00, 0x68, 0x69];
+    assert_eq!(rt; bytes, changed);
+    // an updated checksum of 0
+    bytes[6..].copy_from_slice(&[0x4f, 0x71, 0x97, 0x54]);
+    change_udp(&mut bytes, &from, &to);
+    let changed = [0x9c, 0x40, 0x00, 0x35, 0x00, 0x0a, 0xff, 0xff, 0x97, 0x54];
+    assert_eq!(rt; bytes, changed);
+}
+
+#[test]
+fn endpoints_of_tcp_are_changed_in_place(rt: HostRuntime) {
+    let mut from = query(0x0a00_0005, 1234);
+    from.dst_port = 80;
+    let mut to = query(0xc000_0207, 40_000);
+    to.dst_port = 80;
+    let mut bytes = [
+        0x04, 0xd2, 0x00, 0x50, 0x00, 0x00, 0x00, 0x01, 0x00, 0x00, 0x00, 0x01, 0x50, 0x18, 0xff,
+        0xff, 0x52, 0xc4, 0x00, 0x00, 0x68, 0x65, 0x6c, 0x6c, 0x6f,
+    ];
+    let mut changed = bytes;
+    changed[..2].copy_from_slice(&[0x9c, 0x40]);
+    changed[16..18].copy_from_slice(&[0x03, 0x53]);
+    change_tcp(&mut bytes, &from, &to);
+    assert_eq!(rt; bytes, changed);
+}
+
 /// From 192.0.2.7, and this port, to 203.0.113.4, port 53.
 fn translated(src_port: u16) -> Endpoints {
-    Endpoints {
-        src: Ip4::of(0xc000_0207),
-        dst: Ip4::of(0xcb00_7104),
-        src_port,
-        dst_port: 53,
-    }
+    let mut to = query(0xc000_0207, src_port);
+    to.dst = Ip4::of(0xcb00_7104);
+    to
 }
 
 /// What a receiver sums of a segment and its pseudo-header, with its carries: a multiple of 65,535
@@ -115,7 +149,7 @@ fn a_right_tcp_checksum_stays_right(rt: HostRuntime) {
         0x00, 0xaa, 0x96, 0x00, 0x00, 0x68, 0x65, 0x79,
     ];
     assert_eq!(rt; sum(0x0a00_0005, 0x0a00_0009, 6, &segment) % 0xffff, 0);
-    change_tcp(&mut segment, &query(), &translated(40000));
+    change_tcp(&mut segment, &query(0x0a00_0005, 1234), &translated(40_000));
     assert_eq!(rt; &segment[..4], [0x9c, 0x40, 0x00, 0x35].as_slice());
     assert_eq!(rt; &segment[16..18], [0x29, 0x29].as_slice());
     assert_eq!(rt; sum(0xc000_0207, 0xcb00_7104, 6, &segment) % 0xffff, 0);
@@ -129,9 +163,9 @@ fn a_right_udp_checksum_stays_right(rt: HostRuntime) {
     ];
     assert_eq!(rt; sum(0x0a00_0005, 0x0a00_0009, 17, &bytes[..11]) % 0xffff, 0);
     // 0 is right for the second port, and isn't written
-    for (port, checksum) in [(40000, 0x83f0), (8241, 0xffff)] {
+    for (port, checksum) in [(40_000, 0x83f0), (8241, 0xffff)] {
         let mut changed = bytes;
-        change_udp(&mut changed, &query(), &translated(port));
+        change_udp(&mut changed, &query(0x0a00_0005, 1234), &translated(port));
         assert_eq!(rt;
             (u16::from(changed[6]), u16::from(changed[7])),
             (checksum / 256, checksum % 256)

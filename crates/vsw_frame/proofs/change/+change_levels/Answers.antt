@@ -3,7 +3,7 @@ use Rattle.vsw_base.specs.declared.header.Header.{Header}
 use Rattle.vsw_base.specs.Frame.{Level}
 use Rattle.vsw_frame.specs.Bytes.{levels_changed, udp_at, udp_kept}
 use Rattle.vsw_frame.specs.Layout.{AreLaid}
-use Rattle.vsw_frame.specs.Levels.{level_fields, more_levels, levels_of}
+use Rattle.vsw_frame.specs.Levels.{level_fields, more_levels}
 use Rattle.vsw_frame.proofs.Kept.{kept_written}
 use Rattle.vsw_frame.proofs.change.+change_levels.Goals as goal
 

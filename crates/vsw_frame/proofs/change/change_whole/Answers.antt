@@ -1,5 +1,4 @@
-use Rattle.std.proofs.Common.{◌≡◌, ◌∙◌, ◌≤◌, ◌++◌, ℕ, List, ap, sym, arith, take, drop, length}
-use Rattle.vsw_base.specs.Ipv4.{ip_header}
+use Rattle.std.proofs.Common.{◌∙◌, ◌++◌, ℕ, List, ap, arith, take, drop}
 use Rattle.vsw_ipv4.specs.Change.{ip_changed}
 use Rattle.vsw_frame.specs.Bytes.{segment_changed}
 use Rattle.vsw_frame.proofs.Places.{both_written}

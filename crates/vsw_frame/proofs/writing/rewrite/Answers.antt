@@ -3,7 +3,6 @@ use Rattle.std.specs.Prelude.{OnOk}
 use Rattle.vsw_base.specs.declared.header.Header.{Header}
 use Rattle.vsw_base.specs.Frame.{Parts}
 use Rattle.vsw_transpose.specs.Apply.{apply}
-use Rattle.vsw_transpose.specs.Fits.{kept}
 use Rattle.vsw_frame.specs.Bytes.{answer, outgoing}
 use Rattle.vsw_frame.specs.Frame.{parts}
 use Rattle.vsw_frame.proofs.writing.rewrite.Goals as goal

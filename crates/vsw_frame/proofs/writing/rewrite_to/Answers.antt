@@ -1,5 +1,4 @@
-use Rattle.std.proofs.Common.{◌≡◌, ◌∙◌, ◌≤◌, ◌<◌, ◌-◌, ◌*◌, ◌+◌, ℕ, List, ◌++◌, take, drop, length, length-take, sym, ap, arith}
-use Rattle.vsw_base.specs.declared.header.Header.{Header}
+use Rattle.std.proofs.Common.{◌≡◌, ◌∙◌, ◌≤◌, ◌-◌, ◌*◌, ◌+◌, ℕ, List, ◌++◌, drop, length, length-take, ap, arith}
 use Rattle.vsw_base.specs.Frame.{Level, Parts}
 use Rattle.vsw_base.specs.Shape.{encaps, inner}
 use Rattle.vsw_frame.specs.Bytes.{outgoing}

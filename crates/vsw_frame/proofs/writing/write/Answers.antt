@@ -1,4 +1,4 @@
-use Rattle.std.proofs.Common.{◌≡◌, List, sym, subst}
+use Rattle.std.proofs.Common.{List, sym, subst}
 use Rattle.vsw_base.specs.declared.header.Header.{Header}
 use Rattle.vsw_frame.specs.Bytes.{AreLike}
 use Rattle.vsw_frame.proofs.Edits.{like_stand}

@@ -10,13 +10,13 @@ use Rattle.vsw_base.specs.Shape.{encaps, inner}
 use Rattle.vsw_base.specs.Frame.{Level, Parts, Opened, control_in, encap_parts, frame_in, level_of, opened_of, payload_in, plain_parts, ports, size_at, slack_in, within}
 use Rattle.vsw_frame.specs.Bytes.{AreLike, differ, encap_kept, frame_changed, levels_changed}
 use Rattle.vsw_ipv4.specs.Right.{AreBytes}
-use Rattle.vsw_frame.specs.RoundTrip.{levels_kept}
-use Rattle.vsw_frame.specs.Sums.{innermost}
-use Rattle.vsw_frame.proofs.Around.{TwoInFront, around, around_none, around_twice, encap_step, none_plain, two_in_front}
+use Rattle.vsw_roundtrip.specs.RoundTrip.{levels_kept}
+use Rattle.vsw_roundtrip.specs.Sums.{innermost}
+use Rattle.vsw_roundtrip.proofs.Around.{TwoInFront, around, around_none, around_twice, encap_step, none_plain, two_in_front}
 use Rattle.vsw_frame.proofs.Cases.{FrameCases, frame_cases}
-use Rattle.vsw_frame.proofs.KeptEncap.{EncapNew, KeptAs, encap_kept_read}
-use Rattle.vsw_frame.proofs.RewrittenFrame.{InnerNew, inner_read}
-use Rattle.vsw_frame.proofs.SumsInner.{bytes_dropped, bytes_taken}
+use Rattle.vsw_roundtrip.proofs.KeptEncap.{EncapNew, KeptAs, encap_kept_read}
+use Rattle.vsw_roundtrip.proofs.RewrittenFrame.{InnerNew, inner_read}
+use Rattle.vsw_roundtrip.proofs.SumsInner.{bytes_dropped, bytes_taken}
 use Rattle.vsw_frame.proofs.Tiles.{inner_ends, opened_ends, vxlan_follows}
 
 abbrev pub written_level : Opened → List ℕ → Level

@@ -17,8 +17,8 @@ use Rattle.vsw_l4.proofs.Back as l4
 use Rattle.vsw_link.specs.Ether.{ether_bytes}
 use Rattle.vsw_link.proofs.Back as link
 use Rattle.vsw_frame.specs.Bytes.{encap_pushed, packet_pushed}
-use Rattle.vsw_frame.proofs.Inverted.{over_ip}
-use Rattle.vsw_frame.proofs.Openings.{end_udp, opened_over}
+use Rattle.vsw_roundtrip.proofs.Inverted.{over_ip}
+use Rattle.vsw_roundtrip.proofs.Openings.{end_udp, opened_over}
 
 abbrev pub pushed_end : ℕ → ℕ → List ℕ → End
 pushed_end port vni inner = frame.OverUdp (record { src = port; dst = vxlan_port; payload = vxlan_bytes vni ++ inner; slack = [] })

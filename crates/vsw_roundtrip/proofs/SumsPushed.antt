@@ -8,8 +8,8 @@ use Rattle.vsw_ipv4.specs.Ip.{ip_bytes, pushed_checksum, pushed_ip_bytes}
 use Rattle.vsw_ipv4.specs.Right.{IsRight}
 use Rattle.vsw_l4.specs.Vxlan.{udp_vxlan_bytes}
 use Rattle.vsw_frame.specs.Bytes.{levels_changed, pushed, pushes, source_port}
-use Rattle.vsw_frame.specs.RoundTrip.{levels_pushed, levels_staying}
-use Rattle.vsw_frame.specs.Sums.{AreIpRight, PushRight}
+use Rattle.vsw_roundtrip.specs.RoundTrip.{levels_pushed, levels_staying}
+use Rattle.vsw_roundtrip.specs.Sums.{AreIpRight, PushRight}
 
 word_is : (k : ℕ) → k < 65536 → k / 256 % 256 * 256 + (k % 256 * 1 + 0) ≡ k
 word_is k h = omega arith

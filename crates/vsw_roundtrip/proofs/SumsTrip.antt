@@ -7,16 +7,16 @@ use Rattle.vsw_base.specs.Frame.{Level, Parts, Opened, level_of, payload_in, por
 use Rattle.vsw_base.proofs.Stacks.{in_front}
 use Rattle.vsw_ipv4.specs.Right.{AreBytes}
 use Rattle.vsw_frame.specs.Bytes.{AreLike, differ, drops, frame_changed, levels_changed, outgoing, pushes, source_port}
-use Rattle.vsw_frame.specs.RoundTrip.{IsRewriting, levels_kept, levels_pushed, levels_staying, levels_written, written}
-use Rattle.vsw_frame.specs.Sums.{IsEndRight, IsIpRight, KeepEncapsulations, LevelsAreWritten, OfInner, OfOld, StayRight, StayWrong, WasEndRight, WasIpRight, innermost}
+use Rattle.vsw_roundtrip.specs.RoundTrip.{IsRewriting, levels_kept, levels_pushed, levels_staying, levels_written, written}
+use Rattle.vsw_roundtrip.specs.Sums.{IsEndRight, IsIpRight, KeepEncapsulations, LevelsAreWritten, OfInner, OfOld, StayRight, StayWrong, WasEndRight, WasIpRight, innermost}
 use Rattle.vsw_frame.specs.Tiles.{Surrounds, Tiles, TilesAt, outermost}
 use Rattle.vsw_frame.proofs.Cases.{read_in}
 use Rattle.vsw_frame.proofs.Laid.{levels_laid}
-use Rattle.vsw_frame.proofs.SumsFrame.{SumsAs, sums_of}
-use Rattle.vsw_frame.proofs.SumsLevels.{all_as_they_were, innermost-append, kept_outermost, kept_tile, laid_drop, last-append, last_of, pushed_outermost, pushed_tile}
+use Rattle.vsw_roundtrip.proofs.SumsFrame.{SumsAs, sums_of}
+use Rattle.vsw_roundtrip.proofs.SumsLevels.{all_as_they_were, innermost-append, kept_outermost, kept_tile, laid_drop, last-append, last_of, pushed_outermost, pushed_tile}
 use Rattle.vsw_frame.proofs.Tiles.{opened_ends}
-use Rattle.vsw_frame.proofs.Trip.{fit_drop, outgoing_has}
-use Rattle.vsw_frame.proofs.TripKept.{levels_read, written_level}
+use Rattle.vsw_roundtrip.proofs.Trip.{fit_drop, outgoing_has}
+use Rattle.vsw_roundtrip.proofs.TripKept.{levels_read, written_level}
 
 pub keep_encapsulations : KeepEncapsulations
 keep_encapsulations bytes p edited kept n h =

@@ -10,10 +10,10 @@ use Rattle.vsw_ipv4.specs.Change.{ip_changed}
 use Rattle.vsw_l4.specs.Change.{tcp_changed, udp_changed}
 use Rattle.vsw_l4.specs.declared.change.Endpoints.{Endpoints}
 use Rattle.vsw_frame.proofs.Alike.{ip_bounds, tcp_bounds, udp_bounds}
-use Rattle.vsw_frame.proofs.InnerCases.{IpEdit, PortsEdit}
-use Rattle.vsw_frame.proofs.Inverted.{IsTcp, IsUdp}
-use Rattle.vsw_frame.proofs.Rewritten.{changed_before, ip_changed-length, ip_rewritten}
-use Rattle.vsw_frame.proofs.RewrittenEnds.{drop_more, eight_behind, tcp_new, udp_new}
+use Rattle.vsw_roundtrip.proofs.InnerCases.{IpEdit, PortsEdit}
+use Rattle.vsw_roundtrip.proofs.Inverted.{IsTcp, IsUdp}
+use Rattle.vsw_roundtrip.proofs.Rewritten.{changed_before, ip_changed-length, ip_rewritten}
+use Rattle.vsw_roundtrip.proofs.RewrittenEnds.{drop_more, eight_behind, tcp_new, udp_new}
 use Rattle.vsw_frame.proofs.Tiles.{ether_rest, ip_payload, ip_trailer}
 
 -- what stands behind the header: payload and trailer

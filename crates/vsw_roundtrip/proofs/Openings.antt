@@ -9,7 +9,7 @@ use Rattle.vsw_base.specs.Udp.{UdpFields, udp_of}
 use Rattle.vsw_base.specs.Shape.{ipv4_kind}
 use Rattle.vsw_base.specs.Frame as frame
 use Rattle.vsw_base.specs.Frame.{Opened, End, end_of, opened_ip, opened_of, ◌>>=◌}
-use Rattle.vsw_frame.proofs.Inverted.{is_rest, not_ip, over_ip}
+use Rattle.vsw_roundtrip.proofs.Inverted.{is_rest, not_ip, over_ip}
 
 abbrev unread : IpFields → Result End BadFrame
 unread i = Ok (frame.Rest i.payload)

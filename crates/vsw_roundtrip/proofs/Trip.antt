@@ -19,13 +19,13 @@ use Rattle.vsw_base.specs.Frame as frame
 use Rattle.vsw_base.specs.Frame.{Level, Parts, Opened, End, control_in, frame_in, frame_of, level_of, opened_of, payload_in, plain_parts, ports, size_at, slack_in, within}
 use Rattle.vsw_base.proofs.Stacks.{in_front}
 use Rattle.vsw_frame.specs.Bytes.{AreLike, IsEdit, answer, drops, frame_changed, kept_headers, levels_changed, outer_total, outgoing, pushed, pushes, source_port, total_over}
-use Rattle.vsw_frame.specs.RoundTrip.{IsRewriting, ReadsDeeper, RoundTrip, is_vxlan, levels_kept, levels_pushed, levels_staying, levels_written, reads_deeper, written}
-use Rattle.vsw_frame.proofs.Around.{around, around_twice, encap_step, none_plain, plain_step}
+use Rattle.vsw_roundtrip.specs.RoundTrip.{IsRewriting, ReadsDeeper, RoundTrip, is_vxlan, levels_kept, levels_pushed, levels_staying, levels_written, reads_deeper, written}
+use Rattle.vsw_roundtrip.proofs.Around.{around, around_twice, encap_step, none_plain, plain_step}
 use Rattle.vsw_frame.proofs.Cases.{read_in}
-use Rattle.vsw_frame.proofs.Inverted.{EndBy, OpenedBy, end_by, opened_by}
-use Rattle.vsw_frame.proofs.RewrittenFrame.{InnerNew, inner_read}
-use Rattle.vsw_frame.proofs.TripKept.{KeptRead, levels_read, written_level}
-use Rattle.vsw_frame.proofs.TripPushed.{fewer, pushed_length, pushes_read, stack_encapped}
+use Rattle.vsw_roundtrip.proofs.Inverted.{EndBy, OpenedBy, end_by, opened_by}
+use Rattle.vsw_roundtrip.proofs.RewrittenFrame.{InnerNew, inner_read}
+use Rattle.vsw_roundtrip.proofs.TripKept.{KeptRead, levels_read, written_level}
+use Rattle.vsw_roundtrip.proofs.TripPushed.{fewer, pushed_length, pushes_read, stack_encapped}
 
 -- VXLAN is looked for as the headers say
 abbrev vxlan_at : Option ℕ → List ℕ → Option (ℕ × List ℕ)

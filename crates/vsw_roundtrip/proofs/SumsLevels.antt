@@ -10,8 +10,8 @@ use Rattle.vsw_l4.specs.Vxlan.{udp_vxlan_bytes}
 use Rattle.vsw_link.specs.Ether.{ether_bytes}
 use Rattle.vsw_frame.specs.Bytes.{differ, levels_changed, pushed, udp_at, udp_kept}
 use Rattle.vsw_frame.specs.Layout.{AreLaid, IsAround}
-use Rattle.vsw_frame.specs.RoundTrip.{levels_kept, levels_pushed}
-use Rattle.vsw_frame.specs.Sums.{AreAsTheyWere, IsAsItWas, innermost, sum_kept}
+use Rattle.vsw_roundtrip.specs.RoundTrip.{levels_kept, levels_pushed}
+use Rattle.vsw_roundtrip.specs.Sums.{AreAsTheyWere, IsAsItWas, innermost, sum_kept}
 use Rattle.vsw_frame.specs.Tiles.{Surrounds, TilesAt, outermost}
 
 -- the last level

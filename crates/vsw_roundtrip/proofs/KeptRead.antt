@@ -14,8 +14,8 @@ use Rattle.vsw_base.specs.Frame.{Level, Opened, End, level_of, opened_of, slack_
 use Rattle.vsw_frame.specs.Bytes.{encap_kept, udp_at, udp_kept}
 use Rattle.vsw_frame.proofs.Alike.{ether_like, ip_before, ip_bounds, ip_like, udp_bounds, vni_like}
 use Rattle.vsw_frame.proofs.Tiles.{ether_rest, ip_payload, ip_trailer, udp_payload, udp_slack}
-use Rattle.vsw_frame.proofs.Inverted.{IsEncap, encap_by, over_ip}
-use Rattle.vsw_frame.proofs.Openings.{end_udp, opened_over}
+use Rattle.vsw_roundtrip.proofs.Inverted.{IsEncap, encap_by, over_ip}
+use Rattle.vsw_roundtrip.proofs.Openings.{end_udp, opened_over}
 
 udp_is : (bytes payload slack : List ℕ) → 8 ≤ length bytes → 8 ≤ udp_length bytes → udp_length bytes ≤ length bytes → drop 8 (take (udp_length bytes) bytes) ≡ payload → drop (udp_length bytes) bytes ≡ slack → udp_of bytes ≡ Ok (record { src = big_number 2 bytes; dst = big_number 2 (drop 2 bytes); payload = payload; slack = slack })
 udp_is bytes payload slack l h t p k = grind (arith, common_steps)

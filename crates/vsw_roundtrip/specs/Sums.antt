@@ -9,7 +9,7 @@ use Rattle.vsw_sum.specs.Sum.{checksum}
 use Rattle.vsw_ipv4.specs.Right.{AreBytes, IsOtherZero, IsRight, header_checksum, header_words}
 use Rattle.vsw_l4.specs.Right.{IsTcpRight, IsUdpRight, tcp_checksum, tcp_words, udp_checksum}
 use Rattle.vsw_frame.specs.Bytes.{differ, levels_changed, outgoing, pushes, source_port, udp_at}
-use Rattle.vsw_frame.specs.RoundTrip.{IsRewriting, levels_kept, levels_pushed, levels_staying, levels_written, written}
+use Rattle.vsw_roundtrip.specs.RoundTrip.{IsRewriting, levels_kept, levels_pushed, levels_staying, levels_written, written}
 use Rattle.vsw_frame.specs.Tiles.{Tiles}
 
 -- the levels that are written are the bytes, each within the one before, also where a reader would look deeper

@@ -19,13 +19,13 @@ use Rattle.vsw_l4.specs.declared.change.Endpoints.{Endpoints}
 use Rattle.vsw_link.specs.Change.{ether_changed}
 use Rattle.vsw_frame.specs.Bytes.{AreLike, frame_changed, packet_changed}
 use Rattle.vsw_frame.proofs.Alike.{ip_bounds, tcp_bounds, udp_bounds}
-use Rattle.vsw_frame.proofs.InnerCases.{EtherEdit, InnerCases, IpEdit, PortsEdit, inner_cases}
-use Rattle.vsw_frame.proofs.RewrittenPacket.{ends_at, ip_with, packet_with, rest_packet, tcp_packet, udp_packet}
-use Rattle.vsw_frame.proofs.Inverted.{EndBy, IsNotIp, IsOverIp, IsTcp, IsUdp, OpenedBy, end_by, is_rest, not_ip, opened_by, over_ip}
-use Rattle.vsw_frame.proofs.Likes.{like_end, like_ether, like_ip, like_ports}
-use Rattle.vsw_frame.proofs.Openings.{end_rest, end_tcp, end_udp, opened_other, opened_over}
-use Rattle.vsw_frame.proofs.Rewritten.{changed_before, ether_changed-length, ether_length, ether_rewritten, ip_changed-length, ip_rewritten}
-use Rattle.vsw_frame.proofs.RewrittenEnds.{drop_more, eight_behind, tcp_new, tcp_rewritten, udp_new, udp_rewritten}
+use Rattle.vsw_roundtrip.proofs.InnerCases.{EtherEdit, InnerCases, IpEdit, PortsEdit, inner_cases}
+use Rattle.vsw_roundtrip.proofs.RewrittenPacket.{ends_at, ip_with, packet_with, rest_packet, tcp_packet, udp_packet}
+use Rattle.vsw_roundtrip.proofs.Inverted.{EndBy, IsNotIp, IsOverIp, IsTcp, IsUdp, OpenedBy, end_by, is_rest, not_ip, opened_by, over_ip}
+use Rattle.vsw_roundtrip.proofs.Likes.{like_end, like_ether, like_ip, like_ports}
+use Rattle.vsw_roundtrip.proofs.Openings.{end_rest, end_tcp, end_udp, opened_other, opened_over}
+use Rattle.vsw_roundtrip.proofs.Rewritten.{changed_before, ether_changed-length, ether_length, ether_rewritten, ip_changed-length, ip_rewritten}
+use Rattle.vsw_roundtrip.proofs.RewrittenEnds.{drop_more, eight_behind, tcp_new, tcp_rewritten, udp_new, udp_rewritten}
 use Rattle.vsw_frame.proofs.Tiles.{ether_rest, ip_payload, ip_trailer}
 
 -- what is read of other bytes is what was read of the first ones, but for the headers

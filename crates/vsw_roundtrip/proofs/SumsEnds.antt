@@ -17,12 +17,12 @@ use Rattle.vsw_l4.specs.Right.{AreEndpoints, IsChange, IsTcpRight, IsUdpRight, u
 use Rattle.vsw_l4.specs.declared.change.Endpoints.{Endpoints}
 use Rattle.vsw_l4.proofs.Right as tcp
 use Rattle.vsw_l4.proofs.RightUdp as udp
-use Rattle.vsw_frame.specs.Sums.{IsSegmentRight, WasSegmentRight, carried}
+use Rattle.vsw_roundtrip.specs.Sums.{IsSegmentRight, WasSegmentRight, carried}
 use Rattle.vsw_frame.proofs.Alike.{ip_bounds, tcp_bounds, udp_bounds}
-use Rattle.vsw_frame.proofs.InnerCases.{PortsEdit}
-use Rattle.vsw_frame.proofs.Inverted.{IsTcp, IsUdp}
-use Rattle.vsw_frame.proofs.RewrittenPacket.{PacketNew, ends_at, ip_with, packet_with, tcp_packet, udp_packet}
-use Rattle.vsw_frame.proofs.SumsInner.{bytes_dropped, bytes_taken}
+use Rattle.vsw_roundtrip.proofs.InnerCases.{PortsEdit}
+use Rattle.vsw_roundtrip.proofs.Inverted.{IsTcp, IsUdp}
+use Rattle.vsw_roundtrip.proofs.RewrittenPacket.{PacketNew, ends_at, ip_with, packet_with, tcp_packet, udp_packet}
+use Rattle.vsw_roundtrip.proofs.SumsInner.{bytes_dropped, bytes_taken}
 use Rattle.vsw_frame.proofs.Tiles.{ip_payload}
 
 ip_src : (bytes : List ℕ) (i : IpFields) → ip_of bytes ≡ Ok i → big_number 4 (drop 12 bytes) ≡ i.src

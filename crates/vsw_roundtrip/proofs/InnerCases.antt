@@ -11,8 +11,8 @@ use Rattle.vsw_base.specs.Shape.{ipv4_kind}
 use Rattle.vsw_base.specs.Frame as frame
 use Rattle.vsw_base.specs.Frame.{Opened, End, opened_of, ports}
 use Rattle.vsw_frame.specs.Bytes.{AreLike}
-use Rattle.vsw_frame.proofs.Inverted.{EndBy, IsTcp, IsUdp, OpenedBy, end_by, is_rest, not_ip, opened_by, over_ip}
-use Rattle.vsw_frame.proofs.Likes.{like_end, like_ether, like_ip, like_ports}
+use Rattle.vsw_roundtrip.proofs.Inverted.{EndBy, IsTcp, IsUdp, OpenedBy, end_by, is_rest, not_ip, opened_by, over_ip}
+use Rattle.vsw_roundtrip.proofs.Likes.{like_end, like_ether, like_ip, like_ports}
 
 -- Ethernet with other addresses
 pub record EtherEdit (bytes : List ℕ) (e : EtherFields) (d s : ℕ) : Type 0 where

@@ -24,12 +24,12 @@ use Rattle.vsw_l4.specs.declared.change.Endpoints.{Endpoints}
 use Rattle.vsw_l4.proofs.Right as tcp
 use Rattle.vsw_l4.proofs.RightUdp as udp
 use Rattle.vsw_link.specs.Change.{ether_changed}
-use Rattle.vsw_frame.specs.Sums.{IsSegmentRight, WasSegmentRight, carried}
+use Rattle.vsw_roundtrip.specs.Sums.{IsSegmentRight, WasSegmentRight, carried}
 use Rattle.vsw_frame.proofs.Alike.{ip_bounds, tcp_bounds, udp_bounds}
-use Rattle.vsw_frame.proofs.InnerCases.{EtherEdit, IpEdit, PortsEdit}
-use Rattle.vsw_frame.proofs.Inverted.{IsTcp, IsUdp}
-use Rattle.vsw_frame.proofs.Rewritten.{changed_before, ip_changed-length, ip_version}
-use Rattle.vsw_frame.proofs.RewrittenPacket.{PacketNew, ends_at, ip_with, packet_with, rest_packet, tcp_packet, udp_packet}
+use Rattle.vsw_roundtrip.proofs.InnerCases.{EtherEdit, IpEdit, PortsEdit}
+use Rattle.vsw_roundtrip.proofs.Inverted.{IsTcp, IsUdp}
+use Rattle.vsw_roundtrip.proofs.Rewritten.{changed_before, ip_changed-length, ip_version}
+use Rattle.vsw_roundtrip.proofs.RewrittenPacket.{PacketNew, ends_at, ip_with, packet_with, rest_packet, tcp_packet, udp_packet}
 use Rattle.vsw_frame.proofs.Tiles.{ip_payload}
 
 -- bytes stay bytes

@@ -13,10 +13,10 @@ use Rattle.vsw_base.specs.Frame.{Level, Opened, End, level_of, opened_of, slack_
 use Rattle.vsw_frame.specs.Bytes.{encap_kept, udp_at, udp_kept}
 use Rattle.vsw_frame.proofs.Alike.{ether_like, ip_before, ip_bounds, ip_like, udp_bounds, vni_like}
 use Rattle.vsw_frame.proofs.Tiles.{ether_rest, ip_payload, ip_trailer, udp_payload, udp_slack}
-use Rattle.vsw_frame.proofs.Inverted.{IsEncap, encap_by, over_ip}
-use Rattle.vsw_frame.proofs.KeptRead.{kept_fields, udp_kept_read}
-use Rattle.vsw_frame.proofs.Openings.{end_udp, opened_over}
-use Rattle.vsw_frame.proofs.Rewritten.{ether_length}
+use Rattle.vsw_roundtrip.proofs.Inverted.{IsEncap, encap_by, over_ip}
+use Rattle.vsw_roundtrip.proofs.KeptRead.{kept_fields, udp_kept_read}
+use Rattle.vsw_roundtrip.proofs.Openings.{end_udp, opened_over}
+use Rattle.vsw_roundtrip.proofs.Rewritten.{ether_length}
 
 pub record EncapNew (bytes : List ℕ) (o : Opened) (v : ℕ) (new other : List ℕ) (q : Opened) : Type 0 where
   pub opened : opened_of other ≡ Ok q

@@ -12,12 +12,12 @@ use Rattle.vsw_ipv4.specs.Right.{AreBytes, IsOtherZero, IsRight, header_checksum
 use Rattle.vsw_l4.specs.Change.{tcp_changed, udp_changed}
 use Rattle.vsw_link.specs.Change.{ether_changed}
 use Rattle.vsw_frame.specs.Bytes.{AreLike, frame_changed}
-use Rattle.vsw_frame.specs.Sums.{IsEndRight, IsIpRight, IsSegmentRight, WasEndRight, WasIpRight, WasSegmentRight, carried}
-use Rattle.vsw_frame.proofs.InnerCases.{InnerCases, inner_cases}
-use Rattle.vsw_frame.proofs.Rewritten.{ether_length}
-use Rattle.vsw_frame.proofs.RewrittenPacket.{ends_at, packet_with, rest_packet, tcp_packet, udp_packet}
-use Rattle.vsw_frame.proofs.SumsInner.{bytes_dropped, packet_right, packet_wrong, whole_right, whole_wrong}
-use Rattle.vsw_frame.proofs.SumsEnds.{tcp_right, tcp_wrong, udp_right, udp_wrong}
+use Rattle.vsw_roundtrip.specs.Sums.{IsEndRight, IsIpRight, IsSegmentRight, WasEndRight, WasIpRight, WasSegmentRight, carried}
+use Rattle.vsw_roundtrip.proofs.InnerCases.{InnerCases, inner_cases}
+use Rattle.vsw_roundtrip.proofs.Rewritten.{ether_length}
+use Rattle.vsw_roundtrip.proofs.RewrittenPacket.{ends_at, packet_with, rest_packet, tcp_packet, udp_packet}
+use Rattle.vsw_roundtrip.proofs.SumsInner.{bytes_dropped, packet_right, packet_wrong, whole_right, whole_wrong}
+use Rattle.vsw_roundtrip.proofs.SumsEnds.{tcp_right, tcp_wrong, udp_right, udp_wrong}
 
 pub record SumsAs (bytes : List ℕ) (o : Opened) (gs : List Header) : Type 0 where
   pub ip_right : IsIpRight (o.front ++ ports o.end) bytes → IsIpRight gs (frame_changed (o.front ++ ports o.end) gs bytes)

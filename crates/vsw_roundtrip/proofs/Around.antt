@@ -8,7 +8,7 @@ use Rattle.vsw_base.specs.Shape.{encaps, inner}
 use Rattle.vsw_base.specs.Ipv4.{IpFields}
 use Rattle.vsw_base.specs.Frame as frame
 use Rattle.vsw_base.specs.Frame.{Level, Parts, Opened, End, encap_parts, frame_in, level_of, look_in, opened_of, payload_in, plain_parts, ports, slack_in, within, ◌>>=◌}
-use Rattle.vsw_frame.proofs.Inverted.{EndBy, OpenedBy, encap_by, end_by, opened_by, over_ip}
+use Rattle.vsw_roundtrip.proofs.Inverted.{EndBy, OpenedBy, encap_by, end_by, opened_by, over_ip}
 use Rattle.vsw_frame.proofs.Within.{looked_in}
 
 -- headers and levels around what is read of an inner frame

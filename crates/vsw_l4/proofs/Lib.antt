@@ -3,3 +3,4 @@ pub mod Zeros
 pub mod Update
 pub mod Right
 pub mod RightUdp
+pub mod Rights

@@ -3,3 +3,4 @@ pub mod Udp
 pub mod Vxlan
 pub mod Change
 pub mod Right
+pub mod Vectors

@@ -1,7 +1,7 @@
 -- What holds of all inner frames and the headers that they are edited to, by cases.
-use Rattle.std.proofs.Common.{◌≡◌, ℕ, ◌^◌, ◌<◌, ◌==◌, List, [], ◌∷◌, ◌++◌, Bool, true, false, Ok, refl, sym, ◌∙◌, ap, subst, ◌⊎◌, inl, inr}
+use Rattle.std.proofs.Common.{◌≡◌, ℕ, ◌^◌, ◌<◌, ◌==◌, List, [], ◌∷◌, ◌++◌, true, false, Ok, refl, sym, ◌∙◌, ap, subst, inl, inr}
 use Rattle.vsw_base.specs.declared.header.Header.{Header}
-use Rattle.vsw_base.specs.declared.header.Header.TheVariants.{Ether, Ip, Vxlan, Ports}
+use Rattle.vsw_base.specs.declared.header.Header.TheVariants.{Ether, Ip, Ports}
 use Rattle.vsw_base.specs.Ethernet.{EtherFields, ether_of}
 use Rattle.vsw_base.specs.Fits.{AreFit}
 use Rattle.vsw_base.specs.Ipv4.{IpFields, ip_of}

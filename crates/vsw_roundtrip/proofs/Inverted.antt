@@ -1,5 +1,5 @@
 -- From what a frame was opened.
-use Rattle.std.proofs.Common.{◌≡◌, ℕ, zero, suc, ◌+◌, ◌*◌, ◌≤◌, ◌==◌, List, [], ◌∷◌, ◌++◌, Bool, true, false, cond, take, drop, Option, Some, None, Result, Ok, Err, refl, sym, ◌∙◌, ap, subst, arith, option_map, length, ◌⊎◌, inl, inr}
+use Rattle.std.proofs.Common.{◌≡◌, ℕ, ◌==◌, List, [], ◌∷◌, Bool, true, false, cond, drop, Option, Some, None, Result, Ok, Err, refl, ◌∙◌, ap, subst, arith, option_map, ◌⊎◌, inl, inr}
 use Rattle.std.proofs.lemmas.Grind.{common_steps}
 use Rattle.vsw_base.specs.declared.fault.BadFrame.{BadFrame}
 use Rattle.vsw_base.specs.Ethernet.{EtherFields, ether_of}

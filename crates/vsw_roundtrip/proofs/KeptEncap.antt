@@ -1,13 +1,12 @@
 -- A kept encapsulation is read around another inner frame.
-use Rattle.std.proofs.Common.{◌≡◌, ℕ, zero, suc, ◌+◌, ◌-◌, ◌*◌, ◌≤◌, ◌==◌, List, [], ◌∷◌, ◌++◌, Bool, true, false, cond, take, drop, Option, Some, None, option_map, Result, Ok, Err, refl, sym, ◌∙◌, ap, subst, arith, length, length-drop, length-take, length-append, append_assoc}
+use Rattle.std.proofs.Common.{◌≡◌, ℕ, zero, suc, ◌+◌, ◌-◌, ◌≤◌, ◌==◌, List, [], ◌∷◌, ◌++◌, Bool, true, false, cond, take, drop, Option, Some, None, option_map, Ok, refl, sym, ◌∙◌, ap, subst, arith, length, length-drop, length-take, length-append, append_assoc}
 use Rattle.std.proofs.lemmas.Grind.{common_steps}
-use Rattle.std.proofs.lemmas.List.{drop-drop, drop-take, take-take, take-append-le, take-append-drop}
+use Rattle.std.proofs.lemmas.List.{drop-drop, drop-take, take-take}
 use Rattle.std.proofs.Math.Seq.{drop-append_seam, take-append_seam}
-use Rattle.vsw_base.specs.Ethernet.{EtherFields, ether_of}
-use Rattle.vsw_base.specs.Ipv4.{IpFields, ip_header, ip_of, ip_total}
+use Rattle.vsw_base.specs.Ethernet.{EtherFields}
+use Rattle.vsw_base.specs.Ipv4.{IpFields, ip_header, ip_total}
 use Rattle.vsw_base.specs.Udp.{UdpFields, udp_length, udp_of}
 use Rattle.vsw_base.specs.Vxlan.{vni_of, vxlan_port}
-use Rattle.vsw_base.specs.declared.header.Header.{Header}
 use Rattle.vsw_base.specs.Frame as frame
 use Rattle.vsw_base.specs.Frame.{Level, Opened, End, level_of, opened_of, slack_in, within}
 use Rattle.vsw_frame.specs.Bytes.{encap_kept, udp_at, udp_kept}

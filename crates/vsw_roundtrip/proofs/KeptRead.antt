@@ -1,21 +1,13 @@
 -- A kept encapsulation is read around another inner frame.
-use Rattle.std.proofs.Common.{◌≡◌, ℕ, ◌+◌, ◌-◌, ◌*◌, ◌≤◌, ◌==◌, List, [], ◌∷◌, ◌++◌, Bool, true, false, cond, take, drop, Option, Some, None, option_map, Result, Ok, Err, refl, sym, ◌∙◌, ap, subst, arith, length, length-drop, length-take, length-append, append_assoc}
+use Rattle.std.proofs.Common.{◌≡◌, ℕ, ◌+◌, ◌-◌, ◌≤◌, List, [], ◌∷◌, ◌++◌, Bool, true, false, take, drop, Ok, refl, sym, ◌∙◌, ap, arith, length, length-drop, length-take, length-append, append_assoc}
 use Rattle.std.proofs.lemmas.Grind.{common_steps}
-use Rattle.std.proofs.lemmas.List.{drop-drop, drop-take, take-take, take-append-le}
-use Rattle.std.proofs.Math.Seq.{drop-append_seam, take-append_seam, take-append-add, drop-append-add}
+use Rattle.std.proofs.lemmas.List.{drop-drop, drop-take, take-take}
+use Rattle.std.proofs.Math.Seq.{drop-append_seam, take-append_seam}
 use Rattle.byteorder.specs.Endian.{big_number}
-use Rattle.vsw_base.specs.Ethernet.{EtherFields, ether_of}
-use Rattle.vsw_base.specs.Ipv4.{IpFields, ip_header, ip_of, ip_total}
 use Rattle.vsw_base.specs.Udp.{UdpFields, udp_length, udp_of}
-use Rattle.vsw_base.specs.Vxlan.{vni_of, vxlan_port}
-use Rattle.vsw_base.specs.declared.header.Header.{Header}
-use Rattle.vsw_base.specs.Frame as frame
-use Rattle.vsw_base.specs.Frame.{Level, Opened, End, level_of, opened_of, slack_in, within}
-use Rattle.vsw_frame.specs.Bytes.{encap_kept, udp_at, udp_kept}
-use Rattle.vsw_frame.proofs.Alike.{ether_like, ip_before, ip_bounds, ip_like, udp_bounds, vni_like}
-use Rattle.vsw_frame.proofs.Tiles.{ether_rest, ip_payload, ip_trailer, udp_payload, udp_slack}
-use Rattle.vsw_roundtrip.proofs.Inverted.{IsEncap, encap_by, over_ip}
-use Rattle.vsw_roundtrip.proofs.Openings.{end_udp, opened_over}
+use Rattle.vsw_frame.specs.Bytes.{udp_kept}
+use Rattle.vsw_frame.proofs.Alike.{udp_bounds}
+use Rattle.vsw_frame.proofs.Tiles.{udp_payload}
 
 udp_is : (bytes payload slack : List ℕ) → 8 ≤ length bytes → 8 ≤ udp_length bytes → udp_length bytes ≤ length bytes → drop 8 (take (udp_length bytes) bytes) ≡ payload → drop (udp_length bytes) bytes ≡ slack → udp_of bytes ≡ Ok (record { src = big_number 2 bytes; dst = big_number 2 (drop 2 bytes); payload = payload; slack = slack })
 udp_is bytes payload slack l h t p k = grind (arith, common_steps)

@@ -19,3 +19,4 @@ pub mod SumsEnds
 pub mod SumsFrame
 pub mod SumsLevels
 pub mod SumsTrip
+pub mod Deeper

@@ -1,6 +1,5 @@
 -- Frames are opened by their headers.
-use Rattle.std.proofs.Common.{◌≡◌, ℕ, ◌==◌, List, [], ◌∷◌, Bool, true, false, cond, Result, Ok, Err, refl, sym, ◌∙◌, ap, arith}
-use Rattle.std.proofs.lemmas.Grind.{common_steps}
+use Rattle.std.proofs.Common.{◌≡◌, ℕ, ◌==◌, List, Bool, true, false, cond, Result, Ok, refl, ◌∙◌, ap}
 use Rattle.vsw_base.specs.declared.fault.BadFrame.{BadFrame}
 use Rattle.vsw_base.specs.Ethernet.{EtherFields, ether_of}
 use Rattle.vsw_base.specs.Ipv4.{IpFields, ip_of}

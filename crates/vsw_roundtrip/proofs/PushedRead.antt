@@ -1,23 +1,20 @@
 -- A pushed encapsulation is read around its frame.
-use Rattle.std.proofs.Common.{◌≡◌, ℕ, ◌+◌, ◌-◌, ◌*◌, ◌^◌, ◌≤◌, ◌<◌, ◌==◌, List, [], ◌∷◌, ◌++◌, Bool, true, false, cond, take, drop, Option, Some, None, option_map, Result, Ok, Err, refl, sym, ◌∙◌, ap, subst, arith, length, length-append, take_all, append_assoc}
+use Rattle.std.proofs.Common.{◌≡◌, ℕ, ◌+◌, ◌^◌, ◌<◌, List, [], ◌∷◌, ◌++◌, false, drop, Option, Some, option_map, Ok, refl, ◌∙◌, ap, arith, length, take_all}
 use Rattle.std.proofs.lemmas.List.{drop_all}
-use Rattle.vsw_base.specs.declared.header.Header.{Header}
-use Rattle.vsw_base.specs.declared.header.Header.TheVariants.{Ether, Ip, Vxlan, Ports}
-use Rattle.vsw_base.specs.Ethernet.{EtherFields, ether_of}
+use Rattle.vsw_base.specs.declared.header.Header.TheVariants.{Ether, Ip}
+use Rattle.vsw_base.specs.Ethernet.{EtherFields}
 use Rattle.vsw_base.specs.Ipv4.{IpFields, ip_of}
 use Rattle.vsw_base.specs.Udp.{UdpFields, udp_of}
 use Rattle.vsw_base.specs.Shape.{ipv4_kind}
-use Rattle.vsw_base.specs.Vxlan.{vni_of, vxlan_port}
+use Rattle.vsw_base.specs.Vxlan.{vxlan_port}
 use Rattle.vsw_base.specs.Frame as frame
 use Rattle.vsw_base.specs.Frame.{Opened, End, opened_of, slack_in, within}
 use Rattle.vsw_ipv4.specs.Ip.{pushed_ip_bytes}
 use Rattle.vsw_ipv4.proofs.Back as ip
 use Rattle.vsw_l4.specs.Vxlan.{udp_vxlan_bytes, vxlan_bytes}
 use Rattle.vsw_l4.proofs.Back as l4
-use Rattle.vsw_link.specs.Ether.{ether_bytes}
 use Rattle.vsw_link.proofs.Back as link
 use Rattle.vsw_frame.specs.Bytes.{encap_pushed, packet_pushed}
-use Rattle.vsw_roundtrip.proofs.Inverted.{over_ip}
 use Rattle.vsw_roundtrip.proofs.Openings.{end_udp, opened_over}
 
 abbrev pub pushed_end : ℕ → ℕ → List ℕ → End

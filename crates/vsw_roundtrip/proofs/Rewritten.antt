@@ -1,13 +1,13 @@
 -- Ethernet and IPv4 headers whose addresses were changed are read.
-use Rattle.std.proofs.Common.{◌≡◌, ℕ, ◌+◌, ◌-◌, ◌*◌, ◌/◌, ◌%◌, ◌^◌, ◌≤◌, ◌<◌, List, [], ◌∷◌, ◌++◌, Bool, take, drop, Result, Ok, Err, refl, sym, ◌∙◌, ap, subst, arith, length, length-drop, length-take, length-append, append_assoc}
+use Rattle.std.proofs.Common.{◌≡◌, ℕ, ◌+◌, ◌-◌, ◌*◌, ◌/◌, ◌^◌, ◌≤◌, ◌<◌, List, [], ◌∷◌, ◌++◌, Bool, take, drop, Ok, refl, sym, ◌∙◌, ap, subst, arith, length, length-take, length-append}
 use Rattle.std.specs.Prelude.{slice_index, bit_and}
 use Rattle.std.proofs.lemmas.Grind.{common_steps}
 use Rattle.std.proofs.lemmas.List.{drop-drop, drop-take}
-use Rattle.std.proofs.Math.Seq.{drop-append_seam, take-append_seam, take-add}
+use Rattle.std.proofs.Math.Seq.{drop-append_seam, take-add}
 use Rattle.byteorder.specs.Endian.{big_bytes, big_number}
 use Rattle.vsw_base.specs.Ethernet.{EtherFields, ether_of}
 use Rattle.vsw_base.specs.Ipv4.{IpFields, ip_fields, ip_header, ip_of, ip_total, is_part}
-use Rattle.vsw_ipv4.specs.Change.{checksum_changed, ip_changed}
+use Rattle.vsw_ipv4.specs.Change.{ip_changed}
 use Rattle.vsw_link.specs.Change.{ether_changed}
 use Rattle.vsw_frame.proofs.Alike.{ip_bounds}
 
@@ -121,5 +121,5 @@ ip_rewritten src dst bytes seg i hs hd h l =
     ap ip_of (sym same)
     ∙ ip_at new (omega (arith, there, long)) (ap (λ (x : ℕ). x / 16) (a.first ∙ f.0) ∙ ip_version bytes i h) (omega (arith, m, b.0)) (omega (arith, m, u, b.1)) (omega (arith, u, there, b.2))
     ∙ ap Ok (fields_are _ src _ dst _ i.proto _ i.part _ (take (t - n) seg) _ (drop (t - n) seg) a.src_is a.dst_is (a.proto ∙ f.2 ∙ ip_proto bytes i h) (a.part ∙ f.3 ∙ ip_part bytes i h)
-        (payload_at n t new seg m u b.1 behind)
-        (trailer_at n t new seg u b.1 behind))
+    (payload_at n t new seg m u b.1 behind)
+    (trailer_at n t new seg u b.1 behind))

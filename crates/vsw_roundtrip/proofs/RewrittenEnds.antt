@@ -1,5 +1,5 @@
 -- TCP and UDP headers whose ports were changed are read.
-use Rattle.std.proofs.Common.{◌≡◌, ℕ, ◌+◌, ◌-◌, ◌*◌, ◌/◌, ◌%◌, ◌^◌, ◌≤◌, ◌<◌, ◌||◌, nat_lt, false, List, [], ◌∷◌, ◌++◌, Bool, true, cond, take, drop, Result, Ok, Err, refl, sym, ◌∙◌, ap, subst, arith, length, length-drop, length-take, length-append}
+use Rattle.std.proofs.Common.{◌≡◌, ℕ, ◌-◌, ◌*◌, ◌/◌, ◌^◌, ◌≤◌, ◌<◌, List, [], ◌∷◌, ◌++◌, take, drop, Ok, refl, sym, ◌∙◌, ap, arith, length}
 use Rattle.std.specs.Prelude.{slice_index}
 use Rattle.std.proofs.lemmas.Grind.{common_steps}
 use Rattle.std.proofs.lemmas.List.{drop-drop, drop-take}
@@ -8,9 +8,8 @@ use Rattle.byteorder.specs.Endian.{big_bytes, big_number}
 use Rattle.vsw_base.specs.declared.packet.Control.{Control}
 use Rattle.vsw_base.specs.Tcp.{TcpFields, control_of, tcp_header, tcp_of}
 use Rattle.vsw_base.specs.Udp.{UdpFields, udp_length, udp_of}
-use Rattle.vsw_l4.specs.Change.{tcp_changed, udp_changed, unchecked}
+use Rattle.vsw_l4.specs.Change.{tcp_changed, udp_changed}
 use Rattle.vsw_l4.specs.declared.change.Endpoints.{Endpoints}
-use Rattle.vsw_frame.specs.Bytes.{udp_kept}
 use Rattle.vsw_frame.proofs.Alike.{tcp_bounds, udp_bounds}
 use Rattle.vsw_frame.proofs.Tiles.{tcp_payload, udp_payload, udp_slack}
 
@@ -109,4 +108,3 @@ pub record UdpKept (bytes new : List ℕ) : Type 0 where
   pub dst : big_number 2 (drop 2 new) ≡ big_number 2 (drop 2 bytes)
   pub size : udp_length new ≡ udp_length bytes
   pub rest : drop 8 new ≡ drop 8 bytes
-

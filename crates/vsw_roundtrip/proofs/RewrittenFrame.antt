@@ -1,32 +1,26 @@
 -- An inner frame whose addresses and ports were changed is read.
-use Rattle.std.proofs.Common.{◌≡◌, ℕ, ◌+◌, ◌-◌, ◌*◌, ◌^◌, ◌≤◌, ◌<◌, ◌==◌, List, [], ◌∷◌, ◌++◌, Bool, true, false, take, drop, Result, Ok, Err, refl, sym, ◌∙◌, ap, subst, arith, length, length-drop, length-take, length-append, ◌⊎◌, inl, inr}
-use Rattle.std.proofs.lemmas.Grind.{common_steps}
-use Rattle.std.proofs.lemmas.List.{drop-drop, drop-take, take-append-drop}
+use Rattle.std.proofs.Common.{◌≡◌, ℕ, ◌^◌, ◌<◌, ◌==◌, List, [], ◌∷◌, ◌++◌, true, false, take, drop, Ok, refl, sym, arith, length, length-drop}
 use Rattle.vsw_base.specs.declared.header.Header.{Header}
-use Rattle.vsw_base.specs.declared.header.Header.TheVariants.{Ether, Ip, Vxlan, Ports}
-use Rattle.vsw_base.specs.declared.packet.Control.{Control}
+use Rattle.vsw_base.specs.declared.header.Header.TheVariants.{Ether, Ip, Ports}
 use Rattle.vsw_base.specs.Ethernet.{EtherFields, ether_of}
 use Rattle.vsw_base.specs.Fits.{AreFit}
-use Rattle.vsw_base.specs.Ipv4.{IpFields, ip_header, ip_of, ip_total}
-use Rattle.vsw_base.specs.Tcp.{TcpFields, tcp_of}
-use Rattle.vsw_base.specs.Udp.{UdpFields, udp_of}
+use Rattle.vsw_base.specs.Ipv4.{IpFields, ip_of}
+use Rattle.vsw_base.specs.Tcp.{TcpFields}
+use Rattle.vsw_base.specs.Udp.{UdpFields}
 use Rattle.vsw_base.specs.Shape.{ipv4_kind}
 use Rattle.vsw_base.specs.Frame as frame
 use Rattle.vsw_base.specs.Frame.{Opened, End, control_in, end_of, opened_of, payload_in, ports, slack_in}
 use Rattle.vsw_ipv4.specs.Change.{ip_changed}
 use Rattle.vsw_l4.specs.Change.{tcp_changed, udp_changed}
-use Rattle.vsw_l4.specs.declared.change.Endpoints.{Endpoints}
 use Rattle.vsw_link.specs.Change.{ether_changed}
-use Rattle.vsw_frame.specs.Bytes.{AreLike, frame_changed, packet_changed}
-use Rattle.vsw_frame.proofs.Alike.{ip_bounds, tcp_bounds, udp_bounds}
+use Rattle.vsw_frame.specs.Bytes.{AreLike, frame_changed}
 use Rattle.vsw_roundtrip.proofs.InnerCases.{EtherEdit, InnerCases, IpEdit, PortsEdit, inner_cases}
 use Rattle.vsw_roundtrip.proofs.RewrittenPacket.{ends_at, ip_with, packet_with, rest_packet, tcp_packet, udp_packet}
-use Rattle.vsw_roundtrip.proofs.Inverted.{EndBy, IsNotIp, IsOverIp, IsTcp, IsUdp, OpenedBy, end_by, is_rest, not_ip, opened_by, over_ip}
-use Rattle.vsw_roundtrip.proofs.Likes.{like_end, like_ether, like_ip, like_ports}
+use Rattle.vsw_roundtrip.proofs.Inverted.{IsTcp, IsUdp, is_rest, not_ip, over_ip}
 use Rattle.vsw_roundtrip.proofs.Openings.{end_rest, end_tcp, end_udp, opened_other, opened_over}
-use Rattle.vsw_roundtrip.proofs.Rewritten.{changed_before, ether_changed-length, ether_length, ether_rewritten, ip_changed-length, ip_rewritten}
-use Rattle.vsw_roundtrip.proofs.RewrittenEnds.{drop_more, eight_behind, tcp_new, tcp_rewritten, udp_new, udp_rewritten}
-use Rattle.vsw_frame.proofs.Tiles.{ether_rest, ip_payload, ip_trailer}
+use Rattle.vsw_roundtrip.proofs.Rewritten.{ether_changed-length, ether_length, ether_rewritten}
+use Rattle.vsw_roundtrip.proofs.RewrittenEnds.{tcp_rewritten, udp_rewritten}
+use Rattle.vsw_frame.proofs.Tiles.{ether_rest}
 
 -- what is read of other bytes is what was read of the first ones, but for the headers
 pub record InnerNew (o : Opened) (gs : List Header) (bytes other : List ℕ) (q : Opened) : Type 0 where

@@ -1,10 +1,10 @@
 -- A packet whose addresses and ports were changed is read.
-use Rattle.std.proofs.Common.{◌≡◌, ℕ, ◌+◌, ◌-◌, ◌*◌, ◌^◌, ◌≤◌, ◌<◌, ◌==◌, List, [], ◌∷◌, ◌++◌, Bool, true, false, take, drop, Result, Ok, Err, refl, sym, ◌∙◌, ap, subst, arith, length, length-drop, length-take, length-append}
+use Rattle.std.proofs.Common.{◌≡◌, ℕ, ◌-◌, ◌^◌, ◌≤◌, ◌<◌, List, ◌++◌, take, drop, Ok, refl, sym, ◌∙◌, ap, arith, length, length-drop, length-take, length-append}
 use Rattle.std.proofs.lemmas.List.{drop-drop, drop-take, take-append-drop}
-use Rattle.vsw_base.specs.Ethernet.{EtherFields, ether_of}
+use Rattle.vsw_base.specs.Ethernet.{EtherFields}
 use Rattle.vsw_base.specs.Ipv4.{IpFields, ip_header, ip_of, ip_total}
-use Rattle.vsw_base.specs.Tcp.{TcpFields, tcp_of}
-use Rattle.vsw_base.specs.Udp.{UdpFields, udp_of}
+use Rattle.vsw_base.specs.Tcp.{TcpFields}
+use Rattle.vsw_base.specs.Udp.{UdpFields}
 use Rattle.vsw_base.specs.Frame as frame
 use Rattle.vsw_ipv4.specs.Change.{ip_changed}
 use Rattle.vsw_l4.specs.Change.{tcp_changed, udp_changed}

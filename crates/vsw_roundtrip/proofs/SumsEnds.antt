@@ -1,5 +1,5 @@
 -- The checksums of segments in a frame whose addresses and ports change.
-use Rattle.std.proofs.Common.{◌≡◌, ◌≢◌, ℕ, zero, suc, ◌+◌, ◌-◌, ◌*◌, ◌^◌, ◌≤◌, ◌<◌, ◌==◌, List, [], ◌∷◌, ◌++◌, Bool, true, false, cond, nat_lt, ◌||◌, take, drop, Result, Ok, Err, refl, sym, ◌∙◌, ap, subst, arith, length, length-drop, length-take, ◌⊎◌, inl, inr}
+use Rattle.std.proofs.Common.{◌≡◌, ◌≢◌, ℕ, zero, suc, ◌^◌, ◌<◌, List, Bool, true, false, cond, nat_lt, ◌||◌, take, drop, Result, Ok, Err, refl, sym, ap, subst, arith, length, length-drop, length-take, ◌⊎◌, inl, inr}
 use Rattle.std.proofs.lemmas.Grind.{common_steps}
 use Rattle.std.specs.Prelude.{slice_index}
 use Rattle.byteorder.specs.Endian.{big_number}
@@ -9,19 +9,19 @@ use Rattle.vsw_base.specs.declared.fault.BadFrame.TheVariants.{ShortTcp, TcpOffs
 use Rattle.vsw_base.specs.Ethernet.{EtherFields}
 use Rattle.vsw_base.specs.Ipv4.{IpFields, ip_header, ip_of, ip_total}
 use Rattle.vsw_base.specs.Tcp.{TcpFields, control_of, tcp_header, tcp_of}
-use Rattle.vsw_base.specs.Udp.{UdpFields, udp_length, udp_of}
+use Rattle.vsw_base.specs.Udp.{UdpFields, udp_of}
 use Rattle.vsw_base.specs.Frame as frame
 use Rattle.vsw_ipv4.specs.Right.{AreBytes}
 use Rattle.vsw_l4.specs.Change.{tcp_changed, udp_changed}
-use Rattle.vsw_l4.specs.Right.{AreEndpoints, IsChange, IsTcpRight, IsUdpRight, udp_checksum}
+use Rattle.vsw_l4.specs.Right.{AreEndpoints, IsChange, IsTcpRight, udp_checksum}
 use Rattle.vsw_l4.specs.declared.change.Endpoints.{Endpoints}
 use Rattle.vsw_l4.proofs.Right as tcp
 use Rattle.vsw_l4.proofs.RightUdp as udp
 use Rattle.vsw_roundtrip.specs.Sums.{IsSegmentRight, WasSegmentRight, carried}
-use Rattle.vsw_frame.proofs.Alike.{ip_bounds, tcp_bounds, udp_bounds}
+use Rattle.vsw_frame.proofs.Alike.{tcp_bounds, udp_bounds}
 use Rattle.vsw_roundtrip.proofs.InnerCases.{PortsEdit}
 use Rattle.vsw_roundtrip.proofs.Inverted.{IsTcp, IsUdp}
-use Rattle.vsw_roundtrip.proofs.RewrittenPacket.{PacketNew, ends_at, ip_with, packet_with, tcp_packet, udp_packet}
+use Rattle.vsw_roundtrip.proofs.RewrittenPacket.{ends_at, ip_with, packet_with, tcp_packet, udp_packet}
 use Rattle.vsw_roundtrip.proofs.SumsInner.{bytes_dropped, bytes_taken}
 use Rattle.vsw_frame.proofs.Tiles.{ip_payload}
 
@@ -78,7 +78,6 @@ change_of : (bytes : List ℕ) (i : IpFields) (a b u v x y : ℕ) → ip_of byte
 change_of bytes i a b u v x y h are e f ha hb hx hy =
     let p = payload_bytes bytes i h are in
     record { are_bytes = p; old = ends_fit bytes i.payload i u v h are p e f; new = (ha, hb, hx, hy); src_port = e; dst_port = f }
-
 
 pub tcp_right : (bytes : List ℕ) (e : EtherFields) (i : IpFields) (t : TcpFields) (d s a b x y : ℕ) → PortsEdit bytes e i d s a b x y → IsTcp i (frame.OverTcp t) t → AreBytes (drop 14 bytes) → IsSegmentRight true i.src i.dst (carried (drop 14 bytes))
     → IsSegmentRight true a b (carried (packet_with a b (drop 14 bytes) (tcp_changed (ends_at i.src i.dst t.src t.dst) (ends_at a b x y))))

@@ -1,18 +1,15 @@
 -- The checksums of an inner frame, and of the frames that are written.
-use Rattle.std.proofs.Common.{◌≡◌, ℕ, zero, suc, ◌+◌, ◌-◌, ◌*◌, ◌≤◌, ◌<◌, ◌==◌, List, [], ◌∷◌, ◌++◌, Bool, true, false, take, drop, length, Result, Ok, Err, refl, sym, ◌∙◌, ap, subst, arith, ◌⊎◌, inl, inr}
+use Rattle.std.proofs.Common.{◌≡◌, ℕ, ◌≤◌, List, ◌∷◌, ◌++◌, true, false, take, drop, length, Ok, refl, sym, subst, arith, ◌⊎◌}
 use Rattle.vsw_base.specs.declared.header.Header.{Header}
-use Rattle.vsw_base.specs.declared.header.Header.TheVariants.{Ether, Ip, Vxlan, Ports}
 use Rattle.vsw_base.specs.Fits.{AreFit}
-use Rattle.vsw_base.specs.Shape.{inner}
-use Rattle.vsw_base.specs.Frame as frame
-use Rattle.vsw_base.specs.Frame.{Level, Parts, Opened, opened_of, ports}
+use Rattle.vsw_base.specs.Frame.{Opened, opened_of, ports}
 use Rattle.vsw_sum.specs.Sum.{checksum}
 use Rattle.vsw_ipv4.specs.Change.{ip_changed}
 use Rattle.vsw_ipv4.specs.Right.{AreBytes, IsOtherZero, IsRight, header_checksum, header_words}
 use Rattle.vsw_l4.specs.Change.{tcp_changed, udp_changed}
 use Rattle.vsw_link.specs.Change.{ether_changed}
 use Rattle.vsw_frame.specs.Bytes.{AreLike, frame_changed}
-use Rattle.vsw_roundtrip.specs.Sums.{IsEndRight, IsIpRight, IsSegmentRight, WasEndRight, WasIpRight, WasSegmentRight, carried}
+use Rattle.vsw_roundtrip.specs.Sums.{IsEndRight, IsIpRight, IsSegmentRight, WasEndRight, WasIpRight, carried}
 use Rattle.vsw_roundtrip.proofs.InnerCases.{InnerCases, inner_cases}
 use Rattle.vsw_roundtrip.proofs.Rewritten.{ether_length}
 use Rattle.vsw_roundtrip.proofs.RewrittenPacket.{ends_at, packet_with, rest_packet, tcp_packet, udp_packet}

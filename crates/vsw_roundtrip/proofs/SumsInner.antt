@@ -1,36 +1,15 @@
 -- The checksums of an inner frame whose addresses and ports change.
-use Rattle.std.proofs.Common.{◌≡◌, ℕ, zero, suc, ◌+◌, ◌-◌, ◌*◌, ◌/◌, ◌^◌, ◌≤◌, ◌<◌, ◌==◌, List, [], ◌∷◌, ◌++◌, Bool, true, false, cond, take, drop, Result, Ok, Err, refl, sym, ◌∙◌, ap, subst, arith, length, length-drop, length-take, length-append, ◌⊎◌, inl, inr}
-use Rattle.std.specs.Prelude.{slice_index, bit_and}
-use Rattle.std.proofs.lemmas.Grind.{common_steps}
-use Rattle.std.proofs.lemmas.List.{drop-drop, get_or-drop, get_or-take, take-append-drop}
+use Rattle.std.proofs.Common.{◌≡◌, ℕ, zero, suc, ◌+◌, ◌^◌, ◌≤◌, ◌<◌, List, [], ◌∷◌, ◌++◌, take, drop, Ok, refl, sym, ◌∙◌, ap, subst, arith, length, length-take, ◌⊎◌}
+use Rattle.std.proofs.lemmas.List.{get_or-drop, take-append-drop}
 use Rattle.std.proofs.Math.Seq.{take-append_seam}
-use Rattle.byteorder.specs.Endian.{big_number}
-use Rattle.byteorder.specs.Numbers.{big_from-lt}
-use Rattle.vsw_base.specs.declared.header.Header.{Header}
-use Rattle.vsw_base.specs.declared.header.Header.TheVariants.{Ether, Ip, Vxlan, Ports}
-use Rattle.vsw_base.specs.Ethernet.{EtherFields, ether_of}
-use Rattle.vsw_base.specs.Ipv4.{IpFields, ip_header, ip_of, ip_total}
-use Rattle.vsw_base.specs.Tcp.{TcpFields, tcp_of}
-use Rattle.vsw_base.specs.Udp.{UdpFields, udp_length, udp_of}
-use Rattle.vsw_base.specs.Frame as frame
+use Rattle.vsw_base.specs.Ipv4.{IpFields, ip_header, ip_of}
 use Rattle.vsw_sum.specs.Sum.{checksum, words_of}
-use Rattle.vsw_sum.specs.Update.{written}
 use Rattle.vsw_ipv4.specs.Change.{ip_changed}
 use Rattle.vsw_ipv4.specs.Right.{AreBytes, IsHeader, IsOtherZero, IsRight, header_checksum, header_words}
 use Rattle.vsw_ipv4.proofs.Right.{ip_stays_right, ip_stays_wrong}
-use Rattle.vsw_l4.specs.Change.{checksum_changed, tcp_changed, udp_changed}
-use Rattle.vsw_l4.specs.Right.{AreEndpoints, IsChange, IsDatagram, IsSegment, IsTcpRight, IsUdpRight, udp_checksum}
-use Rattle.vsw_l4.specs.declared.change.Endpoints.{Endpoints}
-use Rattle.vsw_l4.proofs.Right as tcp
-use Rattle.vsw_l4.proofs.RightUdp as udp
-use Rattle.vsw_link.specs.Change.{ether_changed}
-use Rattle.vsw_roundtrip.specs.Sums.{IsSegmentRight, WasSegmentRight, carried}
-use Rattle.vsw_frame.proofs.Alike.{ip_bounds, tcp_bounds, udp_bounds}
-use Rattle.vsw_roundtrip.proofs.InnerCases.{EtherEdit, IpEdit, PortsEdit}
-use Rattle.vsw_roundtrip.proofs.Inverted.{IsTcp, IsUdp}
+use Rattle.vsw_frame.proofs.Alike.{ip_bounds}
 use Rattle.vsw_roundtrip.proofs.Rewritten.{changed_before, ip_changed-length, ip_version}
-use Rattle.vsw_roundtrip.proofs.RewrittenPacket.{PacketNew, ends_at, ip_with, packet_with, rest_packet, tcp_packet, udp_packet}
-use Rattle.vsw_frame.proofs.Tiles.{ip_payload}
+use Rattle.vsw_roundtrip.proofs.RewrittenPacket.{packet_with}
 
 -- bytes stay bytes
 pub bytes_dropped : (n : ℕ) (xs : List ℕ) → AreBytes xs → AreBytes (drop n xs)

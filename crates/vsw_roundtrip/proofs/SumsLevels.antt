@@ -1,8 +1,8 @@
 -- The levels that are written, and what stays of the kept ones.
-use Rattle.std.proofs.Common.{◌≡◌, ℕ, zero, suc, ◌+◌, ◌-◌, ◌*◌, ◌≤◌, List, [], ◌∷◌, ◌++◌, Bool, true, false, take, drop, length, refl, sym, ◌∙◌, ap, subst, arith, append_assoc, length-append, length-drop, length-take}
+use Rattle.std.proofs.Common.{◌≡◌, ℕ, zero, suc, ◌+◌, ◌≤◌, List, [], ◌∷◌, ◌++◌, Bool, true, false, take, drop, length, refl, sym, ◌∙◌, ap, subst, arith, append_assoc, length-append, length-drop, length-take}
 use Rattle.std.proofs.lemmas.List.{append-nil, drop-drop, take-append-drop}
 use Rattle.vsw_base.specs.declared.header.Header.{Header}
-use Rattle.vsw_base.specs.declared.header.Header.TheVariants.{Ether, Ip, Vxlan, Ports}
+use Rattle.vsw_base.specs.declared.header.Header.TheVariants.{Ether, Ip, Vxlan}
 use Rattle.vsw_base.specs.Shape.{ipv4_kind}
 use Rattle.vsw_base.specs.Frame.{Level}
 use Rattle.vsw_ipv4.specs.Ip.{pushed_ip_bytes}
@@ -93,6 +93,8 @@ as_it_was c l old new bytes a e =
       vxlan_length = omega (arith, length-drop 8 k, n);
       was = whole ∙ ap (λ (x : List ℕ). head ++ (x ++ (old ++ ends))) (kept_parts false k) ∙ regrouped head (take 6 k) (take 2 (drop 6 k)) (drop 8 k) (old ++ ends);
       is = e ∙ ap (λ (x : List ℕ). head ++ (x ++ (new ++ ends))) (kept_parts c k) ∙ regrouped head (take 6 k) (sum_kept c (take 2 (drop 6 k))) (drop 8 k) (new ++ ends);
+      slack = refl;
+      trailer = refl;
     }
 
 pub all_as_they_were : (hs from to : List Header) (ls : List Level) → AreLaid hs ls → AreAsTheyWere (differ from to) ls (levels_kept from to ls)

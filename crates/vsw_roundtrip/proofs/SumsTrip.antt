@@ -1,15 +1,15 @@
 -- The checksums of the bytes that are written.
-use Rattle.std.proofs.Common.{◌≡◌, ℕ, zero, suc, ◌+◌, ◌-◌, ◌*◌, ◌≤◌, List, [], ◌∷◌, ◌++◌, Bool, true, false, take, drop, length, Ok, refl, sym, ◌∙◌, ap, subst, arith, append_assoc, length-append}
+use Rattle.std.proofs.Common.{◌≡◌, ℕ, ◌+◌, ◌-◌, ◌*◌, ◌≤◌, List, [], ◌∷◌, ◌++◌, take, drop, length, refl, sym, ◌∙◌, ap, subst, arith, append_assoc, length-append}
 use Rattle.vsw_base.specs.declared.header.Header.{Header}
 use Rattle.vsw_base.specs.Fits.{AreFit}
 use Rattle.vsw_base.specs.Shape.{encaps, inner}
-use Rattle.vsw_base.specs.Frame.{Level, Parts, Opened, level_of, payload_in, ports}
+use Rattle.vsw_base.specs.Frame.{Level, Parts, level_of, payload_in, ports}
 use Rattle.vsw_base.proofs.Stacks.{in_front}
 use Rattle.vsw_ipv4.specs.Right.{AreBytes}
-use Rattle.vsw_frame.specs.Bytes.{AreLike, differ, drops, frame_changed, levels_changed, outgoing, pushes, source_port}
-use Rattle.vsw_roundtrip.specs.RoundTrip.{IsRewriting, levels_kept, levels_pushed, levels_staying, levels_written, written}
-use Rattle.vsw_roundtrip.specs.Sums.{IsEndRight, IsIpRight, KeepEncapsulations, LevelsAreWritten, OfInner, OfOld, StayRight, StayWrong, WasEndRight, WasIpRight, innermost}
-use Rattle.vsw_frame.specs.Tiles.{Surrounds, Tiles, TilesAt, outermost}
+use Rattle.vsw_frame.specs.Bytes.{AreLike, drops, frame_changed, levels_changed, pushes, source_port}
+use Rattle.vsw_roundtrip.specs.RoundTrip.{IsRewriting, levels_kept, levels_pushed, levels_staying, levels_written}
+use Rattle.vsw_roundtrip.specs.Sums.{IsEndRight, IsIpRight, KeepEncapsulations, LevelsAreWritten, StayRight, StayWrong, WasEndRight, WasIpRight, innermost}
+use Rattle.vsw_frame.specs.Tiles.{Surrounds}
 use Rattle.vsw_frame.proofs.Cases.{read_in}
 use Rattle.vsw_frame.proofs.Laid.{levels_laid}
 use Rattle.vsw_roundtrip.proofs.SumsFrame.{SumsAs, sums_of}

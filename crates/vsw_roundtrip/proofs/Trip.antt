@@ -1,5 +1,5 @@
 -- What is read of the bytes that are written.
-use Rattle.std.proofs.Common.{◌≡◌, ℕ, zero, suc, ◌+◌, ◌-◌, ◌*◌, ◌^◌, ◌≤◌, ◌<◌, ◌==◌, ◌&&◌, List, [], ◌∷◌, ◌++◌, Bool, true, false, cond, nat_lt, take, drop, length, Option, Some, None, option_map, Result, Ok, Err, refl, sym, ◌∙◌, ap, subst, arith, append_assoc, length-append, ◌⊎◌, inl, inr}
+use Rattle.std.proofs.Common.{◌≡◌, ℕ, zero, suc, ◌+◌, ◌-◌, ◌*◌, ◌≤◌, ◌==◌, ◌&&◌, List, [], ◌∷◌, ◌++◌, Bool, true, false, cond, nat_lt, take, drop, length, Option, Some, None, option_map, Result, Ok, Err, refl, sym, ◌∙◌, ap, subst, arith, append_assoc, ◌⊎◌, inl, inr}
 use Rattle.std.specs.Option.{is_some}
 use Rattle.std.proofs.lemmas.Bool.{cond-false}
 use Rattle.std.proofs.lemmas.Grind.{common_steps}
@@ -18,13 +18,13 @@ use Rattle.vsw_base.specs.Vxlan.{vni_of, vxlan_port}
 use Rattle.vsw_base.specs.Frame as frame
 use Rattle.vsw_base.specs.Frame.{Level, Parts, Opened, End, control_in, frame_in, frame_of, level_of, opened_of, payload_in, plain_parts, ports, size_at, slack_in, within}
 use Rattle.vsw_base.proofs.Stacks.{in_front}
-use Rattle.vsw_frame.specs.Bytes.{AreLike, IsEdit, answer, drops, frame_changed, kept_headers, levels_changed, outer_total, outgoing, pushed, pushes, source_port, total_over}
-use Rattle.vsw_roundtrip.specs.RoundTrip.{IsRewriting, ReadsDeeper, RoundTrip, is_vxlan, levels_kept, levels_pushed, levels_staying, levels_written, reads_deeper, written}
+use Rattle.vsw_frame.specs.Bytes.{AreLike, drops, frame_changed, kept_headers, levels_changed, outer_total, outgoing, pushes, source_port, total_over}
+use Rattle.vsw_roundtrip.specs.RoundTrip.{IsRewriting, ReadsDeeper, RoundTrip, is_vxlan, levels_kept, levels_pushed, levels_staying}
 use Rattle.vsw_roundtrip.proofs.Around.{around, around_twice, encap_step, none_plain, plain_step}
 use Rattle.vsw_frame.proofs.Cases.{read_in}
 use Rattle.vsw_roundtrip.proofs.Inverted.{EndBy, OpenedBy, end_by, opened_by}
-use Rattle.vsw_roundtrip.proofs.RewrittenFrame.{InnerNew, inner_read}
-use Rattle.vsw_roundtrip.proofs.TripKept.{KeptRead, levels_read, written_level}
+use Rattle.vsw_roundtrip.proofs.RewrittenFrame.{inner_read}
+use Rattle.vsw_roundtrip.proofs.TripKept.{levels_read, written_level}
 use Rattle.vsw_roundtrip.proofs.TripPushed.{fewer, pushed_length, pushes_read, stack_encapped}
 
 -- VXLAN is looked for as the headers say
@@ -182,7 +182,6 @@ parts_are hs to edited ls ms ws all q new c x e f g w l h =
 
 of_short : (bytes : List ℕ) → length bytes ≤ 65600 → frame_of bytes ≡ frame_in 2 bytes
 of_short bytes h = cond-false (nat_lt 65600 (length bytes)) (Err TooLong) (frame_in 2 bytes) (is_short (length bytes) h)
-
 
 pub round_trip : RoundTrip
 round_trip bytes p edited kept n h f =

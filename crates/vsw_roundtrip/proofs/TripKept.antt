@@ -1,10 +1,10 @@
 -- Kept levels are read around the changed inner frame.
-use Rattle.std.proofs.Common.{◌≡◌, ℕ, zero, suc, ◌+◌, ◌-◌, ◌*◌, ◌≤◌, List, [], ◌∷◌, ◌++◌, take, drop, length, Option, Some, None, Result, Ok, Err, refl, sym, ◌∙◌, ap, subst, arith, length-append}
+use Rattle.std.proofs.Common.{◌≡◌, ℕ, zero, suc, ◌+◌, ◌-◌, ◌*◌, ◌≤◌, List, [], ◌∷◌, ◌++◌, take, drop, length, Some, Result, Ok, refl, sym, ◌∙◌, ap, subst, arith, length-append}
 use Rattle.std.proofs.lemmas.List.{drop-drop}
 use Rattle.std.proofs.Math.Seq.{drop-append_seam, take-append_seam}
 use Rattle.vsw_base.specs.declared.fault.BadFrame.{BadFrame}
 use Rattle.vsw_base.specs.declared.header.Header.{Header}
-use Rattle.vsw_base.specs.declared.header.Header.TheVariants.{Ether, Ip, Vxlan, Ports}
+use Rattle.vsw_base.specs.declared.header.Header.TheVariants.{Vxlan}
 use Rattle.vsw_base.specs.Fits.{AreFit}
 use Rattle.vsw_base.specs.Shape.{encaps, inner}
 use Rattle.vsw_base.specs.Frame.{Level, Parts, Opened, control_in, encap_parts, frame_in, level_of, opened_of, payload_in, plain_parts, ports, size_at, slack_in, within}
@@ -14,8 +14,8 @@ use Rattle.vsw_roundtrip.specs.RoundTrip.{levels_kept}
 use Rattle.vsw_roundtrip.specs.Sums.{innermost}
 use Rattle.vsw_roundtrip.proofs.Around.{TwoInFront, around, around_none, around_twice, encap_step, none_plain, two_in_front}
 use Rattle.vsw_frame.proofs.Cases.{FrameCases, frame_cases}
-use Rattle.vsw_roundtrip.proofs.KeptEncap.{EncapNew, KeptAs, encap_kept_read}
-use Rattle.vsw_roundtrip.proofs.RewrittenFrame.{InnerNew, inner_read}
+use Rattle.vsw_roundtrip.proofs.KeptEncap.{encap_kept_read}
+use Rattle.vsw_roundtrip.proofs.RewrittenFrame.{inner_read}
 use Rattle.vsw_roundtrip.proofs.SumsInner.{bytes_dropped, bytes_taken}
 use Rattle.vsw_frame.proofs.Tiles.{inner_ends, opened_ends, vxlan_follows}
 

@@ -1,12 +1,12 @@
 -- Pushed levels are read around their frame.
-use Rattle.std.proofs.Common.{◌≡◌, ℕ, zero, suc, ◌+◌, ◌-◌, ◌*◌, ◌^◌, ◌≤◌, ◌<◌, List, [], ◌∷◌, ◌++◌, Bool, true, false, take, drop, length, Result, Ok, Err, refl, sym, ◌∙◌, ap, subst, arith, length-append}
+use Rattle.std.proofs.Common.{◌≡◌, ℕ, zero, suc, ◌+◌, ◌*◌, ◌^◌, ◌≤◌, ◌<◌, List, [], ◌∷◌, Bool, true, false, take, length, Result, refl, sym, ◌∙◌, ap, subst, arith}
 use Rattle.std.proofs.Math.Seq.{take-append-add}
 use Rattle.vsw_base.specs.declared.fault.BadFrame.{BadFrame}
 use Rattle.vsw_base.specs.declared.header.Header.{Header}
-use Rattle.vsw_base.specs.declared.header.Header.TheVariants.{Ether, Ip, Vxlan, Ports}
+use Rattle.vsw_base.specs.declared.header.Header.TheVariants.{Ether, Ip, Vxlan}
 use Rattle.vsw_base.specs.Fits.{AreFit}
 use Rattle.vsw_base.specs.Shape.{encaps, is_plain, is_stack}
-use Rattle.vsw_base.specs.Frame.{Level, Parts, frame_in, level_of}
+use Rattle.vsw_base.specs.Frame.{Parts, frame_in, level_of}
 use Rattle.vsw_base.proofs.Stacks.{encapped, plain_cases, stack_cases}
 use Rattle.vsw_frame.specs.Bytes.{encap_pushed, pushed, total_over}
 use Rattle.vsw_roundtrip.specs.RoundTrip.{levels_pushed}
@@ -43,8 +43,8 @@ stack_encapped = stack_cases AllEncapped
     (λ hs t f. let P : ℕ → Type 0 = λ m. Encapped m hs in subst P (sym (plain_none hs t)) tt)
     (λ hs t d s a b v n f. one_more d s a b v 0 hs f (plain_none hs t) tt)
     (λ hs t d' s' a' b' w n d s a b v m f.
-        let inside : Encapped (encaps (encapped d' s' a' b' w hs)) (encapped d' s' a' b' w hs) = one_more d' s' a' b' w 0 hs f.1.1.1 (plain_none hs t) tt in
-        one_more d s a b v (encaps (encapped d' s' a' b' w hs)) (encapped d' s' a' b' w hs) f refl inside)
+    let inside : Encapped (encaps (encapped d' s' a' b' w hs)) (encapped d' s' a' b' w hs) = one_more d' s' a' b' w 0 hs f.1.1.1 (plain_none hs t) tt in
+    one_more d s a b v (encaps (encapped d' s' a' b' w hs)) (encapped d' s' a' b' w hs) f refl inside)
 
 -- the first of so many encapsulations
 first_three : (j : ℕ) (x y z : Header) (hs : List Header) → take (3 * suc j) (x ∷ y ∷ z ∷ hs) ≡ x ∷ y ∷ z ∷ take (3 * j) hs

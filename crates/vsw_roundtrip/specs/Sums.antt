@@ -1,7 +1,7 @@
 -- The checksums of the bytes that are written.
 use Rattle.std.specs.Prelude.{◌≡◌, ℕ, ◌+◌, ◌*◌, ◌==◌, Bool, true, false, List, [], ◌∷◌, ◌++◌, length, take, drop, ◌⊎◌}
 use Rattle.vsw_base.specs.declared.header.Header.{Header}
-use Rattle.vsw_base.specs.declared.header.Header.TheVariants.{Ether, Ip, Vxlan, Ports}
+use Rattle.vsw_base.specs.declared.header.Header.TheVariants.{Ether, Ip, Ports}
 use Rattle.vsw_base.specs.Frame.{Level, Parts}
 use Rattle.vsw_base.specs.Ipv4.{ip_header, ip_total}
 use Rattle.vsw_base.specs.Shape.{inner}
@@ -54,22 +54,23 @@ abbrev pub WasEndRight : List Header → List ℕ → Type 0
 WasEndRight (Ether d s k ∷ Ip a b p f ∷ Ports proto x y ∷ hs) bytes = WasSegmentRight (proto == 6) a b (carried (drop 14 bytes))
 WasEndRight hs bytes = Unit {0}
 
--- what holds of the inner packet's checksums in the frame that was read (`Old`) and in what is written (`New`)
-abbrev pub OfInner : (Old New : List Header → List ℕ → Type 0) → Type 0
-OfInner Old New = (bytes : List ℕ) (p : Parts) (edited : List Header) (kept n : ℕ) → AreBytes bytes → IsRewriting bytes p edited kept n → Old (inner p.stack) (innermost p.levels) → New (inner edited) (innermost (levels_written p edited kept))
+-- where it held of the innermost level that was read, it holds of the one that is written
+abbrev pub Stays : (List Header → List ℕ → Type 0) → Type 0
+Stays Right = (bytes : List ℕ) (p : Parts) (edited : List Header) (kept n : ℕ) → AreBytes bytes → IsRewriting bytes p edited kept n → Right (inner p.stack) (innermost p.levels) → Right (inner edited) (innermost (levels_written p edited kept))
 
-abbrev pub OfOld : (Old New : List Header → List ℕ → Type 0) → Type 0
-OfOld Old New = (bytes : List ℕ) (p : Parts) (edited : List Header) (kept n : ℕ) → AreBytes bytes → IsRewriting bytes p edited kept n → New (inner edited) (innermost (levels_written p edited kept)) → Old (inner p.stack) (innermost p.levels)
+-- it holds of what is written only where the other held of what was read
+abbrev pub ComesOf : (Was Right : List Header → List ℕ → Type 0) → Type 0
+ComesOf Was Right = (bytes : List ℕ) (p : Parts) (edited : List Header) (kept n : ℕ) → AreBytes bytes → IsRewriting bytes p edited kept n → Right (inner edited) (innermost (levels_written p edited kept)) → Was (inner p.stack) (innermost p.levels)
 
--- a right one stays right
+-- right checksums stay right
 pub record StayRight : Type 0 where
-  pub ip : OfInner IsIpRight IsIpRight
-  pub end : OfInner IsEndRight IsEndRight
+  pub ip : Stays IsIpRight
+  pub end : Stays IsEndRight
 
--- and a wrong one wrong, but for the zeros
+-- and wrong ones wrong, but for the two zeros
 pub record StayWrong : Type 0 where
-  pub ip : OfOld WasIpRight IsIpRight
-  pub end : OfOld WasEndRight IsEndRight
+  pub ip : ComesOf WasIpRight IsIpRight
+  pub end : ComesOf WasEndRight IsEndRight
 
 -- the UDP checksum of a kept encapsulation: none, where an inner field differs
 abbrev pub sum_kept : Bool → List ℕ → List ℕ
@@ -87,6 +88,8 @@ pub record IsAsItWas (changed : Bool) (l w : Level) (old new : List ℕ) : Type 
   pub vxlan_length : length vxlan ≡ 8
   pub was : l.bytes ≡ front ++ (sum ++ (vxlan ++ (old ++ (l.slack ++ l.trailer))))
   pub is : w.bytes ≡ front ++ (sum_kept changed sum ++ (vxlan ++ (new ++ (l.slack ++ l.trailer))))
+  pub slack : w.slack ≡ l.slack
+  pub trailer : w.trailer ≡ l.trailer
 
 -- levels around the innermost, and as they are written
 abbrev pub AreAsTheyWere : Bool → List Level → List Level → Type 0

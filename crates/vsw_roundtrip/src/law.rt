@@ -16,3 +16,11 @@ pub fn laws()
     ensures kept { KeepEncapsulations }
     ensures pushed { PushRight }
 {}
+
+ghost use Rattle.vsw_roundtrip.specs.Vectors.{ReadsInside, ReadsPlain};
+
+/// The definitions, evaluated on a frame whose payload looks like an encapsulation.
+fn definition()
+    ensures plain { ReadsPlain }
+    ensures inside { ReadsInside }
+{}

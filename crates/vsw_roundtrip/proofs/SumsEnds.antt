@@ -1,5 +1,5 @@
 -- The checksums of segments in a frame whose addresses and ports change.
-use Rattle.std.proofs.Common.{◌≡◌, ◌≢◌, ℕ, zero, suc, ◌^◌, ◌<◌, List, Bool, true, false, cond, nat_lt, ◌||◌, take, drop, Result, Ok, Err, refl, sym, ap, subst, arith, length, length-drop, length-take, ◌⊎◌, inl, inr}
+use Rattle.std.proofs.Common.{◌≡◌, ◌≤◌, ◌∙◌, ◌≢◌, ℕ, zero, suc, ◌^◌, ◌<◌, List, Bool, true, false, cond, nat_lt, ◌||◌, take, drop, Result, Ok, Err, refl, sym, ap, subst, arith, length, length-drop, length-take, ◌⊎◌, inl, inr}
 use Rattle.std.proofs.lemmas.Grind.{common_steps}
 use Rattle.std.specs.Prelude.{slice_index}
 use Rattle.byteorder.specs.Endian.{big_number}
@@ -11,9 +11,11 @@ use Rattle.vsw_base.specs.Ipv4.{IpFields, ip_header, ip_of, ip_total}
 use Rattle.vsw_base.specs.Tcp.{TcpFields, control_of, tcp_header, tcp_of}
 use Rattle.vsw_base.specs.Udp.{UdpFields, udp_of}
 use Rattle.vsw_base.specs.Frame as frame
+use Rattle.vsw_sum.specs.Sum.{checksum}
+use Rattle.vsw_sum.specs.Update.{written}
 use Rattle.vsw_ipv4.specs.Right.{AreBytes}
 use Rattle.vsw_l4.specs.Change.{tcp_changed, udp_changed}
-use Rattle.vsw_l4.specs.Right.{AreEndpoints, IsChange, IsTcpRight, udp_checksum}
+use Rattle.vsw_l4.specs.Right.{AreEndpoints, IsChange, IsDatagram, IsTcpRight, IsUdpRight, datagram, udp_checksum, udp_words}
 use Rattle.vsw_l4.specs.declared.change.Endpoints.{Endpoints}
 use Rattle.vsw_l4.proofs.Right as tcp
 use Rattle.vsw_l4.proofs.RightUdp as udp
@@ -103,38 +105,62 @@ tcp_wrong bytes e i t d s a b x y z k are h =
     let l = tcp_bounds i.payload t k.tcp in
     subst (WasSegmentRight true i.src i.dst) (ip_payload rest i w.old) (tcp.tcp_stays_wrong from to i.payload c (omega (arith, l.0, l.1), payload_short rest i w.old are) (subst (IsTcpRight a b) (sym (ip_payload packet (ip_with a b i (tcp_changed from to i.payload) i.trailer) w.read)) h))
 
--- UDP, with and without a checksum
-datagram_right : (from to : Endpoints) (bytes : List ℕ) (u : UdpFields) → IsChange from to bytes → udp_of bytes ≡ Ok u → IsSegmentRight false from.src from.dst bytes → IsSegmentRight false to.src to.dst (udp_changed from to bytes)
-datagram_right from to bytes u c k (inl z) = let l = udp_bounds bytes u k in inl (udp.udp_stays_without from to bytes (omega (arith, l.0, l.1)) z)
-datagram_right from to bytes u c k (inr r) = inr (udp.udp_stays_right from to bytes c (udp_bounds bytes u k) r)
+some_written : (n : ℕ) → written n ≡ 0 → ⊥
+some_written n e = grind (arith, e)
+
+-- a datagram in the packet that was read and in the packet that is written
+pub record Datagram (from to : Endpoints) (i : IpFields) (rest packet : List ℕ) : Type 0 where
+  pub old : i.payload ≡ carried rest
+  pub new : udp_changed from to i.payload ≡ carried packet
+  pub change : IsChange from to i.payload
+  pub lengths : IsDatagram i.payload
+  pub long : 8 ≤ length i.payload
+
+pub datagram_of : (bytes : List ℕ) (e : EtherFields) (i : IpFields) (u : UdpFields) (d s a b x y : ℕ) → PortsEdit bytes e i d s a b x y → IsUdp i (frame.OverUdp u) u → AreBytes (drop 14 bytes)
+    → Datagram (ends_at i.src i.dst u.src u.dst) (ends_at a b x y) i (drop 14 bytes) (packet_with a b (drop 14 bytes) (udp_changed (ends_at i.src i.dst u.src u.dst) (ends_at a b x y)))
+datagram_of bytes e i u d s a b x y z k are =
+    let rest = drop 14 bytes in
+    let from = ends_at i.src i.dst u.src u.dst in
+    let to = ends_at a b x y in
+    let w = udp_packet bytes e i u d s a b x y z k in
+    let l = udp_bounds i.payload u k.udp in
+    record {
+      old = ip_payload rest i w.old;
+      new = ip_payload (packet_with a b rest (udp_changed from to)) (ip_with a b i (udp_changed from to i.payload) i.trailer) w.read;
+      change = change_of rest i a b u.src u.dst x y w.old are (udp_src i.payload u k.udp) (udp_dst i.payload u k.udp) z.net.src z.net.dst z.src_port z.dst_port;
+      lengths = l;
+      long = omega (arith, l.0, l.1);
+    }
+
+pub udp_right : (from to : Endpoints) (i : IpFields) (rest packet : List ℕ) → Datagram from to i rest packet → IsUdpRight from.src from.dst (carried rest) → IsUdpRight to.src to.dst (carried packet)
+udp_right from to i rest packet g h =
+    subst (IsUdpRight to.src to.dst) g.new (udp.udp_stays_right from to i.payload g.change g.lengths (subst (IsUdpRight from.src from.dst) (sym g.old) h))
+
+abbrev HasNone : List ℕ → Type 0
+HasNone bytes = udp_checksum bytes ≡ 0
+
+pub none_right : (from to : Endpoints) (i : IpFields) (rest packet : List ℕ) → Datagram from to i rest packet → HasNone (carried rest) → HasNone (carried packet)
+none_right from to i rest packet g h = subst HasNone g.new (udp.udp_stays_without from to i.payload g.long (subst HasNone (sym g.old) h))
 
 is_zero : (n : ℕ) → (n ≡ 0) ⊎ (n ≢ 0)
 is_zero zero = inl refl
 is_zero (suc n) = inr (λ e. absurd (omega (arith, e)))
 
-datagram_wrong : (from to : Endpoints) (bytes : List ℕ) (u : UdpFields) → IsChange from to bytes → udp_of bytes ≡ Ok u → (udp_checksum bytes ≡ 0) ⊎ (udp_checksum bytes ≢ 0) → IsSegmentRight false to.src to.dst (udp_changed from to bytes) → IsSegmentRight false from.src from.dst bytes
-datagram_wrong from to bytes u c k (inl z) h = inl z
-datagram_wrong from to bytes u c k (inr s) (inl z) = let l = udp_bounds bytes u k in absurd (udp.udp_stays_with from to bytes (omega (arith, l.0, l.1)) s z)
-datagram_wrong from to bytes u c k (inr s) (inr r) = inr (udp.udp_stays_wrong from to bytes c (udp_bounds bytes u k) s r)
+none_by : (from to : Endpoints) (bytes : List ℕ) → 8 ≤ length bytes → HasNone bytes ⊎ (udp_checksum bytes ≢ 0) → HasNone (udp_changed from to bytes) → HasNone bytes
+none_by from to bytes l (inl z) h = z
+none_by from to bytes l (inr s) h = absurd (udp.udp_stays_with from to bytes l s h)
 
-pub udp_right : (bytes : List ℕ) (e : EtherFields) (i : IpFields) (u : UdpFields) (d s a b x y : ℕ) → PortsEdit bytes e i d s a b x y → IsUdp i (frame.OverUdp u) u → AreBytes (drop 14 bytes) → IsSegmentRight false i.src i.dst (carried (drop 14 bytes))
-    → IsSegmentRight false a b (carried (packet_with a b (drop 14 bytes) (udp_changed (ends_at i.src i.dst u.src u.dst) (ends_at a b x y))))
-udp_right bytes e i u d s a b x y z k are h =
-    let rest = drop 14 bytes in
-    let from = ends_at i.src i.dst u.src u.dst in
-    let to = ends_at a b x y in
-    let w = udp_packet bytes e i u d s a b x y z k in
-    let packet = packet_with a b rest (udp_changed from to) in
-    let c = change_of rest i a b u.src u.dst x y w.old are (udp_src i.payload u k.udp) (udp_dst i.payload u k.udp) z.net.src z.net.dst z.src_port z.dst_port in
-    subst (IsSegmentRight false a b) (ip_payload packet (ip_with a b i (udp_changed from to i.payload) i.trailer) w.read) (datagram_right from to i.payload u c k.udp (subst (IsSegmentRight false i.src i.dst) (sym (ip_payload rest i w.old)) h))
+pub none_wrong : (from to : Endpoints) (i : IpFields) (rest packet : List ℕ) → Datagram from to i rest packet → HasNone (carried packet) → HasNone (carried rest)
+none_wrong from to i rest packet g h = subst HasNone g.old (none_by from to i.payload g.long (is_zero (udp_checksum i.payload)) (subst HasNone (sym g.new) h))
 
-pub udp_wrong : (bytes : List ℕ) (e : EtherFields) (i : IpFields) (u : UdpFields) (d s a b x y : ℕ) → PortsEdit bytes e i d s a b x y → IsUdp i (frame.OverUdp u) u → AreBytes (drop 14 bytes)
-    → IsSegmentRight false a b (carried (packet_with a b (drop 14 bytes) (udp_changed (ends_at i.src i.dst u.src u.dst) (ends_at a b x y)))) → WasSegmentRight false i.src i.dst (carried (drop 14 bytes))
-udp_wrong bytes e i u d s a b x y z k are h =
-    let rest = drop 14 bytes in
-    let from = ends_at i.src i.dst u.src u.dst in
-    let to = ends_at a b x y in
-    let w = udp_packet bytes e i u d s a b x y z k in
-    let packet = packet_with a b rest (udp_changed from to) in
-    let c = change_of rest i a b u.src u.dst x y w.old are (udp_src i.payload u k.udp) (udp_dst i.payload u k.udp) z.net.src z.net.dst z.src_port z.dst_port in
-    subst (IsSegmentRight false i.src i.dst) (ip_payload rest i w.old) (datagram_wrong from to i.payload u c k.udp (is_zero (udp_checksum i.payload)) (subst (IsSegmentRight false a b) (sym (ip_payload packet (ip_with a b i (udp_changed from to i.payload) i.trailer) w.read)) h))
+-- no right checksum is 0
+never_none : (a b : ℕ) (bytes : List ℕ) → IsUdpRight a b bytes → HasNone bytes → ⊥
+never_none a b bytes h z = some_written (checksum (udp_words a b (datagram bytes))) (sym h ∙ z)
+
+right_by : (from to : Endpoints) (bytes : List ℕ) → IsChange from to bytes → IsDatagram bytes → 8 ≤ length bytes → HasNone bytes ⊎ (udp_checksum bytes ≢ 0) → IsUdpRight to.src to.dst (udp_changed from to bytes) → IsUdpRight from.src from.dst bytes
+right_by from to bytes c d l (inl z) h = absurd (never_none to.src to.dst (udp_changed from to bytes) h (udp.udp_stays_without from to bytes l z))
+right_by from to bytes c d l (inr s) h = udp.udp_stays_wrong from to bytes c d s h
+
+pub udp_wrong : (from to : Endpoints) (i : IpFields) (rest packet : List ℕ) → Datagram from to i rest packet → IsUdpRight to.src to.dst (carried packet) → IsUdpRight from.src from.dst (carried rest)
+udp_wrong from to i rest packet g h =
+    subst (IsUdpRight from.src from.dst) g.old (right_by from to i.payload g.change g.lengths g.long (is_zero (udp_checksum i.payload)) (subst (IsUdpRight to.src to.dst) (sym g.new) h))

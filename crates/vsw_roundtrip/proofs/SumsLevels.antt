@@ -4,11 +4,12 @@ use Rattle.std.proofs.lemmas.List.{append-nil, drop-drop, take-append-drop}
 use Rattle.vsw_base.specs.declared.header.Header.{Header}
 use Rattle.vsw_base.specs.declared.header.Header.TheVariants.{Ether, Ip, Vxlan}
 use Rattle.vsw_base.specs.Shape.{ipv4_kind}
-use Rattle.vsw_base.specs.Frame.{Level}
+use Rattle.vsw_base.specs.Frame.{Level, size_at}
 use Rattle.vsw_ipv4.specs.Ip.{pushed_ip_bytes}
 use Rattle.vsw_l4.specs.Vxlan.{udp_vxlan_bytes}
 use Rattle.vsw_link.specs.Ether.{ether_bytes}
 use Rattle.vsw_frame.specs.Bytes.{differ, levels_changed, pushed, udp_at, udp_kept}
+use Rattle.vsw_frame.specs.Ends.{lengths}
 use Rattle.vsw_frame.specs.Layout.{AreLaid, IsAround}
 use Rattle.vsw_roundtrip.specs.RoundTrip.{levels_kept, levels_pushed}
 use Rattle.vsw_roundtrip.specs.Sums.{AreAsTheyWere, IsAsItWas, innermost, sum_kept}
@@ -107,3 +108,41 @@ laid_drop hs zero ls h a = a
 laid_drop hs (suc k) [] h a = absurd a
 laid_drop hs (suc k) (l ∷ []) h a = absurd (omega (arith, h))
 laid_drop hs (suc k) (l ∷ m ∷ ls) h a = laid_drop hs k (m ∷ ls) (omega (arith, h)) a.1
+
+pub size_drop : (k : ℕ) (ls : List Level) → size_at k ls ≡ length (outermost (drop k ls))
+size_drop zero [] = refl
+size_drop zero (l ∷ ls) = refl
+size_drop (suc k) [] = refl
+size_drop (suc k) (l ∷ ls) = size_drop k ls
+
+sum_length : (c : Bool) (sum : List ℕ) → length sum ≡ 2 → length (sum_kept c sum) ≡ 2
+sum_length true sum l = refl
+sum_length false sum l = l
+
+-- where a kept level's size stays, so does that of the frame in it
+inner_size : (c : Bool) (l w : Level) (old new : List ℕ) → IsAsItWas c l w old new → length w.bytes ≡ length l.bytes → length new ≡ length old
+inner_size c l w old new a e =
+    let ends = l.slack ++ l.trailer in
+    omega (
+      arith,
+      e,
+      sum_length c a.sum a.sum_length,
+      ap length a.was,
+      length-append a.front (a.sum ++ (a.vxlan ++ (old ++ ends))),
+      length-append a.sum (a.vxlan ++ (old ++ ends)),
+      length-append a.vxlan (old ++ ends),
+      length-append old ends,
+      ap length a.is,
+      length-append a.front (sum_kept c a.sum ++ (a.vxlan ++ (new ++ ends))),
+      length-append (sum_kept c a.sum) (a.vxlan ++ (new ++ ends)),
+      length-append a.vxlan (new ++ ends),
+      length-append new ends,
+    )
+
+pub sizes_stay : (from to : List Header) (ls : List Level) → AreAsTheyWere (differ from to) ls (levels_kept from to ls) → length (levels_changed from to ls) ≡ length (outermost ls) → lengths (levels_kept from to ls) ≡ lengths ls
+sizes_stay from to [] a e = refl
+sizes_stay from to (l ∷ []) a e = ap (λ (n : ℕ). n ∷ []) e
+sizes_stay from to (l ∷ m ∷ ls) a e =
+    let w : Level = record { bytes = levels_changed from to (l ∷ m ∷ ls); trailer = l.trailer; slack = l.slack } in
+    let n = inner_size (differ from to) l w m.bytes (levels_changed from to (m ∷ ls)) a.0 e in
+    ap (λ (k : ℕ). k ∷ lengths (levels_kept from to (m ∷ ls))) e ∙ ap (λ (ks : List ℕ). length l.bytes ∷ ks) (sizes_stay from to (m ∷ ls) a.1 n)

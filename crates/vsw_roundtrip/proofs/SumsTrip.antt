@@ -8,21 +8,27 @@ use Rattle.vsw_base.proofs.Stacks.{in_front}
 use Rattle.vsw_ipv4.specs.Right.{AreBytes}
 use Rattle.vsw_frame.specs.Bytes.{AreLike, drops, frame_changed, levels_changed, pushes, source_port}
 use Rattle.vsw_roundtrip.specs.RoundTrip.{IsRewriting, levels_kept, levels_pushed, levels_staying, levels_written}
-use Rattle.vsw_roundtrip.specs.Sums.{IsEndRight, IsIpRight, KeepEncapsulations, LevelsAreWritten, StayRight, StayWrong, WasEndRight, WasIpRight, innermost}
+use Rattle.vsw_roundtrip.specs.Sums.{HasNoSum, IsEndRight, IsIpRight, KeepEncapsulations, LevelsAreWritten, StayRight, StayWrong, WasEndRight, WasIpRight, innermost}
 use Rattle.vsw_frame.specs.Tiles.{Surrounds}
 use Rattle.vsw_frame.proofs.Cases.{read_in}
 use Rattle.vsw_frame.proofs.Laid.{levels_laid}
 use Rattle.vsw_roundtrip.proofs.SumsFrame.{SumsAs, sums_of}
-use Rattle.vsw_roundtrip.proofs.SumsLevels.{all_as_they_were, innermost-append, kept_outermost, kept_tile, laid_drop, last-append, last_of, pushed_outermost, pushed_tile}
+use Rattle.vsw_roundtrip.proofs.SumsLevels.{all_as_they_were, innermost-append, kept_outermost, kept_tile, laid_drop, last-append, last_of, pushed_outermost, pushed_tile, size_drop, sizes_stay}
 use Rattle.vsw_frame.proofs.Tiles.{opened_ends}
 use Rattle.vsw_roundtrip.proofs.Trip.{fit_drop, outgoing_has}
 use Rattle.vsw_roundtrip.proofs.TripKept.{levels_read, written_level}
 
 pub keep_encapsulations : KeepEncapsulations
 keep_encapsulations bytes p edited kept n h =
+    let from = inner p.stack in
+    let to = inner edited in
     let a = levels_laid bytes p h.read in
     let k = drops p kept in
-    all_as_they_were (inner p.stack) (inner p.stack) (inner edited) (drop k p.levels) (laid_drop (inner p.stack) k p.levels (omega (arith, a.count)) a.laid)
+    let ls = drop k p.levels in
+    let fit : AreFit to = fit_drop (3 * encaps edited) edited h.fits in
+    let w = ((levels_read 2 bytes p (read_in bytes p h.read).1).kept k from to (omega arith) refl h.edit.alike fit).3 in
+    let were = all_as_they_were from from to ls (laid_drop from k p.levels (omega (arith, a.count)) a.laid) in
+    record { bytes = were; sizes = sizes_stay from to ls were (w.there ∙ size_drop k p.levels) }
 
 abbrev first_levels : Parts → List Header → ℕ → List Level
 first_levels p edited kept = levels_pushed (source_port edited) (take (3 * pushes edited kept) edited) (levels_changed (inner p.stack) (inner edited) (levels_staying p kept))
@@ -38,6 +44,8 @@ InnerSums p edited kept =
     × (IsIpRight (inner edited) (innermost (levels_written p edited kept)) → WasIpRight (inner p.stack) (innermost p.levels))
     × (IsEndRight (inner p.stack) (innermost p.levels) → IsEndRight (inner edited) (innermost (levels_written p edited kept)))
     × (IsEndRight (inner edited) (innermost (levels_written p edited kept)) → WasEndRight (inner p.stack) (innermost p.levels))
+    × (HasNoSum (inner p.stack) (innermost p.levels) → HasNoSum (inner edited) (innermost (levels_written p edited kept)))
+    × (HasNoSum (inner edited) (innermost (levels_written p edited kept)) → HasNoSum (inner p.stack) (innermost p.levels))
 
 inner_sums : (bytes : List ℕ) (p : Parts) (edited : List Header) (kept n : ℕ) → AreBytes bytes → IsRewriting bytes p edited kept n → InnerSums p edited kept
 inner_sums bytes p edited kept n are h =
@@ -55,16 +63,24 @@ inner_sums bytes p edited kept n are h =
     let inside : innermost (levels_written p edited kept) ≡ frame_changed from to last =
     ap (λ (ls : List Level). innermost (first ++ ls)) w.levels ∙ ap innermost (sym (append_assoc first outer (level ∷ []))) ∙ innermost-append level (first ++ outer) in
     let s : SumsAs last o to = sums_of last o to w.opened (subst (λ (hs : List Header). AreLike hs to) (sym w.stack) h.edit.alike) fit (w.are_bytes are) in
-    let P : List Header → List ℕ → List ℕ → Type 0 = λ hs old new. (IsIpRight hs old → IsIpRight to new) × (IsIpRight to new → WasIpRight hs old) × (IsEndRight hs old → IsEndRight to new) × (IsEndRight to new → WasEndRight hs old) in
-    let base : P (o.front ++ ports o.end) last (frame_changed (o.front ++ ports o.end) to last) = (s.ip_right, s.ip_wrong, s.end_right, s.end_wrong) in
+    let P : List Header → List ℕ → List ℕ → Type 0 = λ hs old new. (IsIpRight hs old → IsIpRight to new) × (IsIpRight to new → WasIpRight hs old) × (IsEndRight hs old → IsEndRight to new) × (IsEndRight to new → WasEndRight hs old) × (HasNoSum hs old → HasNoSum to new) × (HasNoSum to new → HasNoSum hs old) in
+    let base : P (o.front ++ ports o.end) last (frame_changed (o.front ++ ports o.end) to last) = (s.ip_right, s.ip_wrong, s.end_right, s.end_wrong, s.none_right, s.none_wrong) in
     let all : P from last (frame_changed from to last) = subst (λ (hs : List Header). P hs last (frame_changed hs to last)) w.stack base in
     subst (P from (innermost p.levels)) (sym inside) (subst (λ (x : List ℕ). P from x (frame_changed from to last)) (sym w.inmost) all)
 
 pub stay_right : StayRight
-stay_right = record { ip = λ bytes p edited kept n are h. (inner_sums bytes p edited kept n are h).0; end = λ bytes p edited kept n are h. (inner_sums bytes p edited kept n are h).2 }
+stay_right = record {
+  ip = λ bytes p edited kept n are h. (inner_sums bytes p edited kept n are h).0;
+  end = λ bytes p edited kept n are h. (inner_sums bytes p edited kept n are h).2;
+  none = λ bytes p edited kept n are h. (inner_sums bytes p edited kept n are h).4;
+}
 
 pub stay_wrong : StayWrong
-stay_wrong = record { ip = λ bytes p edited kept n are h. (inner_sums bytes p edited kept n are h).1; end = λ bytes p edited kept n are h. (inner_sums bytes p edited kept n are h).3 }
+stay_wrong = record {
+  ip = λ bytes p edited kept n are h. (inner_sums bytes p edited kept n are h).1;
+  end = λ bytes p edited kept n are h. (inner_sums bytes p edited kept n are h).3;
+  none = λ bytes p edited kept n are h. (inner_sums bytes p edited kept n are h).5;
+}
 
 pub levels_are_written : LevelsAreWritten
 levels_are_written bytes p edited kept n h =

@@ -47,7 +47,7 @@ stack_encapped = stack_cases AllEncapped
     one_more d s a b v (encaps (encapped d' s' a' b' w hs)) (encapped d' s' a' b' w hs) f refl inside)
 
 -- the first of so many encapsulations
-first_three : (j : ℕ) (x y z : Header) (hs : List Header) → take (3 * suc j) (x ∷ y ∷ z ∷ hs) ≡ x ∷ y ∷ z ∷ take (3 * j) hs
+pub first_three : (j : ℕ) (x y z : Header) (hs : List Header) → take (3 * suc j) (x ∷ y ∷ z ∷ hs) ≡ x ∷ y ∷ z ∷ take (3 * j) hs
 first_three j x y z hs = ap (λ (n : ℕ). take n (x ∷ y ∷ z ∷ hs)) (omega arith) ∙ take-append-add (x ∷ y ∷ z ∷ []) hs (3 * j)
 
 pub pushed_length : (j : ℕ) (hs : List Header) (port : ℕ) (inner : List ℕ) → Encapped j hs → length (pushed port (take (3 * j) hs) inner) ≡ 50 * j + length inner

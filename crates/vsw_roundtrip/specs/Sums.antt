@@ -10,6 +10,7 @@ use Rattle.vsw_ipv4.specs.Right.{AreBytes, IsOtherZero, IsRight, header_checksum
 use Rattle.vsw_l4.specs.Right.{IsTcpRight, IsUdpRight, tcp_checksum, tcp_words, udp_checksum}
 use Rattle.vsw_frame.specs.Bytes.{differ, levels_changed, outgoing, pushes, source_port, udp_at}
 use Rattle.vsw_roundtrip.specs.RoundTrip.{IsRewriting, levels_kept, levels_pushed, levels_staying, levels_written, written}
+use Rattle.vsw_frame.specs.Ends.{lengths}
 use Rattle.vsw_frame.specs.Tiles.{Tiles}
 
 -- the levels that are written are the bytes, each within the one before, also where a reader would look deeper
@@ -36,14 +37,14 @@ abbrev pub WasIpRight : List Header → List ℕ → Type 0
 WasIpRight (Ether d s k ∷ Ip a b p f ∷ hs) bytes = IsRight (drop 14 bytes) ⊎ IsOtherZero (header_checksum (drop 14 bytes)) (checksum (header_words (drop 14 bytes)))
 WasIpRight hs bytes = Unit {0}
 
--- the checksum of TCP, or of UDP where there is one
+-- the checksum of TCP, or else of UDP
 abbrev pub IsSegmentRight : Bool → ℕ → ℕ → List ℕ → Type 0
 IsSegmentRight true src dst segment = IsTcpRight src dst segment
-IsSegmentRight false src dst segment = (udp_checksum segment ≡ 0) ⊎ IsUdpRight src dst segment
+IsSegmentRight false src dst segment = IsUdpRight src dst segment
 
 abbrev pub WasSegmentRight : Bool → ℕ → ℕ → List ℕ → Type 0
 WasSegmentRight true src dst segment = IsTcpRight src dst segment ⊎ IsOtherZero (tcp_checksum segment) (checksum (tcp_words src dst segment))
-WasSegmentRight false src dst segment = IsSegmentRight false src dst segment
+WasSegmentRight false src dst segment = IsUdpRight src dst segment
 
 -- the checksum of an unfragmented TCP or UDP segment in a frame with these headers is right, if it has one
 abbrev pub IsEndRight : List Header → List ℕ → Type 0
@@ -54,6 +55,11 @@ abbrev pub WasEndRight : List Header → List ℕ → Type 0
 WasEndRight (Ether d s k ∷ Ip a b p f ∷ Ports proto x y ∷ hs) bytes = WasSegmentRight (proto == 6) a b (carried (drop 14 bytes))
 WasEndRight hs bytes = Unit {0}
 
+-- a frame with these headers has UDP without a checksum
+abbrev pub HasNoSum : List Header → List ℕ → Type 0
+HasNoSum (Ether d s k ∷ Ip a b p f ∷ Ports proto x y ∷ hs) bytes = (proto ≡ 17) × (udp_checksum (carried (drop 14 bytes)) ≡ 0)
+HasNoSum hs bytes = ⊥
+
 -- where it held of the innermost level that was read, it holds of the one that is written
 abbrev pub Stays : (List Header → List ℕ → Type 0) → Type 0
 Stays Right = (bytes : List ℕ) (p : Parts) (edited : List Header) (kept n : ℕ) → AreBytes bytes → IsRewriting bytes p edited kept n → Right (inner p.stack) (innermost p.levels) → Right (inner edited) (innermost (levels_written p edited kept))
@@ -62,15 +68,17 @@ Stays Right = (bytes : List ℕ) (p : Parts) (edited : List Header) (kept n : �
 abbrev pub ComesOf : (Was Right : List Header → List ℕ → Type 0) → Type 0
 ComesOf Was Right = (bytes : List ℕ) (p : Parts) (edited : List Header) (kept n : ℕ) → AreBytes bytes → IsRewriting bytes p edited kept n → Right (inner edited) (innermost (levels_written p edited kept)) → Was (inner p.stack) (innermost p.levels)
 
--- right checksums stay right
+-- right checksums stay right, and UDP without one stays without
 pub record StayRight : Type 0 where
   pub ip : Stays IsIpRight
   pub end : Stays IsEndRight
+  pub none : Stays HasNoSum
 
--- and wrong ones wrong, but for the two zeros
+-- wrong ones stay wrong, but for the two zeros, and none is lost
 pub record StayWrong : Type 0 where
   pub ip : ComesOf WasIpRight IsIpRight
   pub end : ComesOf WasEndRight IsEndRight
+  pub none : ComesOf HasNoSum HasNoSum
 
 -- the UDP checksum of a kept encapsulation: none, where an inner field differs
 abbrev pub sum_kept : Bool → List ℕ → List ℕ
@@ -97,13 +105,23 @@ AreAsTheyWere changed (l ∷ m ∷ ls) (w ∷ x ∷ ws) = IsAsItWas changed l w 
 AreAsTheyWere changed (l ∷ []) (w ∷ []) = Unit {0}
 AreAsTheyWere changed ls ws = ⊥
 
+-- and no level changes its size
+pub record AreKept (changed : Bool) (ls ws : List Level) : Type 0 where
+  pub bytes : AreAsTheyWere changed ls ws
+  pub sizes : lengths ws ≡ lengths ls
+
 abbrev pub KeepEncapsulations : Type 0
-KeepEncapsulations = (bytes : List ℕ) (p : Parts) (edited : List Header) (kept n : ℕ) → IsRewriting bytes p edited kept n → AreAsTheyWere (differ (inner p.stack) (inner edited)) (levels_staying p kept) (levels_kept (inner p.stack) (inner edited) (levels_staying p kept))
+KeepEncapsulations = (bytes : List ℕ) (p : Parts) (edited : List Header) (kept n : ℕ) → IsRewriting bytes p edited kept n → AreKept (differ (inner p.stack) (inner edited)) (levels_staying p kept) (levels_kept (inner p.stack) (inner edited) (levels_staying p kept))
 
 -- the IPv4 checksums of these levels are right
 abbrev pub AreIpRight : List Level → Type 0
 AreIpRight [] = Unit {0}
 AreIpRight (l ∷ ls) = IsRight (drop 14 l.bytes) × AreIpRight ls
 
+-- as many levels as encapsulations are pushed, with right IPv4 checksums
+pub record ArePushedRight (edited : List Header) (kept : ℕ) (ls : List Level) : Type 0 where
+  pub count : length ls ≡ pushes edited kept
+  pub right : AreIpRight ls
+
 abbrev pub PushRight : Type 0
-PushRight = (p : Parts) (edited : List Header) (kept : ℕ) → AreIpRight (levels_pushed (source_port edited) (take (3 * pushes edited kept) edited) (levels_changed (inner p.stack) (inner edited) (levels_staying p kept)))
+PushRight = (bytes : List ℕ) (p : Parts) (edited : List Header) (kept n : ℕ) → IsRewriting bytes p edited kept n → ArePushedRight edited kept (levels_pushed (source_port edited) (take (3 * pushes edited kept) edited) (levels_changed (inner p.stack) (inner edited) (levels_staying p kept)))

@@ -5,6 +5,7 @@ use Rattle.vsw_base.specs.Ipv4.{ip_header}
 use Rattle.vsw_sum.specs.Sum.{checksum, words_of}
 use Rattle.vsw_ipv4.specs.Change.{ip_changed}
 
+-- each number is a byte
 abbrev pub AreBytes : List ℕ → Type 0
 AreBytes bytes = (i : ℕ) → slice_index bytes i < 256
 

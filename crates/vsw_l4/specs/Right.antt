@@ -7,6 +7,7 @@ use Rattle.vsw_sum.specs.Update.{written}
 use Rattle.vsw_l4.specs.Change.{tcp_changed, udp_changed}
 use Rattle.vsw_l4.specs.declared.change.Endpoints.{Endpoints}
 
+-- each number is a byte
 abbrev pub AreBytes : List ℕ → Type 0
 AreBytes bytes = (i : ℕ) → slice_index bytes i < 256
 

@@ -20,3 +20,4 @@ pub mod SumsFrame
 pub mod SumsLevels
 pub mod SumsTrip
 pub mod Deeper
+pub mod ByActs

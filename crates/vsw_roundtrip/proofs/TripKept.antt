@@ -81,7 +81,7 @@ inner_short bytes o v inside h w =
     let f = inner_ends bytes (payload_in o.end) inside ends (opened_ends bytes o h) (vxlan_follows o.end v inside w) in
     omega (arith, ap length f.1, length-append f.0 (inside ++ ends), length-append inside ends)
 
-inner_bytes : (bytes : List ℕ) (o : Opened) (v : ℕ) (inside : List ℕ) → opened_of bytes ≡ Ok o → within o.end ≡ Some (v, inside) → AreBytes bytes → AreBytes inside
+pub inner_bytes : (bytes : List ℕ) (o : Opened) (v : ℕ) (inside : List ℕ) → opened_of bytes ≡ Ok o → within o.end ≡ Some (v, inside) → AreBytes bytes → AreBytes inside
 inner_bytes bytes o v inside h w are =
     let ends = slack_in o.end ++ o.trailer in
     let f = inner_ends bytes (payload_in o.end) inside ends (opened_ends bytes o h) (vxlan_follows o.end v inside w) in

@@ -7,6 +7,11 @@ use Rattle.vsw_base.specs.Fits.{AreFit}
 use Rattle.vsw_base.specs.Frame.{Level, Parts, frame_of}
 use Rattle.vsw_base.specs.Shape.{encaps, inner}
 use Rattle.vsw_base.specs.Vxlan.{vni_of, vxlan_port}
+use Rattle.vsw_ipv4.specs.Right.{AreBytes}
+use Rattle.vsw_transpose.specs.declared.act.Act.{Act}
+use Rattle.vsw_transpose.specs.Apply.{apply}
+use Rattle.vsw_transpose.specs.Fits.{fits, kept}
+use Rattle.vsw_transpose.specs.Form.{is_form}
 use Rattle.vsw_frame.specs.Bytes.{IsEdit, answer, drops, levels_changed, outgoing, pushed, pushes, source_port}
 
 -- kept levels, outermost first: changed bytes, the same slacks and trailers
@@ -48,6 +53,10 @@ pub record IsRewriting (bytes : List ℕ) (p : Parts) (edited : List Header) (ke
   pub edit : IsEdit p.stack edited kept
   pub fits : AreFit edited
   pub room : answer p edited kept ≡ Ok n
+
+-- what a transposition whose acts fit makes of a frame of bytes is such a rewriting
+abbrev pub IsByActs : Type 0
+IsByActs = (bytes : List ℕ) (p : Parts) (acts : List Act) (n : ℕ) → AreBytes bytes → frame_of bytes ≡ Ok p → is_form acts ≡ true → fits acts p.stack ≡ true → AreFit (apply acts p.stack) → answer p (apply acts p.stack) (kept acts) ≡ Ok n → IsRewriting bytes p (apply acts p.stack) (kept acts) n
 
 -- what was written is read: the edited stack, the same payload and control; a level for each pushed encapsulation, and the
 -- kept ones with their slacks and trailers

@@ -1,6 +1,7 @@
 use Rattle.vsw_roundtrip.proofs.SumsPushed.{push_right}
 use Rattle.vsw_roundtrip.proofs.SumsTrip.{keep_encapsulations, levels_are_written, stay_right, stay_wrong}
 use Rattle.vsw_roundtrip.proofs.Trip.{reads_more, round_trip}
+use Rattle.vsw_roundtrip.proofs.ByActs.{by_acts}
 use Rattle.vsw_roundtrip.proofs.law.laws.Goals as goal
 
 pub returns-clause-round_trip : goal.returns-clause-round_trip
@@ -23,3 +24,6 @@ returns-clause-kept c = keep_encapsulations
 
 pub returns-clause-pushed : goal.returns-clause-pushed
 returns-clause-pushed c = push_right
+
+pub returns-clause-by_acts : goal.returns-clause-by_acts
+returns-clause-by_acts c = by_acts

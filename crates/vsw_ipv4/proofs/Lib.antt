@@ -1,1 +1,4 @@
 pub mod Back
+pub mod Zeros
+pub mod Right
+pub mod Rights

@@ -1,2 +1,4 @@
 pub mod Ip
 pub mod Change
+pub mod Right
+pub mod Vectors

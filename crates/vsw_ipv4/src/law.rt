@@ -1,9 +1,21 @@
 //! What holds of the header's bytes.
 
 ghost use Rattle.vsw_ipv4.specs.Ip.{Checks, ReadsBack};
+ghost use Rattle.vsw_ipv4.specs.Right.{StaysRight, StaysWrong};
 
-/// The reader gives back what the writer was given, and the checksum is right.
+/// The reader gives back what the writer was given, and the checksum is right. One that is right for
+/// a header is right for the changed one; one that is wrong stays wrong.
 pub fn laws()
     ensures reads_back { ReadsBack }
     ensures checks { Checks }
+    ensures right { StaysRight }
+    ensures wrong { StaysWrong }
+{}
+
+ghost use Rattle.vsw_ipv4.specs.Vectors.{PlainIsRight, OptionsAreRight};
+
+/// The definitions of right checksums, evaluated.
+fn definition()
+    ensures plain { PlainIsRight }
+    ensures options { OptionsAreRight }
 {}

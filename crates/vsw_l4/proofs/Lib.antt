@@ -1,1 +1,6 @@
 pub mod Back
+pub mod Zeros
+pub mod Update
+pub mod Right
+pub mod RightUdp
+pub mod Rights

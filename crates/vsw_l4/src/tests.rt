@@ -120,3 +120,60 @@ fn endpoints_of_tcp_are_changed_in_place(rt: HostRuntime) {
     change_tcp(&mut bytes, &from, &to);
     assert_eq!(rt; bytes, changed);
 }
+
+/// From 192.0.2.7, and this port, to 203.0.113.4, port 53.
+fn translated(src_port: u16) -> Endpoints {
+    let mut to = query(0xc000_0207, src_port);
+    to.dst = Ip4::of(0xcb00_7104);
+    to
+}
+
+/// What a receiver sums of a segment and its pseudo-header, with its carries: a multiple of 65,535
+/// where the checksum is right.
+fn sum(src: u32, dst: u32, proto: u64, segment: &[u8]) -> u64 {
+    let (src, dst) = (u64::from(src), u64::from(dst));
+    let mut total = src / 0x1_0000 + src % 0x1_0000 + dst / 0x1_0000 + dst % 0x1_0000;
+    total = total.wrapping_add(proto).wrapping_add(segment.len() as u64);
+    for i in 0..segment.len() {
+        let weight = if i % 2 == 0 { 256 } else { 1 };
+        total = total.wrapping_add(weight * u64::from(segment[i]));
+    }
+    total
+}
+
+#[test]
+fn a_right_tcp_checksum_stays_right(rt: HostRuntime) {
+    // PSH and ACK, and "hey"
+    let mut segment = [
+        0x04, 0xd2, 0x00, 0x35, 0x00, 0x00, 0x03, 0xe8, 0x00, 0x00, 0x07, 0xd0, 0x50, 0x18, 0xff,
+        0x00, 0xaa, 0x96, 0x00, 0x00, 0x68, 0x65, 0x79,
+    ];
+    assert_eq!(rt; sum(0x0a00_0005, 0x0a00_0009, 6, &segment) % 0xffff, 0);
+    change_tcp(&mut segment, &query(0x0a00_0005, 1234), &translated(40_000));
+    assert_eq!(rt; &segment[..4], [0x9c, 0x40, 0x00, 0x35].as_slice());
+    assert_eq!(rt; &segment[16..18], [0x29, 0x29].as_slice());
+    assert_eq!(rt; sum(0xc000_0207, 0xcb00_7104, 6, &segment) % 0xffff, 0);
+}
+
+#[test]
+fn a_right_udp_checksum_stays_right(rt: HostRuntime) {
+    // "hey", and two bytes behind the datagram
+    let bytes = [
+        0x04, 0xd2, 0x00, 0x35, 0x00, 0x0b, 0x05, 0x5e, 0x68, 0x65, 0x79, 0xee, 0xee,
+    ];
+    assert_eq!(rt; sum(0x0a00_0005, 0x0a00_0009, 17, &bytes[..11]) % 0xffff, 0);
+    // 0 is right for the second port, and isn't written
+    for (port, checksum) in [(40_000, 0x83f0), (8241, 0xffff)] {
+        let mut changed = bytes;
+        change_udp(&mut changed, &query(0x0a00_0005, 1234), &translated(port));
+        assert_eq!(rt;
+            (u16::from(changed[6]), u16::from(changed[7])),
+            (checksum / 256, checksum % 256)
+        );
+        assert_eq!(rt;
+            sum(0xc000_0207, 0xcb00_7104, 17, &changed[..11]) % 0xffff,
+            0
+        );
+        assert_eq!(rt; &changed[11..], [0xee, 0xee].as_slice());
+    }
+}

@@ -1,0 +1,68 @@
+-- What is read of the bytes that are written.
+use Rattle.std.specs.Prelude.{◌≡◌, ◌≢◌, ℕ, ◌*◌, ◌==◌, ◌&&◌, Bool, true, false, List, [], ◌∷◌, ◌++◌, take, drop, nat_lt, Ok}
+use Rattle.std.specs.Option.{is_some}
+use Rattle.vsw_base.specs.declared.header.Header.{Header}
+use Rattle.vsw_base.specs.declared.header.Header.TheVariants.{Ether, Ip, Vxlan, Ports}
+use Rattle.vsw_base.specs.Fits.{AreFit}
+use Rattle.vsw_base.specs.Frame.{Level, Parts, frame_of}
+use Rattle.vsw_base.specs.Shape.{encaps, inner}
+use Rattle.vsw_base.specs.Vxlan.{vni_of, vxlan_port}
+use Rattle.vsw_ipv4.specs.Right.{AreBytes}
+use Rattle.vsw_transpose.specs.declared.act.Act.{Act}
+use Rattle.vsw_transpose.specs.Apply.{apply}
+use Rattle.vsw_transpose.specs.Fits.{fits, kept}
+use Rattle.vsw_transpose.specs.Form.{is_form}
+use Rattle.vsw_frame.specs.Bytes.{IsEdit, answer, drops, levels_changed, outgoing, pushed, pushes, source_port}
+
+-- kept levels, outermost first: changed bytes, the same slacks and trailers
+abbrev pub levels_kept : List Header → List Header → List Level → List Level
+levels_kept from to [] = []
+levels_kept from to (l ∷ ls) = record { bytes = levels_changed from to (l ∷ ls); trailer = l.trailer; slack = l.slack } ∷ levels_kept from to ls
+
+-- a level for each pushed encapsulation, without slack and trailer
+abbrev pub levels_pushed : ℕ → List Header → List ℕ → List Level
+levels_pushed port (Ether dst src kind ∷ Ip a b proto part ∷ Vxlan vni ∷ hs) frame = record { bytes = pushed port (Ether dst src kind ∷ Ip a b proto part ∷ Vxlan vni ∷ hs) frame; trailer = []; slack = [] } ∷ levels_pushed port hs frame
+levels_pushed port hs frame = []
+
+-- the levels that stay, outermost first
+abbrev pub levels_staying : Parts → ℕ → List Level
+levels_staying p kept = drop (drops p kept) p.levels
+
+abbrev pub levels_written : Parts → List Header → ℕ → List Level
+levels_written p edited kept =
+    let staying = levels_staying p kept in
+    levels_pushed (source_port edited) (take (3 * pushes edited kept) edited) (levels_changed (inner p.stack) (inner edited) staying)
+    ++ levels_kept (inner p.stack) (inner edited) staying
+
+-- the edited stack, and what the edit leaves as it was
+abbrev pub written : Parts → List Header → ℕ → Parts
+written p edited kept = record { stack = edited; control = p.control; levels = levels_written p edited kept; payload = p.payload }
+
+-- inner UDP to VXLAN's port, whose payload begins with a VXLAN header with the I flag
+abbrev pub is_vxlan : List Header → List ℕ → Bool
+is_vxlan (Ether d s k ∷ Ip a b p f ∷ Ports proto x y ∷ hs) payload = (proto == 17) && (y == vxlan_port) && is_some (vni_of payload)
+is_vxlan hs payload = false
+
+-- at most two encapsulations are looked for, and where fewer are written, such a payload is taken for one more
+abbrev pub reads_deeper : Parts → List Header → Bool
+reads_deeper p edited = nat_lt (encaps edited) 2 && is_vxlan (inner edited) p.payload
+
+-- a frame that was read, an edit that it can follow, with numbers in their ranges, and an answer other than Long
+pub record IsRewriting (bytes : List ℕ) (p : Parts) (edited : List Header) (kept n : ℕ) : Type 0 where
+  pub read : frame_of bytes ≡ Ok p
+  pub edit : IsEdit p.stack edited kept
+  pub fits : AreFit edited
+  pub room : answer p edited kept ≡ Ok n
+
+-- what a transposition whose acts fit makes of a frame of bytes is such a rewriting
+abbrev pub IsByActs : Type 0
+IsByActs = (bytes : List ℕ) (p : Parts) (acts : List Act) (n : ℕ) → AreBytes bytes → frame_of bytes ≡ Ok p → is_form acts ≡ true → fits acts p.stack ≡ true → AreFit (apply acts p.stack) → answer p (apply acts p.stack) (kept acts) ≡ Ok n → IsRewriting bytes p (apply acts p.stack) (kept acts) n
+
+-- what was written is read: the edited stack, the same payload and control; a level for each pushed encapsulation, and the
+-- kept ones with their slacks and trailers
+abbrev pub RoundTrip : Type 0
+RoundTrip = (bytes : List ℕ) (p : Parts) (edited : List Header) (kept n : ℕ) → IsRewriting bytes p edited kept n → reads_deeper p edited ≡ false → frame_of (outgoing p edited kept) ≡ Ok (written p edited kept)
+
+-- in no other case is the edited stack read
+abbrev pub ReadsDeeper : Type 0
+ReadsDeeper = (bytes : List ℕ) (p q : Parts) (edited : List Header) (kept n : ℕ) → IsRewriting bytes p edited kept n → reads_deeper p edited ≡ true → frame_of (outgoing p edited kept) ≡ Ok q → q.stack ≢ edited

@@ -1,0 +1,27 @@
+//! What holds of the bytes that are written.
+
+ghost use Rattle.vsw_roundtrip.specs.RoundTrip.{IsByActs, ReadsDeeper, RoundTrip};
+ghost use Rattle.vsw_roundtrip.specs.Sums.{KeepEncapsulations, LevelsAreWritten, PushRight, StayRight, StayWrong};
+
+/// What is written for a frame by a transposition that fits it is read as the edited stack, but
+/// exactly where its innermost datagram looks like one more encapsulation. The inner checksums that
+/// are right in a frame are right in what is written, and wrong ones wrong; kept encapsulations are as
+/// they were but for their UDP checksum; and the IPv4 checksums of pushed ones are right.
+pub fn laws()
+    ensures by_acts { IsByActs }
+    ensures round_trip { RoundTrip }
+    ensures deeper { ReadsDeeper }
+    ensures levels { LevelsAreWritten }
+    ensures right { StayRight }
+    ensures wrong { StayWrong }
+    ensures kept { KeepEncapsulations }
+    ensures pushed { PushRight }
+{}
+
+ghost use Rattle.vsw_roundtrip.specs.Vectors.{ReadsInside, ReadsPlain};
+
+/// The definitions, evaluated on a frame whose payload looks like an encapsulation.
+fn definition()
+    ensures plain { ReadsPlain }
+    ensures inside { ReadsInside }
+{}

@@ -33,7 +33,7 @@ abbrev pub frame_changed : List Header → List Header → List ℕ → List ℕ
 frame_changed (Ether d s k ∷ hs) (Ether dst src kind ∷ gs) bytes = ether_changed dst src (take 14 bytes) ++ packet_changed hs gs (drop 14 bytes)
 frame_changed hs gs bytes = bytes
 
--- all fields of two headers are the same
+-- all fields of two headers are the same; whether a packet is a fragment can't be written
 abbrev pub is_same : Header → Header → Bool
 is_same (Ether d s k) (Ether dst src kind) = (d == dst) && (s == src) && (k == kind)
 is_same (Ip a b p f) (Ip src dst proto part) = (a == src) && (b == dst) && (p == proto)

@@ -116,7 +116,6 @@ fn rewrite_to(frame: &Frame<'_>, edited: &Stack, kept: u8, out: &mut [u8]) -> Re
 /// Pushed encapsulations stand in front (RFC 7348, section 5).
 ///
 /// `Long` tells the outermost IPv4 total length where it is above what its field can say.
-
 pub fn rewrite(frame: &Frame<'_>, by: &Transposition, out: &mut [u8]) -> Result<usize, Long>
     requires fits { IsTrue (fits by.now (parts frame.now).stack) }
     requires room { 65700 ≤ length out.old }

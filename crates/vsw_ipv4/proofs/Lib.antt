@@ -1,4 +1,3 @@
 pub mod Back
-pub mod Zeros
 pub mod Right
 pub mod Rights

@@ -5,13 +5,13 @@ use Rattle.std.proofs.lemmas.List.Sums.{sum_by-cons}
 use Rattle.std.proofs.Math.Seq.{take-add}
 use Rattle.byteorder.specs.Endian.{big_number}
 use Rattle.vsw_base.specs.Ipv4.{ip_header}
-use Rattle.vsw_sum.specs.Sum.{AreWords, checksum, words_of}
-use Rattle.vsw_sum.specs.Update.{AreChanged, written}
+use Rattle.vsw_sum.specs.Sum.{AreBytes, AreWords, checksum, words_of}
+use Rattle.vsw_sum.specs.Update.{AreChanged, IsOtherZero, written}
 use Rattle.vsw_sum.proofs.Changed.{ignores_same, stays_right}
 use Rattle.vsw_sum.proofs.Folds.{are_words, sum_is}
 use Rattle.vsw_ipv4.specs.Change.{address_words, checksum_changed, ip_changed}
-use Rattle.vsw_ipv4.specs.Right.{AreBytes, IsHeader, IsOtherZero, StaysRight, StaysWrong, header_checksum, header_words}
-use Rattle.vsw_ipv4.proofs.Zeros.{was_right, zeros}
+use Rattle.vsw_ipv4.specs.Right.{IsHeader, StaysRight, StaysWrong, header_checksum, header_words}
+use Rattle.vsw_sum.proofs.Zeros.{was_right, zeros}
 
 high_is : (k : ℕ) → k < 2 ^ 32 → 256 * (k / 16777216 % 256) + k / 65536 % 256 ≡ k / 65536
 high_is k h = omega arith

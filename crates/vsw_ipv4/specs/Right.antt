@@ -2,12 +2,9 @@
 use Rattle.std.specs.Prelude.{◌≡◌, ◌≤◌, ◌<◌, ◌^◌, ◌/◌, ℕ, List, ◌∷◌, ◌++◌, length, take, drop, slice_index, ◌⊎◌}
 use Rattle.byteorder.specs.Endian.{big_number}
 use Rattle.vsw_base.specs.Ipv4.{ip_header}
-use Rattle.vsw_sum.specs.Sum.{checksum, words_of}
+use Rattle.vsw_sum.specs.Sum.{AreBytes, checksum, words_of}
+use Rattle.vsw_sum.specs.Update.{IsOtherZero}
 use Rattle.vsw_ipv4.specs.Change.{ip_changed}
-
--- each number is a byte
-abbrev pub AreBytes : List ℕ → Type 0
-AreBytes bytes = (i : ℕ) → slice_index bytes i < 256
 
 -- the bytes begin with a header of version 4, with its options
 pub record IsHeader (bytes : List ℕ) : Type 0 where
@@ -30,10 +27,6 @@ IsRight bytes = header_checksum bytes ≡ checksum (header_words bytes)
 -- a checksum that was right is right for the new addresses
 abbrev pub StaysRight : Type 0
 StaysRight = (src dst : ℕ) (bytes : List ℕ) → src < 2 ^ 32 → dst < 2 ^ 32 → AreBytes bytes → IsHeader bytes → IsRight bytes → IsRight (ip_changed src dst bytes)
-
--- the two zeros of one's complement are one number: 0xffff stands where 0 is right
-abbrev pub IsOtherZero : ℕ → ℕ → Type 0
-IsOtherZero sum right = (sum ≡ 65535) × (right ≡ 0)
 
 -- one that was wrong isn't made right, but where it was the other zero
 abbrev pub StaysWrong : Type 0

@@ -1,5 +1,4 @@
 pub mod Back
-pub mod Zeros
 pub mod Update
 pub mod Right
 pub mod RightUdp

@@ -1,10 +1,10 @@
 -- What becomes of TCP and UDP checksums where endpoints change.
 use Rattle.std.proofs.Common.{◌≡◌, ℕ, zero, suc, ◌+◌, ◌*◌, ◌/◌, ◌%◌, ◌^◌, ◌<◌, ◌≤◌, List, [], ◌∷◌, ◌++◌, refl, sym, ◌∙◌, ap, arith, length, take, drop, subst, ◌⊎◌}
-use Rattle.vsw_sum.specs.Sum.{AreWords, checksum, words_of}
-use Rattle.vsw_sum.specs.Update.{written}
+use Rattle.vsw_sum.specs.Sum.{AreBytes, AreWords, checksum, words_of}
+use Rattle.vsw_sum.specs.Update.{IsOtherZero, written}
 use Rattle.vsw_sum.proofs.Folds.{are_words}
 use Rattle.vsw_l4.specs.Change.{checksum_changed, tcp_changed}
-use Rattle.vsw_l4.specs.Right.{AreBytes, IsChange, IsOtherZero, TcpStaysRight, TcpStaysWrong, tcp_checksum, tcp_words}
+use Rattle.vsw_l4.specs.Right.{IsChange, TcpStaysRight, TcpStaysWrong, tcp_checksum, tcp_words}
 use Rattle.vsw_l4.specs.declared.change.Endpoints.{Endpoints}
 use Rattle.vsw_l4.proofs.Update.{ends_right, ends_were, right_or_zero, words}
 

@@ -4,11 +4,11 @@ use Rattle.std.proofs.lemmas.Grind.{common_steps}
 use Rattle.std.proofs.Math.Seq.{take-add}
 use Rattle.byteorder.specs.Endian.{big_number}
 use Rattle.vsw_base.specs.Udp.{udp_length}
-use Rattle.vsw_sum.specs.Sum.{AreWords, checksum, words_of}
+use Rattle.vsw_sum.specs.Sum.{AreBytes, AreWords, checksum, words_of}
 use Rattle.vsw_sum.specs.Update.{written}
 use Rattle.vsw_sum.proofs.Folds.{are_words}
 use Rattle.vsw_l4.specs.Change.{checksum_changed, udp_changed, udp_checksum_changed}
-use Rattle.vsw_l4.specs.Right.{AreBytes, IsChange, IsDatagram, UdpStaysRight, UdpStaysWith, UdpStaysWithout, UdpStaysWrong, datagram, udp_checksum, udp_words}
+use Rattle.vsw_l4.specs.Right.{IsChange, IsDatagram, UdpStaysRight, UdpStaysWith, UdpStaysWithout, UdpStaysWrong, datagram, udp_checksum, udp_words}
 use Rattle.vsw_l4.specs.declared.change.Endpoints.{Endpoints}
 use Rattle.vsw_l4.proofs.Update.{ends_were, ends_written, words}
 use Rattle.vsw_l4.proofs.Right.{word_is, words_are}

@@ -3,12 +3,12 @@ use Rattle.std.proofs.Common.{◌≡◌, ℕ, ◌+◌, ◌/◌, ◌%◌, ◌<◌
 use Rattle.std.proofs.lemmas.Grind.{common_steps}
 use Rattle.std.proofs.lemmas.List.Sums.{sum_by-cons}
 use Rattle.vsw_sum.specs.Sum.{AreWords, checksum}
-use Rattle.vsw_sum.specs.Update.{AreChanged, changes, written}
+use Rattle.vsw_sum.specs.Update.{AreChanged, IsOtherZero, changes, written}
 use Rattle.vsw_sum.proofs.Changed.{ignores_same, stays_right, stays_written}
 use Rattle.vsw_sum.proofs.Folds.{sum_is}
 use Rattle.vsw_l4.specs.Change.{checksum_changed, endpoint_words}
-use Rattle.vsw_l4.specs.Right.{AreEndpoints, IsOtherZero}
-use Rattle.vsw_l4.proofs.Zeros.{was_right, zeros}
+use Rattle.vsw_l4.specs.Right.{AreEndpoints}
+use Rattle.vsw_sum.proofs.Zeros.{was_right, zeros}
 use Rattle.vsw_l4.specs.declared.change.Endpoints.{Endpoints}
 
 -- the words of pseudo-header and segment

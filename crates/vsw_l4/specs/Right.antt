@@ -2,14 +2,10 @@
 use Rattle.std.specs.Prelude.{◌≡◌, ◌≢◌, ◌≤◌, ◌<◌, ◌^◌, ℕ, List, ◌∷◌, ◌++◌, length, take, drop, slice_index, ◌⊎◌}
 use Rattle.byteorder.specs.Endian.{big_number}
 use Rattle.vsw_base.specs.Udp.{udp_length}
-use Rattle.vsw_sum.specs.Sum.{checksum, pseudo_words, words_of}
-use Rattle.vsw_sum.specs.Update.{written}
+use Rattle.vsw_sum.specs.Sum.{AreBytes, checksum, pseudo_words, words_of}
+use Rattle.vsw_sum.specs.Update.{IsOtherZero, written}
 use Rattle.vsw_l4.specs.Change.{tcp_changed, udp_changed}
 use Rattle.vsw_l4.specs.declared.change.Endpoints.{Endpoints}
-
--- each number is a byte
-abbrev pub AreBytes : List ℕ → Type 0
-AreBytes bytes = (i : ℕ) → slice_index bytes i < 256
 
 -- the words that TCP's checksum is taken over (RFC 9293, section 3.1): those of the pseudo-header, and of the segment with
 -- 0 in the checksum's place
@@ -56,10 +52,6 @@ IsSegment segment = (20 ≤ length segment) × (length segment < 65536)
 -- a checksum that was right is right for the new endpoints
 abbrev pub TcpStaysRight : Type 0
 TcpStaysRight = (from to : Endpoints) (segment : List ℕ) → IsChange from to segment → IsSegment segment → IsTcpRight from.src from.dst segment → IsTcpRight to.src to.dst (tcp_changed from to segment)
-
--- the two zeros of one's complement are one number: 0xffff stands where 0 is right
-abbrev pub IsOtherZero : ℕ → ℕ → Type 0
-IsOtherZero sum right = (sum ≡ 65535) × (right ≡ 0)
 
 -- one that was wrong isn't made right, but where it was the other zero
 abbrev pub TcpStaysWrong : Type 0

@@ -11,9 +11,8 @@ use Rattle.vsw_base.specs.Ipv4.{IpFields, ip_header, ip_of, ip_total}
 use Rattle.vsw_base.specs.Tcp.{TcpFields, control_of, tcp_header, tcp_of}
 use Rattle.vsw_base.specs.Udp.{UdpFields, udp_of}
 use Rattle.vsw_base.specs.Frame as frame
-use Rattle.vsw_sum.specs.Sum.{checksum}
+use Rattle.vsw_sum.specs.Sum.{AreBytes, checksum}
 use Rattle.vsw_sum.specs.Update.{written}
-use Rattle.vsw_ipv4.specs.Right.{AreBytes}
 use Rattle.vsw_l4.specs.Change.{tcp_changed, udp_changed}
 use Rattle.vsw_l4.specs.Right.{AreEndpoints, IsChange, IsDatagram, IsTcpRight, IsUdpRight, datagram, udp_checksum, udp_words}
 use Rattle.vsw_l4.specs.declared.change.Endpoints.{Endpoints}

@@ -3,9 +3,10 @@ use Rattle.std.proofs.Common.{◌≡◌, ℕ, ◌≤◌, List, ◌∷◌, ◌++�
 use Rattle.vsw_base.specs.declared.header.Header.{Header}
 use Rattle.vsw_base.specs.Fits.{AreFit}
 use Rattle.vsw_base.specs.Frame.{Opened, opened_of, ports}
-use Rattle.vsw_sum.specs.Sum.{checksum}
+use Rattle.vsw_sum.specs.Sum.{AreBytes, checksum}
 use Rattle.vsw_ipv4.specs.Change.{ip_changed}
-use Rattle.vsw_ipv4.specs.Right.{AreBytes, IsOtherZero, IsRight, header_checksum, header_words}
+use Rattle.vsw_sum.specs.Update.{IsOtherZero}
+use Rattle.vsw_ipv4.specs.Right.{IsRight, header_checksum, header_words}
 use Rattle.vsw_l4.specs.Change.{tcp_changed, udp_changed}
 use Rattle.vsw_l4.specs.Right.{udp_checksum}
 use Rattle.vsw_link.specs.Change.{ether_changed}

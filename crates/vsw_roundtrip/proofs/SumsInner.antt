@@ -3,9 +3,10 @@ use Rattle.std.proofs.Common.{◌≡◌, ℕ, zero, suc, ◌+◌, ◌^◌, ◌�
 use Rattle.std.proofs.lemmas.List.{get_or-drop, take-append-drop}
 use Rattle.std.proofs.Math.Seq.{take-append_seam}
 use Rattle.vsw_base.specs.Ipv4.{IpFields, ip_header, ip_of}
-use Rattle.vsw_sum.specs.Sum.{checksum, words_of}
+use Rattle.vsw_sum.specs.Sum.{AreBytes, checksum, words_of}
 use Rattle.vsw_ipv4.specs.Change.{ip_changed}
-use Rattle.vsw_ipv4.specs.Right.{AreBytes, IsHeader, IsOtherZero, IsRight, header_checksum, header_words}
+use Rattle.vsw_sum.specs.Update.{IsOtherZero}
+use Rattle.vsw_ipv4.specs.Right.{IsHeader, IsRight, header_checksum, header_words}
 use Rattle.vsw_ipv4.proofs.Right.{ip_stays_right, ip_stays_wrong}
 use Rattle.vsw_frame.proofs.Alike.{ip_bounds}
 use Rattle.vsw_roundtrip.proofs.Rewritten.{changed_before, ip_changed-length, ip_version}

@@ -9,7 +9,7 @@ use Rattle.vsw_base.specs.Fits.{AreFit}
 use Rattle.vsw_base.specs.Shape.{encaps, inner}
 use Rattle.vsw_base.specs.Frame.{Level, Parts, Opened, control_in, encap_parts, frame_in, level_of, opened_of, payload_in, plain_parts, ports, size_at, slack_in, within}
 use Rattle.vsw_frame.specs.Bytes.{AreLike, differ, encap_kept, frame_changed, levels_changed}
-use Rattle.vsw_ipv4.specs.Right.{AreBytes}
+use Rattle.vsw_sum.specs.Sum.{AreBytes}
 use Rattle.vsw_roundtrip.specs.RoundTrip.{levels_kept}
 use Rattle.vsw_roundtrip.specs.Sums.{innermost}
 use Rattle.vsw_roundtrip.proofs.Around.{TwoInFront, around, around_none, around_twice, encap_step, none_plain, two_in_front}

@@ -5,8 +5,9 @@ use Rattle.vsw_base.specs.declared.header.Header.TheVariants.{Ether, Ip, Ports}
 use Rattle.vsw_base.specs.Frame.{Level, Parts}
 use Rattle.vsw_base.specs.Ipv4.{ip_header, ip_total}
 use Rattle.vsw_base.specs.Shape.{inner}
-use Rattle.vsw_sum.specs.Sum.{checksum}
-use Rattle.vsw_ipv4.specs.Right.{AreBytes, IsOtherZero, IsRight, header_checksum, header_words}
+use Rattle.vsw_sum.specs.Sum.{AreBytes, checksum}
+use Rattle.vsw_sum.specs.Update.{IsOtherZero}
+use Rattle.vsw_ipv4.specs.Right.{IsRight, header_checksum, header_words}
 use Rattle.vsw_l4.specs.Right.{IsTcpRight, IsUdpRight, tcp_checksum, tcp_words, udp_checksum}
 use Rattle.vsw_frame.specs.Bytes.{differ, levels_changed, outgoing, pushes, source_port, udp_at}
 use Rattle.vsw_roundtrip.specs.RoundTrip.{IsRewriting, levels_kept, levels_pushed, levels_staying, levels_written, written}

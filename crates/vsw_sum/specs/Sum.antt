@@ -1,5 +1,5 @@
 -- The Internet checksum (RFC 1071, section 1): the complement of the one's complement sum of 16-bit words.
-use Rattle.std.specs.Prelude.{◌≡◌, ◌<◌, ℕ, ◌+◌, ◌*◌, ◌-◌, ◌/◌, ◌%◌, List, [], ◌∷◌, ◌++◌, nat_lt, if◌then◌else◌}
+use Rattle.std.specs.Prelude.{◌≡◌, ◌<◌, ℕ, ◌+◌, ◌*◌, ◌-◌, ◌/◌, ◌%◌, List, [], ◌∷◌, ◌++◌, nat_lt, slice_index, if◌then◌else◌}
 
 -- the words of bytes, the first byte of each highest; an odd last byte has a zero byte after it
 abbrev pub words_of : List ℕ → List ℕ
@@ -28,6 +28,10 @@ pseudo_words src dst proto len = src / 65536 ∷ src % 65536 ∷ dst / 65536 ∷
 abbrev pub AreWords : List ℕ → Type 0
 AreWords [] = Unit {0}
 AreWords (w ∷ ws) = (w < 65536) × AreWords ws
+
+-- each number is a byte
+abbrev pub AreBytes : List ℕ → Type 0
+AreBytes bytes = (i : ℕ) → slice_index bytes i < 256
 
 -- a receiver's check: with the checksum where a zero word was, the sum is all ones
 abbrev pub Checks : Type 0

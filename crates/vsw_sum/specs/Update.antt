@@ -30,6 +30,14 @@ StaysRight = (old : ℕ) (ms ns xs ys : List ℕ) → AreChanged ms ns xs ys →
 abbrev pub StaysWritten : Type 0
 StaysWritten = (old : ℕ) (ms ns xs ys : List ℕ) → AreChanged ms ns xs ys → old ≡ written (checksum xs) → written (update_of old ms ns) ≡ written (checksum ys)
 
+-- a checksum that is right once updated was right before, but for which of the two zeros stands there
+abbrev pub WasRight : Type 0
+WasRight = (old : ℕ) (ms ns xs ys : List ℕ) → AreChanged ms ns xs ys → AreWords ns → old < 65536 → written (update_of old ms ns) ≡ written (checksum ys) → written old ≡ written (checksum xs)
+
+-- the two zeros of one's complement are one number: 0xffff stands where 0 is right
+abbrev pub IsOtherZero : ℕ → ℕ → Type 0
+IsOtherZero sum right = (sum ≡ 65535) × (right ≡ 0)
+
 -- words that stand in both lists at the same places change nothing
 abbrev pub IgnoresSame : Type 0
 IgnoresSame = (first ms ns last : List ℕ) → length ms ≡ length ns → changes (first ++ (ms ++ last)) (first ++ (ns ++ last)) ≡ changes ms ns

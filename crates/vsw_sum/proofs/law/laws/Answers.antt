@@ -1,4 +1,5 @@
 use Rattle.vsw_sum.proofs.Changed.{checks, ignores_same, keeps_unchanged, stays_right, stays_written}
+use Rattle.vsw_sum.proofs.Zeros.{was_right}
 use Rattle.vsw_sum.proofs.law.laws.Goals as goal
 
 pub returns-clause-checks : goal.returns-clause-checks
@@ -15,3 +16,6 @@ returns-clause-same c = ignores_same
 
 pub returns-clause-unchanged : goal.returns-clause-unchanged
 returns-clause-unchanged c = keeps_unchanged
+
+pub returns-clause-wrong : goal.returns-clause-wrong
+returns-clause-wrong c = was_right

@@ -2,10 +2,9 @@
 use Rattle.std.proofs.Common.{◌≡◌, ℕ, ◌+◌, ◌-◌, ◌%◌, ◌<◌, List, [], ◌∷◌, refl, sym, ◌∙◌, ap, arith, sum, ◌⊎◌}
 use Rattle.std.proofs.lemmas.Grind.{common_steps}
 use Rattle.vsw_sum.specs.Sum.{AreWords, checksum, plus_ones, sum_ones}
-use Rattle.vsw_sum.specs.Update.{AreChanged, changes, update_of, written}
+use Rattle.vsw_sum.specs.Update.{AreChanged, IsOtherZero, WasRight, changes, update_of, written}
 use Rattle.vsw_sum.proofs.Changed.{stays_written}
 use Rattle.vsw_sum.proofs.Folds.{fold_fits, sum_is}
-use Rattle.vsw_ipv4.specs.Right.{IsOtherZero}
 
 changes_fit : (ms ns : List ℕ) → AreWords ns → AreWords (changes ms ns)
 changes_fit [] ns h = tt
@@ -44,7 +43,7 @@ written_twice : (n : ℕ) → written (written n) ≡ written n
 written_twice n = grind arith
 
 -- an update that is right but for the zeros was made of a checksum that was
-pub was_right : (old : ℕ) (ms ns xs ys : List ℕ) → AreChanged ms ns xs ys → AreWords ns → old < 65536 → written (update_of old ms ns) ≡ written (checksum ys) → written old ≡ written (checksum xs)
+pub was_right : WasRight
 was_right old ms ns xs ys c w h e =
     let right = written (checksum xs) in
     let fits : right < 65536 = written_fits (checksum xs) (omega arith) in

@@ -83,7 +83,7 @@ fn edited(stack: &Stack, by: &Transposition) -> Stack
     ensures done { result ≡ apply by.now stack.now }
     ensures edit { IsEdit stack.now result (kept by.now) }
 {
-    // Of a stack's headers and a transposition's acts more is known than of any lists.
+    // Both calls tell of what their type keeps: a stack's shape, and the order of a transposition's acts.
     let (_headers, _acts) = (stack.headers(), by.acts());
     by.apply(stack)
 }
@@ -116,7 +116,6 @@ fn rewrite_to(frame: &Frame<'_>, edited: &Stack, kept: u8, out: &mut [u8]) -> Re
 /// Pushed encapsulations stand in front (RFC 7348, section 5).
 ///
 /// `Long` tells the outermost IPv4 total length where it is above what its field can say.
-
 pub fn rewrite(frame: &Frame<'_>, by: &Transposition, out: &mut [u8]) -> Result<usize, Long>
     requires fits { IsTrue (fits by.now (parts frame.now).stack) }
     requires room { 65700 ≤ length out.old }

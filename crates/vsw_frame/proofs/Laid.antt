@@ -49,13 +49,9 @@ opened_room bytes o h =
     } in
     opened_cases bytes Q o c h
 
--- the bytes of an encapsulation's headers
-abbrev AroundAt : List ℕ → List ℕ → Opened → Type 0
-AroundAt bytes inner o = IsAround (level_of bytes o) inner
-
 -- where an inner frame stands, once the bytes before it are counted
-around_at : (l : Level) (inner : List ℕ) (n : ℕ) → 15 ≤ length l.bytes → 34 ≤ udp_at l.bytes → udp_at l.bytes + 16 + length inner + (length l.slack + length l.trailer) ≡ length l.bytes → Surrounds l inner → IsAround l inner
-around_at l inner n short ip sizes s =
+around_at : (l : Level) (inner : List ℕ) → 15 ≤ length l.bytes → 34 ≤ udp_at l.bytes → udp_at l.bytes + 16 + length inner + (length l.slack + length l.trailer) ≡ length l.bytes → Surrounds l inner → IsAround l inner
+around_at l inner short ip sizes s =
     let k : ℕ = udp_at l.bytes + 16 in
     let ends : List ℕ = l.slack ++ l.trailer in
     let whole : l.bytes ≡ s.0 ++ (inner ++ ends) = s.1 in
@@ -103,7 +99,7 @@ encap_sizes bytes inner v o h w =
 encap_laid : (bytes : List ℕ) (o : Opened) (v : ℕ) (inner : List ℕ) → opened_of bytes ≡ Ok o → within o.end ≡ Some (v, inner) → IsAround (level_of bytes o) inner
 encap_laid bytes o v inner h w =
     let n = encap_sizes bytes inner v o h w in
-    around_at (level_of bytes o) inner 0 n.0 n.1 n.2 (inner_ends bytes (payload_in o.end) inner (slack_in o.end ++ o.trailer) (opened_ends bytes o h) (vxlan_follows o.end v inner w))
+    around_at (level_of bytes o) inner n.0 n.1 n.2 (inner_ends bytes (payload_in o.end) inner (slack_in o.end ++ o.trailer) (opened_ends bytes o h) (vxlan_follows o.end v inner w))
 
 -- as many encapsulations as there are levels around the innermost, and room for its headers
 pub record LevelsAre (bytes : List ℕ) (p : Parts) : Type 0 where

@@ -1,11 +1,10 @@
 -- What is known of a frame that was read.
-use Rattle.std.specs.Prelude.{◌≡◌, List, Option, None, Ok}
+use Rattle.std.specs.Prelude.{◌≡◌, ℕ, List, Option, None, Ok}
 use Rattle.vsw_base.specs.declared.header.Header.{Header}
 use Rattle.vsw_base.specs.declared.packet.Control.{Control}
 use Rattle.vsw_base.specs.Frame.{frame_of}
 use Rattle.vsw_frame.specs.Levels.{levels_in}
 use Rattle.vsw_frame.specs.declared.frame.Level.{Level}
-use Rattle.std.specs.Prelude.{ℕ}
 
 -- the parts are what the first level's bytes say, and no level is left out
 pub record IsRead (stack : List Header) (control : Control) (first : Level) (second third : Option Level) (payload : List ℕ) : Type 0 where

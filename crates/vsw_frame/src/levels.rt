@@ -39,7 +39,7 @@ pub fn within<'a>(levels: &Levels<'a>) -> Levels<'a>
     }
 }
 
-/// The levels without the first of them.
+/// The levels without so many of the first.
 pub fn levels_without<'a>(levels: &Levels<'a>, dropped: u8) -> Levels<'a>
     requires more { dropped < length (levels_of levels.now) }
     requires in_order { IsInOrder levels.now }

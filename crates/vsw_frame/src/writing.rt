@@ -83,7 +83,7 @@ fn edited(stack: &Stack, by: &Transposition) -> Stack
     ensures done { result ≡ apply by.now stack.now }
     ensures edit { IsEdit stack.now result (kept by.now) }
 {
-    // Of a stack's headers and a transposition's acts more is known than of any lists.
+    // Both calls tell of what their type keeps: a stack's shape, and the order of a transposition's acts.
     let (_headers, _acts) = (stack.headers(), by.acts());
     by.apply(stack)
 }

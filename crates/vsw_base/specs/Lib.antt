@@ -11,3 +11,4 @@ pub mod Fault
 pub mod Room
 pub mod Six
 pub mod Vectors
+pub mod Least

@@ -1,10 +1,10 @@
 -- Frames that were read by hand, and what the definition must say of them. Each is written as hexadecimal text.
-use Rattle.std.specs.Prelude.{◌≡◌, ℕ, List, [], ◌∷◌, ◌++◌, Option, Some, None, Result, Ok, Err, length, false, codes}
+use Rattle.std.specs.Prelude.{◌≡◌, ℕ, List, [], ◌∷◌, ◌++◌, Option, Some, None, Ok, Err, false, codes}
 use Rattle.vsw_base.specs.declared.fault.BadFrame.{BadFrame}
 use Rattle.vsw_base.specs.declared.fault.BadFrame.TheVariants.{ShortEther, ShortIp, IpVersion, IpLength, ShortTcp, TcpOffset, ShortUdp, UdpLength}
 use Rattle.vsw_base.specs.declared.header.Header.TheVariants.{Ether, Ip, Vxlan, Ports}
 use Rattle.vsw_base.specs.declared.packet.Control.TheVariants as control
-use Rattle.vsw_base.specs.Frame.{Level, Parts, frame_of}
+use Rattle.vsw_base.specs.Frame.{Level, frame_of}
 use Rattle.vsw_base.specs.Spelling.{octet_of}
 
 -- the value, 0 where there is none

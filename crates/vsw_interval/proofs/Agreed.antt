@@ -5,7 +5,7 @@ use Rattle.std.proofs.lemmas.Bool.{le-leb, leb-true, leb-false, and_from, and_pa
 use Rattle.vsw_interval.specs.declared.placed.PlacedRange.{PlacedRange}
 use Rattle.vsw_interval.specs.Least.{holds, counts, least_of, Answers}
 use Rattle.vsw_interval.specs.Block.{Agrees}
-use Rattle.vsw_interval.proofs.Least.{Best, stands, least_by-IsPermutation}
+use Rattle.vsw_base.proofs.Least.{Best, stands, least_by-IsPermutation}
 
 pub agrees : (items ranges : List PlacedRange) → IsPermutation items ranges → Agrees items ranges
 agrees items ranges moves v f = least_by-IsPermutation (counts v f) (λ (r : PlacedRange). r.place) items ranges moves

@@ -1,4 +1,3 @@
-pub mod Least
 pub mod Blocks
 pub mod Agreed
 pub mod Nearby

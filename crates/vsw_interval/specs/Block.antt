@@ -4,7 +4,7 @@ use Rattle.std.specs.List.{AllWithin}
 use Rattle.std.specs.List.Sorted.{IsNonDecreasingBy}
 use Rattle.vsw_interval.specs.declared.placed.PlacedRange.{PlacedRange}
 use Rattle.vsw_interval.specs.declared.block.Block.{Block}
-use Rattle.vsw_interval.specs.Least.{lesser, counts, least_of}
+use Rattle.vsw_interval.specs.Least.{counts, least_of}
 
 -- the range is within the block's bounds
 abbrev pub IsWithin : Block → PlacedRange → Type 0
@@ -29,11 +29,6 @@ pub record IsIndex (ranges : List PlacedRange) (blocks : List Block) : Type 0 wh
 -- the place of a range that counts
 abbrev pub place_of : ℕ → ℕ → PlacedRange → Option ℕ
 place_of value from r = if counts value from r then Some r.place else None
-
--- the lesser of two numbers that may be missing
-abbrev pub lesser_of : Option ℕ → Option ℕ → Option ℕ
-lesser_of None found = found
-lesser_of (Some n) found = lesser n found
 
 -- a place is there that is no greater
 abbrev pub reaches : Option ℕ → ℕ → Bool

@@ -1,25 +1,12 @@
 -- The least place whose range holds a value, told from the plain list of placed ranges.
-use Rattle.std.specs.Prelude.{◌≡◌, ℕ, ◌<◌, ◌≤◌, ◌&&◌, List, [], ◌∷◌, Bool, true, nat_le, min, map, filter, Option, Some, None, All}
+use Rattle.std.specs.Prelude.{◌≡◌, ℕ, ◌<◌, ◌≤◌, ◌&&◌, List, Bool, true, nat_le, Option, Some, None, All}
 use Rattle.std.specs.List.{Contains}
+use Rattle.vsw_base.specs.Least.{least_by}
 use Rattle.vsw_interval.specs.declared.placed.PlacedRange.{PlacedRange}
 
 -- the value is from the low to the high end, both among them
 abbrev pub holds : ℕ → PlacedRange → Bool
 holds value r = nat_le r.low value && nat_le value r.high
-
--- the lesser of a number and one that may be missing
-abbrev pub lesser : ℕ → Option ℕ → Option ℕ
-lesser n None = Some n
-lesser n (Some m) = Some (min n m)
-
--- the least number of a list, if there is any
-abbrev pub least : List ℕ → Option ℕ
-least [] = None
-least (n ∷ ns) = lesser n (least ns)
-
--- the least place of the items that pass a test
-abbrev pub least_by : {X : Type 0} → (X → Bool) → (X → ℕ) → List X → Option ℕ
-least_by test place xs = least (map place (filter test xs))
 
 -- the item holds the value and isn't before `from`
 abbrev pub counts : ℕ → ℕ → PlacedRange → Bool

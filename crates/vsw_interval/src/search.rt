@@ -1,6 +1,7 @@
 //! The search for a place.
 
 ghost use Rattle.std.specs.Prelude.{◌≡◌};
+ghost use Rattle.vsw_base.specs.Least.{lesser_of};
 ghost use Rattle.vsw_interval.specs.Least.{least_of};
 ghost use Rattle.vsw_interval.specs.Block as spec;
 
@@ -9,7 +10,7 @@ use crate::placed::PlacedRange;
 
 /// The lesser of two places that may be missing.
 fn lesser(a: Option<u32>, b: Option<u32>) -> Option<u32>
-    ensures { result ≡ spec.lesser_of a b }
+    ensures { result ≡ lesser_of a b }
 {
     match (a, b) {
         (Some(a), Some(b)) => Some(a.min(b)),

@@ -1,5 +1,4 @@
 pub mod Fits
-pub mod Least
 pub mod Ordered
 pub mod Chains
 pub mod Places

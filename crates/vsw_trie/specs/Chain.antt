@@ -1,10 +1,11 @@
 -- Spans in order, each with the way to the wider spans around it.
-use Rattle.std.specs.Prelude.{◌≡◌, ◌≢◌, ℕ, ◌<◌, ◌≤◌, ◌+◌, ◌-◌, ◌*◌, ◌&&◌, List, Bool, nat_le, length, Option, Some, None, slice_index_or}
+use Rattle.std.specs.Prelude.{◌≡◌, ◌≢◌, ℕ, ◌<◌, ◌≤◌, ◌+◌, ◌-◌, ◌*◌, ◌&&◌, List, Bool, nat_le, length, Option, slice_index_or}
 use Rattle.std.specs.List.{AllWithin}
 use Rattle.vsw_trie.specs.declared.placed.PlacedPrefix.{PlacedPrefix}
 use Rattle.vsw_trie.specs.declared.span.Span.{Span}
 use Rattle.vsw_trie.specs.declared.chain.Node.{Node}
-use Rattle.vsw_trie.specs.Least.{least_by, lesser, least_of}
+use Rattle.vsw_base.specs.Least.{least_by}
+use Rattle.vsw_trie.specs.Least.{least_of}
 
 -- the span holds the address and isn't before `from`
 abbrev pub span_counts : ℕ → ℕ → Span → Bool
@@ -21,11 +22,6 @@ least_in nodes address from = least_by (node_counts address from) (λ n. n.span.
 -- of nodes of one prefix: the least place from `from` on
 abbrev pub first_place : List Node → ℕ → Option ℕ
 first_place nodes from = least_by (λ n. nat_le from n.span.place) (λ n. n.span.place) nodes
-
--- the lesser of two numbers that may be missing
-abbrev pub lesser_of : Option ℕ → Option ℕ → Option ℕ
-lesser_of None found = found
-lesser_of (Some n) found = lesser n found
 
 -- of the nodes before place k: those from `first` on, and no others before them, are of the same prefix as
 -- node n; those from `up` to `first` end before it begins, and the one before `up` reaches it

@@ -1,12 +1,12 @@
 -- The least place of the items that pass a test.
-use Rattle.std.proofs.Common.{◌≡◌, ◌≤◌, ◌<◌, ℕ, min, suc, Bool, true, false, cond, List, [], ◌∷◌, Option, Some, None, length, get_or, map, filter, refl, sym, ap, subst, ◌∙◌, inl, inr, arith, true≢false}
+use Rattle.std.proofs.Common.{◌≡◌, ◌≤◌, ◌<◌, ◌+◌, ◌-◌, ℕ, min, suc, Bool, true, false, cond, List, [], ◌∷◌, Option, Some, None, length, get_or, map, filter, take, drop, refl, sym, ap, subst, ◌∙◌, inl, inr, arith, true≢false}
 use Rattle.std.specs.List.{All, AllWithin, HoldsAt, Contains}
 use Rattle.std.specs.List.Sorted.{IsPermutation}
 use Rattle.std.proofs.lemmas.Bool.{cases_lt}
+use Rattle.std.proofs.lemmas.List.{get_or-take, get_or-drop, get_or_default, length-take-le, length-drop}
 use Rattle.std.proofs.lemmas.List.Elements.{All-nil, All-cons, All-contains, Contains-get_or}
 use Rattle.std.proofs.lemmas.List.Sorted.{All-permutation, Contains-permutation}
-use Rattle.vsw_interval.specs.Least.{lesser, least, least_by}
-use Rattle.vsw_interval.specs.Block.{lesser_of}
+use Rattle.vsw_base.specs.Least.{lesser, lesser_of, least, least_by}
 
 -- an item that passes has this place, and none that passes a lesser one
 pub record IsBest {X : Type 0} (t : X → Bool) (p : X → ℕ) (xs : List X) (n : ℕ) : Type 0 where
@@ -182,3 +182,39 @@ whole {X} t p (x ∷ xs) (Some n) b = record {
 
 pub found : {X : Type 0} (t : X → Bool) (p : X → ℕ) (xs : List X) (o : Option ℕ) → BestWithin t p xs 0 (length xs) o → o ≡ least_by t p xs
 found t p xs o b = one t p xs o (least_by t p xs) (whole t p xs o b) (stands t p xs)
+
+-- the best of a part, by a test that agrees there
+pub part_at : {X : Type 0} (xs : List X) (low m k : ℕ) (d : X) → k < m → get_or (take m (drop low xs)) k d ≡ get_or xs (low + k) d
+part_at xs low m k d u = get_or-take m (drop low xs) k d u ∙ get_or-drop low xs k d
+
+pub part : {X : Type 0} (t s : X → Bool) (p : X → ℕ) (xs : List X) (low high : ℕ) → low ≤ high → high ≤ length xs → AllWithin (λ x. t x ≡ s x) xs low high → (o : Option ℕ) → Best s p (take (high - low) (drop low xs)) o → BestWithin t p xs low high o
+part {X} t s p xs low high le up agree None all = λ k d from before.
+    let at : k - low < high - low = omega arith in
+    let size : length (take (high - low) (drop low xs)) ≡ high - low = length-take-le (high - low) (drop low xs) (omega (arith, length-drop low xs)) in
+    let in' : k - low < length (take (high - low) (drop low xs)) = omega arith in
+    let e : low + (k - low) ≡ k = omega arith in
+    let P : X → Type 0 = λ x. s x ≡ false in
+    let Q : ℕ → Type 0 = λ i. s (get_or xs i d) ≡ false in
+    agree k d from before ∙ subst Q e (subst P (part_at xs low (high - low) (k - low) d at) (all (k - low) d in'))
+part {X} t s p xs low high le up agree (Some n) b =
+    let size : length (take (high - low) (drop low xs)) ≡ high - low = length-take-le (high - low) (drop low xs) (omega (arith, length-drop low xs)) in
+    let inside : b.is_item.0 < length (take (high - low) (drop low xs)) = b.is_item.1 in
+    let at : b.is_item.0 < high - low = omega arith in
+    let there : get_or xs (low + b.is_item.0) b.item ≡ b.item = sym (part_at xs low (high - low) b.is_item.0 b.item at) ∙ b.is_item.2 in
+    let within : low + b.is_item.0 < length xs = omega arith in
+    record {
+      at = low + b.is_item.0;
+      from = omega arith;
+      before = omega arith;
+      passes = λ d.
+          let here : get_or xs (low + b.is_item.0) d ≡ b.item = get_or_default xs (low + b.is_item.0) d b.item within ∙ there in
+          let same : t (get_or xs (low + b.is_item.0) d) ≡ s (get_or xs (low + b.is_item.0) d) = agree (low + b.is_item.0) d (omega arith) (omega arith) in
+          (same ∙ ap s here ∙ b.passes, ap p here ∙ b.at_place);
+      none_before = λ k d from before passes_it.
+          let under' : k - low < high - low = omega arith in
+          let in' : k - low < length (take (high - low) (drop low xs)) = omega arith in
+          let e : low + (k - low) ≡ k = omega arith in
+          let P : X → Type 0 = λ x. s x ≡ true → n ≤ p x in
+          let Q : ℕ → Type 0 = λ i. s (get_or xs i d) ≡ true → n ≤ p (get_or xs i d) in
+          subst Q e (subst P (part_at xs low (high - low) (k - low) d under') (b.none_before (k - low) d in')) (sym (agree k d from before) ∙ passes_it);
+    }

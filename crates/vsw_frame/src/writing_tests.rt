@@ -147,14 +147,20 @@ fn written(rt: &impl Abort, bytes: &[u8], acts: &[Act], out: &mut [u8]) -> Resul
     }
 }
 
-/// A frame becomes these bytes, and what stands behind them is left.
-fn becomes(rt: &impl Abort, bytes: &[u8], acts: &[Act], expected: &[u8]) {
-    let mut out = [OLD; ROOM];
-    let answer = written(rt, bytes, acts, &mut out);
-    assert_eq!(rt; answer, Ok(expected.len()));
-    assert!(rt; expected.len() < ROOM);
+/// A frame becomes these bytes at the front of `out`, and what stands behind them is left.
+fn compare(rt: &impl Abort, bytes: &[u8], acts: &[Act], expected: &[u8], out: &mut [u8])
+    requires { 65700 ≤ length out.old }
+{
+    let result = written(rt, bytes, acts, out);
+    assert_eq!(rt; result, Ok(expected.len()));
+    assert!(rt; expected.len() < out.len());
     assert_eq!(rt; &out[..expected.len()], expected);
     assert_eq!(rt; out[expected.len()], OLD);
+}
+
+fn becomes(rt: &impl Abort, bytes: &[u8], acts: &[Act], expected: &[u8]) {
+    let mut out = [OLD; ROOM];
+    compare(rt, bytes, acts, expected, &mut out);
 }
 
 #[test]
@@ -335,42 +341,44 @@ fn a_dropped_encapsulation_goes_with_what_surrounds_its_frame(rt: HostRuntime) {
     becomes(&rt, &ENDS, &acts, &ENDS[50..98]);
 }
 
-/// A frame of this IPv4 length, of a protocol without ports.
-fn long(bytes: &mut [u8], total: u16)
-    requires { 34 ≤ length bytes.old }
+/// Writes a frame of this IPv4 length, of a protocol without ports, behind one encapsulation.
+fn encapsulated(
+    rt: &impl Abort,
+    bytes: &mut [u8],
+    total: u16,
+    out: &mut [u8],
+) -> Result<usize, Long>
+    requires frame { 34 ≤ length bytes.old }
+    requires room { 65700 ≤ length out.old }
 {
     bytes[..34].copy_from_slice(&PLAIN[..34]);
-    let [high, low] = total.to_be_bytes();
-    bytes[16] = high;
-    bytes[17] = low;
+    bytes[16..18].copy_from_slice(&total.to_be_bytes());
     bytes[23] = 47;
-}
-
-/// Writes a frame behind one encapsulation.
-fn encapsulated(rt: &impl Abort, bytes: &[u8], out: &mut [u8]) -> Result<usize, Long>
-    requires { 65700 ≤ length out.old }
-{
     let [a, b, c] = encap();
     written(rt, bytes, &[a, b, c, Act::Ignore, Act::Ignore], out)
 }
 
+/// The bytes have a total length of 65,535, and these behind the encapsulation.
+fn has(rt: &impl Abort, out: &[u8], bytes: &[u8]) {
+    assert!(rt; out.len() >= 65_549);
+    assert_eq!(rt; &out[16..18], [0xff, 0xff].as_slice());
+    assert_eq!(rt; &out[50..65_549], bytes);
+}
+
 #[test]
 fn a_total_length_of_65535_is_written(rt: HostRuntime) {
-    let mut frame = [0; 65_499];
-    long(&mut frame, 65_485);
+    let mut bytes = [0; 65_499];
     let mut out = [OLD; ROOM];
-    assert_eq!(rt; encapsulated(&rt, &frame, &mut out), Ok(65_549));
-    assert_eq!(rt; &out[16..18], [0xff, 0xff].as_slice());
-    assert!(rt; &out[50..65_549] == frame.as_slice());
+    assert_eq!(rt; encapsulated(&rt, &mut bytes, 65_485, &mut out), Ok(65_549));
+    has(&rt, &out, &bytes);
 }
 
 #[test]
 fn a_total_length_of_65536_is_long(rt: HostRuntime) {
     let mut bytes = [0; 65_500];
-    long(&mut bytes, 65_486);
     let mut out = [OLD; ROOM];
     assert_eq!(rt;
-        encapsulated(&rt, &bytes, &mut out),
+        encapsulated(&rt, &mut bytes, 65_486, &mut out),
         Err(Long { total: 65_536 })
     );
     assert!(rt; out == [OLD; ROOM]);

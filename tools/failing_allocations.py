@@ -1,0 +1,76 @@
+#!/usr/bin/env python3
+"""Runs the example with one allocation refused at a time, and looks at what comes out.
+
+Usage: tools/failing_allocations.py        (needs a C compiler)
+
+For n = 1, 2, .. the program's nth allocation fails, until a run meets no failure. Each run must end with
+status 9 and the words "vsw: memory", or with 1 where the words of the command line couldn't be kept, and
+what it printed must be a front of the report. Exits with 1 where a run does anything else.
+"""
+import os
+import subprocess
+import sys
+import tempfile
+
+TOP = os.path.dirname(os.path.dirname(os.path.abspath(__file__)))
+EXAMPLE = os.path.join(TOP, "examples", "first")
+FILES = [os.path.join(EXAMPLE, name) for name in ("policy.json", "commands.jsonl", "trace.pcap")]
+
+# Every allocation of the process counts, from the start of main on.
+SHIM = r"""
+#define _GNU_SOURCE
+#include <dlfcn.h>
+#include <errno.h>
+#include <stdlib.h>
+static unsigned long seen, refused;
+static int refuses(void) {
+    if (!refused) {
+        const char *text = getenv("REFUSED_ALLOCATION");
+        refused = text ? strtoul(text, 0, 10) : (unsigned long)-1;
+    }
+    return ++seen == refused;
+}
+#define REAL(name) static typeof(name) *real; if (!real) real = (typeof(name) *)dlsym(RTLD_NEXT, #name)
+void *malloc(size_t n) { REAL(malloc); if (refuses()) { errno = ENOMEM; return 0; } return real(n); }
+void *realloc(void *p, size_t n) { REAL(realloc); if (refuses()) { errno = ENOMEM; return 0; } return real(p, n); }
+void *aligned_alloc(size_t a, size_t n) { REAL(aligned_alloc); if (refuses()) { errno = ENOMEM; return 0; } return real(a, n); }
+int posix_memalign(void **p, size_t a, size_t n) { REAL(posix_memalign); if (refuses()) return ENOMEM; return real(p, a, n); }
+"""
+
+
+def run(shim, number):
+    environment = dict(os.environ, LD_PRELOAD=shim, REFUSED_ALLOCATION=str(number))
+    program = os.path.join(TOP, "crates", "vsw", "out", "vsw")
+    return subprocess.run([program, "forward", *FILES], env=environment, capture_output=True)
+
+
+def main():
+    with open(os.path.join(EXAMPLE, "report.txt"), "rb") as file:
+        report = file.read()
+    # The first run builds the program.
+    good = subprocess.run([os.path.join(TOP, "vsw"), "forward", *FILES], capture_output=True)
+    if good.returncode != 0 or good.stdout != report:
+        sys.exit("the example doesn't give its report")
+    statuses = {}
+    with tempfile.TemporaryDirectory() as folder:
+        source, shim = os.path.join(folder, "shim.c"), os.path.join(folder, "shim.so")
+        with open(source, "w") as file:
+            file.write(SHIM)
+        subprocess.run(["cc", "-O1", "-shared", "-fPIC", "-o", shim, source, "-ldl"], check=True)
+        number = 0
+        while True:
+            number += 1
+            made = run(shim, number)
+            if made.returncode == 0 and made.stdout == report:
+                break
+            statuses[made.returncode] = statuses.get(made.returncode, 0) + 1
+            front = report.startswith(made.stdout)
+            told = made.returncode == 9 and made.stderr == b"vsw: memory\n"
+            early = made.returncode == 1 and made.stdout == b""
+            if not front or not (told or early):
+                sys.exit(f"allocation {number}: status {made.returncode}, {made.stderr!r}, a front of the report: {front}")
+    print(f"{number - 1} allocations refused, one at a time; runs by status: {statuses}")
+
+
+if __name__ == "__main__":
+    main()

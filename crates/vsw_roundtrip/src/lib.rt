@@ -2,5 +2,7 @@
 #![tactic(auto)]
 
 mod law;
+#[cfg(test)]
+mod tests;
 
 pub use law::laws;

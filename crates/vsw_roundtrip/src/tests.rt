@@ -4,11 +4,18 @@ ghost use Rattle.std.specs.Prelude.{◌≤◌, ◌<◌, ◌^◌, IsTrue, length}
 ghost use Rattle.vsw_compose.specs.Edit.{goes_on};
 ghost use Rattle.vsw_rule.specs.Match.{can_do};
 
+use std::process::Abort;
 use vsw_base::{Ip4, Mac, Outer, Set, Stack};
 use vsw_compose::{act_of, compose};
 use vsw_frame::{read_frame, rewrite};
 use vsw_rule::Action;
 use vsw_transpose::Transposition;
+
+/// Bytes that `rewrite` asks for.
+const ROOM: usize = 65_700;
+
+/// What stands in them before.
+const OLD: u8 = 0xee;
 
 /// UDP from port 1234 of 10.0.0.5 to port 53 of 10.0.0.9.
 const QUERY: &[u8; 44] = b"\x02\x00\x00\x00\x00\x99\x02\x00\x00\x00\x00\x01\x08\x00\
@@ -143,20 +150,33 @@ fn write(out: &mut [u8], bytes: &[u8], first: &Action, second: &Action) -> Optio
     }
 }
 
+/// The frame becomes these bytes at the front of `out`, no encapsulation of it is kept, and what stands
+/// behind them is left.
+fn compare(
+    rt: &impl Abort,
+    out: &mut [u8],
+    bytes: &[u8],
+    first: &Action,
+    second: &Action,
+    expected: &[u8],
+)
+    requires { 65700 ≤ length out.old }
+{
+    let written = write(out, bytes, first, second);
+    assert_eq!(rt; written, Some((expected.len(), 0)));
+    assert!(rt; expected.len() < out.len());
+    assert_eq!(rt; &out[..expected.len()], expected);
+    assert_eq!(rt; out[expected.len()], OLD);
+}
+
 #[test]
 fn a_query_is_edited_by_one_layer_and_put_in_a_network_by_the_next(rt: HostRuntime) {
-    let mut out = [0xee; 65_700];
-    let written = write(&mut out, QUERY, &hide_source(), &put_in_network());
-    assert_eq!(rt; written, Some((94, 0)));
-    assert!(rt; out[..94] == SENT[..]);
-    assert_eq!(rt; out[94], 0xee);
+    let mut out = [OLD; ROOM];
+    compare(&rt, &mut out, QUERY, &hide_source(), &put_in_network(), SENT);
 }
 
 #[test]
 fn the_answer_is_taken_out_by_one_layer_and_edited_by_the_next(rt: HostRuntime) {
-    let mut out = [0xee; 65_700];
-    let written = write(&mut out, ANSWER, &take_out(), &restore_destination());
-    assert_eq!(rt; written, Some((44, 0)));
-    assert!(rt; out[..44] == DELIVERED[..]);
-    assert_eq!(rt; out[44], 0xee);
+    let mut out = [OLD; ROOM];
+    compare(&rt, &mut out, ANSWER, &take_out(), &restore_destination(), DELIVERED);
 }

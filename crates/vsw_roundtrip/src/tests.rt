@@ -172,11 +172,25 @@ fn compare(
 #[test]
 fn a_query_is_edited_by_one_layer_and_put_in_a_network_by_the_next(rt: HostRuntime) {
     let mut out = [OLD; ROOM];
-    compare(&rt, &mut out, QUERY, &hide_source(), &put_in_network(), SENT);
+    compare(
+        &rt,
+        &mut out,
+        QUERY,
+        &hide_source(),
+        &put_in_network(),
+        SENT,
+    );
 }
 
 #[test]
 fn the_answer_is_taken_out_by_one_layer_and_edited_by_the_next(rt: HostRuntime) {
     let mut out = [OLD; ROOM];
-    compare(&rt, &mut out, ANSWER, &take_out(), &restore_destination(), DELIVERED);
+    compare(
+        &rt,
+        &mut out,
+        ANSWER,
+        &take_out(),
+        &restore_destination(),
+        DELIVERED,
+    );
 }

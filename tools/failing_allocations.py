@@ -4,8 +4,9 @@
 Usage: tools/failing_allocations.py        (needs a C compiler)
 
 For n = 1, 2, .. the program's nth allocation fails, until a run meets no failure. Each run must end with
-status 9 and the words "vsw: memory", or with 1 where the words of the command line couldn't be kept, and
-what it printed must be a front of the report. Exits with 1 where a run does anything else.
+status 9 and the words "vsw: memory"; or with 3 and "vsw: read fault", where the host had no memory to open
+a file; or with 1 where the words of the command line couldn't be kept. What it printed must be a front of
+the report. Exits with 1 where a run does anything else.
 """
 import os
 import subprocess
@@ -15,6 +16,9 @@ import tempfile
 TOP = os.path.dirname(os.path.dirname(os.path.abspath(__file__)))
 EXAMPLE = os.path.join(TOP, "examples", "first")
 FILES = [os.path.join(EXAMPLE, name) for name in ("policy.json", "commands.jsonl", "trace.pcap")]
+
+# What a run tells that met the failure: of its own, or within the host's opening of a file.
+TOLD = [(9, b"vsw: memory\n"), (3, b"vsw: read fault\n")]
 
 # Every allocation of the process counts, from the start of main on.
 SHIM = r"""
@@ -65,7 +69,7 @@ def main():
                 break
             statuses[made.returncode] = statuses.get(made.returncode, 0) + 1
             front = report.startswith(made.stdout)
-            told = made.returncode == 9 and made.stderr == b"vsw: memory\n"
+            told = (made.returncode, made.stderr) in TOLD
             early = made.returncode == 1 and made.stdout == b""
             if not front or not (told or early):
                 sys.exit(f"allocation {number}: status {made.returncode}, {made.stderr!r}, a front of the report: {front}")

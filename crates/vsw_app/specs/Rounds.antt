@@ -8,7 +8,7 @@ use Rattle.vsw_base.specs.declared.fate.Fate.{Fate}
 use Rattle.vsw_base.specs.declared.fate.Fate.TheVariants.{Pass, Drop}
 use Rattle.vsw_base.specs.Frame.{frame_of}
 use Rattle.vsw_walk.specs.Walk.{walk}
-use Rattle.vsw_walk.specs.Port.{direction_of}
+use Rattle.vsw_flowid.specs.Port.{choose}
 use Rattle.vsw_config.specs.declared.policy.PlainPolicy.{PlainPolicy}
 use Rattle.vsw_pcap.specs.declared.capture.Record.{Record}
 use Rattle.vsw_report.specs.declared.round.Round.{Round}
@@ -24,7 +24,7 @@ abbrev pub outcome_of : PlainPolicy → Record → Result Verdict LooseCause
 outcome_of policy r = if nat_lt (length r.bytes) r.original then Err Snapped
     else elim (frame_of r.bytes) [
       | Err fault ↦ Err (Malformed fault)
-      | Ok parts ↦ elim (direction_of policy.mac parts.stack) [ None ↦ Err NoPort | Some dir ↦ Ok (walk policy.layer dir parts.stack) ]
+      | Ok parts ↦ elim (choose (policy.mac ∷ []) parts.stack) [ None ↦ Err NoPort | Some place ↦ Ok (walk policy.layer place.dir parts.stack) ]
     ]
 
 -- what the layers say is what becomes of the packet: a pass has all of its bytes, as they came

@@ -9,10 +9,11 @@ ghost use Rattle.vsw_app.specs.Round.{ReadsLines, ReadsRound};
 use std::alloc::Global;
 use vsw_base::{Cause, Fate, Items, NoMemory, Verdict};
 use vsw_config::PlainPolicy;
+use vsw_flowid::choose_port;
 use vsw_frame::read_frame;
 use vsw_pcap::{BadTrace, Next, Reader, Record};
 use vsw_report::{Loose, LooseCause, PacketLine, PortRound, Round};
-use vsw_walk::{direction, verdict};
+use vsw_walk::verdict;
 
 /// Packets of a whole round.
 pub const ROUND_SIZE: u32 = 1_024;
@@ -51,9 +52,9 @@ fn outcome(policy: &PlainPolicy, captured: &Record) -> Result<Verdict, LooseCaus
         Ok(frame) => frame,
         Err(fault) => return Err(LooseCause::Malformed(fault)),
     };
-    match direction(policy.mac, frame.stack()) {
+    match choose_port(&[policy.mac], frame.stack()) {
         None => Err(LooseCause::NoPort),
-        Some(dir) => Ok(verdict(&policy.layer, dir, frame.stack())),
+        Some(place) => Ok(verdict(&policy.layer, place.dir, frame.stack())),
     }
 }
 

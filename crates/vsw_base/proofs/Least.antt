@@ -1,12 +1,12 @@
 -- The least place of the items that pass a test.
-use Rattle.std.proofs.Common.{◌≡◌, ◌≤◌, ◌<◌, ◌+◌, ◌-◌, ℕ, min, suc, Bool, true, false, cond, List, [], ◌∷◌, Option, Some, None, length, get_or, map, filter, take, drop, refl, sym, ap, subst, ◌∙◌, inl, inr, arith, true≢false}
+use Rattle.std.proofs.Common.{◌≡◌, ◌≤◌, ◌<◌, ◌+◌, ◌-◌, ◌&&◌, ℕ, leb, min, suc, Bool, true, false, cond, List, [], ◌∷◌, Option, Some, None, length, get_or, map, filter, take, drop, refl, sym, ap, subst, ◌∙◌, inl, inr, arith, true≢false}
 use Rattle.std.specs.List.{All, AllWithin, HoldsAt, Contains}
 use Rattle.std.specs.List.Sorted.{IsPermutation}
-use Rattle.std.proofs.lemmas.Bool.{cases_lt}
+use Rattle.std.proofs.lemmas.Bool.{cases_lt, le-leb, leb-true, leb-false, and_from, and_parts}
 use Rattle.std.proofs.lemmas.List.{get_or-take, get_or-drop, get_or_default, length-take-le, length-drop}
 use Rattle.std.proofs.lemmas.List.Elements.{All-nil, All-cons, All-contains, Contains-get_or}
 use Rattle.std.proofs.lemmas.List.Sorted.{All-permutation, Contains-permutation}
-use Rattle.vsw_base.specs.Least.{lesser, lesser_of, least, least_by}
+use Rattle.vsw_base.specs.Least.{lesser, lesser_of, least, least_by, Answers}
 
 -- an item that passes has this place, and none that passes a lesser one
 pub record IsBest {X : Type 0} (t : X → Bool) (p : X → ℕ) (xs : List X) (n : ℕ) : Type 0 where
@@ -218,3 +218,20 @@ part {X} t s p xs low high le up agree (Some n) b =
           let Q : ℕ → Type 0 = λ i. s (get_or xs i d) ≡ true → n ≤ p (get_or xs i d) in
           subst Q e (subst P (part_at xs low (high - low) (k - low) d under') (b.none_before (k - low) d in')) (sym (agree k d from before) ∙ passes_it);
     }
+
+-- the least place from `from` on, in the words of the list
+pub answers : {X : Type 0} (h : X → Bool) (p : X → ℕ) (xs : List X) (f : ℕ) → Answers h p xs f (least_by (λ x. h x && leb f (p x)) p xs)
+answers {X} h p xs f = by (least_by (λ x. h x && leb f (p x)) p xs) (stands (λ x. h x && leb f (p x)) p xs)
+  where
+    by : (o : Option ℕ) → Best (λ (x : X). h x && leb f (p x)) p xs o → Answers h p xs f o
+    by None all = λ k d u held. leb-false f (p (get_or xs k d)) (let e = all k d u in let t = ap (λ (b : Bool). b && leb f (p (get_or xs k d))) held in sym t ∙ e)
+    by (Some n) b =
+        let parts = and_parts (h b.item) (leb f (p b.item)) b.passes in
+        record {
+          item = b.item;
+          is_item = b.is_item;
+          at_place = b.at_place;
+          passes = parts.0;
+          from_on = subst (λ (m : ℕ). f ≤ m) b.at_place (leb-true f (p b.item) parts.1);
+          none_before = λ k d u held le. b.none_before k d u (and_from (h (get_or xs k d)) (leb f (p (get_or xs k d))) held (le-leb f (p (get_or xs k d)) le));
+        }

@@ -3,3 +3,7 @@ pub mod Same
 pub mod Stacks
 pub mod Vectors
 pub mod Least
+pub mod Truths
+pub mod Numbers
+pub mod Readings
+pub mod Dropped

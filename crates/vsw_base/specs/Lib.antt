@@ -7,6 +7,7 @@ pub mod Vxlan
 pub mod Shape
 pub mod Fits
 pub mod Spelling
+pub mod Prefix
 pub mod Fault
 pub mod Room
 pub mod Six

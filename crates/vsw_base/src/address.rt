@@ -1,6 +1,7 @@
 //! Addresses. Contracts see an address as its number, the first byte highest.
 
 ghost use Rattle.std.specs.Prelude.{◌≡◌, ◌<◌, ◌^◌, ◌≤◌};
+ghost use Rattle.vsw_base.specs.Prefix.{in_prefix};
 ghost use Rattle.vsw_base.specs.Six.{six};
 
 use std::marker::Model;
@@ -92,4 +93,18 @@ impl Ip4 {
 pub struct Prefix {
     pub value: Ip4,
     pub bits: u8,
+}
+
+impl Prefix {
+    /// Whether the prefix holds the address of this number. One of more than 32 bits holds none.
+    pub fn holds(&self, address: u64) -> bool
+        ensures { result ≡ in_prefix self.now address }
+    {
+        let bits = self.bits;
+        if bits > 32 {
+            return false;
+        }
+        let shift = 32 - u32::from(bits);
+        address >> shift == u64::from(self.value.number()) >> shift
+    }
 }

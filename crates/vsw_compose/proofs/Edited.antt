@@ -23,6 +23,7 @@ use Rattle.vsw_compose.specs.Edit.{uncovered, written, with_set, cover, edited, 
 use Rattle.vsw_compose.proofs.Suits.{late_ordered}
 use Rattle.vsw_compose.proofs.Whole.{form_of}
 use Rattle.vsw_compose.proofs.Stacks.{uncovers, covers, sets}
+use Rattle.vsw_base.proofs.Truths.{itself}
 
 ether_does : (a b : Option ℕ) (set : Set) (d s k : ℕ) (xs : List Act) (hs : List Header) → a ≡ set.dst_mac → b ≡ set.src_mac → apply (modify_ether a b ∷ xs) (Ether d s k ∷ hs) ≡ written set (Ether d s k) ∷ apply xs hs
 ether_does None None set d s k xs hs e f = rw (sym e, sym f) refl
@@ -168,9 +169,6 @@ pub record Done (decap : Bool) (set : Set) (encap : Option Outer) (xs : List Act
 
 above : (m n : ℕ) → nat_lt m n ≡ true → m < n
 above m n t = grind (arith, nat_tests)
-
-itself : (n : ℕ) → (n == n) ≡ true
-itself n = grind (arith, nat_tests)
 
 room_of : (set : Set) (encap : Option Outer) (hs : List Header) → can_do (Edit false set encap) hs ≡ true → length (cover encap) ≡ 0 ⊎ encaps hs ≤ 1
 room_of set None hs t = inl refl

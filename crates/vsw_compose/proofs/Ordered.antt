@@ -12,6 +12,7 @@ use Rattle.vsw_compose.specs.Joined.{joined}
 use Rattle.vsw_transpose.specs.Form.{are_stays, are_late, are_ordered, pops, pushed}
 use Rattle.vsw_transpose.proofs.Parts.{left, stays_pops, stays_pushed}
 use Rattle.vsw_compose.proofs.Suits.{late_ordered, stays_ordered}
+use Rattle.vsw_base.proofs.Dropped.{drop_more, drop_none}
 
 pub late_pops : (xs : List Act) → are_late xs ≡ true → pops xs ≡ 0
 late_pops [] h = refl
@@ -34,18 +35,12 @@ late_stays (Pop ∷ xs) h z = grind arith
 late_stays (Modify c ∷ xs) h z = h
 late_stays (Ignore ∷ xs) h z = h
 
-drop_more : (n : ℕ) (h : Header) (hs : List Header) → drop (n + 1) (h ∷ hs) ≡ drop n hs
-drop_more n h hs = grind (arith, common_steps)
-
 -- the order, the pops and the pushes of two lists in one
 abbrev pub Shaped : List Act → List Act → Type 0
 Shaped xs bs = (are_ordered (joined xs bs) ≡ true) × (pops (joined xs bs) ≡ pops xs + (pops bs - length (pushed xs))) × (pushed (joined xs bs) ≡ pushed bs ++ drop (pops bs) (pushed xs))
 
 abbrev pub Shapes : List Act → Type 0
 Shapes xs = (n m : ℕ) (bs : List Act) (hs : List Header) → are_ordered xs ≡ true → are_ordered bs ≡ true → m ≡ left n xs → suits n xs hs ≡ true → suits m bs (apply xs hs) ≡ true → Shaped xs bs
-
-drop_none : (n : ℕ) (hs : List Header) → hs ≡ [] → drop n hs ≡ []
-drop_none n hs e = drop_all n hs (omega (arith, ap length e))
 
 joined_nil : (xs : List Act) → joined xs [] ≡ xs
 joined_nil [] = refl

@@ -6,7 +6,7 @@ use Rattle.vsw_base.specs.declared.header.Header.TheVariants.{Ether, Ip, Vxlan, 
 use Rattle.vsw_base.specs.declared.fault.Long.{Long}
 use Rattle.vsw_base.specs.Frame.{Level, Parts, size_at}
 use Rattle.vsw_base.specs.Shape.{is_stack, is_plain, encaps, inner}
-use Rattle.vsw_base.proofs.Stacks.{plain_cases, stack_cases, encapped}
+use Rattle.vsw_base.proofs.Stacks.{plain_encaps, stack_cases, encapped}
 use Rattle.vsw_frame.specs.declared.frame.Levels.{Levels}
 use Rattle.vsw_frame.specs.Bytes.{AreLike, answer, levels_changed, outer_total, outgoing, pushed, source_port, total_over}
 use Rattle.vsw_frame.specs.Layout.{HasPacket, HasFrame, AreLaid, AreEncaps, ports_len}
@@ -47,9 +47,6 @@ like_laid hs gs (l ∷ m ∷ ls) a h = (h.0, like_laid hs gs (m ∷ ls) a h.1)
 pub like_stand : (hs gs : List Header) (l : Levels) → AreLike hs gs → Stand hs l → Stand gs l
 like_stand hs gs l a s = record { in_order = s.in_order; laid = like_laid hs gs (levels_of l) a s.laid; short = s.short }
 
-plain_inner : (hs : List Header) → is_plain hs ≡ true → encaps hs ≡ 0
-plain_inner = plain_cases (λ hs. encaps hs ≡ 0) (λ d s k t. refl) (λ d s k a b p q t. refl) (λ d s k a b p q x y t. refl)
-
 -- the first encapsulations of a stack
 abbrev pub AreOuter : ℕ → List Header → Type 0
 AreOuter k hs = AreEncaps (take (3 * k) hs) × (encaps (take (3 * k) hs) ≡ k)
@@ -71,9 +68,9 @@ outer_two d s a b v d' s' a' b' w hs (suc (suc (suc k))) n m h = absurd (omega (
 
 pub outer_are : (hs : List Header) → is_stack hs ≡ true → (k : ℕ) → k ≤ encaps hs → AreOuter k hs
 outer_are = stack_cases (λ hs. (k : ℕ) → k ≤ encaps hs → AreOuter k hs)
-    (λ hs t k h. outer_none hs k (omega (arith, h, plain_inner hs t)))
-    (λ hs t d s a b v n k h. outer_one d s a b v hs k n (omega (arith, h, plain_inner hs t)))
-    (λ hs t d' s' a' b' w m d s a b v n k h. outer_two d s a b v d' s' a' b' w hs k n m (omega (arith, h, plain_inner hs t)))
+    (λ hs t k h. outer_none hs k (omega (arith, h, plain_encaps hs t)))
+    (λ hs t d s a b v n k h. outer_one d s a b v hs k n (omega (arith, h, plain_encaps hs t)))
+    (λ hs t d' s' a' b' w m d s a b v n k h. outer_two d s a b v d' s' a' b' w hs k n m (omega (arith, h, plain_encaps hs t)))
 
 -- the bytes of a level, by its place
 size_first : (ls : List Level) (k : ℕ) (l : Level) (rest : List Level) → l ∷ rest ≡ drop k ls → size_at k ls ≡ length l.bytes

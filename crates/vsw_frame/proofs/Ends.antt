@@ -21,6 +21,8 @@ use Rattle.vsw_frame.proofs.Within.{looked, looked_in}
 use Rattle.vsw_frame.specs.Ends.{SameHeaders, OtherEnds, SaysAs, IsReadAs, EndsAreUnread, lengths}
 use Rattle.vsw_frame.specs.Tiles.{Tiles, TilesAt, outermost}
 use Rattle.vsw_base.specs.Vxlan.{vni_of, vxlan_port}
+use Rattle.vsw_base.proofs.Readings.{ether_bound, vni_long}
+use Rattle.vsw_frame.proofs.Cases.{read_in}
 
 take_less : (m n : ℕ) (xs ys : List ℕ) → m ≤ n → take n ys ≡ take n xs → take m ys ≡ take m xs
 take_less m n xs ys h e = sym (take-take m n ys h) ∙ ap (take m) e ∙ take-take m n xs h
@@ -141,9 +143,6 @@ opened_after bytes other e b l t h k =
     ap (λ (r : Result EtherFields BadFrame). r >>= (λ e. after (e.kind == ipv4_kind) e)) (ether_like bytes other e l t h)
     ∙ ap (λ (c : Bool). after c (before other e)) k
 
-ether_bound : (bytes : List ℕ) (e : EtherFields) → ether_of bytes ≡ Ok e → 14 ≤ length bytes
-ether_bound bytes e h = grind (arith, common_steps)
-
 not_ip_cut : (bytes : List ℕ) (e : EtherFields) → ether_of bytes ≡ Ok e → (e.kind == ipv4_kind) ≡ false → OpenedCut bytes (not_ip e)
 not_ip_cut bytes e h k =
     let r : length e.rest ≡ length bytes - 14 = ap length (ether_rest bytes e h) ∙ length-drop 14 bytes in (
@@ -258,9 +257,6 @@ plain_as bytes other o h s =
     )
 
 -- a payload with a VXLAN header before an inner frame
-vni_long : (v : ℕ) (bytes : List ℕ) → vni_of bytes ≡ Some v → 8 ≤ length bytes
-vni_long v bytes h = grind (arith, common_steps)
-
 abbrev vxlan_at : Option ℕ → List ℕ → Option (ℕ × List ℕ)
 vxlan_at r p = option_map (λ vni. (vni, drop 8 p)) r
 
@@ -388,13 +384,9 @@ unfolding frame_in
 frame_read zero bytes other p h s = zero_read bytes other (opened_of bytes) p refl h s
 frame_read (suc n) bytes other p h s = more_read (frame_in n) bytes other (opened_of bytes) p (λ b o q. frame_read n b o q) (λ b q. frame_tiles n b q) refl h s
 
-short : (b : Bool) (r : Result Parts BadFrame) (p : Parts) → cond b (Err TooLong) r ≡ Ok p → (b ≡ false) × (r ≡ Ok p)
-short true r p h = absurd (cc)
-short false r p h = (refl, h)
-
 pub ends_are_unread : EndsAreUnread
 ends_are_unread bytes other p h s =
-    let w = short (nat_lt 65600 (length bytes)) (frame_in 2 bytes) p h in
+    let w = read_in bytes p h in
     let tiles = frame_tiles 2 bytes p w.1 in
     let long : length other ≡ length bytes = other_length p.levels p.payload other s ∙ ap length tiles.whole in
     let fits : nat_lt 65600 (length other) ≡ false = ap (λ (n : ℕ). nat_lt 65600 n) long ∙ w.0 in

@@ -17,6 +17,7 @@ use Rattle.vsw_transpose.specs.Fits.{suits, outer, fits, kept}
 use Rattle.vsw_transpose.proofs.Kept.{fits_parts, form_parts, rest_is}
 use Rattle.vsw_transpose.proofs.Parts.{has_parts, left, outer_after, stays_pops, stays_pushed}
 use Rattle.vsw_frame.specs.Bytes.{IsLike, AreLike, IsEdit, kept_headers}
+use Rattle.vsw_base.proofs.Dropped.{drop_none}
 
 same_like : (h : Header) → IsLike h h
 same_like (Ether d s k) = refl
@@ -29,9 +30,6 @@ changed_like (of.Ether a b) (Ether d s k) = refl
 changed_like (of.Ip a b) (Ip d s p f) = (refl, refl)
 changed_like (of.Ports a b) (Ports p x y) = refl
 changed_like c h = same_like h
-
-drop_none : (n : ℕ) (hs : List Header) → hs ≡ [] → drop n hs ≡ []
-drop_none n hs e = grind (arith, common_steps)
 
 none_like : (n m : ℕ) (hs gs : List Header) → hs ≡ [] → gs ≡ [] → AreLike (drop n hs) (drop m gs)
 none_like n m hs gs e f = rw (drop_none n hs e, drop_none m gs f) tt

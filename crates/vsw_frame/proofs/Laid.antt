@@ -18,9 +18,7 @@ use Rattle.vsw_frame.proofs.Alike.{ip_bounds, tcp_bounds, udp_bounds}
 use Rattle.vsw_frame.proofs.Ends.{within_long}
 use Rattle.vsw_frame.proofs.Tiles.{ether_rest, ip_payload, ip_trailer, udp_payload, udp_slack, opened_ends, vxlan_follows, inner_ends}
 use Rattle.vsw_frame.proofs.Cases.{EndCases, OpenedCases, FrameCases, end_cases, opened_cases, frame_cases, read_in}
-
-ether_bound : (bytes : List ℕ) (e : EtherFields) → ether_of bytes ≡ Ok e → 14 ≤ length bytes
-ether_bound bytes e h = grind (arith, common_steps)
+use Rattle.vsw_base.proofs.Readings.{ether_bound}
 
 -- the IPv4 payload is what the total length leaves
 payload_length : (bytes : List ℕ) (i : IpFields) → ip_of bytes ≡ Ok i → ip_header bytes + length i.payload ≡ ip_total bytes

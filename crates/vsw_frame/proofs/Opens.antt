@@ -16,6 +16,7 @@ use Rattle.vsw_frame.specs.declared.frame.Level.{Level}
 use Rattle.vsw_frame.specs.declared.frame.Levels.{Levels}
 use Rattle.vsw_frame.proofs.Cases.{read_in}
 use Rattle.vsw_frame.proofs.Laid.{LevelsAre, levels_laid}
+use Rattle.vsw_base.proofs.Readings.{short_is}
 
 packet_prop : (hs : List Header) (bytes : List ℕ) → IsProp (HasPacket hs bytes)
 packet_prop (Ip a b p f ∷ Ports q x y ∷ hs) bytes = ×_prop le_prop le_prop
@@ -49,9 +50,6 @@ in_order None None h = omega arith
 in_order None (Some l) h = absurd (let e : Some l ≡ None = h refl in cc)
 in_order (Some m) None h = omega arith
 in_order (Some m) (Some l) h = omega arith
-
-short_is : (n : ℕ) → nat_lt 65600 n ≡ false → n ≤ 65600
-short_is n h = grind (arith, common_steps)
 
 pub known : (stack : List Header) (control : Control) (l : Levels) (payload : List ℕ) → ∥ IsRead stack control l.first l.second l.third payload ∥₁ → Known stack l
 known stack control l payload t =

@@ -8,9 +8,7 @@ use Rattle.vsw_base.specs.Ipv4.{IpFields, ip_fields, ip_of, ip_total}
 use Rattle.vsw_sum.specs.Sum.{AreWords, checksum, sum_ones, words_of}
 use Rattle.vsw_sum.proofs.Changed as changed
 use Rattle.vsw_ipv4.specs.Ip.{Checks, ReadsBack, ip_bytes, pushed_checksum}
-
-two_is : (x : ℕ) → x < 2 ^ 16 → big_number 2 (big_bytes 2 x) ≡ x
-two_is x h = omega arith
+use Rattle.vsw_base.proofs.Numbers.{two_is, word_is}
 
 four_is : (x : ℕ) → x < 2 ^ 32 → big_number 4 (big_bytes 4 x) ≡ x
 four_is x h = omega arith
@@ -39,9 +37,6 @@ read_back src dst n sum rest hs hd hn l =
 
 pub reads_back : ReadsBack
 reads_back src dst n rest hs hd hn l = read_back src dst n (pushed_checksum src dst (20 + n)) rest hs hd hn l
-
-word_is : (k : ℕ) → k < 2 ^ 16 → 256 * (k / 256 % 256) + k % 256 ≡ k
-word_is k h = omega arith
 
 checks_at : (first last : List ℕ) (w : ℕ) → AreWords first → AreWords last → w ≡ checksum (first ++ 0 ∷ last) → sum_ones (first ++ w ∷ last) ≡ 65535
 checks_at first last w f l e = ap (λ (k : ℕ). sum_ones (first ++ k ∷ last)) e ∙ changed.checks first last f l

@@ -12,18 +12,13 @@ use Rattle.vsw_sum.proofs.Folds.{are_words, sum_is}
 use Rattle.vsw_ipv4.specs.Change.{address_words, checksum_changed, ip_changed}
 use Rattle.vsw_ipv4.specs.Right.{IsHeader, StaysRight, StaysWrong, header_checksum, header_words}
 use Rattle.vsw_sum.proofs.Zeros.{was_right, zeros}
+use Rattle.vsw_sum.proofs.Bytes.{bytes_taken}
 
 high_is : (k : ℕ) → k < 2 ^ 32 → 256 * (k / 16777216 % 256) + k / 65536 % 256 ≡ k / 65536
 high_is k h = omega arith
 
 low_is : (k : ℕ) → 256 * (k / 256 % 256) + k % 256 ≡ k % 65536
 low_is k = omega arith
-
-bytes_taken : (n : ℕ) (xs : List ℕ) → AreBytes xs → AreBytes (take n xs)
-bytes_taken zero xs h i = omega arith
-bytes_taken (suc n) [] h i = omega arith
-bytes_taken (suc n) (x ∷ xs) h zero = h 0
-bytes_taken (suc n) (x ∷ xs) h (suc i) = bytes_taken n xs (λ j. h (suc j)) i
 
 -- the words in front of the addresses
 abbrev front : List ℕ → List ℕ

@@ -8,9 +8,7 @@ use Rattle.byteorder.specs.Endian.{big_bytes, big_number}
 use Rattle.vsw_base.specs.Udp.{udp_length, udp_of}
 use Rattle.vsw_base.specs.Vxlan.{vni_of, vxlan_port}
 use Rattle.vsw_l4.specs.Vxlan.{ReadsUdpBack, ReadsVniBack, udp_vxlan_bytes, vxlan_bytes}
-
-two_is : (x : ℕ) → x < 2 ^ 16 → big_number 2 (big_bytes 2 x) ≡ x
-two_is x h = omega arith
+use Rattle.vsw_base.proofs.Numbers.{two_is}
 
 three_is : (x : ℕ) → x < 2 ^ 24 → big_number 3 (big_bytes 3 x) ≡ x
 three_is x h = omega arith

@@ -7,9 +7,7 @@ use Rattle.vsw_l4.specs.Change.{checksum_changed, tcp_changed}
 use Rattle.vsw_l4.specs.Right.{IsChange, TcpStaysRight, TcpStaysWrong, tcp_checksum, tcp_words}
 use Rattle.vsw_l4.specs.declared.change.Endpoints.{Endpoints}
 use Rattle.vsw_l4.proofs.Update.{ends_right, ends_were, right_or_zero, words}
-
-pub word_is : (k : ℕ) → k < 2 ^ 16 → 256 * (k / 256 % 256) + k % 256 ≡ k
-word_is k h = omega arith
+use Rattle.vsw_base.proofs.Numbers.{word_is}
 
 -- a zero word in a checksum's place
 pub zeroed : (xs : List ℕ) (a b : ℕ) (rest : List ℕ) → AreBytes (xs ++ a ∷ b ∷ rest) → AreBytes (xs ++ 0 ∷ 0 ∷ rest)

@@ -11,13 +11,9 @@ use Rattle.vsw_l4.specs.Change.{checksum_changed, udp_changed, udp_checksum_chan
 use Rattle.vsw_l4.specs.Right.{IsChange, IsDatagram, UdpStaysRight, UdpStaysWith, UdpStaysWithout, UdpStaysWrong, datagram, udp_checksum, udp_words}
 use Rattle.vsw_l4.specs.declared.change.Endpoints.{Endpoints}
 use Rattle.vsw_l4.proofs.Update.{ends_were, ends_written, words}
-use Rattle.vsw_l4.proofs.Right.{word_is, words_are}
-
-pub bytes_taken : (n : ℕ) (xs : List ℕ) → AreBytes xs → AreBytes (take n xs)
-bytes_taken zero xs h i = omega arith
-bytes_taken (suc n) [] h i = omega arith
-bytes_taken (suc n) (x ∷ xs) h zero = h 0
-bytes_taken (suc n) (x ∷ xs) h (suc i) = bytes_taken n xs (λ j. h (suc j)) i
+use Rattle.vsw_l4.proofs.Right.{words_are}
+use Rattle.vsw_base.proofs.Numbers.{word_is}
+use Rattle.vsw_sum.proofs.Bytes.{bytes_taken}
 
 -- the words behind the ports of a datagram
 abbrev udp_last : List ℕ → List ℕ

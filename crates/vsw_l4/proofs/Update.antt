@@ -4,7 +4,7 @@ use Rattle.std.proofs.lemmas.Grind.{common_steps}
 use Rattle.std.proofs.lemmas.List.Sums.{sum_by-cons}
 use Rattle.vsw_sum.specs.Sum.{AreWords, checksum}
 use Rattle.vsw_sum.specs.Update.{AreChanged, IsOtherZero, changes, written}
-use Rattle.vsw_sum.proofs.Changed.{ignores_same, stays_right, stays_written}
+use Rattle.vsw_sum.proofs.Changed.{ignores_same, stays_right, stays_written, sum_cons}
 use Rattle.vsw_sum.proofs.Folds.{sum_is}
 use Rattle.vsw_l4.specs.Change.{checksum_changed, endpoint_words}
 use Rattle.vsw_l4.specs.Right.{AreEndpoints}
@@ -40,9 +40,6 @@ changed from to proto len last f t p l w = record {
   same_length = refl;
   differ = sym (differ from to proto len last);
 }
-
-sum_cons : (w : ℕ) (ws : List ℕ) → sum (w ∷ ws) ≡ w + sum ws
-sum_cons w ws = sum_by-cons (λ (x : ℕ). x) w ws
 
 five_sum : (a b c d e : ℕ) (ws : List ℕ) → sum (a ∷ b ∷ c ∷ d ∷ e ∷ ws) ≡ a + (b + (c + (d + (e + sum ws))))
 five_sum a b c d e ws = simp (sum_by-cons (λ (x : ℕ). x)) (omega arith)

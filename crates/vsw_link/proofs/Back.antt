@@ -5,9 +5,7 @@ use Rattle.std.proofs.lemmas.Grind.{common_steps}
 use Rattle.byteorder.specs.Endian.{big_bytes, big_number}
 use Rattle.vsw_base.specs.Ethernet.{ether_of}
 use Rattle.vsw_link.specs.Ether.{ReadsBack, ether_bytes}
-
-two_is : (x : ℕ) → x < 2 ^ 16 → big_number 2 (big_bytes 2 x) ≡ x
-two_is x h = omega arith
+use Rattle.vsw_base.proofs.Numbers.{two_is}
 
 six_is : (x : ℕ) → x < 2 ^ 48 → big_number 6 (big_bytes 6 x) ≡ x
 six_is x h = omega arith

@@ -21,7 +21,7 @@ use Rattle.vsw_frame.proofs.Tiles.{ether_rest, ip_payload, udp_payload}
 use Rattle.vsw_frame.proofs.Within.{encap_within, looked, looked_in, plain_within, within_stack}
 use Rattle.vsw_roundtrip.specs.RoundTrip.{IsByActs}
 use Rattle.vsw_roundtrip.proofs.Inverted.{EndBy, IsEncap, OpenedBy, bound, encap_by, end_by, opened_by}
-use Rattle.vsw_roundtrip.proofs.SumsInner.{bytes_dropped, bytes_taken}
+use Rattle.vsw_sum.proofs.Bytes.{bytes_dropped, bytes_taken}
 use Rattle.vsw_roundtrip.proofs.TripKept.{inner_bytes}
 
 -- a frame without encapsulation has a plain stack

@@ -16,6 +16,7 @@ use Rattle.vsw_roundtrip.proofs.Inverted.{IsEncap, encap_by, over_ip}
 use Rattle.vsw_roundtrip.proofs.KeptRead.{kept_fields, udp_kept_read}
 use Rattle.vsw_roundtrip.proofs.Openings.{end_udp, opened_over}
 use Rattle.vsw_roundtrip.proofs.Rewritten.{ether_length}
+use Rattle.vsw_base.proofs.Readings.{vni_long}
 
 pub record EncapNew (bytes : List ℕ) (o : Opened) (v : ℕ) (new other : List ℕ) (q : Opened) : Type 0 where
   pub opened : opened_of other ≡ Ok q
@@ -27,9 +28,6 @@ pub record EncapNew (bytes : List ℕ) (o : Opened) (v : ℕ) (new other : List 
 
 abbrev vxlan_at : Option ℕ → List ℕ → Option (ℕ × List ℕ)
 vxlan_at r p = option_map (λ vni. (vni, drop 8 p)) r
-
-vni_long : (v : ℕ) (bytes : List ℕ) → vni_of bytes ≡ Some v → 8 ≤ length bytes
-vni_long v bytes h = grind (arith, common_steps)
 
 -- a VXLAN header stays before another frame
 vni_kept : (v : ℕ) (payload new : List ℕ) → vni_of payload ≡ Some v → 8 + length new ≡ length payload → vni_of (take 8 payload ++ new) ≡ Some v

@@ -8,6 +8,7 @@ use Rattle.vsw_base.specs.Udp.{UdpFields, udp_length, udp_of}
 use Rattle.vsw_frame.specs.Bytes.{udp_kept}
 use Rattle.vsw_frame.proofs.Alike.{udp_bounds}
 use Rattle.vsw_frame.proofs.Tiles.{udp_payload}
+use Rattle.vsw_base.proofs.Readings.{udp_src, udp_dst}
 
 udp_is : (bytes payload slack : List ℕ) → 8 ≤ length bytes → 8 ≤ udp_length bytes → udp_length bytes ≤ length bytes → drop 8 (take (udp_length bytes) bytes) ≡ payload → drop (udp_length bytes) bytes ≡ slack → udp_of bytes ≡ Ok (record { src = big_number 2 bytes; dst = big_number 2 (drop 2 bytes); payload = payload; slack = slack })
 udp_is bytes payload slack l h t p k = grind (arith, common_steps)
@@ -26,12 +27,6 @@ udp_around x0 x1 x2 x3 x4 x5 k0 k1 vxlan new slack l n =
     let inside : drop 8 (take (8 + m) bytes) ≡ vxlan ++ new = drop-take 8 m bytes ∙ ap (take m) whole ∙ take-append_seam (vxlan ++ new) slack in
     let behind : drop (8 + m) bytes ≡ slack = ap (λ (k : ℕ). drop k bytes) (omega arith) ∙ sym (drop-drop m 8 bytes) ∙ ap (drop m) whole ∙ drop-append_seam (vxlan ++ new) slack in
     udp_found bytes (8 + m) (vxlan ++ new) slack size (omega arith) (omega (arith, ap length whole, length-append (vxlan ++ new) slack)) inside behind
-
-udp_src : (bytes : List ℕ) (u : UdpFields) → udp_of bytes ≡ Ok u → big_number 2 bytes ≡ u.src
-udp_src bytes u h = grind (arith, common_steps)
-
-udp_dst : (bytes : List ℕ) (u : UdpFields) → udp_of bytes ≡ Ok u → big_number 2 (drop 2 bytes) ≡ u.dst
-udp_dst bytes u h = grind (arith, common_steps)
 
 abbrev pub kept_fields : UdpFields → List ℕ → UdpFields
 kept_fields u new = record { src = u.src; dst = u.dst; payload = take 8 u.payload ++ new; slack = u.slack }

@@ -23,8 +23,9 @@ use Rattle.vsw_frame.proofs.Alike.{tcp_bounds, udp_bounds}
 use Rattle.vsw_roundtrip.proofs.InnerCases.{PortsEdit}
 use Rattle.vsw_roundtrip.proofs.Inverted.{IsTcp, IsUdp}
 use Rattle.vsw_roundtrip.proofs.RewrittenPacket.{ends_at, ip_with, packet_with, tcp_packet, udp_packet}
-use Rattle.vsw_roundtrip.proofs.SumsInner.{bytes_dropped, bytes_taken}
+use Rattle.vsw_sum.proofs.Bytes.{bytes_dropped, bytes_taken}
 use Rattle.vsw_frame.proofs.Tiles.{ip_payload}
+use Rattle.vsw_base.proofs.Readings.{udp_src, udp_dst}
 
 ip_src : (bytes : List ℕ) (i : IpFields) → ip_of bytes ≡ Ok i → big_number 4 (drop 12 bytes) ≡ i.src
 ip_src bytes i h = grind (arith, common_steps)
@@ -48,12 +49,6 @@ tcp_src bytes t h = ap (λ (f : TcpFields). f.src) (tcp_fields bytes t h)
 
 tcp_dst : (bytes : List ℕ) (t : TcpFields) → tcp_of bytes ≡ Ok t → big_number 2 (drop 2 bytes) ≡ t.dst
 tcp_dst bytes t h = ap (λ (f : TcpFields). f.dst) (tcp_fields bytes t h)
-
-udp_src : (bytes : List ℕ) (u : UdpFields) → udp_of bytes ≡ Ok u → big_number 2 bytes ≡ u.src
-udp_src bytes u h = grind (arith, common_steps)
-
-udp_dst : (bytes : List ℕ) (u : UdpFields) → udp_of bytes ≡ Ok u → big_number 2 (drop 2 bytes) ≡ u.dst
-udp_dst bytes u h = grind (arith, common_steps)
 
 two_fits : (bytes : List ℕ) (n : ℕ) → AreBytes bytes → big_number 2 bytes ≡ n → n < 2 ^ 16
 two_fits bytes n h e = let l : big_number 2 bytes < 256 ^ 2 = big_from-lt 0 2 bytes h in omega (arith, l, e)

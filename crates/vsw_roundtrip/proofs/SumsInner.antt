@@ -11,16 +11,7 @@ use Rattle.vsw_ipv4.proofs.Right.{ip_stays_right, ip_stays_wrong}
 use Rattle.vsw_frame.proofs.Alike.{ip_bounds}
 use Rattle.vsw_roundtrip.proofs.Rewritten.{changed_before, ip_changed-length, ip_version}
 use Rattle.vsw_roundtrip.proofs.RewrittenPacket.{packet_with}
-
--- bytes stay bytes
-pub bytes_dropped : (n : ℕ) (xs : List ℕ) → AreBytes xs → AreBytes (drop n xs)
-bytes_dropped n xs h i = rw (get_or-drop n xs i 0) (h (n + i))
-
-pub bytes_taken : (n : ℕ) (xs : List ℕ) → AreBytes xs → AreBytes (take n xs)
-bytes_taken zero xs h i = omega arith
-bytes_taken (suc n) [] h i = omega arith
-bytes_taken (suc n) (x ∷ xs) h zero = h 0
-bytes_taken (suc n) (x ∷ xs) h (suc i) = bytes_taken n xs (λ j. h (suc j)) i
+use Rattle.vsw_sum.proofs.Bytes.{bytes_dropped, bytes_taken}
 
 -- a checksum is of the header alone
 abbrev bare : List ℕ → List ℕ

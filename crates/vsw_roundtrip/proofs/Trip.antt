@@ -26,6 +26,7 @@ use Rattle.vsw_roundtrip.proofs.Inverted.{EndBy, OpenedBy, end_by, opened_by}
 use Rattle.vsw_roundtrip.proofs.RewrittenFrame.{inner_read}
 use Rattle.vsw_roundtrip.proofs.TripKept.{levels_read, written_level}
 use Rattle.vsw_roundtrip.proofs.TripPushed.{fewer, pushed_length, pushes_read, stack_encapped}
+use Rattle.vsw_base.proofs.Readings.{short_is}
 
 -- VXLAN is looked for as the headers say
 abbrev vxlan_at : Option ℕ → List ℕ → Option (ℕ × List ℕ)
@@ -69,9 +70,6 @@ answered false m n long h = refl
 
 small : (n : ℕ) → nat_lt 65535 n ≡ false → n ≤ 65535
 small n h = grind (arith, common_steps)
-
-short_is : (n : ℕ) → nat_lt 65600 n ≡ false → n ≤ 65600
-short_is n h = grind (arith, common_steps)
 
 is_short : (n : ℕ) → n ≤ 65600 → nat_lt 65600 n ≡ false
 is_short n h = grind (arith, common_steps)

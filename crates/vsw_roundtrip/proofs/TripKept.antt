@@ -16,7 +16,7 @@ use Rattle.vsw_roundtrip.proofs.Around.{TwoInFront, around, around_none, around_
 use Rattle.vsw_frame.proofs.Cases.{FrameCases, frame_cases}
 use Rattle.vsw_roundtrip.proofs.KeptEncap.{encap_kept_read}
 use Rattle.vsw_roundtrip.proofs.RewrittenFrame.{inner_read}
-use Rattle.vsw_roundtrip.proofs.SumsInner.{bytes_dropped, bytes_taken}
+use Rattle.vsw_sum.proofs.Bytes.{bytes_dropped, bytes_taken}
 use Rattle.vsw_frame.proofs.Tiles.{inner_ends, opened_ends, vxlan_follows}
 
 abbrev pub written_level : Opened → List ℕ → Level

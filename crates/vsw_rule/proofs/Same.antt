@@ -24,6 +24,7 @@ use Rattle.vsw_rule.specs.declared.rule.Cond.{Cond}
 use Rattle.vsw_rule.specs.declared.rule.Action.{Action}
 use Rattle.vsw_rule.specs.declared.rule.Action.TheVariants as actions
 use Rattle.vsw_rule.specs.declared.rule.Rule.{Rule}
+use Rattle.vsw_base.proofs.Truths.{both}
 
 -- equal values are the same
 abbrev pub Tells : {A : Type 0} → (A → A → Bool) → Type 0
@@ -54,10 +55,6 @@ list_knows e k [] = refl
 list_knows e k (a ∷ xs) = grind (arith, common_steps, k a, list_knows e k xs)
 
 -- two tests that hold together hold each
-pub both : (x y : Bool) → x && y ≡ true → (x ≡ true) × (y ≡ true)
-both true y h = (refl, h)
-both false y h = absurd (grind arith)
-
 pub bool_tells : (a b : Bool) → bool.eq-value.it a b ≡ true → a ≡ b
 bool_tells a b h = grind (arith, common_steps)
 

@@ -6,25 +6,14 @@ ghost use Rattle.vsw_rule.specs.Match as spec;
 
 use crate::field::{Field, value};
 use crate::rule::{Action, Cond, Item, Rule};
-use vsw_base::{Header, Prefix, Stack};
-
-fn is_in_prefix(prefix: &Prefix, address: u64) -> bool
-    ensures { result ≡ spec.in_prefix prefix.now address }
-{
-    let bits = prefix.bits;
-    if bits > 32 {
-        return false;
-    }
-    let shift = 32 - u32::from(bits);
-    address >> shift == u64::from(prefix.value.number()) >> shift
-}
+use vsw_base::{Header, Stack};
 
 fn is_in(field: Field, value: u64, item: &Item) -> bool
     ensures { result ≡ spec.in_item field value item.now }
 {
     match item {
         Item::Range { low, high } => *low <= value && value <= *high,
-        Item::Prefix(prefix) => field.is_ip() && is_in_prefix(prefix, value),
+        Item::Prefix(prefix) => field.is_ip() && prefix.holds(value),
     }
 }
 

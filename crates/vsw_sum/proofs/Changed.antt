@@ -9,7 +9,7 @@ use Rattle.vsw_sum.specs.Fold.{fold_of}
 use Rattle.vsw_sum.specs.Update.{AreChanged, IgnoresSame, KeepsUnchanged, StaysRight, StaysWritten, changes, update_of, written}
 use Rattle.vsw_sum.proofs.Folds.{checksum_is, fold_early, fold_fits, fold_more, sum_is}
 
-sum_cons : (w : ℕ) (ws : List ℕ) → sum (w ∷ ws) ≡ w + sum ws
+pub sum_cons : (w : ℕ) (ws : List ℕ) → sum (w ∷ ws) ≡ w + sum ws
 sum_cons w ws = sum_by-cons (λ (x : ℕ). x) w ws
 
 are_numbers : (ws : List ℕ) → ((i : ℕ) → get_or ws i 0 < 65536) → AreWords ws

@@ -1,3 +1,4 @@
 pub mod Folds
 pub mod Changed
 pub mod Zeros
+pub mod Bytes

@@ -6,7 +6,7 @@ use Rattle.std.proofs.lemmas.Grind.{common_steps}
 use Rattle.vsw_base.specs.declared.header.Header.{Header}
 use Rattle.vsw_base.specs.declared.header.Header.TheVariants.{Ether, Ip, Vxlan, Ports}
 use Rattle.vsw_base.specs.Shape.{is_stack, is_plain, encaps, inner}
-use Rattle.vsw_base.proofs.Stacks.{plain_cases, stack_cases}
+use Rattle.vsw_base.proofs.Stacks.{plain_encaps, stack_cases}
 use Rattle.vsw_transpose.specs.declared.act.Change.{Change}
 use Rattle.vsw_transpose.specs.declared.act.Change.TheVariants as of
 use Rattle.vsw_transpose.specs.declared.act.Act.{Act}
@@ -16,6 +16,7 @@ use Rattle.vsw_transpose.specs.Form.{are_stays, are_late, are_ordered, pops, pus
 use Rattle.vsw_transpose.specs.Fits.{suits, outer, fits, kept}
 use Rattle.vsw_transpose.proofs.Encaps.{encaps_three}
 use Rattle.vsw_transpose.proofs.Kept.{counts, fits_parts, form_parts, rest_is}
+use Rattle.vsw_base.proofs.Dropped.{drop_more}
 
 encaps_append : (hs ks : List Header) → encaps (hs ++ ks) ≡ encaps hs + encaps ks
 encaps_append [] ks = omega arith
@@ -100,9 +101,6 @@ late_front n (Pop ∷ xs) hs o t = stays_front n (Pop ∷ xs) hs o t
 late_front n (Modify c ∷ xs) hs o t = stays_front n (Modify c ∷ xs) hs o t
 late_front n (Ignore ∷ xs) hs o t = stays_front n (Ignore ∷ xs) hs o t
 
-drop_more : (n : ℕ) (h : Header) (hs : List Header) → drop (n + 1) (h ∷ hs) ≡ drop n hs
-drop_more n h hs = grind (arith, common_steps)
-
 front : (n : ℕ) (xs : List Act) (hs : List Header) → are_ordered xs ≡ true → suits n xs hs ≡ true → Front n xs hs
 front n [] hs o t = late_front n [] hs o t
 front n (Push g ∷ xs) hs o t = late_front n (Push g ∷ xs) hs o t
@@ -144,14 +142,11 @@ dropped_at hs m a b c p z l = elim (threes p z (omega (arith, m, l))) [
   ]
 ]
 
-pub plain_outer : (hs : List Header) → is_plain hs ≡ true → encaps hs ≡ 0
-plain_outer = plain_cases (λ hs. encaps hs ≡ 0) (λ d s k t. refl) (λ d s k a b p q t. refl) (λ d s k a b p q x y t. refl)
-
 dropped : (hs : List Header) → is_stack hs ≡ true → Dropped hs
 dropped = stack_cases Dropped
-    (λ hs t. let z = plain_outer hs t in dropped_at hs (omega (arith, z)) (omega arith) (λ l. absurd (omega (arith, z, l))) (λ l. absurd (omega (arith, z, l))))
-    (λ hs t d s a b v n. let z = plain_outer hs t in dropped_at _ (omega (arith, z)) (omega arith) (λ l. omega (arith, z)) (λ l. absurd (omega (arith, z, l))))
-    (λ hs t d' s' a' b' w m d s a b v n. let z = plain_outer hs t in dropped_at _ (omega (arith, z)) (omega arith) (λ l. omega (arith, z)) (λ l. omega (arith, z)))
+    (λ hs t. let z = plain_encaps hs t in dropped_at hs (omega (arith, z)) (omega arith) (λ l. absurd (omega (arith, z, l))) (λ l. absurd (omega (arith, z, l))))
+    (λ hs t d s a b v n. let z = plain_encaps hs t in dropped_at _ (omega (arith, z)) (omega arith) (λ l. omega (arith, z)) (λ l. absurd (omega (arith, z, l))))
+    (λ hs t d' s' a' b' w m d s a b v n. let z = plain_encaps hs t in dropped_at _ (omega (arith, z)) (omega arith) (λ l. omega (arith, z)) (λ l. omega (arith, z)))
 
 -- the outer headers after the acts: those pushed, and those of so many that aren't popped
 abbrev pub left : ℕ → List Act → ℕ

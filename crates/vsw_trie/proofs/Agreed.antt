@@ -14,7 +14,8 @@ use Rattle.vsw_base.specs.Least.{lesser, least, least_by}
 use Rattle.vsw_trie.specs.Least.{holds, counts, least_of, Answers}
 use Rattle.vsw_trie.specs.Span.{span_of}
 use Rattle.vsw_trie.specs.Chain.{span_counts, Agrees}
-use Rattle.vsw_base.proofs.Least.{Best, stands, least_by-IsPermutation}
+use Rattle.vsw_base.proofs.Least as least
+use Rattle.vsw_base.proofs.Least.{least_by-IsPermutation}
 
 -- the addresses that agree with a prefix are those between its ends
 between : (a v d : ℕ) → zero < d → (leb (v / d * d) a && leb a ((v / d + 1) * d - 1)) ≡ (a / d == v / d)
@@ -75,17 +76,4 @@ agrees items nodes sorted same moves a f =
 
 -- the least place, in the words of the list
 pub answers : (items : List PlacedPrefix) (a f : ℕ) → Answers items a f (least_of items a f)
-answers items a f = by (least_of items a f) (stands (counts a f) (λ (p : PlacedPrefix). p.place) items)
-  where
-    by : (o : Option ℕ) → Best (counts a f) (λ (p : PlacedPrefix). p.place) items o → Answers items a f o
-    by None all = λ k d u held. leb-false f (get_or items k d).place (let e = all k d u in let t = ap (λ (b : Bool). b && leb f (get_or items k d).place) held in sym t ∙ e)
-    by (Some n) b =
-        let parts = and_parts (holds a b.item) (leb f b.item.place) b.passes in
-        record {
-          item = b.item;
-          is_item = b.is_item;
-          at_place = b.at_place;
-          holds_address = parts.0;
-          from_on = subst (λ (m : ℕ). f ≤ m) b.at_place (leb-true f b.item.place parts.1);
-          none_before = λ k d u held le. b.none_before k d u (and_from (holds a (get_or items k d)) (leb f (get_or items k d).place) held (le-leb f (get_or items k d).place le));
-        }
+answers items a f = least.answers (holds a) (λ (p : PlacedPrefix). p.place) items f

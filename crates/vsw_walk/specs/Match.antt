@@ -1,9 +1,9 @@
 -- Which rule of a group a packet meets.
-use Rattle.std.specs.Prelude.{ℕ, ◌-◌, ◌/◌, ◌^◌, ◌==◌, ◌&&◌, List, [], ◌∷◌, Bool, false, nat_le, Option, Some, None, if◌then◌else◌}
+use Rattle.std.specs.Prelude.{ℕ, List, [], ◌∷◌, Bool, false, nat_le, Option, Some, None, if◌then◌else◌}
 use Rattle.std.specs.List.{list_all}
 use Rattle.vsw_base.specs.declared.header.Header.{Header}
 use Rattle.vsw_base.specs.declared.header.Header.TheVariants.{Ether, Ip}
-use Rattle.vsw_base.specs.declared.address.Prefix.{Prefix}
+use Rattle.vsw_base.specs.Prefix.{in_prefix}
 use Rattle.vsw_walk.specs.declared.layer.PlainField.{PlainField}
 use Rattle.vsw_walk.specs.declared.layer.PlainField.TheVariants.{SrcIp, DstIp}
 use Rattle.vsw_walk.specs.declared.layer.PlainCond.{PlainCond}
@@ -18,10 +18,6 @@ addresses hs = None
 abbrev pub field_of : PlainField → Addresses → ℕ
 field_of SrcIp a = a.src
 field_of DstIp a = a.dst
-
--- the address agrees with the prefix in its first bits; a prefix of more than 32 bits holds nowhere
-abbrev pub in_prefix : Prefix → ℕ → Bool
-in_prefix p address = nat_le p.bits 32 && (address / 2 ^ (32 - p.bits) == p.value / 2 ^ (32 - p.bits))
 
 -- the field is there, and its address lies in the prefix
 abbrev pub holds : PlainCond → Option Addresses → Bool

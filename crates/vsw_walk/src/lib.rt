@@ -3,11 +3,9 @@
 
 mod layer;
 mod matching;
-mod port;
 #[cfg(test)]
 mod tests;
 mod walk;
 
 pub use layer::{PlainCond, PlainField, PlainGroup, PlainLayer, PlainRule};
-pub use port::direction;
 pub use walk::verdict;

@@ -3,27 +3,16 @@
 ghost use Rattle.std.specs.Prelude.{◌≡◌, option_copied, option_map};
 ghost use Rattle.std.specs.List.{list_all};
 ghost use Rattle.vsw_base.specs.Shape.{inner};
-ghost use Rattle.vsw_walk.specs.Match.{addresses, field_of, in_prefix, holds, matches, better, pick};
+ghost use Rattle.vsw_walk.specs.Match.{addresses, field_of, holds, matches, better, pick};
 
 use crate::layer::{PlainCond, PlainField, PlainRule};
-use vsw_base::{Header, Ip4, Prefix, Stack};
+use vsw_base::{Header, Ip4, Stack};
 
 /// The source and destination address of the inner IPv4 header.
 #[derive(Clone, Copy)]
 pub struct Addresses {
     pub src: Ip4,
     pub dst: Ip4,
-}
-
-fn is_within(prefix: &Prefix, address: Ip4) -> bool
-    ensures { result ≡ in_prefix prefix.now address }
-{
-    let bits = prefix.bits;
-    if bits > 32 {
-        return false;
-    }
-    let shift = 32 - u32::from(bits);
-    u64::from(address.number()) >> shift == u64::from(prefix.value.number()) >> shift
 }
 
 /// The addresses of inner headers, where these have IPv4.
@@ -53,7 +42,7 @@ fn condition_holds(condition: &PlainCond, addresses: &Option<Addresses>) -> bool
 {
     match addresses {
         None => false,
-        Some(addresses) => is_within(&condition.prefix, field(condition.field, addresses)),
+        Some(addresses) => condition.prefix.holds(u64::from(field(condition.field, addresses).number())),
     }
 }
 

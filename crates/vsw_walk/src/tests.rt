@@ -1,6 +1,6 @@
-//! Verdicts and directions, case by case.
+//! Verdicts, case by case.
 
-use crate::{PlainCond, PlainField, PlainGroup, PlainLayer, PlainRule, direction, verdict};
+use crate::{PlainCond, PlainField, PlainGroup, PlainLayer, PlainRule, verdict};
 use std::alloc::{AllocError, Global};
 use std::test::Fail;
 use vsw_base::{Dir, Header, Ip4, Items, Mac, Prefix, Stack, Verdict};
@@ -129,17 +129,4 @@ fn arp_meets_rules_without_conditions_alone(rt: HostRuntime) -> Result<(), Fail>
     let without = layer(Dir::In, Vec::from_array(alloc, [any])?);
     assert_eq!(rt; verdict(&without, Dir::In, &arp), met(7));
     Ok(())
-}
-
-#[test]
-fn direction_is_told_by_the_addresses(rt: HostRuntime) {
-    let outer = ether(4, 3, 0x0800);
-    let vxlan = Header::Vxlan { vni: 5001 };
-    let headers = [outer, ip(0x0a00_0009, 17), vxlan, ether(2, 3, 0x0806)];
-    let stack = Stack::of(&headers).expect(&rt, "it has the shape");
-    assert_eq!(rt; direction(Mac::of(3), &stack), Some(Dir::Out));
-    assert_eq!(rt; direction(Mac::of(2), &stack), Some(Dir::In));
-    assert_eq!(rt; direction(Mac::of(4), &stack), None);
-    let own = Stack::of(&[ether(1, 1, 0x0806)]).expect(&rt, "it has the shape");
-    assert_eq!(rt; direction(Mac::of(1), &own), Some(Dir::Out));
 }

@@ -11,7 +11,7 @@ use std::marker::Model;
 pub struct BadText;
 
 /// An Ethernet address: six bytes, as a number with the first byte highest.
-#[derive(Clone, Copy, Debug, PartialEq, Eq, PartialOrd, Ord, Hash)]
+#[derive(Clone, Copy, Debug, PartialEq, Eq)]
 pub struct Mac {
     value: u64,
 }
@@ -57,7 +57,7 @@ impl Mac {
 }
 
 /// An IPv4 address: four bytes, as a number with the first byte highest.
-#[derive(Clone, Copy, Debug, PartialEq, Eq, PartialOrd, Ord, Hash)]
+#[derive(Clone, Copy, Debug, PartialEq, Eq, Hash)]
 pub struct Ip4 {
     value: u32,
 }
@@ -89,7 +89,7 @@ impl Ip4 {
 }
 
 /// The addresses that agree with `value` in its first `bits` bits. Later bits of `value` mean nothing.
-#[derive(Clone, Copy, Debug, PartialEq, Eq, Hash)]
+#[derive(Clone, Copy, Debug, PartialEq, Eq)]
 pub struct Prefix {
     pub value: Ip4,
     pub bits: u8,

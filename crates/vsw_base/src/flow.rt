@@ -8,7 +8,7 @@ use crate::stack::Stack;
 
 /// The identity of a unified flow. It leaves out lengths, packet ids, time to live, service, TCP
 /// numbers and an outer UDP source port.
-#[derive(Clone, Copy, PartialEq, Eq, Hash)]
+#[derive(Clone, Copy, PartialEq, Eq)]
 pub struct Ufid {
     pub dir: Dir,
     pub stack: Stack,
@@ -49,7 +49,7 @@ pub struct Place {
 }
 
 /// Inner fields to write. A field that a packet hasn't is left out.
-#[derive(Clone, Copy, Debug, PartialEq, Eq, Hash)]
+#[derive(Clone, Copy, Debug, PartialEq, Eq)]
 pub struct Set {
     pub dst_mac: Option<Mac>,
     pub src_mac: Option<Mac>,
@@ -60,7 +60,7 @@ pub struct Set {
 }
 
 /// The outer headers of an encapsulation to put in front.
-#[derive(Clone, Copy, Debug, PartialEq, Eq, Hash)]
+#[derive(Clone, Copy, Debug, PartialEq, Eq)]
 pub struct Outer {
     pub dst_mac: Mac,
     pub src_mac: Mac,

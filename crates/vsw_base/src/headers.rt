@@ -9,7 +9,7 @@ use std::marker::Model;
 const FILLER: Header = Header::Vxlan { vni: 0 };
 
 /// Up to nine headers, outermost first, of any shape: what a stack is built in.
-#[derive(Clone, Copy, PartialEq, Eq, Hash)]
+#[derive(Clone, Copy, PartialEq, Eq)]
 pub struct Headers {
     items: [Header; 9],
     len: usize,

@@ -12,8 +12,6 @@ mod list;
 mod packet;
 mod spelling;
 mod stack;
-#[cfg(test)]
-mod tests;
 mod text;
 
 pub use address::{BadText, Ip4, Mac, Prefix};

@@ -15,7 +15,7 @@ pub struct BadShape;
 /// The headers of a frame, outermost first: at most two VXLAN encapsulations of three headers each
 /// (Ethernet, IPv4, VXLAN), then Ethernet, IPv4 where the type says so, and ports where the packet is
 /// unfragmented TCP or UDP.
-#[derive(Clone, Copy, PartialEq, Eq, Hash)]
+#[derive(Clone, Copy, PartialEq, Eq)]
 pub struct Stack {
     headers: Headers,
 }

@@ -1,5 +1,5 @@
 use Rattle.vsw_base.proofs.Vectors.{reads_plain, reads_encapsulated, reads_faults}
-use Rattle.vsw_base.proofs.tests.definition.Goals as goal
+use Rattle.vsw_base_tests.proofs.frames.vectors.Goals as goal
 
 pub returns-clause-plain : goal.returns-clause-plain
 returns-clause-plain c = reads_plain

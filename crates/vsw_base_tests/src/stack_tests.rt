@@ -1,8 +1,6 @@
-//! Stacks of each kind, and frames that were read by hand.
+//! Stacks of each kind.
 
-ghost use Rattle.vsw_base.specs.Vectors.{ReadsPlain, ReadsEncapsulated, ReadsFaults};
-
-use crate::{Header, Ip4, Mac, Stack};
+use vsw_base::{Header, Ip4, Mac, Stack};
 
 const IPV4: u16 = 0x0800;
 
@@ -96,16 +94,4 @@ fn other_encapsulations_are_refused(rt: HostRuntime) {
         ether(0x0806),
     ];
     assert!(rt; is_bad(&thrice));
-}
-
-/// The definition of a frame, evaluated on frames whose headers were read by hand.
-fn definition()
-    ensures plain { ReadsPlain }
-    ensures encapsulated { ReadsEncapsulated }
-    ensures faults { ReadsFaults }
-{}
-
-#[test]
-fn the_definition_reads_frames(_rt: HostRuntime) {
-    definition();
 }

@@ -1,0 +1,11 @@
+//! Tests of `vsw_base`, kept apart from it: on that crate all others stand, and with tests of its own it
+//! would be proved once more.
+#![tactic(auto)]
+
+mod frames;
+#[cfg(test)]
+mod stack_tests;
+#[cfg(test)]
+mod text_tests;
+
+pub use frames::vectors;

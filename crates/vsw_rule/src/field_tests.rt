@@ -166,17 +166,10 @@ fn check_absent(rt: &impl Abort, alloc: Global, field: Field, stack: &Stack) -> 
     Ok(())
 }
 
-/// A field of this value: the ranges and prefixes that hold, and those that end beside it.
-fn check_value(
-    rt: &impl Abort,
-    alloc: Global,
-    row: &Row,
-    stack: &Stack,
-    value: u64,
-) -> Result<(), Fail> {
-    let is_address = row.is_address;
+/// Ranges and prefixes around a field's value, and whether they hold: those that end beside it don't.
+fn items_around(value: u64, is_address: bool) -> [(Item, bool); 10] {
     let near = (value % 0x1_0000_0000) as u32;
-    let items = [
+    [
         (range(value, value), true),
         (range(0, value), true),
         (range(value, u64::MAX), true),
@@ -187,8 +180,18 @@ fn check_value(
         (prefix(near ^ 1, 32), false),
         (prefix(0, 0), is_address),
         (prefix(near, 33), false),
-    ];
-    for (item, is_held) in items {
+    ]
+}
+
+/// A field of this value, on a stack.
+fn check_value(
+    rt: &impl Abort,
+    alloc: Global,
+    row: &Row,
+    stack: &Stack,
+    value: u64,
+) -> Result<(), Fail> {
+    for (item, is_held) in items_around(value, row.is_address) {
         assert_eq!(rt;
             holds(alloc, row.field, item, stack)?,
             is_held,
@@ -230,34 +233,41 @@ fn answer(alloc: Global, field: Field, item: Item) -> Result<Result<(), BadRule>
     Ok(rule(Items::of(when), &Action::Allow, false).check())
 }
 
+/// Ranges and prefixes that a rule may ask of a field with this greatest value, and those that it may not.
+fn items_up_to(greatest: u64, is_address: bool) -> [(Item, bool); 11] {
+    let beyond = greatest.saturating_add(1);
+    [
+        (range(0, 0), true),
+        (range(0, greatest), true),
+        (range(greatest, greatest), true),
+        (range(0, beyond), false),
+        (range(beyond, beyond), false),
+        (range(greatest, 0), false),
+        (range(1, 0), false),
+        (prefix(0, 0), is_address),
+        (prefix(0x0a00_0005, 24), is_address),
+        (prefix(0x0a00_0005, 32), is_address),
+        (prefix(0x0a00_0005, 33), false),
+    ]
+}
+
+/// What the check answers to a rule with a good item, or one that may not be.
+fn answer_to(is_good: bool) -> Result<(), BadRule> {
+    if is_good {
+        Ok(())
+    } else {
+        Err(BadRule::BadRange)
+    }
+}
+
 #[test]
 fn every_field_is_asked_for_values_that_it_can_have(rt: HostRuntime) -> Result<(), Fail> {
     let alloc = rt.alloc();
     for row in &rows() {
-        let greatest = row.greatest;
-        let beyond = greatest.saturating_add(1);
-        let items = [
-            (range(0, 0), true),
-            (range(0, greatest), true),
-            (range(greatest, greatest), true),
-            (range(0, beyond), false),
-            (range(beyond, beyond), false),
-            (range(greatest, 0), false),
-            (range(1, 0), false),
-            (prefix(0, 0), row.is_address),
-            (prefix(0x0a00_0005, 24), row.is_address),
-            (prefix(0x0a00_0005, 32), row.is_address),
-            (prefix(0x0a00_0005, 33), false),
-        ];
-        for (item, is_good) in items {
-            let wanted = if is_good {
-                Ok(())
-            } else {
-                Err(BadRule::BadRange)
-            };
+        for (item, is_good) in items_up_to(row.greatest, row.is_address) {
             assert_eq!(rt;
                 answer(alloc, row.field, item)?,
-                wanted,
+                answer_to(is_good),
                 "{:?} {item:?}",
                 row.field
             );

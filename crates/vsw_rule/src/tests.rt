@@ -129,11 +129,9 @@ fn outer() -> Outer {
     }
 }
 
-#[test]
-fn items_hold_up_to_their_edges(rt: HostRuntime) -> Result<(), Fail> {
-    let alloc = rt.alloc();
-    let plain = plain().expect(&rt, "it has the shape");
-    let rows = [
+/// Fields and items, and whether these hold of the plain packet.
+fn edges() -> [(Field, Item, bool); 8] {
+    [
         (Field::SrcPort, range(1234, 2000), true),
         (Field::SrcPort, range(1000, 1233), false),
         (Field::SrcPort, range(1235, 1000), false),
@@ -142,11 +140,28 @@ fn items_hold_up_to_their_edges(rt: HostRuntime) -> Result<(), Fail> {
         (Field::SrcIp, prefix(0, 0), true),
         (Field::SrcIp, prefix(0x0a00_0005, 33), false),
         (Field::SrcPort, prefix(1234, 32), false),
-    ];
-    for (field, item, is_held) in rows {
+    ]
+}
+
+#[test]
+fn items_hold_up_to_their_edges(rt: HostRuntime) -> Result<(), Fail> {
+    let alloc = rt.alloc();
+    let plain = plain().expect(&rt, "it has the shape");
+    for (field, item, is_held) in edges() {
         assert_eq!(rt; condition(alloc, field, item)?.holds(&plain), is_held);
     }
     Ok(())
+}
+
+/// Actions of rules that are stateful or not, and whether these match no, one and two encapsulations.
+fn needs() -> [(Action, bool, [bool; 3]); 5] {
+    [
+        (edit(true, None), false, [false, true, true]),
+        (edit(false, Some(outer())), false, [true, true, false]),
+        (edit(true, Some(outer())), false, [false, true, true]),
+        (Action::Allow, true, [true, true, false]),
+        (Action::Drop, false, [true, true, true]),
+    ]
 }
 
 #[test]
@@ -155,28 +170,29 @@ fn actions_ask_for_what_they_need(rt: HostRuntime) {
     let plain = plain().expect(&rt, "it has the shape");
     let once = once().expect(&rt, "it has the shape");
     let twice = twice().expect(&rt, "it has the shape");
-    let rows = [
-        (edit(true, None), false, [false, true, true]),
-        (edit(false, Some(outer())), false, [true, true, false]),
-        (edit(true, Some(outer())), false, [false, true, true]),
-        (Action::Allow, true, [true, true, false]),
-        (Action::Drop, false, [true, true, true]),
-    ];
-    for (action, stateful, matched) in &rows {
+    for (action, stateful, matched) in &needs() {
         let rule = rule(Items::new(alloc), action, *stateful);
         let found = [&plain, &once, &twice].map(|stack| rule.matches(stack));
         assert_eq!(rt; &found, matched);
     }
 }
 
-#[test]
-fn bad_rules_are_refused_in_order(rt: HostRuntime) -> Result<(), Fail> {
-    let alloc = rt.alloc();
-    let bad = range(2, 1);
-    let rows = [
-        (edit(true, None), true, bad, Err(BadRule::StatefulAction)),
-        (edit(false, None), true, bad, Err(BadRule::EmptyAction)),
-        (Action::Allow, true, bad, Err(BadRule::BadRange)),
+/// Actions of rules that are stateful or not, an item of their condition, and what the check answers.
+fn refused() -> [(Action, bool, Item, Result<(), BadRule>); 6] {
+    [
+        (
+            edit(true, None),
+            true,
+            range(2, 1),
+            Err(BadRule::StatefulAction),
+        ),
+        (
+            edit(false, None),
+            true,
+            range(2, 1),
+            Err(BadRule::EmptyAction),
+        ),
+        (Action::Allow, true, range(2, 1), Err(BadRule::BadRange)),
         (
             Action::Allow,
             true,
@@ -185,8 +201,13 @@ fn bad_rules_are_refused_in_order(rt: HostRuntime) -> Result<(), Fail> {
         ),
         (Action::Allow, true, prefix(1, 32), Err(BadRule::BadRange)),
         (Action::Drop, false, range(0, 0xffff), Ok(())),
-    ];
-    for (action, stateful, item, answer) in &rows {
+    ]
+}
+
+#[test]
+fn bad_rules_are_refused_in_order(rt: HostRuntime) -> Result<(), Fail> {
+    let alloc = rt.alloc();
+    for (action, stateful, item, answer) in &refused() {
         let when = Vec::from_array(alloc, [condition(alloc, Field::DstPort, *item)?])?;
         let rule = rule(Items::of(when), action, *stateful);
         assert_eq!(rt; rule.check(), *answer);

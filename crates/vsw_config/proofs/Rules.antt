@@ -19,6 +19,10 @@ pub both : {A B : Type 0} (o : Option A) (f : A → Option B) (y : B) → (o >>=
 both None f y h = cc
 both (Some x) f y h = (x, refl, h)
 
+-- the same for what follows of the parts; they are variables there, and so terms stay small
+pub taken : {A B P : Type 0} (o : Option A) (f : A → Option B) (y : B) → (o >>= f) ≡ Some y → ((x : A) → o ≡ Some x → f x ≡ Some y → P) → P
+taken o f y h k = let b = both o f y h in k b.0 b.1 b.2
+
 pub same_value : {A : Type 0} (x y : A) → Some x ≡ Some y → x ≡ y
 same_value x y h = cc
 
@@ -35,17 +39,17 @@ fresh_number_apart done d n h =
 
 pub rule_apart : (done : List PlainRule) (d : Data) (r : PlainRule) → rule_of done d ≡ Some r → list_any (λ s. s.number == r.number) done ≡ false
 unfolding rule_of read_in
-rule_apart done d r rest =
-    let (o, _, rest) = both (object_among rule_words d) _ r rest in
-    let (number, here, rest) = both (read_in Rule o (fresh_number done)) _ r rest in
-    let (place, _, fresh) = both (found Rule o) (fresh_number done) number here in
-    let (priority, _, rest) = both (read_in Priority o short_of) _ r rest in
-    let (when, _, rest) = both (read_in When o conds_of) _ r rest in
-    let (allow, _, rest) = both (read_in Action o allows_of) _ r rest in
-    let (stateful, _, rest) = both (read_in Stateful o as_bool) _ r rest in
-    let (last, _, rest) = both (read_in Last o as_bool) _ r rest in
-    let (_, same) = unless_some (stateful || last) _ r rest in
-    rw (← same) (fresh_number_apart done place number fresh)
+rule_apart done d r h =
+    taken (object_among rule_words d) _ r h (λ o e h.
+    taken (read_in Rule o (fresh_number done)) _ r h (λ number here h.
+    taken (found Rule o) (fresh_number done) number here (λ place e fresh.
+    taken (read_in Priority o short_of) _ r h (λ priority e h.
+    taken (read_in When o conds_of) _ r h (λ when e h.
+    taken (read_in Action o allows_of) _ r h (λ allow e h.
+    taken (read_in Stateful o as_bool) _ r h (λ stateful e h.
+    taken (read_in Last o as_bool) _ r h (λ last e h.
+    let (_, same) = unless_some (stateful || last) _ r h in
+    rw (← same) (fresh_number_apart done place number fresh)))))))))
 
 -- a rule behind distinct ones of which none has its number
 pub distinct_push : (done : List PlainRule) (r : PlainRule) → AreDistinct done → list_any (λ s. s.number == r.number) done ≡ false → AreDistinct (done ++ r ∷ [])

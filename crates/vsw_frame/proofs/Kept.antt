@@ -5,7 +5,9 @@ use Rattle.std.proofs.lemmas.Slice.{take-put_mid, drop-put_mid}
 use borrow.Rule.Slice.PartMut.{put_mid}
 use Rattle.vsw_base.specs.declared.header.Header.{Header}
 use Rattle.vsw_base.specs.Frame.{Level}
-use Rattle.vsw_frame.specs.Bytes.{udp_at, udp_kept, differ, levels_changed}
+use Rattle.vsw_frame.specs.Bytes.{levels_changed}
+use Rattle.vsw_change.specs.Differ.{differ}
+use Rattle.vsw_change.specs.Kept.{udp_at, udp_kept}
 use Rattle.vsw_frame.specs.Layout.{IsAround}
 
 -- what is written over n bytes from k on

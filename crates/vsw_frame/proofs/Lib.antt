@@ -4,9 +4,6 @@ pub mod Finds
 pub mod Tiles
 pub mod Alike
 pub mod Ends
-pub mod Written
-pub mod Places
-pub mod Pushes
 pub mod Cases
 pub mod Laid
 pub mod Opens

@@ -1,60 +1,15 @@
 -- Outgoing bytes: what is written for a frame once its stack was edited.
-use Rattle.std.specs.Prelude.{◌≡◌, ◌≤◌, ℕ, zero, suc, ◌+◌, ◌*◌, ◌-◌, ◌%◌, ◌==◌, ◌&&◌, ◌||◌, Bool, true, false, not, List, [], ◌∷◌, ◌++◌, length, take, drop, nat_lt, if◌then◌else◌, Result, Ok, Err}
+use Rattle.std.specs.Prelude.{◌≡◌, ◌≤◌, ℕ, zero, suc, ◌+◌, ◌*◌, ◌-◌, ◌%◌, Bool, true, List, [], ◌∷◌, ◌++◌, length, take, drop, nat_lt, if◌then◌else◌, Result, Ok, Err}
 use Rattle.vsw_base.specs.declared.fault.Long.{Long}
 use Rattle.vsw_base.specs.declared.header.Header.{Header}
 use Rattle.vsw_base.specs.declared.header.Header.TheVariants.{Ether, Ip, Vxlan, Ports}
 use Rattle.vsw_base.specs.Frame.{Level, Parts, size_at}
-use Rattle.vsw_base.specs.Ipv4.{ip_header}
-use Rattle.vsw_base.specs.Shape.{encaps, inner, ipv4_kind, is_stack}
+use Rattle.vsw_base.specs.Shape.{encaps, inner, is_stack}
+use Rattle.vsw_change.specs.Change.{frame_changed}
+use Rattle.vsw_change.specs.Differ.{differ}
+use Rattle.vsw_change.specs.Kept.{udp_at, udp_kept}
+use Rattle.vsw_change.specs.Push.{pushed}
 use Rattle.vsw_flowid.specs.Sum.{flow_sum_of}
-use Rattle.vsw_ipv4.specs.Change.{ip_changed}
-use Rattle.vsw_ipv4.specs.Ip.{pushed_ip_bytes}
-use Rattle.vsw_l4.specs.Change.{tcp_changed, udp_changed, unchecked}
-use Rattle.vsw_l4.specs.Vxlan.{udp_vxlan_bytes}
-use Rattle.vsw_l4.specs.declared.change.Endpoints.{Endpoints}
-use Rattle.vsw_link.specs.Change.{ether_changed}
-use Rattle.vsw_link.specs.Ether.{ether_bytes}
-
--- a whole TCP or UDP segment, whose endpoints change
-abbrev pub segment_changed : ℕ → Endpoints → Endpoints → List ℕ → List ℕ
-segment_changed proto from to bytes = if proto == 6 then tcp_changed from to bytes else udp_changed from to bytes
-
--- the packet of an inner frame, IPv4 on, with the edited addresses and ports; a fragment, and what is neither TCP nor
--- UDP, has no ports, and its payload isn't touched
-abbrev pub packet_changed : List Header → List Header → List ℕ → List ℕ
-packet_changed (Ip a b p f ∷ Ports q x y ∷ hs) (Ip src dst proto part ∷ Ports over src_port dst_port ∷ gs) bytes =
-    ip_changed src dst (take (ip_header bytes) bytes)
-    ++ segment_changed over (record { src = a; dst = b; src_port = x; dst_port = y }) (record { src = src; dst = dst; src_port = src_port; dst_port = dst_port }) (drop (ip_header bytes) bytes)
-packet_changed (Ip a b p f ∷ hs) (Ip src dst proto part ∷ gs) bytes = ip_changed src dst bytes
-packet_changed hs gs bytes = bytes
-
--- an inner frame with the edited addresses and ports, and its checksums updated for the words that differ
-abbrev pub frame_changed : List Header → List Header → List ℕ → List ℕ
-frame_changed (Ether d s k ∷ hs) (Ether dst src kind ∷ gs) bytes = ether_changed dst src (take 14 bytes) ++ packet_changed hs gs (drop 14 bytes)
-frame_changed hs gs bytes = bytes
-
--- all fields of two headers are the same; whether a packet is a fragment can't be written
-abbrev pub is_same : Header → Header → Bool
-is_same (Ether d s k) (Ether dst src kind) = (d == dst) && (s == src) && (k == kind)
-is_same (Ip a b p f) (Ip src dst proto part) = (a == src) && (b == dst) && (p == proto)
-is_same (Vxlan v) (Vxlan vni) = v == vni
-is_same (Ports p x y) (Ports proto src dst) = (p == proto) && (x == src) && (y == dst)
-is_same h g = false
-
--- some field of the headers differs
-abbrev pub differ : List Header → List Header → Bool
-differ [] [] = false
-differ (h ∷ hs) (g ∷ gs) = not (is_same h g) || differ hs gs
-differ hs gs = true
-
--- bytes of Ethernet and IPv4 with its options, behind which UDP stands
-abbrev pub udp_at : List ℕ → ℕ
-udp_at bytes = 14 + ip_header (drop 14 bytes)
-
--- the UDP and VXLAN headers of a kept encapsulation: no checksum where an inner field differs
-abbrev pub udp_kept : Bool → List ℕ → List ℕ
-udp_kept true bytes = unchecked bytes
-udp_kept false bytes = bytes
 
 -- a kept encapsulation around its inner frame: but for the UDP checksum all stays, slack and trailer too
 abbrev pub encap_kept : Bool → Level → List ℕ → List ℕ
@@ -69,18 +24,6 @@ levels_changed from to (l ∷ m ∷ ls) = encap_kept (differ from to) l (levels_
 -- the source port of pushed encapsulations, by which the packets of a flow are told from others' (RFC 7348, section 5)
 abbrev pub source_port : List Header → ℕ
 source_port edited = 49152 + flow_sum_of edited % 16384
-
--- a pushed encapsulation, 50 bytes in front of a frame: IPv4, UDP and VXLAN, and Ethernet in front of them
-abbrev pub packet_pushed : ℕ → ℕ → ℕ → ℕ → List ℕ → List ℕ
-packet_pushed port src_ip dst_ip vni frame = pushed_ip_bytes src_ip dst_ip (length frame + 36) ++ (udp_vxlan_bytes port (length frame) vni ++ frame)
-
-abbrev pub encap_pushed : ℕ → ℕ → ℕ → ℕ → ℕ → ℕ → List ℕ → List ℕ
-encap_pushed port dst src src_ip dst_ip vni frame = ether_bytes dst src ipv4_kind ++ packet_pushed port src_ip dst_ip vni frame
-
--- encapsulations in front of a frame, the innermost put there first
-abbrev pub pushed : ℕ → List Header → List ℕ → List ℕ
-pushed port (Ether dst src kind ∷ Ip a b proto part ∷ Vxlan vni ∷ hs) frame = encap_pushed port dst src a b vni (pushed port hs frame)
-pushed port hs frame = frame
 
 -- encapsulations that are dropped, and that are pushed, where so many of the frame's are kept
 abbrev pub drops : Parts → ℕ → ℕ

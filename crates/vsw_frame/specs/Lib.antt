@@ -3,7 +3,6 @@ pub mod Seen
 pub mod Tiles
 pub mod Ends
 pub mod Bytes
-pub mod Vectors
 pub mod Layout
 pub mod Levels
 pub mod Read

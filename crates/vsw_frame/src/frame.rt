@@ -18,7 +18,7 @@ pub struct Level<'a> {
 }
 
 /// What is left of a frame once encapsulations went, outermost level first.
-#[derive(Clone, Copy, Debug)]
+#[derive(Clone, Copy)]
 pub(crate) struct Levels<'a> {
     pub first: Level<'a>,
     pub second: Option<Level<'a>>,

@@ -7,15 +7,8 @@ mod frame;
 mod law;
 mod levels;
 mod opened;
-#[cfg(test)]
-mod plain;
-mod push;
 mod read;
-#[cfg(test)]
-mod tests;
 mod writing;
-#[cfg(test)]
-mod writing_tests;
 
 pub use frame::{Frame, Level};
 pub use law::laws;

@@ -3,10 +3,10 @@
 ghost use Rattle.std.specs.Prelude.{◌≡◌, ◌≤◌, ◌<◌, ◌+◌, ◌*◌, ◌++◌, IsTrue, OnOk, OnErr, length, take, drop};
 ghost use Rattle.vsw_base.specs.Shape as shape;
 ghost use Rattle.vsw_base.specs.Shape.{encaps, inner, is_stack};
+ghost use Rattle.vsw_change.specs.Push.{pushed, AreEncaps};
 ghost use Rattle.vsw_frame.specs.Bytes as bytes;
-ghost use Rattle.vsw_frame.specs.Bytes.{AreLike, IsEdit, answer, levels_changed, outgoing, pushed, total_over};
+ghost use Rattle.vsw_frame.specs.Bytes.{AreLike, IsEdit, answer, levels_changed, outgoing, total_over};
 ghost use Rattle.vsw_frame.specs.Frame.{parts};
-ghost use Rattle.vsw_frame.specs.Layout.{AreEncaps};
 ghost use Rattle.vsw_frame.specs.Levels.{levels_of, Stand};
 ghost use Rattle.vsw_transpose.specs.Apply.{apply};
 ghost use Rattle.vsw_transpose.specs.Fits.{fits, kept};
@@ -14,8 +14,8 @@ ghost use Rattle.vsw_transpose.specs.Fits.{fits, kept};
 use crate::change::change_levels;
 use crate::frame::{Frame, Levels};
 use crate::levels::{all_levels, levels_without};
-use crate::push::{ENCAP_LEN, write_encaps};
 use vsw_base::{Header, Long, Stack};
+use vsw_change::{ENCAP_LEN, write_encaps};
 use vsw_flowid::flow_sum;
 use vsw_transpose::Transposition;
 

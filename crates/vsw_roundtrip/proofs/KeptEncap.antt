@@ -9,7 +9,8 @@ use Rattle.vsw_base.specs.Udp.{UdpFields, udp_length, udp_of}
 use Rattle.vsw_base.specs.Vxlan.{vni_of, vxlan_port}
 use Rattle.vsw_base.specs.Frame as frame
 use Rattle.vsw_base.specs.Frame.{Level, Opened, End, level_of, opened_of, slack_in, within}
-use Rattle.vsw_frame.specs.Bytes.{encap_kept, udp_at, udp_kept}
+use Rattle.vsw_frame.specs.Bytes.{encap_kept}
+use Rattle.vsw_change.specs.Kept.{udp_at, udp_kept}
 use Rattle.vsw_frame.proofs.Alike.{ether_like, ip_before, ip_bounds, ip_like, udp_bounds, vni_like}
 use Rattle.vsw_frame.proofs.Tiles.{ether_rest, ip_payload, ip_trailer, udp_payload, udp_slack}
 use Rattle.vsw_roundtrip.proofs.Inverted.{IsEncap, encap_by, over_ip}

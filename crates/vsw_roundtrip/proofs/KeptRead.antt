@@ -5,7 +5,7 @@ use Rattle.std.proofs.lemmas.List.{drop-drop, drop-take, take-take}
 use Rattle.std.proofs.Math.Seq.{drop-append_seam, take-append_seam}
 use Rattle.byteorder.specs.Endian.{big_number}
 use Rattle.vsw_base.specs.Udp.{UdpFields, udp_length, udp_of}
-use Rattle.vsw_frame.specs.Bytes.{udp_kept}
+use Rattle.vsw_change.specs.Kept.{udp_kept}
 use Rattle.vsw_frame.proofs.Alike.{udp_bounds}
 use Rattle.vsw_frame.proofs.Tiles.{udp_payload}
 use Rattle.vsw_base.proofs.Readings.{udp_src, udp_dst}

@@ -21,3 +21,4 @@ pub mod SumsLevels
 pub mod SumsTrip
 pub mod Deeper
 pub mod ByActs
+pub mod Written

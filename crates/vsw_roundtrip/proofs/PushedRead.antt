@@ -14,7 +14,7 @@ use Rattle.vsw_ipv4.proofs.Back as ip
 use Rattle.vsw_l4.specs.Vxlan.{udp_vxlan_bytes, vxlan_bytes}
 use Rattle.vsw_l4.proofs.Back as l4
 use Rattle.vsw_link.proofs.Back as link
-use Rattle.vsw_frame.specs.Bytes.{encap_pushed, packet_pushed}
+use Rattle.vsw_change.specs.Push.{encap_pushed, packet_pushed}
 use Rattle.vsw_roundtrip.proofs.Openings.{end_udp, opened_over}
 
 abbrev pub pushed_end : ℕ → ℕ → List ℕ → End

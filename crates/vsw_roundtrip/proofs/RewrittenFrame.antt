@@ -13,7 +13,8 @@ use Rattle.vsw_base.specs.Frame.{Opened, End, control_in, end_of, opened_of, pay
 use Rattle.vsw_ipv4.specs.Change.{ip_changed}
 use Rattle.vsw_l4.specs.Change.{tcp_changed, udp_changed}
 use Rattle.vsw_link.specs.Change.{ether_changed}
-use Rattle.vsw_frame.specs.Bytes.{AreLike, frame_changed}
+use Rattle.vsw_frame.specs.Bytes.{AreLike}
+use Rattle.vsw_change.specs.Change.{frame_changed}
 use Rattle.vsw_roundtrip.proofs.InnerCases.{EtherEdit, InnerCases, IpEdit, PortsEdit, inner_cases}
 use Rattle.vsw_roundtrip.proofs.RewrittenPacket.{ends_at, ip_with, packet_with, rest_packet, tcp_packet, udp_packet}
 use Rattle.vsw_roundtrip.proofs.Inverted.{IsTcp, IsUdp, is_rest, not_ip, over_ip}

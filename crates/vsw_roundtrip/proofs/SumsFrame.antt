@@ -10,12 +10,14 @@ use Rattle.vsw_ipv4.specs.Right.{IsRight, header_checksum, header_words}
 use Rattle.vsw_l4.specs.Change.{tcp_changed, udp_changed}
 use Rattle.vsw_l4.specs.Right.{udp_checksum}
 use Rattle.vsw_link.specs.Change.{ether_changed}
-use Rattle.vsw_frame.specs.Bytes.{AreLike, frame_changed}
+use Rattle.vsw_frame.specs.Bytes.{AreLike}
+use Rattle.vsw_change.specs.Change.{frame_changed}
 use Rattle.vsw_roundtrip.specs.Sums.{HasNoSum, IsEndRight, IsIpRight, IsSegmentRight, WasEndRight, WasIpRight, carried}
 use Rattle.vsw_roundtrip.proofs.InnerCases.{InnerCases, inner_cases}
 use Rattle.vsw_roundtrip.proofs.Rewritten.{ether_length}
 use Rattle.vsw_roundtrip.proofs.RewrittenPacket.{ends_at, packet_with, rest_packet, tcp_packet, udp_packet}
-use Rattle.vsw_roundtrip.proofs.SumsInner.{bytes_dropped, packet_right, packet_wrong, whole_right, whole_wrong}
+use Rattle.vsw_sum.proofs.Bytes.{bytes_dropped}
+use Rattle.vsw_roundtrip.proofs.SumsInner.{packet_right, packet_wrong, whole_right, whole_wrong}
 use Rattle.vsw_roundtrip.proofs.SumsEnds.{datagram_of, none_right, none_wrong, tcp_right, tcp_wrong, udp_right, udp_wrong}
 
 pub record SumsAs (bytes : List ℕ) (o : Opened) (gs : List Header) : Type 0 where

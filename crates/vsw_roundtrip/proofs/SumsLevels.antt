@@ -8,7 +8,10 @@ use Rattle.vsw_base.specs.Frame.{Level, size_at}
 use Rattle.vsw_ipv4.specs.Ip.{pushed_ip_bytes}
 use Rattle.vsw_l4.specs.Vxlan.{udp_vxlan_bytes}
 use Rattle.vsw_link.specs.Ether.{ether_bytes}
-use Rattle.vsw_frame.specs.Bytes.{differ, levels_changed, pushed, udp_at, udp_kept}
+use Rattle.vsw_frame.specs.Bytes.{levels_changed}
+use Rattle.vsw_change.specs.Differ.{differ}
+use Rattle.vsw_change.specs.Kept.{udp_at, udp_kept}
+use Rattle.vsw_change.specs.Push.{pushed}
 use Rattle.vsw_frame.specs.Ends.{lengths}
 use Rattle.vsw_frame.specs.Layout.{AreLaid, IsAround}
 use Rattle.vsw_roundtrip.specs.RoundTrip.{levels_kept, levels_pushed}

@@ -7,7 +7,8 @@ use Rattle.vsw_sum.specs.Sum.{checksum, words_of}
 use Rattle.vsw_ipv4.specs.Ip.{ip_bytes, pushed_checksum, pushed_ip_bytes}
 use Rattle.vsw_ipv4.specs.Right.{IsRight}
 use Rattle.vsw_l4.specs.Vxlan.{udp_vxlan_bytes}
-use Rattle.vsw_frame.specs.Bytes.{levels_changed, pushed, pushes, source_port}
+use Rattle.vsw_frame.specs.Bytes.{levels_changed, pushes, source_port}
+use Rattle.vsw_change.specs.Push.{pushed}
 use Rattle.vsw_roundtrip.specs.RoundTrip.{levels_pushed, levels_staying}
 use Rattle.vsw_roundtrip.proofs.TripPushed.{Encapped, fewer, first_three, stack_encapped}
 use Rattle.vsw_roundtrip.specs.Sums.{AreIpRight, PushRight}

@@ -18,7 +18,8 @@ use Rattle.vsw_base.specs.Vxlan.{vni_of, vxlan_port}
 use Rattle.vsw_base.specs.Frame as frame
 use Rattle.vsw_base.specs.Frame.{Level, Parts, Opened, End, control_in, frame_in, frame_of, level_of, opened_of, payload_in, plain_parts, ports, size_at, slack_in, within}
 use Rattle.vsw_base.proofs.Stacks.{in_front}
-use Rattle.vsw_frame.specs.Bytes.{AreLike, drops, frame_changed, kept_headers, levels_changed, outer_total, outgoing, pushes, source_port, total_over}
+use Rattle.vsw_frame.specs.Bytes.{AreLike, drops, kept_headers, levels_changed, outer_total, outgoing, pushes, source_port, total_over}
+use Rattle.vsw_change.specs.Change.{frame_changed}
 use Rattle.vsw_roundtrip.specs.RoundTrip.{IsRewriting, ReadsDeeper, RoundTrip, is_vxlan, levels_kept, levels_pushed, levels_staying}
 use Rattle.vsw_roundtrip.proofs.Around.{around, around_twice, encap_step, none_plain, plain_step}
 use Rattle.vsw_frame.proofs.Cases.{read_in}

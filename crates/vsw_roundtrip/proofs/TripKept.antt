@@ -8,7 +8,9 @@ use Rattle.vsw_base.specs.declared.header.Header.TheVariants.{Vxlan}
 use Rattle.vsw_base.specs.Fits.{AreFit}
 use Rattle.vsw_base.specs.Shape.{encaps, inner}
 use Rattle.vsw_base.specs.Frame.{Level, Parts, Opened, control_in, encap_parts, frame_in, level_of, opened_of, payload_in, plain_parts, ports, size_at, slack_in, within}
-use Rattle.vsw_frame.specs.Bytes.{AreLike, differ, encap_kept, frame_changed, levels_changed}
+use Rattle.vsw_frame.specs.Bytes.{AreLike, encap_kept, levels_changed}
+use Rattle.vsw_change.specs.Change.{frame_changed}
+use Rattle.vsw_change.specs.Differ.{differ}
 use Rattle.vsw_sum.specs.Sum.{AreBytes}
 use Rattle.vsw_roundtrip.specs.RoundTrip.{levels_kept}
 use Rattle.vsw_roundtrip.specs.Sums.{innermost}

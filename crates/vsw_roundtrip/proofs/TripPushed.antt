@@ -8,7 +8,8 @@ use Rattle.vsw_base.specs.Fits.{AreFit}
 use Rattle.vsw_base.specs.Shape.{encaps, is_plain, is_stack}
 use Rattle.vsw_base.specs.Frame.{Parts, frame_in, level_of}
 use Rattle.vsw_base.proofs.Stacks.{encapped, plain_cases, stack_cases}
-use Rattle.vsw_frame.specs.Bytes.{encap_pushed, pushed, total_over}
+use Rattle.vsw_frame.specs.Bytes.{total_over}
+use Rattle.vsw_change.specs.Push.{encap_pushed, pushed}
 use Rattle.vsw_roundtrip.specs.RoundTrip.{levels_pushed}
 use Rattle.vsw_roundtrip.proofs.Around.{around, around_none, around_twice, encap_step}
 use Rattle.vsw_roundtrip.proofs.PushedRead.{pushed_opened, pushed_read, pushed_within}

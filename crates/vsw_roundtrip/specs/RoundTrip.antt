@@ -12,7 +12,8 @@ use Rattle.vsw_transpose.specs.declared.act.Act.{Act}
 use Rattle.vsw_transpose.specs.Apply.{apply}
 use Rattle.vsw_transpose.specs.Fits.{fits, kept}
 use Rattle.vsw_transpose.specs.Form.{is_form}
-use Rattle.vsw_frame.specs.Bytes.{IsEdit, answer, drops, levels_changed, outgoing, pushed, pushes, source_port}
+use Rattle.vsw_frame.specs.Bytes.{IsEdit, answer, drops, levels_changed, outgoing, pushes, source_port}
+use Rattle.vsw_change.specs.Push.{pushed}
 
 -- kept levels, outermost first: changed bytes, the same slacks and trailers
 abbrev pub levels_kept : List Header → List Header → List Level → List Level

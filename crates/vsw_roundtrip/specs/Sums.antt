@@ -9,7 +9,9 @@ use Rattle.vsw_sum.specs.Sum.{AreBytes, checksum}
 use Rattle.vsw_sum.specs.Update.{IsOtherZero}
 use Rattle.vsw_ipv4.specs.Right.{IsRight, header_checksum, header_words}
 use Rattle.vsw_l4.specs.Right.{IsTcpRight, IsUdpRight, tcp_checksum, tcp_words, udp_checksum}
-use Rattle.vsw_frame.specs.Bytes.{differ, levels_changed, outgoing, pushes, source_port, udp_at}
+use Rattle.vsw_frame.specs.Bytes.{levels_changed, outgoing, pushes, source_port}
+use Rattle.vsw_change.specs.Differ.{differ}
+use Rattle.vsw_change.specs.Kept.{udp_at}
 use Rattle.vsw_roundtrip.specs.RoundTrip.{IsRewriting, levels_kept, levels_pushed, levels_staying, levels_written, written}
 use Rattle.vsw_frame.specs.Ends.{lengths}
 use Rattle.vsw_frame.specs.Tiles.{Tiles}

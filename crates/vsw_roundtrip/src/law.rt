@@ -18,10 +18,13 @@ pub fn laws()
     ensures pushed { PushRight }
 {}
 
-ghost use Rattle.vsw_roundtrip.specs.Vectors.{ReadsInside, ReadsPlain};
+ghost use Rattle.vsw_roundtrip.specs.Vectors.{ReadsInside, ReadsPlain, WritesAnswer, WritesEncapsulated};
 
-/// The definitions, evaluated on a frame whose payload looks like an encapsulation.
+/// The definitions, evaluated on frames that were rewritten by hand, and on one whose payload looks like an
+/// encapsulation.
 fn definition()
+    ensures encapsulated { WritesEncapsulated }
+    ensures answer { WritesAnswer }
     ensures plain { ReadsPlain }
     ensures inside { ReadsInside }
 {}

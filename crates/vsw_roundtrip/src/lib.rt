@@ -1,7 +1,15 @@
 //! Laws above the bytes that are written for a frame.
 #![tactic(auto)]
 
+#[cfg(test)]
+mod frames;
 mod law;
+#[cfg(test)]
+mod plain_reader;
+#[cfg(test)]
+mod reading_tests;
+#[cfg(test)]
+mod rewriting_tests;
 #[cfg(test)]
 mod tests;
 

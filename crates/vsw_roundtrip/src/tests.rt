@@ -4,44 +4,13 @@ ghost use Rattle.std.specs.Prelude.{◌≤◌, ◌<◌, ◌^◌, IsTrue, length}
 ghost use Rattle.vsw_compose.specs.Edit.{goes_on};
 ghost use Rattle.vsw_rule.specs.Match.{can_do};
 
+use crate::frames::{DELIVERED, OLD, QUERY, REPLY, ROOM, SENT, begins};
 use std::process::Abort;
 use vsw_base::{Ip4, Mac, Outer, Set, Stack};
 use vsw_compose::{act_of, compose};
 use vsw_frame::{read_frame, rewrite};
 use vsw_rule::Action;
 use vsw_transpose::Transposition;
-
-/// Bytes that `rewrite` asks for.
-const ROOM: usize = 65_700;
-
-/// What stands in them before.
-const OLD: u8 = 0xee;
-
-/// UDP from port 1234 of 10.0.0.5 to port 53 of 10.0.0.9.
-const QUERY: &[u8; 44] = b"\x02\x00\x00\x00\x00\x99\x02\x00\x00\x00\x00\x01\x08\x00\
-\x45\x00\x00\x1e\x00\x00\x40\x00\x40\x11\x26\xc2\x0a\x00\x00\x05\x0a\x00\x00\x09\
-\x04\xd2\x00\x35\x00\x0a\x7e\x5c\x68\x69";
-
-/// The same from port 40000 of 192.0.2.7, in network 5001.
-const SENT: &[u8; 94] = b"\x02\x00\x00\x00\x0a\x02\x02\x00\x00\x00\x0a\x01\x08\x00\
-\x45\x00\x00\x50\x00\x00\x40\x00\x40\x11\xe2\x79\xac\x10\x00\x01\xac\x10\x00\x02\
-\xf5\x30\x12\xb5\x00\x3c\x00\x00\x08\x00\x00\x00\x00\x13\x89\x00\
-\x02\x00\x00\x00\x00\x99\x02\x00\x00\x00\x00\x01\x08\x00\
-\x45\x00\x00\x1e\x00\x00\x40\x00\x40\x11\x6e\xbf\xc0\x00\x02\x07\x0a\x00\x00\x09\
-\x9c\x40\x00\x35\x00\x0a\x2e\xeb\x68\x69";
-
-/// The answer to that, as it comes in.
-const ANSWER: &[u8; 94] = b"\x02\x00\x00\x00\x0a\x01\x02\x00\x00\x00\x0a\x02\x08\x00\
-\x45\x00\x00\x50\x00\x00\x40\x00\x40\x11\xe2\x79\xac\x10\x00\x02\xac\x10\x00\x01\
-\xf5\x30\x12\xb5\x00\x3c\x00\x00\x08\x00\x00\x00\x00\x13\x89\x00\
-\x02\x00\x00\x00\x00\x01\x02\x00\x00\x00\x00\x99\x08\x00\
-\x45\x00\x00\x1e\x00\x00\x40\x00\x40\x11\x6e\xbf\x0a\x00\x00\x09\xc0\x00\x02\x07\
-\x00\x35\x9c\x40\x00\x0a\x2e\xeb\x68\x69";
-
-/// The answer to the query.
-const DELIVERED: &[u8; 44] = b"\x02\x00\x00\x00\x00\x01\x02\x00\x00\x00\x00\x99\x08\x00\
-\x45\x00\x00\x1e\x00\x00\x40\x00\x40\x11\x26\xc2\x0a\x00\x00\x09\x0a\x00\x00\x05\
-\x00\x35\x04\xd2\x00\x0a\x7e\x5c\x68\x69";
 
 fn nothing() -> Set {
     Set {
@@ -164,9 +133,7 @@ fn compare(
 {
     let written = write(out, bytes, first, second);
     assert_eq!(rt; written, Some((expected.len(), 0)));
-    assert!(rt; expected.len() < out.len());
-    assert_eq!(rt; &out[..expected.len()], expected);
-    assert_eq!(rt; out[expected.len()], OLD);
+    begins(rt, out, expected);
 }
 
 #[test]
@@ -175,10 +142,10 @@ fn a_query_is_edited_by_one_layer_and_put_in_a_network_by_the_next(rt: HostRunti
     compare(
         &rt,
         &mut out,
-        QUERY,
+        &QUERY,
         &hide_source(),
         &put_in_network(),
-        SENT,
+        &SENT,
     );
 }
 
@@ -188,9 +155,9 @@ fn the_answer_is_taken_out_by_one_layer_and_edited_by_the_next(rt: HostRuntime) 
     compare(
         &rt,
         &mut out,
-        ANSWER,
+        &REPLY,
         &take_out(),
         &restore_destination(),
-        DELIVERED,
+        &DELIVERED,
     );
 }

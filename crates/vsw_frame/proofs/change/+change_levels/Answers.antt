@@ -1,7 +1,8 @@
 use Rattle.std.proofs.Common.{◌≡◌, ◌∙◌, ℕ, List, ◌∷◌, ◌++◌, ◌+◌, ◌-◌, Bool, take, drop, ap, sym, subst, arith}
 use Rattle.vsw_base.specs.declared.header.Header.{Header}
 use Rattle.vsw_base.specs.Frame.{Level}
-use Rattle.vsw_frame.specs.Bytes.{levels_changed, udp_at, udp_kept}
+use Rattle.vsw_frame.specs.Bytes.{levels_changed}
+use Rattle.vsw_change.specs.Kept.{udp_at, udp_kept}
 use Rattle.vsw_frame.specs.Layout.{AreLaid}
 use Rattle.vsw_frame.specs.Levels.{level_fields, more_levels}
 use Rattle.vsw_frame.proofs.Kept.{kept_written}
@@ -18,5 +19,5 @@ returns t c =
     let more : m ∷ ls ≡ more_levels c.args.levels.now.second ++ more_levels c.args.levels.now.third = c.within-inner.ensures.levels in
     let laid = subst (λ (ls : List Level). AreLaid to (l ∷ ls)) (sym more) c.requires.stand.laid in
     let u : ℕ = c.udp_at-udp.result in
-    kept_written l m ls from to c.udp_at-udp.result c.args.bytes.now c.change_udp_vxlan.new.bytes c.change_levels.new.bytes c.requires.same laid.0 (c.udp_at-udp.ensures.value ∙ ap udp_at c.requires.same) (c.change_udp_vxlan.ensures ∙ ap (λ (b : Bool). udp_kept b (take (u + 16 - u) (drop u c.args.bytes.now))) c.differ.ensures) (omega arith) c.change_levels.ensures
+    kept_written l m ls from to c.udp_at-udp.result c.args.bytes.now c.change_udp_vxlan.new.bytes c.change_levels.new.bytes c.requires.same laid.0 (c.udp_at-udp.ensures.value ∙ ap udp_at c.requires.same) (c.change_udp_vxlan.ensures.changed ∙ ap (λ (b : Bool). udp_kept b (take (u + 16 - u) (drop u c.args.bytes.now))) c.differ.ensures.value) (omega arith) c.change_levels.ensures
     ∙ ap (λ (ls : List Level). levels_changed from to (l ∷ ls)) more

@@ -1,5 +1,12 @@
 use Rattle.vsw_roundtrip.proofs.Deeper.{reads_inside, reads_plain}
+use Rattle.vsw_roundtrip.proofs.Written.{writes_answer, writes_encapsulated}
 use Rattle.vsw_roundtrip.proofs.law.definition.Goals as goal
+
+pub returns-clause-encapsulated : goal.returns-clause-encapsulated
+returns-clause-encapsulated c = writes_encapsulated
+
+pub returns-clause-answer : goal.returns-clause-answer
+returns-clause-answer c = writes_answer
 
 pub returns-clause-plain : goal.returns-clause-plain
 returns-clause-plain c = reads_plain

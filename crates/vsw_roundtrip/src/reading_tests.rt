@@ -1,45 +1,9 @@
 //! Frames that were written and read by hand.
 
-use crate::plain::REPLY;
-use crate::read_frame;
+use crate::frames::{DELIVERED, QUERY, REPLY, SENT, nested, outer};
 use std::process::Abort;
 use vsw_base::{BadFrame, Control, Header, Ip4, Mac, Sizes};
-
-/// "hi" over UDP from port 1234 of 10.0.0.5 to port 53 of 10.0.0.9.
-pub const PLAIN: [u8; 44] = [
-    // Ethernet
-    0x02, 0x00, 0x00, 0x00, 0x00, 0x99, 0x02, 0x00, 0x00, 0x00, 0x00, 0x01, 0x08, 0x00,
-    // IPv4, 30 bytes
-    0x45, 0x00, 0x00, 0x1e, 0x00, 0x00, 0x40, 0x00, 0x40, 0x11, 0x26, 0xc2, 0x0a, 0x00, 0x00, 0x05,
-    0x0a, 0x00, 0x00, 0x09, // UDP, 10 bytes
-    0x04, 0xd2, 0x00, 0x35, 0x00, 0x0a, 0x7e, 0x5c, 0x68, 0x69,
-];
-
-/// A datagram from port 40000 of 192.0.2.7 to port 53 of 10.0.0.9, in network 5001.
-pub const ENCAP: [u8; 94] = [
-    // Ethernet
-    0x02, 0x00, 0x00, 0x00, 0x0a, 0x02, 0x02, 0x00, 0x00, 0x00, 0x0a, 0x01, 0x08, 0x00,
-    // IPv4, 80 bytes
-    0x45, 0x00, 0x00, 0x50, 0x00, 0x00, 0x40, 0x00, 0x40, 0x11, 0xe2, 0x79, 0xac, 0x10, 0x00, 0x01,
-    0xac, 0x10, 0x00, 0x02, // UDP, 60 bytes
-    0xf5, 0x30, 0x12, 0xb5, 0x00, 0x3c, 0x00, 0x00, // VXLAN
-    0x08, 0x00, 0x00, 0x00, 0x00, 0x13, 0x89, 0x00, // Ethernet
-    0x02, 0x00, 0x00, 0x00, 0x00, 0x99, 0x02, 0x00, 0x00, 0x00, 0x00, 0x01, 0x08, 0x00,
-    // IPv4, 30 bytes
-    0x45, 0x00, 0x00, 0x1e, 0x00, 0x00, 0x40, 0x00, 0x40, 0x11, 0x6e, 0xbf, 0xc0, 0x00, 0x02, 0x07,
-    0x0a, 0x00, 0x00, 0x09, // UDP, 10 bytes
-    0x9c, 0x40, 0x00, 0x35, 0x00, 0x0a, 0x2e, 0xeb, 0x68, 0x69,
-];
-
-/// "hi" over UDP from port 53 of 10.0.0.9 to port 1234 of 10.0.0.5.
-const ANSWER: [u8; 44] = [
-    // Ethernet
-    0x02, 0x00, 0x00, 0x00, 0x00, 0x01, 0x02, 0x00, 0x00, 0x00, 0x00, 0x99, 0x08, 0x00,
-    // IPv4, 30 bytes
-    0x45, 0x00, 0x00, 0x1e, 0x00, 0x00, 0x40, 0x00, 0x40, 0x11, 0x26, 0xc2, 0x0a, 0x00, 0x00, 0x09,
-    0x0a, 0x00, 0x00, 0x05, // UDP, 10 bytes
-    0x00, 0x35, 0x04, 0xd2, 0x00, 0x0a, 0x7e, 0x5c, 0x68, 0x69,
-];
+use vsw_frame::read_frame;
 
 /// TCP from port 1234 to port 80 with SYN and ACK and no payload.
 const SYN_ACK: [u8; 20] = [
@@ -68,41 +32,19 @@ fn ports(proto: u8, src: u16, dst: u16) -> Header {
     Header::Ports { proto, src, dst }
 }
 
-/// The outer headers of `ENCAP`.
-fn outer_ether() -> Header {
-    Header::Ether {
-        dst: Mac::of(0x0200_0000_0a02),
-        src: Mac::of(0x0200_0000_0a01),
-        kind: 0x0800,
-    }
-}
-
-fn outer_ip() -> Header {
-    Header::Ip {
-        src: Ip4::of(0xac10_0001),
-        dst: Ip4::of(0xac10_0002),
-        proto: 17,
-        part: false,
-    }
-}
-
-fn vxlan() -> Header {
-    Header::Vxlan { vni: 5001 }
-}
-
-/// `PLAIN` with this byte at this place.
+/// `QUERY` with this byte at this place.
 fn changed(at: usize, byte: u8) -> [u8; 44] {
-    let mut frame = PLAIN;
+    let mut frame = QUERY;
     if at < 44 {
         frame[at] = byte;
     }
     frame
 }
 
-/// TCP in place of the UDP of `PLAIN`.
+/// TCP in place of the UDP of `QUERY`.
 fn with_tcp() -> [u8; 54] {
     let mut frame = [0; 54];
-    frame[..34].copy_from_slice(&PLAIN[..34]);
+    frame[..34].copy_from_slice(&QUERY[..34]);
     frame[34..].copy_from_slice(&SYN_ACK);
     frame[17] = 40;
     frame[23] = 6;
@@ -141,21 +83,22 @@ fn a_plain_frame_is_read(rt: HostRuntime) {
         ip(0x0a00_0005, 17, false),
         ports(17, 1234, 53),
     ];
-    reads(&rt, &PLAIN, &headers, b"hi", sizes(44, 0, 0));
-    assert_eq!(rt; control(&PLAIN), Ok(Control::None));
+    reads(&rt, &QUERY, &headers, b"hi", sizes(44, 0, 0));
+    assert_eq!(rt; control(&QUERY), Ok(Control::None));
 }
 
 #[test]
 fn an_encapsulated_frame_is_read(rt: HostRuntime) {
+    let [a, b, c] = outer(0, 5001);
     let headers = [
-        outer_ether(),
-        outer_ip(),
-        vxlan(),
+        a,
+        b,
+        c,
         ether(0x0800),
         ip(0xc000_0207, 17, false),
         ports(17, 40000, 53),
     ];
-    reads(&rt, &ENCAP, &headers, b"hi", sizes(94, 44, 0));
+    reads(&rt, &SENT, &headers, b"hi", sizes(94, 44, 0));
 }
 
 /// UDP from 10.0.0.9 to this address, from port 53 to this port.
@@ -188,52 +131,39 @@ fn replies_are_read(rt: HostRuntime) {
         part: false,
     };
     let [ether, ip, udp] = answer_to(0xc000_0207, 40_000);
-    let headers = [outer_ether, outer_ip, vxlan(), ether, ip, udp];
+    let vxlan = Header::Vxlan { vni: 5001 };
+    let headers = [outer_ether, outer_ip, vxlan, ether, ip, udp];
     reads(&rt, &REPLY, &headers, b"hi", sizes(94, 44, 0));
     let headers = answer_to(0x0a00_0005, 1234);
-    reads(&rt, &ANSWER, &headers, b"hi", sizes(44, 0, 0));
+    reads(&rt, &DELIVERED, &headers, b"hi", sizes(44, 0, 0));
 }
 
 #[test]
 fn vxlan_without_its_flag_is_plain_udp(rt: HostRuntime) {
-    let mut bytes = ENCAP;
+    let mut bytes = SENT;
     bytes[42] = 0xf7;
-    let headers = [outer_ether(), outer_ip(), ports(17, 62768, 4789)];
+    let [a, b, _] = outer(0, 5001);
+    let headers = [a, b, ports(17, 62768, 4789)];
     reads(&rt, &bytes, &headers, &bytes[42..], sizes(94, 0, 0));
 }
 
 #[test]
 fn a_third_encapsulation_is_plain_udp(rt: HostRuntime) {
-    let mut bytes = [0; 194];
-    bytes[..50].copy_from_slice(&ENCAP[..50]);
-    bytes[50..100].copy_from_slice(&ENCAP[..50]);
-    bytes[100..].copy_from_slice(&ENCAP);
-    // total and UDP lengths of the first and the second frame
-    bytes[17] = 180;
-    bytes[39] = 160;
-    bytes[67] = 130;
-    bytes[89] = 110;
-    let headers = [
-        outer_ether(),
-        outer_ip(),
-        vxlan(),
-        outer_ether(),
-        outer_ip(),
-        vxlan(),
-        outer_ether(),
-        outer_ip(),
-        ports(17, 62768, 4789),
-    ];
-    reads(&rt, &bytes, &headers, &ENCAP[42..], sizes(194, 144, 94));
+    let bytes = nested();
+    let [a, b, c] = outer(0, 5001);
+    let [d, e, f] = outer(0, 5001);
+    let [g, h, _] = outer(0, 5001);
+    let headers = [a, b, c, d, e, f, g, h, ports(17, 62768, 4789)];
+    reads(&rt, &bytes, &headers, &SENT[42..], sizes(194, 144, 94));
 }
 
 #[test]
 fn another_type_and_a_fragment_have_no_ports(rt: HostRuntime) {
     let arp = changed(13, 0x06);
-    reads(&rt, &arp, &[ether(0x0806)], &PLAIN[14..], sizes(44, 0, 0));
+    reads(&rt, &arp, &[ether(0x0806)], &QUERY[14..], sizes(44, 0, 0));
     let fragment = changed(20, 0x20);
     let headers = [ether(0x0800), ip(0x0a00_0005, 17, true)];
-    reads(&rt, &fragment, &headers, &PLAIN[34..], sizes(44, 0, 0));
+    reads(&rt, &fragment, &headers, &QUERY[34..], sizes(44, 0, 0));
 }
 
 #[test]
@@ -246,8 +176,8 @@ fn flags_of_tcp_are_told(rt: HostRuntime) {
 
 #[test]
 fn faults_are_told(rt: HostRuntime) {
-    assert_eq!(rt; control(&PLAIN[..13]), Err(BadFrame::ShortEther));
-    assert_eq!(rt; control(&PLAIN[..33]), Err(BadFrame::ShortIp));
+    assert_eq!(rt; control(&QUERY[..13]), Err(BadFrame::ShortEther));
+    assert_eq!(rt; control(&QUERY[..33]), Err(BadFrame::ShortIp));
     for (at, byte, fault) in [
         (14, 0x44, BadFrame::IpLength),
         (17, 31, BadFrame::IpLength),
@@ -265,7 +195,7 @@ fn later_faults_are_told(rt: HostRuntime) {
     let mut tcp = with_tcp();
     tcp[46] = 0x40;
     assert_eq!(rt; control(&tcp), Err(BadFrame::TcpOffset));
-    let mut encap = ENCAP;
+    let mut encap = SENT;
     encap[64] = 0x65;
     assert_eq!(rt; control(&encap), Err(BadFrame::IpVersion));
 }
@@ -304,7 +234,7 @@ fn fields_of_a_packet_do_not_show_in_its_stack(rt: HostRuntime) {
         has(&rt, &changed(at, byte), &headers);
     }
     let mut longer = [0; 50];
-    longer[..44].copy_from_slice(&PLAIN);
+    longer[..44].copy_from_slice(&QUERY);
     has(&rt, &longer, &headers);
     longer[17] = 33;
     longer[39] = 13;
@@ -319,12 +249,13 @@ fn numbers_and_outer_ports_do_not_show_in_a_stack(rt: HostRuntime) {
     tcp[45] = 9;
     let headers = [ether(0x0800), ip(0x0a00_0005, 6, false), ports(6, 1234, 80)];
     has(&rt, &tcp, &headers);
-    let mut encap = ENCAP;
+    let mut encap = SENT;
     encap[34] = 0xc0;
+    let [a, b, c] = outer(0, 5001);
     let headers = [
-        outer_ether(),
-        outer_ip(),
-        vxlan(),
+        a,
+        b,
+        c,
         ether(0x0800),
         ip(0xc000_0207, 17, false),
         ports(17, 40000, 53),

@@ -2,8 +2,8 @@
 
 ghost use Rattle.std.specs.Prelude.{◌≡◌, ◌≤◌, ◌<◌, ◌^◌, ◌+◌, ◌*◌, length, drop};
 ghost use Rattle.vsw_base.specs.Shape.{encaps};
-ghost use Rattle.vsw_frame.specs.Bytes.{encap_pushed, packet_pushed, pushed};
-ghost use Rattle.vsw_frame.specs.Layout.{AreEncaps, outer_of};
+ghost use Rattle.vsw_change.specs.Headers.{outer_of};
+ghost use Rattle.vsw_change.specs.Push.{encap_pushed, packet_pushed, pushed, AreEncaps};
 
 use vsw_base::{Header, Ip4, Mac};
 use vsw_ipv4::write_ip;
@@ -83,12 +83,13 @@ fn write_encap(out: &mut [u8], port: u16, outer: &Outer)
     write_packet(&mut out[ETHER_LEN..], port, outer);
 }
 
-/// Writes encapsulations in front of the frame that stands behind their room, the innermost first.
+/// Writes encapsulations in front of the frame that stands behind their room, the innermost first, each with
+/// this UDP source port and without a UDP checksum (RFC 7348, section 5).
 pub fn write_encaps(out: &mut [u8], port: u16, headers: &[Header])
     requires whole { AreEncaps headers.now }
     requires room { 50 * encaps headers.now ≤ length out.old }
     requires fits { 0 < encaps headers.now → length out.old ≤ 65549 }
-    ensures { out.new ≡ pushed port headers.now (drop (50 * encaps headers.now) out.old) }
+    ensures written { out.new ≡ pushed port headers.now (drop (50 * encaps headers.now) out.old) }
 {
     let Some(outer) = outermost(headers) else {
         return;

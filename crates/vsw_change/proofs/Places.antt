@@ -25,9 +25,3 @@ both_written k old first last front f h l e g =
     let behind : drop k (first ++ drop k old) ≡ drop k old = ap (λ (m : ℕ). drop m (first ++ drop k old)) (sym n) ∙ drop-append_seam first (drop k old) in
     let before : take k (first ++ drop k old) ≡ first = ap (λ (m : ℕ). take m (first ++ drop k old)) (sym n) ∙ take-append_seam first (drop k old) in
     put_rest k (first ++ drop k old) last front (f (drop k old)) (omega (arith, n, length-append first (drop k old))) (before ∙ e) (g ∙ ap f (rest_of k (first ++ drop k old) ∙ behind))
-
--- what was written from k on
-pub written_from : (k : ℕ) (xs ys : List ℕ) → k ≤ length xs → drop k (put_mid k (length xs - k) xs ys) ≡ ys
-written_from k xs ys h =
-    let n : length (take k xs) ≡ k = omega (arith, length-take k xs) in
-    ap (drop k) (put_rest k xs ys (take k xs) ys h refl refl) ∙ ap (λ (m : ℕ). drop m (take k xs ++ ys)) (sym n) ∙ drop-append_seam (take k xs) ys

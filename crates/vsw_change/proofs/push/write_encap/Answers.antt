@@ -1,6 +1,6 @@
 use Rattle.std.proofs.Common.{arith}
-use Rattle.vsw_frame.proofs.Pushes.{encap_written}
-use Rattle.vsw_frame.proofs.push.write_encap.Goals as goal
+use Rattle.vsw_change.proofs.Pushes.{encap_written}
+use Rattle.vsw_change.proofs.push.write_encap.Goals as goal
 
 pub returns : goal.returns
 returns c =

@@ -2,7 +2,7 @@
 use Rattle.std.proofs.Common.{refl}
 use Rattle.vsw_base.specs.Frame.{frame_in}
 use Rattle.vsw_ipv4.specs.Ip.{pushed_checksum}
-use Rattle.vsw_frame.specs.Vectors.{WritesEncapsulated, WritesAnswer}
+use Rattle.vsw_roundtrip.specs.Vectors.{WritesEncapsulated, WritesAnswer}
 
 pub writes_encapsulated : WritesEncapsulated
 unfolding frame_in pushed_checksum

@@ -3,28 +3,12 @@
 
 ghost use Rattle.std.specs.Prelude.{◌≤◌, ◌<◌};
 
-use crate::read_frame;
+use crate::frames::{REPLY, nested};
 use std::alloc::Global;
 use std::process::Abort;
 use std::test::Fail;
 use vsw_base::{Control, Header, Headers, Ip4, Mac, Sizes};
-
-/// A datagram from port 53 of 10.0.0.9 to port 40000 of 192.0.2.7, in network 5001 from 172.16.0.2 to
-/// 172.16.0.1.
-pub const REPLY: [u8; 94] = [
-    // Ethernet
-    0x02, 0x00, 0x00, 0x00, 0x0a, 0x01, 0x02, 0x00, 0x00, 0x00, 0x0a, 0x02, 0x08, 0x00,
-    // IPv4, 80 bytes
-    0x45, 0x00, 0x00, 0x50, 0x00, 0x00, 0x40, 0x00, 0x40, 0x11, 0xe2, 0x79, 0xac, 0x10, 0x00, 0x02,
-    0xac, 0x10, 0x00, 0x01, // UDP, 60 bytes
-    0xf5, 0x30, 0x12, 0xb5, 0x00, 0x3c, 0x00, 0x00, // VXLAN
-    0x08, 0x00, 0x00, 0x00, 0x00, 0x13, 0x89, 0x00, // Ethernet
-    0x02, 0x00, 0x00, 0x00, 0x00, 0x01, 0x02, 0x00, 0x00, 0x00, 0x00, 0x99, 0x08, 0x00,
-    // IPv4, 30 bytes
-    0x45, 0x00, 0x00, 0x1e, 0x00, 0x00, 0x40, 0x00, 0x40, 0x11, 0x6e, 0xbf, 0x0a, 0x00, 0x00, 0x09,
-    0xc0, 0x00, 0x02, 0x07, // UDP, 10 bytes
-    0x00, 0x35, 0x9c, 0x40, 0x00, 0x0a, 0x2e, 0xeb, 0x68, 0x69,
-];
+use vsw_frame::read_frame;
 
 /// TCP with 4 bytes of options and 2 of payload, from port 1234 of 10.0.0.5 to port 80 of 10.0.0.9.
 const SEGMENT: [u8; 60] = [
@@ -297,20 +281,7 @@ fn every_change_of_a_byte_is_read_as_the_plain_program_says(rt: HostRuntime) -> 
     sweep(&rt, alloc, &SEGMENT)
 }
 
-/// The reply in two further encapsulations. Two of the three are looked for.
-fn nested() -> [u8; 194] {
-    let mut bytes = [0; 194];
-    bytes[..50].copy_from_slice(&REPLY[..50]);
-    bytes[50..100].copy_from_slice(&REPLY[..50]);
-    bytes[100..].copy_from_slice(&REPLY);
-    // total and UDP lengths of the first and the second frame
-    bytes[17] = 180;
-    bytes[39] = 160;
-    bytes[67] = 130;
-    bytes[89] = 110;
-    bytes
-}
-
+/// Two of the three encapsulations are looked for.
 #[test]
 fn frames_in_frames_are_read_as_the_plain_program_says(rt: HostRuntime) -> Result<(), Fail> {
     sweep(&rt, rt.alloc(), &nested())

@@ -1,11 +1,10 @@
 use Rattle.std.proofs.Common.{◌≡◌, ◌∙◌, ◌<◌, ◌*◌, ◌-◌, length, take, drop, List, ℕ, sym, ap, subst, arith, rules, length-drop}
 use Rattle.vsw_base.specs.declared.header.Header.{Header}
 use Rattle.vsw_base.specs.Shape.{encaps}
-use Rattle.vsw_frame.specs.Bytes.{pushed}
-use Rattle.vsw_frame.specs.Layout.{AreEncaps}
-use Rattle.vsw_frame.proofs.Places.{rest_of}
-use Rattle.vsw_frame.proofs.Pushes.{begins, more_written, Begins}
-use Rattle.vsw_frame.proofs.push.+write_encaps.Goals as goal
+use Rattle.vsw_change.specs.Push.{pushed, AreEncaps}
+use Rattle.vsw_change.proofs.Places.{rest_of}
+use Rattle.vsw_change.proofs.Pushes.{begins, more_written, Begins}
+use Rattle.vsw_change.proofs.push.+write_encaps.Goals as goal
 
 pub write_encaps-requires : goal.write_encaps-requires
 write_encaps-requires t c =
@@ -29,7 +28,9 @@ returns t c =
     let hs : List Header = c.args.headers.now in
     let out : List ℕ = c.args.out.now in
     let b : Begins hs c.in-Some.outer = begins hs c.in-Some.outer c.requires.whole c.in-Some.ensures in
-    more_written c.args.port hs c.in-Some.outer out c.write_encaps.new.out c.write_encap.new.out b (omega (arith, b.count)) (c.write_encaps.ensures ∙ ap (λ (l : List Header). pushed c.args.port l (drop (50 * encaps l) (take (length out - 50) (drop 50 out)))) (rest_of 3 hs)) c.write_encap.ensures
+    record {
+      written = more_written c.args.port hs c.in-Some.outer out c.write_encaps.new.out c.write_encap.new.out b (omega (arith, b.count)) (c.write_encaps.ensures.written ∙ ap (λ (l : List Header). pushed c.args.port l (drop (50 * encaps l) (take (length out - 50) (drop 50 out)))) (rest_of 3 hs)) c.write_encap.ensures;
+    }
 
 pub write_encap-requires-clause-fits : goal.write_encap-requires-clause-fits
 write_encap-requires-clause-fits t c =

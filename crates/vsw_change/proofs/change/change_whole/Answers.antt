@@ -1,8 +1,8 @@
 use Rattle.std.proofs.Common.{◌∙◌, ◌++◌, ℕ, List, ap, arith, take, drop}
 use Rattle.vsw_ipv4.specs.Change.{ip_changed}
-use Rattle.vsw_frame.specs.Bytes.{segment_changed}
-use Rattle.vsw_frame.proofs.Places.{both_written}
-use Rattle.vsw_frame.proofs.change.change_whole.Goals as goal
+use Rattle.vsw_change.specs.Change.{segment_changed}
+use Rattle.vsw_change.proofs.Places.{both_written}
+use Rattle.vsw_change.proofs.change.change_whole.Goals as goal
 
 pub returns : goal.returns
 returns c =

@@ -9,10 +9,10 @@ use Rattle.vsw_base.specs.Shape.{ipv4_kind, encaps}
 use Rattle.vsw_ipv4.specs.Ip.{pushed_ip_bytes}
 use Rattle.vsw_l4.specs.Vxlan.{udp_vxlan_bytes}
 use Rattle.vsw_link.specs.Ether.{ether_bytes}
-use Rattle.vsw_frame.specs.Bytes.{packet_pushed, encap_pushed, pushed}
-use Rattle.vsw_frame.specs.Layout.{AreEncaps, outer_of}
-use Rattle.vsw_frame.specs.declared.push.Outer.{Outer}
-use Rattle.vsw_frame.proofs.Places.{joined_at, put_rest, rest_of}
+use Rattle.vsw_change.specs.Push.{packet_pushed, encap_pushed, pushed, AreEncaps}
+use Rattle.vsw_change.specs.Headers.{outer_of}
+use Rattle.vsw_change.specs.declared.push.Outer.{Outer}
+use Rattle.vsw_change.proofs.Places.{joined_at, put_rest, rest_of}
 
 pub packet_written : (port a b v : ℕ) (old first last : List ℕ) → 36 ≤ length old → length first ≡ length old → take 20 first ≡ pushed_ip_bytes a b (length old) → drop 20 first ≡ drop 20 old → take 16 last ≡ udp_vxlan_bytes port (length old - 36) v → drop 16 last ≡ drop 16 (take (length first - 20) (drop 20 first)) → put_mid 20 (length first - 20) first last ≡ packet_pushed port a b v (drop 36 old)
 packet_written port a b v old first last h l f r g s =

@@ -1,48 +1,12 @@
 //! Frames that were rewritten by another program, and decoded by tcpdump.
 
 ghost use Rattle.std.specs.Prelude.{◌≡◌, ◌≤◌, ◌<◌, length};
-ghost use Rattle.vsw_frame.specs.Vectors.{WritesEncapsulated, WritesAnswer};
 
-use crate::tests::{ENCAP, PLAIN};
-use crate::{read_frame, rewrite};
+use crate::frames::{DELIVERED, OLD, QUERY, REPLY, ROOM, SENT, begins, outer};
 use std::process::Abort;
-use vsw_base::{Header, Ip4, Long, Mac};
+use vsw_base::{Ip4, Long, Mac};
+use vsw_frame::{read_frame, rewrite};
 use vsw_transpose::{Act, Change, Transposition};
-
-/// Bytes that `rewrite` asks for.
-const ROOM: usize = 65_700;
-
-/// What stands in them before.
-const OLD: u8 = 0xee;
-
-/// The answer to the datagram of `ENCAP`, as it comes in.
-const ANSWER: [u8; 94] = [
-    // Ethernet
-    0x02, 0x00, 0x00, 0x00, 0x0a, 0x01, 0x02, 0x00, 0x00, 0x00, 0x0a, 0x02, 0x08, 0x00,
-    // IPv4, 80 bytes
-    0x45, 0x00, 0x00, 0x50, 0x00, 0x00, 0x40, 0x00, 0x40, 0x11, 0xe2, 0x79, 0xac, 0x10, 0x00, 0x02,
-    0xac, 0x10, 0x00, 0x01,
-    // UDP, 60 bytes, and VXLAN
-    0xf5, 0x30, 0x12, 0xb5, 0x00, 0x3c, 0x00, 0x00, 0x08, 0x00, 0x00, 0x00, 0x00, 0x13, 0x89, 0x00,
-    // Ethernet
-    0x02, 0x00, 0x00, 0x00, 0x00, 0x01, 0x02, 0x00, 0x00, 0x00, 0x00, 0x99, 0x08, 0x00,
-    // IPv4, 30 bytes
-    0x45, 0x00, 0x00, 0x1e, 0x00, 0x00, 0x40, 0x00, 0x40, 0x11, 0x6e, 0xbf, 0x0a, 0x00, 0x00, 0x09,
-    0xc0, 0x00, 0x02, 0x07,
-    // UDP, 10 bytes
-    0x00, 0x35, 0x9c, 0x40, 0x00, 0x0a, 0x2e, 0xeb, 0x68, 0x69,
-];
-
-/// The answer to the datagram of `PLAIN`.
-const ANSWER_IN: [u8; 44] = [
-    // Ethernet
-    0x02, 0x00, 0x00, 0x00, 0x00, 0x01, 0x02, 0x00, 0x00, 0x00, 0x00, 0x99, 0x08, 0x00,
-    // IPv4, 30 bytes
-    0x45, 0x00, 0x00, 0x1e, 0x00, 0x00, 0x40, 0x00, 0x40, 0x11, 0x26, 0xc2, 0x0a, 0x00, 0x00, 0x09,
-    0x0a, 0x00, 0x00, 0x05,
-    // UDP, 10 bytes
-    0x00, 0x35, 0x04, 0xd2, 0x00, 0x0a, 0x7e, 0x5c, 0x68, 0x69,
-];
 
 /// "hello" over TCP from port 1234 of 10.0.0.5 to port 80 of 10.0.0.9.
 const TCP: [u8; 59] = [
@@ -69,7 +33,7 @@ const OPTIONS: [u8; 49] = [
     0x04, 0xd2, 0x00, 0x35, 0x00, 0x0b, 0x22, 0x61, 0x61, 0x62, 0x63,
 ];
 
-/// The datagram of `PLAIN` in network 5001, with a UDP checksum outside, and with bytes that no length covers
+/// The datagram of `QUERY` in network 5001, with a UDP checksum outside, and with bytes that no length covers
 /// at each level.
 const ENDS: [u8; 102] = [
     // Ethernet
@@ -90,32 +54,10 @@ const ENDS: [u8; 102] = [
     0x73, 0x6c, 0x74, 0x72, 0x53, 0x4c, 0x54, 0x52,
 ];
 
-/// The definition of outgoing bytes, evaluated on frames that were rewritten by hand.
-fn definition()
-    ensures encapsulated { WritesEncapsulated }
-    ensures answer { WritesAnswer }
-{}
-
-#[test]
-fn the_definition_writes_frames(_rt: HostRuntime) {
-    definition();
-}
-
-fn encap() -> [Act; 3] {
-    [
-        Act::Push(Header::Ether {
-            dst: Mac::of(0x0200_0000_0a02),
-            src: Mac::of(0x0200_0000_0a01),
-            kind: 0x0800,
-        }),
-        Act::Push(Header::Ip {
-            src: Ip4::of(0xac10_0001),
-            dst: Ip4::of(0xac10_0002),
-            proto: 17,
-            part: false,
-        }),
-        Act::Push(Header::Vxlan { vni: 5001 }),
-    ]
+/// The acts that push an encapsulation.
+fn encap(place: u8, vni: u32) -> [Act; 3] {
+    let [ether, ip, vxlan] = outer(place, vni);
+    [Act::Push(ether), Act::Push(ip), Act::Push(vxlan)]
 }
 
 /// The source becomes port 40000 of 192.0.2.7.
@@ -153,9 +95,7 @@ fn compare(rt: &impl Abort, bytes: &[u8], acts: &[Act], expected: &[u8], out: &m
 {
     let result = written(rt, bytes, acts, out);
     assert_eq!(rt; result, Ok(expected.len()));
-    assert!(rt; expected.len() < out.len());
-    assert_eq!(rt; &out[..expected.len()], expected);
-    assert_eq!(rt; out[expected.len()], OLD);
+    begins(rt, out, expected);
 }
 
 fn becomes(rt: &impl Abort, bytes: &[u8], acts: &[Act], expected: &[u8]) {
@@ -165,9 +105,9 @@ fn becomes(rt: &impl Abort, bytes: &[u8], acts: &[Act], expected: &[u8]) {
 
 #[test]
 fn a_translated_query_leaves_in_a_network(rt: HostRuntime) {
-    let [a, b, c] = encap();
+    let [a, b, c] = encap(0, 5001);
     let [d, e, f] = translation();
-    becomes(&rt, &PLAIN, &[a, b, c, d, e, f], &ENCAP);
+    becomes(&rt, &QUERY, &[a, b, c, d, e, f], &SENT);
 }
 
 #[test]
@@ -186,33 +126,15 @@ fn an_answer_is_translated_back(rt: HostRuntime) {
             dst: Some(1234),
         }),
     ];
-    becomes(&rt, &ANSWER, &acts, &ANSWER_IN);
+    becomes(&rt, &REPLY, &acts, &DELIVERED);
 }
 
 #[test]
 fn a_frame_in_two_networks_has_one_source_port(rt: HostRuntime) {
-    let [a, b, c] = encap();
+    let [a, b, c] = encap(0, 5001);
     let [d, e, f] = translation();
-    let acts = [
-        Act::Push(Header::Ether {
-            dst: Mac::of(0x0200_0000_0b02),
-            src: Mac::of(0x0200_0000_0b01),
-            kind: 0x0800,
-        }),
-        Act::Push(Header::Ip {
-            src: Ip4::of(0xac11_0001),
-            dst: Ip4::of(0xac11_0002),
-            proto: 17,
-            part: false,
-        }),
-        Act::Push(Header::Vxlan { vni: 7 }),
-        a,
-        b,
-        c,
-        d,
-        e,
-        f,
-    ];
+    let [g, h, i] = encap(1, 7);
+    let acts = [g, h, i, a, b, c, d, e, f];
     let mut expected = [0; 144];
     expected[..50].copy_from_slice(&[
         0x02, 0x00, 0x00, 0x00, 0x0b, 0x02, 0x02, 0x00, 0x00, 0x00, 0x0b, 0x01, 0x08, 0x00, 0x45,
@@ -220,8 +142,8 @@ fn a_frame_in_two_networks_has_one_source_port(rt: HostRuntime) {
         0xac, 0x11, 0x00, 0x02, 0xf5, 0x30, 0x12, 0xb5, 0x00, 0x6e, 0x00, 0x00, 0x08, 0x00, 0x00,
         0x00, 0x00, 0x00, 0x07, 0x00,
     ]);
-    expected[50..].copy_from_slice(&ENCAP);
-    becomes(&rt, &PLAIN, &acts, &expected);
+    expected[50..].copy_from_slice(&SENT);
+    becomes(&rt, &QUERY, &acts, &expected);
 }
 
 #[test]
@@ -242,9 +164,9 @@ fn an_odd_payload_behind_options_keeps_a_right_checksum(rt: HostRuntime) {
     becomes(&rt, &OPTIONS, &translation(), &expected);
 }
 
-/// `PLAIN` with this UDP checksum and this payload.
+/// `QUERY` with this UDP checksum and this payload.
 fn datagram(checksum: [u8; 2], payload: [u8; 2]) -> [u8; 44] {
-    let mut bytes = PLAIN;
+    let mut bytes = QUERY;
     bytes[40..42].copy_from_slice(&checksum);
     bytes[42..].copy_from_slice(&payload);
     bytes
@@ -274,7 +196,7 @@ fn udp_checksums_of_zero(rt: HostRuntime) {
 #[test]
 fn the_payload_of_a_fragment_stays(rt: HostRuntime) {
     // more fragments follow
-    let mut bytes = PLAIN;
+    let mut bytes = QUERY;
     bytes[20] = 0x20;
     bytes[24] = 0x46;
     let mut expected = bytes;
@@ -283,7 +205,7 @@ fn the_payload_of_a_fragment_stays(rt: HostRuntime) {
     becomes(&rt, &bytes, &[a, b], &expected);
 }
 
-/// The acts for `ENDS` that leave its encapsulation as it is.
+/// The acts that leave an encapsulation as it is.
 fn kept(inner: [Act; 3]) -> [Act; 6] {
     let [a, b, c] = inner;
     [Act::Ignore, Act::Ignore, Act::Ignore, a, b, c]
@@ -341,6 +263,112 @@ fn a_dropped_encapsulation_goes_with_what_surrounds_its_frame(rt: HostRuntime) {
     becomes(&rt, &ENDS, &acts, &ENDS[50..98]);
 }
 
+/// The segment of `TCP` in network 5001, with IPv4 options, and in network 7 around it, with UDP checksums in
+/// both, and with bytes that no length covers.
+const TWICE: [u8; 167] = [
+    // Ethernet
+    0x02, 0x00, 0x00, 0x00, 0x0b, 0x02, 0x02, 0x00, 0x00, 0x00, 0x0b, 0x01, 0x08, 0x00,
+    // IPv4, 151 bytes
+    0x45, 0x28, 0x00, 0x97, 0x43, 0x21, 0x40, 0x00, 0x40, 0x11, 0x9e, 0xe7, 0xac, 0x11, 0x00, 0x01,
+    0xac, 0x11, 0x00, 0x02,
+    // UDP, 131 bytes, and VXLAN
+    0xe0, 0x01, 0x12, 0xb5, 0x00, 0x83, 0x71, 0x15, 0x08, 0x00, 0x00, 0x00, 0x00, 0x00, 0x07, 0x00,
+    // Ethernet
+    0x02, 0x00, 0x00, 0x00, 0x0a, 0x02, 0x02, 0x00, 0x00, 0x00, 0x0a, 0x01, 0x08, 0x00,
+    // IPv4 with options, 101 bytes
+    0x46, 0x00, 0x00, 0x65, 0x12, 0x34, 0x40, 0x00, 0x09, 0x11, 0x04, 0x2f, 0xac, 0x10, 0x00, 0x01,
+    0xac, 0x10, 0x00, 0x02, 0x01, 0x01, 0x01, 0x01,
+    // UDP, 75 bytes, and VXLAN
+    0xe0, 0x00, 0x12, 0xb5, 0x00, 0x4b, 0x2a, 0xfe, 0x08, 0x00, 0x00, 0x00, 0x00, 0x13, 0x89, 0x00,
+    // Ethernet
+    0x02, 0x00, 0x00, 0x00, 0x00, 0x99, 0x02, 0x00, 0x00, 0x00, 0x00, 0x01, 0x08, 0x00,
+    // IPv4, 45 bytes
+    0x45, 0x00, 0x00, 0x2d, 0x00, 0x00, 0x40, 0x00, 0x40, 0x06, 0x26, 0xbe, 0x0a, 0x00, 0x00, 0x05,
+    0x0a, 0x00, 0x00, 0x09,
+    // TCP
+    0x04, 0xd2, 0x00, 0x50, 0x00, 0x00, 0x00, 0x01, 0x00, 0x00, 0x00, 0x01, 0x50, 0x18, 0xff, 0xff,
+    0x52, 0xc4, 0x00, 0x00,
+    // "hello"
+    0x68, 0x65, 0x6c, 0x6c, 0x6f,
+    // slack of the second frame, trailer of the first
+    0x73, 0x6c, 0x74, 0x72,
+];
+
+/// The segment of `TCP`, translated, in network 8, and in network 9 around it.
+const MOVED: [u8; 159] = [
+    // Ethernet
+    0x02, 0x00, 0x00, 0x00, 0x0d, 0x02, 0x02, 0x00, 0x00, 0x00, 0x0d, 0x01, 0x08, 0x00,
+    // IPv4, 145 bytes
+    0x45, 0x00, 0x00, 0x91, 0x00, 0x00, 0x40, 0x00, 0x40, 0x11, 0xe2, 0x32, 0xac, 0x13, 0x00, 0x01,
+    0xac, 0x13, 0x00, 0x02,
+    // UDP, 125 bytes, and VXLAN
+    0xf5, 0x40, 0x12, 0xb5, 0x00, 0x7d, 0x00, 0x00, 0x08, 0x00, 0x00, 0x00, 0x00, 0x00, 0x09, 0x00,
+    // Ethernet
+    0x02, 0x00, 0x00, 0x00, 0x0c, 0x02, 0x02, 0x00, 0x00, 0x00, 0x0c, 0x01, 0x08, 0x00,
+    // IPv4, 95 bytes
+    0x45, 0x00, 0x00, 0x5f, 0x00, 0x00, 0x40, 0x00, 0x40, 0x11, 0xe2, 0x66, 0xac, 0x12, 0x00, 0x01,
+    0xac, 0x12, 0x00, 0x02,
+    // UDP, 75 bytes, and VXLAN
+    0xf5, 0x40, 0x12, 0xb5, 0x00, 0x4b, 0x00, 0x00, 0x08, 0x00, 0x00, 0x00, 0x00, 0x00, 0x08, 0x00,
+    // Ethernet
+    0x02, 0x00, 0x00, 0x00, 0x00, 0x99, 0x02, 0x00, 0x00, 0x00, 0x00, 0x01, 0x08, 0x00,
+    // IPv4, 45 bytes
+    0x45, 0x00, 0x00, 0x2d, 0x00, 0x00, 0x40, 0x00, 0x40, 0x06, 0x6e, 0xbb, 0xc0, 0x00, 0x02, 0x07,
+    0x0a, 0x00, 0x00, 0x09,
+    // TCP
+    0x9c, 0x40, 0x00, 0x50, 0x00, 0x00, 0x00, 0x01, 0x00, 0x00, 0x00, 0x01, 0x50, 0x18, 0xff, 0xff,
+    0x03, 0x53, 0x00, 0x00,
+    // "hello"
+    0x68, 0x65, 0x6c, 0x6c, 0x6f,
+];
+
+#[test]
+fn two_kept_encapsulations_lose_their_checksums(rt: HostRuntime) {
+    let mut expected = TWICE;
+    // UDP of the encapsulations
+    expected[40..42].copy_from_slice(&[0, 0]);
+    expected[94..96].copy_from_slice(&[0, 0]);
+    // IPv4, and TCP
+    expected[128..134].copy_from_slice(&[0x6e, 0xbb, 0xc0, 0x00, 0x02, 0x07]);
+    expected[138..140].copy_from_slice(&[0x9c, 0x40]);
+    expected[154..156].copy_from_slice(&[0x03, 0x53]);
+    let [a, b, c, d, e, f] = kept(translation());
+    let acts = [Act::Ignore, Act::Ignore, Act::Ignore, a, b, c, d, e, f];
+    becomes(&rt, &TWICE, &acts, &expected);
+}
+
+#[test]
+fn a_dropped_encapsulation_leaves_the_kept_one_as_it_was(rt: HostRuntime) {
+    let [a, b, c, d, e, f] = kept([Act::Ignore, Act::Ignore, Act::Ignore]);
+    let acts = [Act::Pop, Act::Pop, Act::Pop, a, b, c, d, e, f];
+    becomes(&rt, &TWICE, &acts, &TWICE[50..165]);
+}
+
+#[test]
+fn two_encapsulations_take_the_place_of_two(rt: HostRuntime) {
+    let [a, b, c] = encap(3, 9);
+    let [d, e, f] = encap(2, 8);
+    let [g, h, i] = translation();
+    let acts = [
+        Act::Pop,
+        Act::Pop,
+        Act::Pop,
+        Act::Pop,
+        Act::Pop,
+        Act::Pop,
+        a,
+        b,
+        c,
+        d,
+        e,
+        f,
+        g,
+        h,
+        i,
+    ];
+    becomes(&rt, &TWICE, &acts, &MOVED);
+}
+
 /// Writes a frame of this IPv4 length, of a protocol without ports, behind one encapsulation.
 fn encapsulated(
     rt: &impl Abort,
@@ -351,10 +379,10 @@ fn encapsulated(
     requires frame { 34 ≤ length bytes.old }
     requires room { 65700 ≤ length out.old }
 {
-    bytes[..34].copy_from_slice(&PLAIN[..34]);
+    bytes[..34].copy_from_slice(&QUERY[..34]);
     bytes[16..18].copy_from_slice(&total.to_be_bytes());
     bytes[23] = 47;
-    let [a, b, c] = encap();
+    let [a, b, c] = encap(0, 5001);
     written(rt, bytes, &[a, b, c, Act::Ignore, Act::Ignore], out)
 }
 

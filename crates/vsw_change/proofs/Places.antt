@@ -1,5 +1,5 @@
 -- Slices that are written in part.
-use Rattle.std.proofs.Common.{◌≡◌, ℕ, ◌-◌, ◌≤◌, List, [], ◌++◌, refl, sym, ◌∙◌, ap, arith, length, take, drop, take_all, length-drop, length-take, length-append}
+use Rattle.std.proofs.Common.{◌≡◌, ℕ, ◌-◌, ◌≤◌, List, [], ◌++◌, sym, ◌∙◌, ap, arith, length, take, drop, take_all, length-drop, length-take, length-append}
 use Rattle.std.proofs.Math.Seq.{take-append_seam, drop-append_seam}
 use Rattle.std.proofs.lemmas.List.{take-append-drop, append-nil, drop_all}
 use borrow.Rule.Slice.PartMut.{put_mid}

@@ -5,7 +5,7 @@ use Rattle.vsw_base.specs.declared.header.Header.{Header}
 use Rattle.vsw_base.specs.declared.header.Header.TheVariants.{Ether, Ip, Vxlan, Ports}
 use Rattle.vsw_base.specs.declared.fault.Long.{Long}
 use Rattle.vsw_base.specs.Frame.{Level, Parts, size_at}
-use Rattle.vsw_base.specs.Shape.{is_stack, is_plain, encaps, inner}
+use Rattle.vsw_base.specs.Shape.{is_stack, encaps, inner}
 use Rattle.vsw_base.proofs.Stacks.{plain_encaps, stack_cases, encapped}
 use Rattle.vsw_frame.specs.declared.frame.Levels.{Levels}
 use Rattle.vsw_frame.specs.Bytes.{AreLike, answer, levels_changed, outer_total, outgoing, source_port, total_over}

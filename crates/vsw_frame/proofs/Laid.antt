@@ -1,11 +1,10 @@
 -- Where the headers of a frame that was read stand.
 use Rattle.std.proofs.Common.{◌≡◌, ℕ, ◌+◌, ◌-◌, ◌*◌, ◌≤◌, List, [], ◌∷◌, ◌++◌, take, drop, length, Some, Ok, refl, sym, ◌∙◌, ap, subst, arith, length-drop, length-take, length-append}
-use Rattle.std.proofs.lemmas.Grind.{common_steps}
 use Rattle.std.proofs.lemmas.List.{drop-drop}
 use Rattle.std.proofs.Math.Seq.{take-append_seam, drop-append_seam}
 use Rattle.vsw_base.specs.declared.header.Header.{Header}
 use Rattle.vsw_base.specs.declared.header.Header.TheVariants.{Vxlan}
-use Rattle.vsw_base.specs.Ethernet.{EtherFields, ether_of}
+use Rattle.vsw_base.specs.Ethernet.{EtherFields}
 use Rattle.vsw_base.specs.Ipv4.{IpFields, ip_of, ip_header, ip_total}
 use Rattle.vsw_base.specs.Udp.{UdpFields, udp_of, udp_length}
 use Rattle.vsw_base.specs.Shape.{encaps, inner}

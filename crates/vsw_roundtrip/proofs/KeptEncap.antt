@@ -1,6 +1,5 @@
 -- A kept encapsulation is read around another inner frame.
 use Rattle.std.proofs.Common.{◌≡◌, ℕ, zero, suc, ◌+◌, ◌-◌, ◌≤◌, ◌==◌, List, [], ◌∷◌, ◌++◌, Bool, true, false, cond, take, drop, Option, Some, None, option_map, Ok, refl, sym, ◌∙◌, ap, subst, arith, length, length-drop, length-take, length-append, append_assoc}
-use Rattle.std.proofs.lemmas.Grind.{common_steps}
 use Rattle.std.proofs.lemmas.List.{drop-drop, drop-take, take-take}
 use Rattle.std.proofs.Math.Seq.{drop-append_seam, take-append_seam}
 use Rattle.vsw_base.specs.Ethernet.{EtherFields}

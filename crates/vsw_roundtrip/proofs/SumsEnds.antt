@@ -9,7 +9,7 @@ use Rattle.vsw_base.specs.declared.fault.BadFrame.TheVariants.{ShortTcp, TcpOffs
 use Rattle.vsw_base.specs.Ethernet.{EtherFields}
 use Rattle.vsw_base.specs.Ipv4.{IpFields, ip_header, ip_of, ip_total}
 use Rattle.vsw_base.specs.Tcp.{TcpFields, control_of, tcp_header, tcp_of}
-use Rattle.vsw_base.specs.Udp.{UdpFields, udp_of}
+use Rattle.vsw_base.specs.Udp.{UdpFields}
 use Rattle.vsw_base.specs.Frame as frame
 use Rattle.vsw_sum.specs.Sum.{AreBytes, checksum}
 use Rattle.vsw_sum.specs.Update.{written}

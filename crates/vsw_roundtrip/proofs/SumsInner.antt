@@ -1,6 +1,6 @@
 -- The checksums of an inner frame whose addresses and ports change.
-use Rattle.std.proofs.Common.{◌≡◌, ℕ, zero, suc, ◌+◌, ◌^◌, ◌≤◌, ◌<◌, List, [], ◌∷◌, ◌++◌, take, drop, Ok, refl, sym, ◌∙◌, ap, subst, arith, length, length-take, ◌⊎◌}
-use Rattle.std.proofs.lemmas.List.{get_or-drop, take-append-drop}
+use Rattle.std.proofs.Common.{◌≡◌, ℕ, zero, suc, ◌^◌, ◌≤◌, ◌<◌, List, [], ◌∷◌, ◌++◌, take, drop, Ok, refl, sym, ◌∙◌, ap, subst, arith, length, length-take, ◌⊎◌}
+use Rattle.std.proofs.lemmas.List.{take-append-drop}
 use Rattle.std.proofs.Math.Seq.{take-append_seam}
 use Rattle.vsw_base.specs.Ipv4.{IpFields, ip_header, ip_of}
 use Rattle.vsw_sum.specs.Sum.{AreBytes, checksum, words_of}
@@ -11,7 +11,6 @@ use Rattle.vsw_ipv4.proofs.Right.{ip_stays_right, ip_stays_wrong}
 use Rattle.vsw_frame.proofs.Alike.{ip_bounds}
 use Rattle.vsw_roundtrip.proofs.Rewritten.{changed_before, ip_changed-length, ip_version}
 use Rattle.vsw_roundtrip.proofs.RewrittenPacket.{packet_with}
-use Rattle.vsw_sum.proofs.Bytes.{bytes_dropped, bytes_taken}
 
 -- a checksum is of the header alone
 abbrev bare : List ℕ → List ℕ

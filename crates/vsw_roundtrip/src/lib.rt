@@ -1,4 +1,4 @@
-//! Laws above the bytes that are written for a frame.
+//! Laws above the bytes that are written for a frame, and tests of frames.
 #![tactic(auto)]
 
 #[cfg(test)]

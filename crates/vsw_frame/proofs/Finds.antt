@@ -17,8 +17,8 @@ ports_few (frame.Rest p) = omega arith
 ports_few (frame.OverTcp t) = omega arith
 ports_few (frame.OverUdp u) = omega arith
 
-pub plain_finds : (depth : ℕ) (bytes : List ℕ) (f : Found) (front : List Header) (end : End) → length front ≤ 2 → is_plain (front ++ ports end) ≡ true → f.headers ≡ front ++ ports end → f.first.bytes.now ≡ bytes → f.second ≡ None → f.third ≡ None → Finds depth bytes f
-plain_finds depth bytes f front end few shape headers whole second third = record {
+pub plain_finds : (depth : ℕ) (bytes : List ℕ) (hs : List Header) (f : Found) (front : List Header) (end : End) → length front ≤ 2 → is_plain (front ++ ports end) ≡ true → hs ≡ front ++ ports end → f.first.bytes.now ≡ bytes → f.second ≡ None → f.third ≡ None → Finds depth bytes hs f
+plain_finds depth bytes hs f front end few shape headers whole second third = record {
   shape = ap (is_within depth) headers ∙ plain_within depth (front ++ ports end) shape;
   room = omega (arith, ap length headers, length-append front (ports end), ports_few end);
   whole = whole;
@@ -42,10 +42,10 @@ udp_front depth front (frame.OverUdp u) v inner hs d w t s h = encap_within dept
 differ : (o : Option Level) (l : Level) → o ≡ Some l → o ≡ None → ⊥
 differ o l h n = cc
 
-pub encap_finds : (depth : ℕ) (bytes inner : List ℕ) (f g : Found) (front : List Header) (end : End) (v : ℕ) → 0 < depth → depth ≤ 2 → length front ≤ 2 → is_plain (front ++ ports end) ≡ true → within end ≡ Some (v, inner) → v < 2 ^ 24 → length inner ≤ length bytes → Finds (depth - 1) inner g → f.headers ≡ front ++ Vxlan v ∷ g.headers → f.first.bytes.now ≡ bytes → f.second ≡ Some g.first → f.third ≡ g.second → Finds depth bytes f
-encap_finds depth bytes inner f g front end v some few two shape w small short finds headers whole second third = record {
-  shape = ap (is_within depth) headers ∙ udp_front depth front end v inner g.headers some w shape small finds.shape;
-  room = omega (arith, ap length headers, length-append front (Vxlan v ∷ g.headers), finds.room);
+pub encap_finds : (depth : ℕ) (bytes inner : List ℕ) (hs gs : List Header) (f g : Found) (front : List Header) (end : End) (v : ℕ) → 0 < depth → depth ≤ 2 → length front ≤ 2 → is_plain (front ++ ports end) ≡ true → within end ≡ Some (v, inner) → v < 2 ^ 24 → length inner ≤ length bytes → Finds (depth - 1) inner gs g → hs ≡ front ++ Vxlan v ∷ gs → f.first.bytes.now ≡ bytes → f.second ≡ Some g.first → f.third ≡ g.second → Finds depth bytes hs f
+encap_finds depth bytes inner hs gs f g front end v some few two shape w small short finds headers whole second third = record {
+  shape = ap (is_within depth) headers ∙ udp_front depth front end v inner gs some w shape small finds.shape;
+  room = omega (arith, ap length headers, length-append front (Vxlan v ∷ gs), finds.room);
   whole = whole;
   second = λ h. absurd (omega (arith, some, h));
   third = λ h. third ∙ finds.second (omega (arith, h));

@@ -1,6 +1,7 @@
 pub mod Shorter
 pub mod Within
 pub mod Finds
+pub mod Added
 pub mod Tiles
 pub mod Alike
 pub mod Ends

@@ -23,20 +23,29 @@ abbrev pub end_seen : Result End BadFrame → Result frame.End BadFrame
 end_seen (Ok end) = Ok (end_fields end)
 end_seen (Err e) = Err e
 
-abbrev pub opened_fields : Opened → frame.Opened
-opened_fields o = record { front = o.front; trailer = o.trailer.now; end = end_fields o.end }
+-- the headers that were pushed
+abbrev pub added : List Header → List Header → List Header
+added old new = drop (length old) new
 
-abbrev pub opened_seen : Result Opened BadFrame → Result frame.Opened BadFrame
-opened_seen (Ok o) = Ok (opened_fields o)
-opened_seen (Err e) = Err e
+-- headers were pushed, and none was changed
+abbrev pub Adds : List Header → List Header → Type 0
+Adds old new = new ≡ old ++ added old new
 
--- what was found in a frame
-abbrev pub found_parts : Found → frame.Parts
-found_parts f = record { stack = f.headers; control = f.control; levels = level_fields f.first ∷ (more_levels f.second ++ more_levels f.third); payload = f.payload.now }
+-- one frame that was opened, with the headers that were pushed
+abbrev pub opened_fields : List Header → Opened → frame.Opened
+opened_fields front o = record { front = front; trailer = o.trailer.now; end = end_fields o.end }
 
-abbrev pub found_seen : Result Found BadFrame → Result frame.Parts BadFrame
-found_seen (Ok f) = Ok (found_parts f)
-found_seen (Err e) = Err e
+abbrev pub opened_seen : List Header → Result Opened BadFrame → Result frame.Opened BadFrame
+opened_seen front (Ok o) = Ok (opened_fields front o)
+opened_seen front (Err e) = Err e
+
+-- what was found in a frame, with the headers that were pushed
+abbrev pub found_parts : List Header → Found → frame.Parts
+found_parts hs f = record { stack = hs; control = f.control; levels = level_fields f.first ∷ (more_levels f.second ++ more_levels f.third); payload = f.payload.now }
+
+abbrev pub found_seen : List Header → Result Found BadFrame → Result frame.Parts BadFrame
+found_seen hs (Ok f) = Ok (found_parts hs f)
+found_seen hs (Err e) = Err e
 
 -- an encapsulation that was found
 abbrev pub inner_seen : Option Inner → Option (ℕ × List ℕ)
@@ -53,10 +62,10 @@ abbrev pub IsShort : ℕ → Option Level → Type 0
 IsShort n None = Unit {0}
 IsShort n (Some l) = length l.bytes.now ≤ n
 
--- what is known of a frame in whose bytes so many encapsulations were looked for
-pub record Finds (depth : ℕ) (bytes : List ℕ) (f : Found) : Type 0 where
-  pub shape : is_within depth f.headers ≡ true
-  pub room : length f.headers ≤ 3 * depth + 3
+-- what is known of a frame in whose bytes so many encapsulations were looked for, and of its headers
+pub record Finds (depth : ℕ) (bytes : List ℕ) (hs : List Header) (f : Found) : Type 0 where
+  pub shape : is_within depth hs ≡ true
+  pub room : length hs ≤ 3 * depth + 3
   pub whole : f.first.bytes.now ≡ bytes
   pub second : depth < 1 → f.second ≡ None
   pub third : depth < 2 → f.third ≡ None

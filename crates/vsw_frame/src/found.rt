@@ -1,20 +1,19 @@
-//! What is found in a frame, from the inside outwards.
+//! What is found in a frame: its headers from the outside inwards, and its levels from the inside outwards.
 
-ghost use Rattle.std.specs.Prelude.{◌≡◌, ◌≤◌, ◌<◌, ◌^◌, ◌+◌, ◌*◌, ◌++◌, ◌∷◌, [], None, IfOk, IsTrue, length};
-ghost use Rattle.vsw_base.specs.Shape.{is_plain, is_encap};
+ghost use Rattle.std.specs.Prelude.{◌≡◌, ◌≤◌, ◌<◌, ◌^◌, ◌+◌, ◌*◌, ◌++◌, ◌∷◌, [], ℕ, List, None, IfOk, IsTrue, OnOk, length};
+ghost use Rattle.vsw_base.specs.declared.header.Header.{Header};
 ghost use Rattle.vsw_base.specs.declared.header.Header.TheVariants.{Vxlan};
 ghost use Rattle.vsw_base.specs.Frame.{frame_in, plain_parts, encap_parts, ports, control_in, payload_in, slack_in};
 ghost use Rattle.vsw_frame.specs.Levels.{level_fields};
-ghost use Rattle.vsw_frame.specs.Seen.{end_fields, opened_fields, found_parts, found_seen, Finds};
+ghost use Rattle.vsw_frame.specs.Seen.{added, Adds, end_fields, opened_fields, found_parts, found_seen, Finds};
 
 use crate::frame::Level;
-use crate::opened::{End, Inner, Opened, look_within, read_headers};
+use crate::opened::{End, Opened, look_within, read_headers};
 use vsw_base::{BadFrame, Control, Header, Headers};
 
-/// What a frame says, before its shape is known.
-#[derive(Drop)]
+/// What a frame says but for its headers.
+#[derive(Clone, Copy)]
 pub struct Found<'a> {
-    pub headers: Headers,
     pub control: Control,
     /// The levels, outermost first.
     pub first: Level<'a>,
@@ -24,11 +23,10 @@ pub struct Found<'a> {
     pub payload: &'a [u8],
 }
 
-fn with_ports(front: &Headers, end: &End<'_>) -> Headers
-    requires { length front.now ≤ 2 }
-    ensures { result ≡ front.now ++ ports (end_fields end.now) }
+fn push_ports(headers: &mut Headers, end: &End<'_>)
+    requires room { length headers.old ≤ 8 }
+    ensures { headers.new ≡ headers.old ++ ports (end_fields end.now) }
 {
-    let mut headers = *front;
     match end {
         End::Rest(_) => {}
         End::OverTcp(tcp) => headers.push(Header::Ports {
@@ -42,7 +40,6 @@ fn with_ports(front: &Headers, end: &End<'_>) -> Headers
             dst: udp.dst,
         }),
     }
-    headers
 }
 
 fn control(end: &End<'_>) -> Control
@@ -75,13 +72,11 @@ fn slack<'a>(end: &End<'a>) -> &'a [u8]
 
 /// A frame in which no encapsulation is looked for, or found.
 fn plain<'a>(bytes: &'a [u8], opened: &Opened<'a>) -> Found<'a>
-    requires { length opened.now.front ≤ 2 }
-    ensures parts { found_parts result ≡ plain_parts bytes.now (opened_fields opened.now) }
+    ensures parts { (front : List Header) → found_parts (front ++ ports (end_fields opened.now.end)) result ≡ plain_parts bytes.now (opened_fields front opened.now) }
     ensures first { result.first.bytes.now ≡ bytes.now }
     ensures single { (result.second ≡ None) × (result.third ≡ None) }
 {
     Found {
-        headers: with_ports(&opened.front, &opened.end),
         control: control(&opened.end),
         first: Level {
             bytes,
@@ -94,32 +89,15 @@ fn plain<'a>(bytes: &'a [u8], opened: &Opened<'a>) -> Found<'a>
     }
 }
 
-/// The headers of an encapsulation in front of those of its inner frame.
-fn joined(front: &Headers, vni: u32, inner: &Headers) -> Headers
-    requires few { length front.now ≤ 2 }
-    requires room { length inner.now ≤ 6 }
-    ensures { result ≡ front.now ++ Vxlan vni ∷ inner.now }
-{
-    let mut headers = *front;
-    headers.push(Header::Vxlan { vni });
-    for header in inner.as_slice() {
-        headers.push(*header);
-    }
-    headers
-}
-
-/// An encapsulation in front of what was found in its inner frame.
-fn encapsulated<'a>(bytes: &'a [u8], opened: &Opened<'a>, vni: u32, inner: &Found<'a>) -> Found<'a>
-    requires few { length opened.now.front ≤ 2 }
-    requires room { length inner.now.headers ≤ 6 }
+/// An encapsulation around what was found in its inner frame.
+fn encapsulated<'a>(bytes: &'a [u8], opened: &Opened<'a>, inner: &Found<'a>) -> Found<'a>
     requires levels { inner.now.third ≡ None }
-    ensures parts { found_parts result ≡ encap_parts bytes.now (opened_fields opened.now) vni (found_parts inner.now) }
+    ensures parts { (front hs : List Header) (vni : ℕ) → found_parts (front ++ Vxlan vni ∷ hs) result ≡ encap_parts bytes.now (opened_fields front opened.now) vni (found_parts hs inner.now) }
     ensures first { result.first.bytes.now ≡ bytes.now }
     ensures second { result.second ≡ Some inner.now.first }
     ensures third { result.third ≡ inner.now.second }
 {
     Found {
-        headers: joined(&opened.front, vni, &inner.headers),
         control: inner.control,
         first: Level {
             bytes,
@@ -132,24 +110,28 @@ fn encapsulated<'a>(bytes: &'a [u8], opened: &Opened<'a>, vni: u32, inner: &Foun
     }
 }
 
-/// What a frame says in which so many encapsulations are looked for.
-pub fn find<'a>(depth: u8, bytes: &'a [u8]) -> Result<Found<'a>, BadFrame>
-    requires { depth ≤ 2 }
-    ensures parts { found_seen result ≡ frame_in depth bytes.now }
-    ensures finds { IfOk result (Finds depth bytes.now) }
+/// What a frame says in which so many encapsulations are looked for. Its headers are pushed, outermost first.
+pub fn find<'a>(depth: u8, bytes: &'a [u8], headers: &mut Headers) -> Result<Found<'a>, BadFrame>
+    requires { length headers.old + 3 * depth ≤ 6 }
+    ensures parts { found_seen (added headers.old headers.new) result ≡ frame_in depth bytes.now }
+    ensures kept { OnOk result (Adds headers.old headers.new) }
+    ensures finds { IfOk result (Finds depth bytes.now (added headers.old headers.new)) }
 {
-    let opened = match read_headers(bytes) {
+    let opened = match read_headers(bytes, headers) {
         Ok(opened) => opened,
         Err(fault) => return Err(fault),
     };
     if depth == 0 {
+        push_ports(headers, &opened.end);
         return Ok(plain(bytes, &opened));
     }
     let Some(inner) = look_within(&opened.end) else {
+        push_ports(headers, &opened.end);
         return Ok(plain(bytes, &opened));
     };
-    match find(depth - 1, inner.frame) {
-        Ok(found) => Ok(encapsulated(bytes, &opened, inner.vni, &found)),
+    headers.push(Header::Vxlan { vni: inner.vni });
+    match find(depth - 1, inner.frame, headers) {
+        Ok(found) => Ok(encapsulated(bytes, &opened, &found)),
         Err(fault) => Err(fault),
     }
 }

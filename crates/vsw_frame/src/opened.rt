@@ -1,10 +1,10 @@
 //! The headers of one frame, as far as its ports.
 
-ghost use Rattle.std.specs.Prelude.{◌≡◌, ◌≤◌, ◌<◌, ◌^◌, ◌++◌, ◌∷◌, [], IfOk, IfSome, IsTrue, length, option_map};
+ghost use Rattle.std.specs.Prelude.{◌≡◌, ◌≤◌, ◌<◌, ◌^◌, ◌+◌, ◌++◌, ◌∷◌, [], IfOk, IfSome, IsTrue, OnOk, length, option_map};
 ghost use Rattle.vsw_base.specs.Shape.{is_plain, is_packet};
 ghost use Rattle.vsw_base.specs.declared.header.Header.TheVariants.{Ip};
 ghost use Rattle.vsw_base.specs.Frame.{opened_of, end_of, within, ports, control_in, payload_in, slack_in, ether_header};
-ghost use Rattle.vsw_frame.specs.Seen.{end_seen, end_fields, opened_seen, inner_seen};
+ghost use Rattle.vsw_frame.specs.Seen.{added, Adds, end_seen, end_fields, opened_seen, inner_seen};
 ghost use Rattle.vsw_ipv4.specs.Ip.{ip_view};
 
 use vsw_base::{BadFrame, Control, Header, Headers};
@@ -35,10 +35,8 @@ pub enum End<'a> {
 }
 
 /// One frame, opened as far as its ports.
-#[derive(Drop)]
+#[derive(Clone, Copy)]
 pub struct Opened<'a> {
-    /// Ethernet, and IPv4 where the type says so.
-    pub front: Headers,
     /// After the IPv4 total length.
     pub trailer: &'a [u8],
     pub end: End<'a>,
@@ -91,28 +89,30 @@ fn read_end<'a>(ip: &IpPart<'a>) -> Result<End<'a>, BadFrame>
     }
 }
 
-fn one(header: Header) -> Headers
-    ensures { result ≡ header ∷ [] }
+fn push_one(headers: &mut Headers, header: Header)
+    requires room { length headers.old ≤ 8 }
+    ensures kept { Adds headers.old headers.new }
+    ensures added { added headers.old headers.new ≡ header ∷ [] }
 {
-    let mut headers = Headers::new();
     headers.push(header);
-    headers
 }
 
-fn two(first: Header, second: Header) -> Headers
-    ensures { result ≡ first ∷ second ∷ [] }
+fn push_two(headers: &mut Headers, first: Header, second: Header)
+    requires room { length headers.old ≤ 7 }
+    ensures kept { Adds headers.old headers.new }
+    ensures added { added headers.old headers.new ≡ first ∷ second ∷ [] }
 {
-    let mut headers = Headers::new();
     headers.push(first);
     headers.push(second);
-    headers
 }
 
-/// Opens a frame.
-pub fn read_headers<'a>(bytes: &'a [u8]) -> Result<Opened<'a>, BadFrame>
-    ensures fields { opened_seen result ≡ opened_of bytes.now }
-    ensures shape { IfOk result (λ o. IsTrue (is_plain (o.front ++ ports (end_fields o.end)))) }
-    ensures room { IfOk result (λ o. length o.front ≤ 2) }
+/// Opens a frame, and pushes its Ethernet header, and IPv4 where the type says so.
+pub fn read_headers<'a>(bytes: &'a [u8], headers: &mut Headers) -> Result<Opened<'a>, BadFrame>
+    requires room { length headers.old ≤ 7 }
+    ensures fields { opened_seen (added headers.old headers.new) result ≡ opened_of bytes.now }
+    ensures kept { OnOk result (Adds headers.old headers.new) }
+    ensures shape { IfOk result (λ o. IsTrue (is_plain (added headers.old headers.new ++ ports (end_fields o.end)))) }
+    ensures few { OnOk result (length (added headers.old headers.new) ≤ 2) }
     ensures short { IfOk result (λ o. length (payload_in (end_fields o.end)) ≤ length bytes.now) }
 {
     let ether = match read_ether(bytes) {
@@ -125,8 +125,8 @@ pub fn read_headers<'a>(bytes: &'a [u8]) -> Result<Opened<'a>, BadFrame>
         kind: ether.kind,
     };
     if ether.kind != IPV4 {
+        push_one(headers, first);
         return Ok(Opened {
-            front: one(first),
             trailer: &[],
             end: End::Rest(ether.rest),
         });
@@ -145,8 +145,8 @@ pub fn read_headers<'a>(bytes: &'a [u8]) -> Result<Opened<'a>, BadFrame>
         proto: ip.proto,
         part: ip.part,
     };
+    push_two(headers, first, second);
     Ok(Opened {
-        front: two(first, second),
         trailer: ip.trailer,
         end,
     })

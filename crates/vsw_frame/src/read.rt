@@ -8,7 +8,7 @@ ghost use Rattle.vsw_frame.specs.Tiles.{Tiles};
 
 use crate::found::{Found, find};
 use crate::frame::{Frame, Level};
-use vsw_base::{BadFrame, Sizes, Stack};
+use vsw_base::{BadFrame, Headers, Sizes, Stack};
 
 /// Bytes of the longest frame that is read.
 const FRAME_MAX: usize = 65_600;
@@ -27,14 +27,14 @@ fn size(level: &Option<Level<'_>>) -> u32
 }
 
 #[tactic(auto, using(crate::proofs::Finds::sizes_are, crate::proofs::Within::within_stack, crate::proofs::Finds::shorter))]
-fn framed<'a>(bytes: &'a [u8], found: &Found<'a>) -> Frame<'a>
-    requires finds { Finds 2 bytes.now found.now }
-    requires read { frame_of bytes.now ≡ Ok (found_parts found.now) }
-    ensures same { parts result ≡ found_parts found.now }
+fn framed<'a>(bytes: &'a [u8], headers: &Headers, found: &Found<'a>) -> Frame<'a>
+    requires finds { Finds 2 bytes.now headers.now found.now }
+    requires read { frame_of bytes.now ≡ Ok (found_parts headers.now found.now) }
+    ensures same { parts result ≡ found_parts headers.now found.now }
     ensures of { IsOf bytes.now result }
 {
     Frame {
-        stack: Stack::new(found.headers),
+        stack: Stack::new(*headers),
         control: found.control,
         sizes: Sizes {
             whole: found.first.bytes.len() as u32,
@@ -61,8 +61,9 @@ pub fn read_frame<'a>(bytes: &'a [u8]) -> Result<Frame<'a>, BadFrame>
     if bytes.len() > FRAME_MAX {
         return Err(BadFrame::TooLong);
     }
-    match find(ENCAPS_MAX, bytes) {
-        Ok(found) => Ok(framed(bytes, &found)),
+    let mut headers = Headers::new();
+    match find(ENCAPS_MAX, bytes, &mut headers) {
+        Ok(found) => Ok(framed(bytes, &headers, &found)),
         Err(fault) => Err(fault),
     }
 }

@@ -13,14 +13,14 @@ use Rattle.vsw_pcap.specs.declared.fault.BadTrace.{BadTrace}
 use Rattle.vsw_pcap.specs.declared.fault.BadTrace.TheVariants.{NotPcap, Version, LinkType, Cut, Huge}
 use Rattle.vsw_app.specs.declared.ending.Status.{Status}
 use Rattle.vsw_app.specs.declared.ending.Status.TheVariants as status
-use Rattle.vsw_app.specs.declared.ending.Ending.{Ending}
-use Rattle.vsw_app.specs.declared.ending.Ending.TheVariants.{Done, Usage, ReadFault, WriteFault, Refused, Records, NotBuilt, Memory}
+use Rattle.vsw_replay.specs.declared.ending.Ending.{Ending}
+use Rattle.vsw_replay.specs.declared.ending.Ending.TheVariants.{Done, Usage, ReadFault, WriteFault, Refused, Records, NotBuilt, Memory}
 use Rattle.vsw_app.specs.Words.{Names, names_of}
 use Rattle.vsw_app.specs.Ending.{status_of}
 use Rattle.vsw_app.specs.Files.{HoldsPolicy, HoldsNoPolicy, HoldsCommands, StopsAtPolicy, StopsAtCommands, StopsAtTrace}
-use Rattle.vsw_app.specs.Trace.{Shows, ShowsRefused, ShowsLimit, Puts, most_records}
+use Rattle.vsw_replay.specs.Trace.{Shows, ShowsRefused, ShowsLimit, Puts, most_records}
 use Rattle.vsw_app.specs.IsRun.{Leaves, LeavesBy, LeavesTold, EndsByTrace, IsRun, AreAdmitted, IsComplete, AtPolicy, AtCommands, BeforeTrace, ByTrace, judged}
-use Rattle.vsw_app.proofs.Splitting.{NotWhole, one_whole}
+use Rattle.vsw_replay.proofs.Splitting.{NotWhole, one_whole}
 
 shorter_by : (form : Form) (rest : List ℕ) (n m : ℕ) → NotWhole (front_of form rest) ⊎ (suc n ≤ suc m) → NotWhole (front_of form rest) ⊎ (n ≤ m)
 shorter_by form rest n m (inl w) = inl w

@@ -1,11 +1,4 @@
-pub mod Growing
+pub mod Speaking
 pub mod Opening
-pub mod Lined
-pub mod Splitting
-pub mod Rounding
-pub mod Showing
-pub mod Putting
-pub mod Past
-pub mod Heading
 pub mod Running
 pub mod Completing

@@ -5,8 +5,8 @@ use Rattle.vsw_host.specs.Reading.{ReadsFile, ReadsOne, TellsFile}
 use Rattle.vsw_host.specs.declared.reading.ReadEnd.TheVariants as ends
 use Rattle.vsw_config.specs.declared.policy.PlainPolicy.{PlainPolicy}
 use Rattle.vsw_config.specs.Policy.{IsPolicy}
-use Rattle.vsw_app.specs.declared.ending.Ending.{Ending}
-use Rattle.vsw_app.specs.declared.ending.Ending.TheVariants.{Done, Usage, ReadFault, WriteFault, Refused, Records, NotBuilt, Memory}
+use Rattle.vsw_replay.specs.declared.ending.Ending.{Ending}
+use Rattle.vsw_replay.specs.declared.ending.Ending.TheVariants.{Done, Usage, ReadFault, WriteFault, Refused, Records, NotBuilt, Memory}
 use Rattle.vsw_app.specs.Files.{read_whole, OpensAtMost}
 use Rattle.vsw_app.specs.Reads.{Told, Judges, PolicySays, ReadsPolicy, Rises, EndsEarly}
 

@@ -3,17 +3,24 @@ use Rattle.std.proofs.Common.{◌≡◌, ℕ, inl, inr, List, [], ◌∷◌, ◌
 use Rattle.std.specs.Prelude.{⊤}
 use Rattle.vsw_host.specs.Outside.{Opened, Inputs, Outside, OpensSince, SameOutputs, SameInputs, Rose, Grows}
 use Rattle.vsw_config.specs.declared.policy.PlainPolicy.{PlainPolicy}
-use Rattle.vsw_app.specs.declared.ending.Ending.{Ending}
-use Rattle.vsw_app.specs.declared.ending.Ending.TheVariants.{Done, Usage, ReadFault, WriteFault, Refused, Records, NotBuilt, Memory}
-use Rattle.vsw_app.specs.declared.files.TraceBytes.{TraceBytes}
+use Rattle.vsw_replay.specs.declared.ending.Ending.{Ending}
+use Rattle.vsw_replay.specs.declared.ending.Ending.TheVariants.{Done, Usage, ReadFault, WriteFault, Refused, Records, NotBuilt, Memory}
+use Rattle.vsw_replay.specs.declared.trace.TraceBytes.{TraceBytes}
 use Rattle.vsw_app.specs.Words.{Names}
 use Rattle.vsw_app.specs.Files.{read_whole, OpensAtMost, OpensUnread, StopsAtCommands, StopsAtTrace}
 use Rattle.vsw_app.specs.Reads.{Told, IsEarly, PolicySays, CommandsSay, TraceSays, ReadsPolicy, ReadsCommands, ReadsTrace}
-use Rattle.vsw_app.specs.Trace.{Puts}
-use Rattle.vsw_app.specs.Going.{OnlyPuts, WriteRises}
+use Rattle.vsw_replay.specs.Trace.{Puts}
+use Rattle.vsw_replay.specs.Going.{OnlyPuts, WriteRises}
 use Rattle.vsw_app.specs.IsRun.{LeavesTold, AtPolicy, AtCommands, BeforeTrace, ByTrace, judged}
 use Rattle.vsw_app.specs.Forward.{JudgeSays, Judged, ReplaySays, Replays, Forwards}
-use Rattle.vsw_app.proofs.Growing.{grows_none, grows_at, grows_from, rose_from}
+use Rattle.vsw_replay.proofs.Growing.{grows_none}
+use Rattle.vsw_app.proofs.Speaking.{rose_from}
+
+grows_at : (a b c : Option (List ℕ)) (xs : List ℕ) → c ≡ b → Grows a b xs → Grows a c xs
+grows_at a b c xs e g = let P : Option (List ℕ) → Type 0 = λ o. Grows a o xs in subst P (sym e) g
+
+grows_from : (a b c : Option (List ℕ)) (xs : List ℕ) → b ≡ a → Grows b c xs → Grows a c xs
+grows_from a b c xs e g = let P : Option (List ℕ) → Type 0 = λ o. Grows o c xs in subst P e g
 
 since_then : (a b c : Inputs) (xs ys : List Opened) → OpensSince a b xs → OpensSince b c ys → OpensSince a c (xs ++ ys)
 since_then a b c xs ys p q = record { files = q.files ∙ p.files; opened = q.opened ∙ ap (λ (l : List Opened). l ++ ys) p.opened ∙ append_assoc a.opened xs ys }

@@ -3,8 +3,8 @@ use Rattle.std.specs.Prelude.{◌≡◌, ◌<◌, ◌⊎◌, ℕ, List, [], ◌�
 use Rattle.vsw_host.specs.Outside.{Opened, Inputs, OpensSince}
 use Rattle.vsw_config.specs.declared.policy.PlainPolicy.{PlainPolicy}
 use Rattle.vsw_config.specs.Policy.{IsPolicy}
-use Rattle.vsw_app.specs.declared.ending.Ending.{Ending}
-use Rattle.vsw_app.specs.declared.ending.Ending.TheVariants.{Done, Usage, ReadFault, WriteFault, Refused, Records, NotBuilt, Memory}
+use Rattle.vsw_replay.specs.declared.ending.Ending.{Ending}
+use Rattle.vsw_replay.specs.declared.ending.Ending.TheVariants.{Done, Usage, ReadFault, WriteFault, Refused, Records, NotBuilt, Memory}
 
 -- a file that was read to its end
 abbrev pub read_whole : List ℕ → List ℕ → Opened

@@ -2,14 +2,14 @@
 use Rattle.std.specs.Prelude.{◌≡◌, ◌≢◌, ◌≤◌, ◌⊎◌, ℕ, List, [], ◌∷◌, length, take, Bool, true, Option, Some, Result, Ok, Err, false}
 use Rattle.vsw_host.specs.Outside.{Inputs, Outside, OpensSince, SameOutputs, Grows, Rose}
 use Rattle.vsw_config.specs.declared.policy.PlainPolicy.{PlainPolicy}
-use Rattle.vsw_app.specs.declared.ending.Ending.{Ending}
-use Rattle.vsw_app.specs.declared.ending.Ending.TheVariants.{Usage}
+use Rattle.vsw_replay.specs.declared.ending.Ending.{Ending}
+use Rattle.vsw_replay.specs.declared.ending.Ending.TheVariants.{Usage}
 use Rattle.vsw_app.specs.Words.{Names}
 use Rattle.vsw_app.specs.Files.{read_whole, OpensAtMost, HoldsPolicy, StopsAtPolicy, StopsAtCommands, StopsAtTrace}
-use Rattle.vsw_app.specs.Trace.{Puts}
+use Rattle.vsw_replay.specs.Trace.{Puts}
 use Rattle.vsw_app.specs.IsRun.{LeavesTold}
 use Rattle.vsw_app.specs.Reads.{Told, Rises, RisesAt, EndsEarly}
-use Rattle.vsw_app.specs.Going.{WriteRises}
+use Rattle.vsw_replay.specs.Going.{WriteRises}
 
 -- the policy and the commands were read, or one of them ends the run
 abbrev pub JudgeSays : Inputs → Inputs → List ℕ → List ℕ → Result PlainPolicy Ending → Type 0

@@ -4,12 +4,12 @@ use Rattle.vsw_host.specs.Outside.{Opened, Inputs, Outside, OpensSince, Grows, R
 use Rattle.vsw_config.specs.declared.policy.PlainPolicy.{PlainPolicy}
 use Rattle.vsw_app.specs.declared.ending.Status.{Status}
 use Rattle.vsw_app.specs.declared.ending.Status.TheVariants as status
-use Rattle.vsw_app.specs.declared.ending.Ending.{Ending}
-use Rattle.vsw_app.specs.declared.ending.Ending.TheVariants.{Usage}
+use Rattle.vsw_replay.specs.declared.ending.Ending.{Ending}
+use Rattle.vsw_replay.specs.declared.ending.Ending.TheVariants.{Usage}
 use Rattle.vsw_app.specs.Words.{Names, names_of}
 use Rattle.vsw_app.specs.Ending.{status_of, complaint, Complains}
 use Rattle.vsw_app.specs.Files.{read_whole, OpensAtMost, HoldsPolicy, StopsAtPolicy, StopsAtCommands, StopsAtTrace}
-use Rattle.vsw_app.specs.Trace.{Puts, most_records}
+use Rattle.vsw_replay.specs.Trace.{Puts, most_records}
 use Rattle.vsw_pcap.specs.Capture.{IsCapture}
 use Rattle.vsw_pcap.specs.declared.capture.Record.{Record}
 

@@ -2,10 +2,5 @@ pub mod IsRun
 pub mod Words
 pub mod Ending
 pub mod Files
-pub mod Rounds
-pub mod Trace
 pub mod Reads
-pub mod Round
-pub mod Going
-pub mod Unheaded
 pub mod Forward

@@ -3,9 +3,9 @@ use Rattle.std.specs.Prelude.{◌≡◌, ◌≤◌, ℕ, List, [], ◌∷◌, le
 use Rattle.vsw_host.specs.Outside.{Inputs, Outside, OpensSince, SameOutputs, Rose}
 use Rattle.vsw_config.specs.declared.policy.PlainPolicy.{PlainPolicy}
 use Rattle.vsw_config.specs.Policy.{IsPolicy}
-use Rattle.vsw_app.specs.declared.ending.Ending.{Ending}
-use Rattle.vsw_app.specs.declared.ending.Ending.TheVariants.{Done, Usage, ReadFault, WriteFault, Refused, Records, NotBuilt, Memory}
-use Rattle.vsw_app.specs.declared.files.TraceBytes.{TraceBytes}
+use Rattle.vsw_replay.specs.declared.ending.Ending.{Ending}
+use Rattle.vsw_replay.specs.declared.ending.Ending.TheVariants.{Done, Usage, ReadFault, WriteFault, Refused, Records, NotBuilt, Memory}
+use Rattle.vsw_replay.specs.declared.trace.TraceBytes.{TraceBytes}
 use Rattle.vsw_app.specs.Files.{read_whole, OpensAtMost, HoldsPolicy, StopsAtPolicy, StopsAtCommands, StopsAtTrace}
 
 -- a run ends by a read fault only where the host counted one

@@ -4,11 +4,12 @@ ghost use Rattle.std.specs.Prelude.{◌≡◌, ◌++◌, OnOk, codes, decimal};
 ghost use Rattle.vsw_host.specs.Outside.{SameInputs};
 ghost use Rattle.vsw_pcap.specs.Fault.{trace_name};
 ghost use Rattle.vsw_app.specs.Ending.{status_of, complaint, byte_text, Complains, KeepsPut, Speaks};
-ghost use Rattle.vsw_app.specs.declared.ending.Ending.TheVariants.{Refused};
+ghost use Rattle.vsw_replay.specs.declared.ending.Ending.TheVariants.{Refused};
 
 use itoa::Buffer;
 use vsw_host::{Failed, Host};
 use vsw_pcap::BadTrace;
+use vsw_replay::Ending;
 
 /// How a run ended. The program's exit status is the number of docs/FORMATS.md.
 #[derive(Clone, Copy, Debug, PartialEq, Eq)]
@@ -28,20 +29,6 @@ pub enum Status {
     /// 7: the policy or the commands ask for what isn't built yet.
     NotBuilt,
     /// 9: there was no memory.
-    Memory,
-}
-
-/// How a run ended, with what the complaint names.
-#[derive(Clone, Copy, Debug, PartialEq, Eq)]
-pub enum Ending {
-    Done,
-    Usage,
-    ReadFault,
-    WriteFault,
-    Refused(BadTrace),
-    /// More records than a trace may have.
-    Records,
-    NotBuilt,
     Memory,
 }
 

@@ -3,24 +3,16 @@
 ghost use Rattle.std.specs.Prelude.{◌≡◌};
 ghost use Rattle.vsw_app.specs.Reads.{Judges, ReadsPolicy, ReadsCommands, ReadsTrace};
 
-use crate::ending::Ending;
 use std::alloc::Global;
 use vsw_config::{PlainPolicy, PolicyFault, read_policy};
 use vsw_host::{Host, ReadEnd, read_file};
+use vsw_replay::{Ending, TraceBytes};
 
 /// Bytes of the longest policy file.
 const POLICY_MAX: u64 = 65_536;
 
 /// Bytes of the longest commands file: no command is built yet.
 const COMMANDS_MAX: u64 = 0;
-
-/// What was read of the trace.
-#[derive(Drop)]
-pub struct TraceBytes {
-    pub bytes: Vec<u8>,
-    /// Whether these are all of its bytes; else a read failed after them.
-    pub whole: bool,
-}
 
 /// The policy in these bytes, or how the run ends.
 fn judged(alloc: Global, bytes: &[u8]) -> Result<PlainPolicy, Ending>

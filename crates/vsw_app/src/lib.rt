@@ -3,13 +3,11 @@
 
 mod ending;
 mod files;
-mod round;
 mod run;
 #[cfg(test)]
 mod tests;
-mod trace;
 mod words;
 
-pub use ending::{Ending, Status};
+pub use ending::Status;
 pub use run::run_words;
 pub use words::Word;

@@ -6,13 +6,13 @@ ghost use Rattle.vsw_app.specs.Words.{names_of};
 ghost use Rattle.vsw_app.specs.IsRun.{IsRun, IsComplete};
 ghost use Rattle.vsw_app.specs.Forward.{Forwards, Judged, Replays};
 
-use crate::ending::{Ending, Status, finish};
+use crate::ending::{Status, finish};
 use crate::files::{open_commands, open_policy, open_trace};
-use crate::trace::run_trace;
 use crate::words::{Word, read_words};
 use std::alloc::Global;
 use vsw_config::PlainPolicy;
 use vsw_host::Host;
+use vsw_replay::{Ending, run_trace};
 
 /// Reads and judges the policy and the commands, each before the next is opened.
 fn judge<H: Host>(

@@ -1,5 +1,5 @@
 use Rattle.vsw_app.specs.Ending.{complaint}
-use Rattle.vsw_app.proofs.Growing.{complains_of}
+use Rattle.vsw_app.proofs.Speaking.{complains_of}
 use Rattle.vsw_app.proofs.ending.finish.Goals as goal
 
 pub returns-clause-complains : goal.returns-clause-complains

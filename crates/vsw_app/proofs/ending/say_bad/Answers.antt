@@ -2,7 +2,7 @@ use Rattle.std.proofs.Common.{◌++◌, ◌∙◌}
 use Rattle.std.specs.Prelude.{codes}
 use Rattle.vsw_pcap.specs.Fault.{trace_name}
 use Rattle.vsw_app.specs.Ending.{byte_text}
-use Rattle.vsw_app.proofs.Growing.{speaks_then, speaks_part, speaks_is}
+use Rattle.vsw_app.proofs.Speaking.{speaks_then, speaks_part, speaks_is}
 use Rattle.vsw_app.proofs.ending.say_bad.Goals as goal
 
 pub returns-in-Ok : goal.returns-in-Ok

@@ -1,6 +1,6 @@
 use Rattle.std.proofs.Common.{◌++◌, List, ℕ, ◌∙◌, ap}
 use Rattle.std.specs.Prelude.{codes, decimal}
-use Rattle.vsw_app.proofs.Growing.{speaks_then, speaks_is}
+use Rattle.vsw_app.proofs.Speaking.{speaks_then, speaks_is}
 use Rattle.vsw_app.proofs.ending.say_byte.Goals as goal
 
 pub returns : goal.returns

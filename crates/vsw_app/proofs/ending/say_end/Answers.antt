@@ -1,6 +1,6 @@
 use Rattle.std.specs.Prelude.{codes}
 use Rattle.vsw_app.specs.Ending.{byte_text}
-use Rattle.vsw_app.proofs.Growing.{speaks_then, speaks_part}
+use Rattle.vsw_app.proofs.Speaking.{speaks_then, speaks_part}
 use Rattle.vsw_app.proofs.ending.say_end.Goals as goal
 
 pub returns-in-Ok : goal.returns-in-Ok

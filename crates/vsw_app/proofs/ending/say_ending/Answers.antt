@@ -1,5 +1,5 @@
-use Rattle.vsw_app.proofs.Growing.{speaks_of}
-use Rattle.vsw_app.specs.declared.ending.Ending.TheVariants.{Usage, ReadFault, WriteFault, Refused, Records, NotBuilt, Memory}
+use Rattle.vsw_app.proofs.Speaking.{speaks_of}
+use Rattle.vsw_replay.specs.declared.ending.Ending.TheVariants.{Usage, ReadFault, WriteFault, Refused, Records, NotBuilt, Memory}
 use Rattle.vsw_app.proofs.ending.say_ending.Goals as goal
 
 pub returns-in-Usage : goal.returns-in-Usage

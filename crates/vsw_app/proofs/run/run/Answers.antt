@@ -1,6 +1,6 @@
 use Rattle.std.proofs.Common.{sym}
 use Rattle.vsw_app.specs.Words.{names_of}
-use Rattle.vsw_app.specs.declared.ending.Ending.TheVariants.{Usage}
+use Rattle.vsw_replay.specs.declared.ending.Ending.TheVariants.{Usage}
 use Rattle.vsw_app.proofs.Running.{unnamed}
 use Rattle.vsw_app.proofs.run.run.Goals as goal
 

@@ -13,6 +13,7 @@ use Rattle.vsw_pcap.specs.declared.fault.BadTrace.{BadTrace}
 use Rattle.vsw_pcap.specs.declared.fault.BadTrace.TheVariants.{NotPcap, Version, LinkType, Cut, Huge}
 use Rattle.vsw_app.specs.declared.ending.Status.{Status}
 use Rattle.vsw_app.specs.declared.ending.Status.TheVariants as status
+use Rattle.vsw_pcap.proofs.Unique.{captures_are_unique}
 use Rattle.vsw_replay.specs.declared.ending.Ending.{Ending}
 use Rattle.vsw_replay.specs.declared.ending.Ending.TheVariants.{Done, Usage, ReadFault, WriteFault, Refused, Records, NotBuilt, Memory}
 use Rattle.vsw_app.specs.Words.{Names, names_of}
@@ -20,52 +21,39 @@ use Rattle.vsw_app.specs.Ending.{status_of}
 use Rattle.vsw_app.specs.Files.{HoldsPolicy, HoldsNoPolicy, HoldsCommands, StopsAtPolicy, StopsAtCommands, StopsAtTrace}
 use Rattle.vsw_replay.specs.Trace.{Shows, ShowsRefused, ShowsLimit, Puts, most_records}
 use Rattle.vsw_app.specs.IsRun.{Leaves, LeavesBy, LeavesTold, EndsByTrace, IsRun, AreAdmitted, IsComplete, AtPolicy, AtCommands, BeforeTrace, ByTrace, judged}
-use Rattle.vsw_replay.proofs.Splitting.{NotWhole, one_whole}
+use Rattle.vsw_replay.proofs.Splitting.{one_whole}
 
-shorter_by : (form : Form) (rest : List ℕ) (n m : ℕ) → NotWhole (front_of form rest) ⊎ (suc n ≤ suc m) → NotWhole (front_of form rest) ⊎ (n ≤ m)
-shorter_by form rest n m (inl w) = inl w
-shorter_by form rest n m (inr h) = inr (omega (arith, h))
-
-front_or : (form : Form) (rest : List ℕ) (front : Front) (R : Type 0) → front_of form rest ≡ front → NotWhole front ⊎ R → NotWhole (front_of form rest) ⊎ R
-front_or form rest front R b (inl w) = inl (subst NotWhole (sym b) w)
-front_or form rest front R b (inr h) = inr h
-
--- a capture that ends cleanly ends nowhere else
-clean_end : (form : Form) (bytes : List ℕ) (rs qs : List Record) (rest : List ℕ) → Splits form bytes rs [] → Splits form bytes qs rest → NotWhole (front_of form rest) ⊎ (length rs ≤ length qs) → rest ≡ []
+-- nothing follows as many records as a capture has that ends cleanly
+clean_end : (form : Form) (bytes : List ℕ) (rs qs : List Record) (rest : List ℕ) → Splits form bytes rs [] → Splits form bytes qs rest → length rs ≤ length qs → rest ≡ []
 clean_end form bytes [] [] rest s t h = sym t ∙ s
 clean_end form bytes [] (q ∷ qs) rest s t h = absurd (let e = ap (front_of form) (sym s) ∙ t.1 in cc)
-clean_end form bytes (r ∷ rs) [] rest s t (inl w) = absurd (subst NotWhole (ap (front_of form) (sym t) ∙ s.1) w)
-clean_end form bytes (r ∷ rs) [] rest s t (inr h) = absurd (omega (arith, h))
+clean_end form bytes (r ∷ rs) [] rest s t h = absurd (omega (arith, h))
 clean_end form bytes (r ∷ rs) (q ∷ qs) rest s t h =
     let e : t.0 ≡ s.0 = one_whole t.0 s.0 (sym t.1 ∙ s.1) in
     let P : ℕ → Type 0 = λ n. Splits form (drop (16 + n) bytes) qs rest in
-    clean_end form (drop (16 + s.0) bytes) rs qs rest s.3 (subst P e t.3) (shorter_by form rest (length rs) (length qs) h)
+    clean_end form (drop (16 + s.0) bytes) rs qs rest s.3 (subst P e t.3) (omega (arith, h))
 
 one_form : (form form' : Form) (bytes : List ℕ) → header_of bytes ≡ Ok form → header_of bytes ≡ Ok form' → form ≡ form'
 one_form form form' bytes h k = cc
 
-clean_stop : (bytes : List ℕ) (rs qs : List Record) (at : ℕ) (front : Front) → IsCapture bytes rs None → (s : Stops bytes qs at front) → NotWhole front ⊎ (length rs ≤ length qs) → s.rest ≡ []
-clean_stop bytes rs qs at front c s h =
-    let e : s.form ≡ c.0 = one_form s.form c.0 bytes s.header c.1 in
-    let P : Form → Type 0 = λ f. Splits f (drop 24 bytes) qs s.rest in
-    let Q : Form → Type 0 = λ f. NotWhole (front_of f s.rest) ⊎ (length rs ≤ length qs) in
-    clean_end c.0 (drop 24 bytes) rs qs s.rest c.2 (subst P e s.splits) (subst Q e (front_or s.form s.rest front (length rs ≤ length qs) s.begins h))
-
-at_end : (bytes : List ℕ) (qs : List Record) (at : ℕ) (front : Front) → (s : Stops bytes qs at front) → s.rest ≡ [] → at < length bytes → ⊥
-at_end bytes qs at front s e h = let l = ap length e in omega (arith, s.place, l, h)
-
-no_oversize : (form : Form) (rest : List ℕ) → front_of form rest ≡ Oversize → rest ≡ [] → ⊥
-no_oversize form rest b e = let f = ap (front_of form) e in cc
+-- a capture that ends cleanly is refused nowhere
+unrefused : (bytes : List ℕ) (rs qs : List Record) (bad : BadTrace) → IsCapture bytes rs None → IsCapture bytes qs (Some bad) → ⊥
+unrefused bytes rs qs bad c i = let e = (captures_are_unique bytes rs qs None (Some bad) c i).1 in cc
 
 not_refused : (policy : PlainPolicy) (bytes : List ℕ) (bad : BadTrace) (text : List ℕ) (records : List Record) → IsCapture bytes records None → ShowsRefused policy bytes true bad text → ⊥
-not_refused policy bytes NotPcap text records c s = let e = s.refused.0 in let f = c.1 in cc
-not_refused policy bytes Version text records c s = let e = s.refused.0 in let f = c.1 in cc
-not_refused policy bytes LinkType text records c s = let e = s.refused.0 in let f = c.1 in cc
-not_refused policy bytes (Cut at) text records c s = at_end bytes s.1.records at Part s.1.refused.0 (clean_stop bytes records s.1.records at Part c s.1.refused.0 (inl tt)) s.1.refused.1
-not_refused policy bytes (Huge at) text records c s = no_oversize s.refused.form s.refused.rest s.refused.begins (clean_stop bytes records s.records at Oversize c s.refused (inl tt))
+not_refused policy bytes NotPcap text records c s = unrefused bytes records [] NotPcap c s.refused
+not_refused policy bytes Version text records c s = unrefused bytes records [] Version c s.refused
+not_refused policy bytes LinkType text records c s = unrefused bytes records [] LinkType c s.refused
+not_refused policy bytes (Cut at) text records c s = unrefused bytes records s.1.records (Cut at) c s.1.refused
+not_refused policy bytes (Huge at) text records c s = unrefused bytes records s.records (Huge at) c s.refused
 
 not_limit : (policy : PlainPolicy) (bytes text : List ℕ) (records : List Record) → IsCapture bytes records None → length records ≤ most_records → ShowsLimit policy bytes text → ⊥
-not_limit policy bytes text records c few s = at_end bytes s.records s.at s.front s.stops (clean_stop bytes records s.records s.at s.front c s.stops (inr (omega (arith, few, s.full)))) s.more
+not_limit policy bytes text records c few s =
+    let e : s.stops.form ≡ c.0 = one_form s.stops.form c.0 bytes s.stops.header c.1 in
+    let P : Form → Type 0 = λ f. Splits f (drop 24 bytes) s.records s.stops.rest in
+    let none = clean_end c.0 (drop 24 bytes) records s.records s.stops.rest c.2 (subst P e s.stops.splits) (omega (arith, few, s.full)) in
+    let l = ap length none in
+    omega (arith, s.stops.place, l, s.more)
 
 by_trace : (policy : PlainPolicy) (bytes : List ℕ) (records : List Record) (old new : Outside) (e : Ending) (s : Status) → s ≡ status_of e → (s ≡ status.ReadFault → Rose old.input_faults new.input_faults) → (s ≡ status.WriteFault → Rose old.put_faults new.put_faults) → IsCapture bytes records None → length records ≤ most_records → ¬ (Rose old.input_faults new.input_faults) → ¬ (Rose old.put_faults new.put_faults) → Puts policy bytes true old.put new.put e → (s ≡ status.Done) ⊎ (s ≡ status.Memory)
 by_trace policy bytes records old new Done s i r w c few n m p = inl i

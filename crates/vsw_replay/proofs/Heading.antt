@@ -4,7 +4,7 @@ use Rattle.std.specs.List.{flat_map}
 use Rattle.std.proofs.lemmas.Grind.{common_steps}
 use Rattle.vsw_host.specs.Outside.{Outside, Grows}
 use Rattle.vsw_config.specs.declared.policy.PlainPolicy.{PlainPolicy}
-use Rattle.vsw_pcap.specs.Capture.{number, form_of, tested, header_of, front_of, Splits, IsCapture}
+use Rattle.vsw_pcap.specs.Capture.{header_of, front_of, Splits, IsCapture}
 use Rattle.vsw_pcap.specs.Decides.{Decides}
 use Rattle.vsw_pcap.specs.Progress.{Progress}
 use Rattle.vsw_pcap.specs.Reader.{Stands, Waits}
@@ -12,6 +12,7 @@ use Rattle.vsw_pcap.specs.declared.capture.Form.{Form}
 use Rattle.vsw_pcap.specs.declared.capture.Record.{Record}
 use Rattle.vsw_pcap.specs.declared.fault.BadTrace.{BadTrace}
 use Rattle.vsw_pcap.specs.declared.fault.BadTrace.TheVariants.{NotPcap, Version, LinkType, Cut, Huge}
+use Rattle.vsw_pcap.proofs.Format.{not_cut, not_huge}
 use Rattle.vsw_report.specs.Print.{head_line, round_text}
 use Rattle.vsw_replay.specs.declared.ending.Ending.{Ending}
 use Rattle.vsw_replay.specs.declared.ending.Ending.TheVariants.{Done, Usage, ReadFault, WriteFault, Refused, Records, NotBuilt, Memory}
@@ -112,55 +113,13 @@ head_err policy bytes old new p first NotBuilt r h t = absurd t
 head_err policy bytes old new p first (Refused bad) r h t = absurd t
 head_err policy bytes old new p first Records r h t = absurd t
 
--- the faults that a header can have
-abbrev pub IsHeaderFault : BadTrace → Type 0
-IsHeaderFault NotPcap = Unit {0}
-IsHeaderFault Version = Unit {0}
-IsHeaderFault LinkType = Unit {0}
-IsHeaderFault (Cut at) = ⊥
-IsHeaderFault (Huge at) = ⊥
-
-fault_is : (a b : BadTrace) → IsHeaderFault a → a ≡ b → IsHeaderFault b
-fault_is a b f e = subst IsHeaderFault e f
-
-abbrev pub refusing : BadTrace → Result Form BadTrace
-refusing bad = Err bad
-
-one_err : (a b : BadTrace) → refusing a ≡ refusing b → a ≡ b
-one_err a b e = cc
-
-abbrev pub from_tests : Bool → Bool → Form → Result Form BadTrace
-from_tests a b form = if not a then Err Version else if not b then Err LinkType else Ok form
-
-tested_by : (a b : Bool) (form : Form) (bad : BadTrace) → from_tests a b form ≡ Err bad → IsHeaderFault bad
-tested_by false b form bad e = fault_is Version bad tt (one_err Version bad e)
-tested_by true false form bad e = fault_is LinkType bad tt (one_err LinkType bad e)
-tested_by true true form bad e = absurd (cc)
-
-abbrev pub from_form : Option Form → List ℕ → Result Form BadTrace
-from_form o bytes = elim o [ None ↦ Err NotPcap | Some form ↦ tested bytes form ]
-
-found_by : (o : Option Form) (bytes : List ℕ) (bad : BadTrace) → from_form o bytes ≡ Err bad → IsHeaderFault bad
-found_by None bytes bad e = fault_is NotPcap bad tt (one_err NotPcap bad e)
-found_by (Some form) bytes bad e = tested_by ((number form.order 2 (drop 4 bytes) == 2) && (number form.order 2 (drop 6 bytes) == 4)) (number form.order 4 (drop 20 bytes) == 1) form bad e
-
-abbrev pub from_long : Bool → Option Form → List ℕ → Result Form BadTrace
-from_long t o bytes = if t then Err NotPcap else from_form o bytes
-
-long_by : (t : Bool) (o : Option Form) (bytes : List ℕ) (bad : BadTrace) → from_long t o bytes ≡ Err bad → IsHeaderFault bad
-long_by true o bytes bad e = fault_is NotPcap bad tt (one_err NotPcap bad e)
-long_by false o bytes bad e = found_by o bytes bad e
-
-header_fault : (bytes : List ℕ) (bad : BadTrace) → header_of bytes ≡ Err bad → IsHeaderFault bad
-header_fault bytes bad e = long_by (nat_lt (length bytes) 24) (form_of bytes) bytes bad e
-
 -- every trace has an ending
 refused_any : (policy : PlainPolicy) (bytes : List ℕ) (whole : Bool) (bad : BadTrace) → header_of bytes ≡ Err bad → (whole ≡ true) ⊎ (24 ≤ length bytes) → Shown policy bytes whole []
 refused_any policy bytes whole NotPcap h d = record { ending = Refused NotPcap; shows = record { refused = (h, refl); decided = d; text_is = refl } }
 refused_any policy bytes whole Version h d = record { ending = Refused Version; shows = record { refused = (h, refl); decided = d; text_is = refl } }
 refused_any policy bytes whole LinkType h d = record { ending = Refused LinkType; shows = record { refused = (h, refl); decided = d; text_is = refl } }
-refused_any policy bytes whole (Cut at) h d = absurd (header_fault bytes (Cut at) h)
-refused_any policy bytes whole (Huge at) h d = absurd (header_fault bytes (Huge at) h)
+refused_any policy bytes whole (Cut at) h d = absurd (not_cut bytes at h)
+refused_any policy bytes whole (Huge at) h d = absurd (not_huge bytes at h)
 
 short_any : (policy : PlainPolicy) (bytes : List ℕ) (whole : Bool) (bad : BadTrace) → header_of bytes ≡ Err bad → Shown policy bytes whole []
 short_any policy bytes true bad h = refused_any policy bytes true bad h (inl refl)

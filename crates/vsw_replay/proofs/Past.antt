@@ -1,6 +1,7 @@
 -- As many records as a trace may have.
 use Rattle.std.proofs.Common.{◌≡◌, ℕ, zero, suc, ◌-◌, ◌*◌, ◌<◌, inr, List, [], ◌∷◌, ◌++◌, Option, Some, None, Ok, length, drop, refl, sym, ◌∙◌, ap, subst, arith, append-nil, length-append, length-drop}
 use Rattle.std.proofs.lemmas.Grind.{common_steps}
+use Rattle.std.proofs.lemmas.List.{nil_from_length}
 use Rattle.vsw_config.specs.declared.policy.PlainPolicy.{PlainPolicy}
 use Rattle.vsw_pcap.specs.Capture.{header_of, front_of, Splits, IsCapture}
 use Rattle.vsw_pcap.specs.Progress.{Progress}
@@ -21,8 +22,8 @@ use Rattle.vsw_replay.specs.Trace.{most_records, Shows, ShowsLimit, ShowsRead, P
 use Rattle.vsw_replay.specs.Unheaded.{past_limit_of, past_limit_at}
 use Rattle.vsw_replay.specs.Going.{Going}
 use Rattle.vsw_replay.proofs.Splitting.{splits_at, splits_shorter, stops_at, stands_passed}
-use Rattle.vsw_rounds.proofs.Rounding.{no_records, are_all}
-use Rattle.vsw_replay.proofs.Showing.{limit_at}
+use Rattle.vsw_rounds.proofs.Rounding.{are_all}
+use Rattle.vsw_replay.proofs.Showing.{just_given, limit_at}
 use Rattle.vsw_replay.proofs.Putting.{puts_all}
 
 whole_some : (form : Form) (bytes : List ℕ) (c : ℕ) → front_of form bytes ≡ Whole c → 0 < length bytes
@@ -49,13 +50,6 @@ limit_more policy bytes before now p round g some =
     let t = splits_at pass.form (drop 24 bytes) g.given r.records p.left pass.splits in
     limit_at policy bytes pass.form g.given g.rounds t.mid pass.header t.first g.are (most_given (length g.given) g.full) (records_some pass.form t.mid r.records p.left positive t.then_more)
 
-no_bytes : (bs : List ℕ) → length bs ≡ 0 → bs ≡ []
-no_bytes [] e = refl
-no_bytes (b ∷ bs) e = absurd (omega (arith, e))
-
-just_given : (given records : List Record) → length records ≡ 0 → given ++ records ≡ given
-just_given given records e = ap (λ (l : List Record). given ++ l) (no_records records e) ∙ append-nil given
-
 bad_limit : (policy : PlainPolicy) (bytes : List ℕ) (form : Form) (given : List Record) (rounds : List Round) (bad : BadTrace) → header_of bytes ≡ Ok form → IsCapture bytes given (Some bad) → AreRounds policy 0 given rounds → length given ≡ most_records → ShowsLimit policy bytes (report rounds)
 bad_limit policy bytes form given rounds NotPcap h i a full = absurd (let e = i.0 in cc)
 bad_limit policy bytes form given rounds Version h i a full = absurd (let e = i.0 in cc)
@@ -69,7 +63,7 @@ read_limit policy bytes form given rounds left h s a full none =
     record {
       records = given;
       at = length bytes;
-      stops = record { form = form; rest = []; header = h; splits = subst P (no_bytes left none) s; place = omega arith; begins = refl };
+      stops = record { form = form; rest = []; header = h; splits = subst P (nil_from_length left none) s; place = omega arith; begins = refl };
       few = omega (arith, full);
       last = λ e. refl;
       reports = record { rounds = rounds; are = a; text_is = refl };

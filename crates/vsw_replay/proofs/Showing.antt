@@ -2,6 +2,7 @@
 use Rattle.std.proofs.Common.{◌≡◌, ℕ, zero, suc, ◌+◌, ◌-◌, ◌*◌, ◌≤◌, ◌<◌, ◌⊎◌, inl, inr, List, [], ◌∷◌, ◌++◌, Bool, true, false, Option, Some, Ok, length, drop, nat_lt, if◌then◌else◌, refl, sym, ◌∙◌, ap, subst, arith, length-append, length-drop, append-nil}
 use Rattle.std.specs.List.{flat_map}
 use Rattle.std.proofs.lemmas.Grind.{common_steps}
+use Rattle.std.proofs.lemmas.List.{nil_from_length}
 use Rattle.vsw_config.specs.declared.policy.PlainPolicy.{PlainPolicy}
 use Rattle.vsw_pcap.specs.Capture.{header_of, front_of, Splits, Stops, IsCapture}
 use Rattle.vsw_pcap.specs.Decides.{Decides}
@@ -13,6 +14,7 @@ use Rattle.vsw_pcap.specs.declared.capture.Front.TheVariants.{Whole, Part, Overs
 use Rattle.vsw_pcap.specs.declared.capture.Record.{Record}
 use Rattle.vsw_pcap.specs.declared.fault.BadTrace.{BadTrace}
 use Rattle.vsw_pcap.specs.declared.fault.BadTrace.TheVariants.{NotPcap, Version, LinkType, Cut, Huge}
+use Rattle.vsw_pcap.proofs.Format.{accepted_long}
 use Rattle.vsw_report.specs.declared.round.Round.{Round}
 use Rattle.vsw_report.specs.Print.{round_text}
 use Rattle.vsw_replay.specs.declared.ending.Ending.{Ending}
@@ -25,8 +27,8 @@ use Rattle.vsw_rounds.specs.Round.{StopSays}
 use Rattle.vsw_replay.specs.Trace.{most_records, Shows, ShowsRefused, ShowsLimit, ShowsRead}
 use Rattle.vsw_replay.specs.Unheaded.{ended, is_end, is_put_of, text_put}
 use Rattle.vsw_replay.specs.Going.{Going}
-use Rattle.vsw_replay.proofs.Splitting.{splits_append, splits_shorter, NotWhole, ends_within, header_long, stops_at, stands_passed}
-use Rattle.vsw_rounds.proofs.Rounding.{no_records, rounds_append, rounds_push, rounds_within, report_append, report_push, are_all, are_none}
+use Rattle.vsw_replay.proofs.Splitting.{splits_append, splits_shorter, NotWhole, ends_within, stops_at, stands_passed}
+use Rattle.vsw_rounds.proofs.Rounding.{rounds_append, rounds_push, rounds_within, report_append, report_push, are_all, are_none}
 
 -- the rounds of what was read so far, by why the last one stopped
 abbrev pub RoundsFor : Stop → PlainPolicy → List Record → List Round → Type 0
@@ -97,16 +99,14 @@ further_some policy bytes before now p number round g h some =
       says = (n, r.says);
     }
 
-no_rounds : (rs : List Round) → length rs ≡ 0 → rs ≡ []
-no_rounds [] e = refl
-no_rounds (r ∷ rs) e = absurd (omega (arith, e))
+pub just_given : (given records : List Record) → length records ≡ 0 → given ++ records ≡ given
+just_given given records e = ap (λ (l : List Record). given ++ l) (nil_from_length records e) ∙ append-nil given
 
 -- no more records have no more rounds
 none_are : (policy : PlainPolicy) (given records : List Record) (rounds : List Round) → length records ≡ 0 → AreRounds policy 0 given rounds → AreRounds policy 0 (given ++ records) rounds
 none_are policy given records rounds e a =
-    let same : given ++ records ≡ given = ap (λ (l : List Record). given ++ l) (no_records records e) ∙ append-nil given in
     let P : List Record → Type 0 = λ l. AreRounds policy 0 l rounds in
-    subst P (sym same) a
+    subst P (sym (just_given given records e)) a
 
 not_put : (number n : ℕ) (s : Stop) → n ≡ 0 → is_end s ≡ false → is_put_of number n s ≡ false
 not_put number n s h e = grind (arith, common_steps)
@@ -141,9 +141,9 @@ further_first policy bytes before now p number rr c g none first =
     let all : List Record = g.given ++ r.records in
     let empty : length all ≡ 0 = omega (arith, length-append g.given r.records, g.full, first, r.count_is, none) in
     let given_none : length g.given ≡ 0 = omega (arith, g.full, first) in
-    let records_none : r.records ≡ [] = no_records r.records (omega (arith, r.count_is, none)) in
+    let records_none : r.records ≡ [] = nil_from_length r.records (omega (arith, r.count_is, none)) in
     let same : rr ≡ round_of policy 0 [] = r.round_is ∙ ap (λ (n : ℕ). round_of policy n r.records) given_none ∙ ap (round_of policy 0) records_none in
-    let rounds_none : g.rounds ≡ [] = no_rounds g.rounds (omega (arith, g.count, first)) in
+    let rounds_none : g.rounds ≡ [] = nil_from_length g.rounds (omega (arith, g.count, first)) in
     let one : g.rounds ++ rr ∷ [] ≡ round_of policy 0 [] ∷ [] = ap (λ (l : List Round). l ++ rr ∷ []) rounds_none ∙ ap (λ (x : Round). x ∷ []) same in
     let P : List Round → Type 0 = AreAllRounds policy all in
     record {
@@ -192,7 +192,7 @@ bad_shows policy bytes finished form all rounds (Cut at) h i d a few = (d, recor
 bad_shows policy bytes finished form all rounds (Huge at) h i d a few = record { records = all; refused = i; few = few; reports = record { rounds = rounds; are = a; text_is = refl } }
 
 read_shows : (policy : PlainPolicy) (bytes : List ℕ) (form : Form) (all : List Record) (rounds : List Round) → header_of bytes ≡ Ok form → Waits bytes all → AreRounds policy 0 all rounds → length all < most_records → ShowsRead policy bytes (report rounds)
-read_shows policy bytes form all rounds h (inl short) a few = absurd (omega (arith, short.0, header_long bytes form h))
+read_shows policy bytes form all rounds h (inl short) a few = absurd (omega (arith, short.0, accepted_long bytes form h))
 read_shows policy bytes form all rounds h (inr w) a few = record { records = all; at = w.0; stops = w.1; few = omega (arith, few); last = λ e. absurd (omega (arith, e, few)); reports = record { rounds = rounds; are = a; text_is = refl } }
 
 pub shows_stop : (policy : PlainPolicy) (bytes : List ℕ) (finished : Bool) (form : Form) (all : List Record) (rounds : List Round) (number n : ℕ) (s : Stop) (e : Ending) → header_of bytes ≡ Ok form → RoundsFor s policy all rounds → IsAsLong s all rounds number → StopSays bytes finished all n s → ended s ≡ Some e → Shows policy bytes finished e (report rounds)

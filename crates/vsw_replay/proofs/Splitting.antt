@@ -30,14 +30,6 @@ splits_shorter form bytes (r ∷ rs) rest s = omega (arith, splits_shorter form 
 pub one_whole : (a b : ℕ) → Whole a ≡ Whole b → a ≡ b
 one_whole a b e = cc
 
--- the same records leave the same rest
-pub splits_same : (form : Form) (bytes : List ℕ) (rs : List Record) (rest rest' : List ℕ) → Splits form bytes rs rest → Splits form bytes rs rest' → rest ≡ rest'
-splits_same form bytes [] rest rest' s t = sym s ∙ t
-splits_same form bytes (r ∷ rs) rest rest' s t =
-    let e : t.0 ≡ s.0 = one_whole t.0 s.0 (sym t.1 ∙ s.1) in
-    let P : ℕ → Type 0 = λ n. Splits form (drop (16 + n) bytes) rs rest' in
-    splits_same form (drop (16 + s.0) bytes) rs rest rest' s.3 (subst P e t.3)
-
 abbrev pub NotWhole : Front → Type 0
 NotWhole (Whole c) = ⊥
 NotWhole Part = Unit {0}
@@ -68,9 +60,6 @@ ends_within (suc n) form bytes = elim (front_of form bytes) as (λ f. front_of f
   | Part ↦ λ e. record { records = []; rest = bytes; splits = refl; few = omega arith; last = inr (subst NotWhole (sym e) tt) }
   | Oversize ↦ λ e. record { records = []; rest = bytes; splits = refl; few = omega arith; last = inr (subst NotWhole (sym e) tt) }
 ] refl
-
-pub header_long : (bytes : List ℕ) (form : Form) → header_of bytes ≡ Ok form → 24 ≤ length bytes
-header_long bytes form h = grind (arith, common_steps)
 
 -- the records so far, and where they stop
 pub stops_at : (bytes : List ℕ) (form : Form) (records : List Record) (rest : List ℕ) (front : Front) → header_of bytes ≡ Ok form → Splits form (drop 24 bytes) records rest → front_of form rest ≡ front → Stops bytes records (length bytes - length rest) front

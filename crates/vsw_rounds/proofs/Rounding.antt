@@ -9,10 +9,6 @@ use Rattle.vsw_report.specs.declared.round.Round.{Round}
 use Rattle.vsw_report.specs.Print.{head_line, round_text}
 use Rattle.vsw_rounds.specs.Rounds.{AreRounds, AreAllRounds, round_of, round_size, report}
 
-pub no_records : (records : List Record) → length records ≡ 0 → records ≡ []
-no_records [] e = refl
-no_records (r ∷ rs) e = absurd (omega (arith, e))
-
 pub rounds_append : (policy : PlainPolicy) (first : ℕ) (gs qs : List Record) (rs ts : List Round) → AreRounds policy first gs rs → length gs ≡ round_size * length rs → AreRounds policy (first + length gs) qs ts → AreRounds policy first (gs ++ qs) (rs ++ ts)
 rounds_append policy first gs qs [] ts a e t =
     let P : List Record → Type 0 = λ g. AreRounds policy first (g ++ qs) ts in

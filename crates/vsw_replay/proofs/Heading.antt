@@ -1,11 +1,10 @@
 -- The head of a report, and traces of which no header was accepted.
-use Rattle.std.proofs.Common.{◌≡◌, ℕ, ◌≤◌, ◌<◌, ◌==◌, ◌&&◌, ◌⊎◌, inl, inr, List, [], ◌∷◌, ◌++◌, Bool, true, false, not, nat_lt, if◌then◌else◌, Option, Some, None, Result, Ok, Err, length, take, drop, min, refl, sym, ap, subst, arith, append-nil, append_assoc}
+use Rattle.std.proofs.Common.{◌≡◌, ℕ, ◌≤◌, ◌⊎◌, inl, inr, List, [], ◌∷◌, ◌++◌, Bool, true, false, nat_lt, if◌then◌else◌, Option, Some, None, Result, Ok, Err, length, take, drop, min, refl, sym, ap, arith, append-nil, append_assoc}
 use Rattle.std.specs.List.{flat_map}
 use Rattle.std.proofs.lemmas.Grind.{common_steps}
 use Rattle.vsw_host.specs.Outside.{Outside, Grows}
 use Rattle.vsw_config.specs.declared.policy.PlainPolicy.{PlainPolicy}
 use Rattle.vsw_pcap.specs.Capture.{header_of, front_of, Splits, IsCapture}
-use Rattle.vsw_pcap.specs.Decides.{Decides}
 use Rattle.vsw_pcap.specs.Progress.{Progress}
 use Rattle.vsw_pcap.specs.Reader.{Stands, Waits}
 use Rattle.vsw_pcap.specs.declared.capture.Form.{Form}
@@ -21,49 +20,23 @@ use Rattle.vsw_rounds.specs.declared.round.Stop.{Stop}
 use Rattle.vsw_rounds.specs.declared.round.Stop.TheVariants as stop
 use Rattle.vsw_rounds.specs.Rounds.{round_of, report}
 use Rattle.vsw_rounds.specs.Round.{StopSays, ReadsRound}
-use Rattle.vsw_replay.specs.Trace.{most_records, Shows, Puts, PutsFront}
+use Rattle.vsw_replay.specs.Trace.{most_records, Puts, PutsFront}
 use Rattle.vsw_replay.specs.Unheaded.{unheaded_of}
 use Rattle.vsw_replay.specs.Going.{Going, PutsText}
 use Rattle.vsw_replay.proofs.Growing.{grows_none, grows_is, front_more}
 use Rattle.vsw_replay.proofs.Splitting.{NotWhole, ends_within, stands_passed}
 use Rattle.vsw_rounds.proofs.Rounding.{rounds_within}
 use Rattle.vsw_replay.proofs.Showing.{Shown, end_shows, short_shows, further, complete}
-use Rattle.vsw_replay.proofs.Putting.{puts_all}
 
 -- the first round of a trace that was fed whole to the reader
 abbrev pub ReadsFirst : PlainPolicy → Progress → List ℕ → RoundRead → Type 0
 ReadsFirst policy p bytes first = ReadsRound policy p bytes [] first
-
-unheaded_more : (n : ℕ) (e : Ending) → unheaded_of stop.More n ≡ Some e → (n < 24) × (e ≡ ReadFault)
-unheaded_more n e h = elim (nat_lt n 24) as (λ b. nat_lt n 24 ≡ b → (if b then Some ReadFault else None) ≡ Some e → (n < 24) × (e ≡ ReadFault)) [
-  | true ↦ λ t i. (grind (arith, common_steps), cc)
-  | false ↦ λ t i. absurd (cc)
-] refl h
 
 unheaded_less : (n : ℕ) → unheaded_of stop.More n ≡ None → 24 ≤ n
 unheaded_less n h = elim (nat_lt n 24) as (λ b. nat_lt n 24 ≡ b → (if b then Some ReadFault else None) ≡ None → 24 ≤ n) [
   | true ↦ λ t i. absurd (cc)
   | false ↦ λ t i. grind (arith, common_steps)
 ] refl h
-
-bad_header : (policy : PlainPolicy) (bytes : List ℕ) (finished : Bool) (bad : BadTrace) (e : Ending) → unheaded_of (stop.Bad bad) (length bytes) ≡ Some e → (all : List Record) → IsCapture bytes all (Some bad) → Decides bad finished (length bytes) → Shows policy bytes finished e []
-bad_header policy bytes finished NotPcap e h all i d = let same : Refused NotPcap ≡ e = cc in subst (λ (x : Ending). Shows policy bytes finished x []) same (record { refused = (i.0, refl); decided = d; text_is = refl })
-bad_header policy bytes finished Version e h all i d = let same : Refused Version ≡ e = cc in subst (λ (x : Ending). Shows policy bytes finished x []) same (record { refused = (i.0, refl); decided = inr d; text_is = refl })
-bad_header policy bytes finished LinkType e h all i d = let same : Refused LinkType ≡ e = cc in subst (λ (x : Ending). Shows policy bytes finished x []) same (record { refused = (i.0, refl); decided = inr d; text_is = refl })
-bad_header policy bytes finished (Cut at) e h all i d = absurd (cc)
-bad_header policy bytes finished (Huge at) e h all i d = absurd (cc)
-
-unheaded_by : (policy : PlainPolicy) (bytes : List ℕ) (finished : Bool) (all : List Record) (n : ℕ) (s : Stop) (e : Ending) → StopSays bytes finished all n s → unheaded_of s (length bytes) ≡ Some e → Shows policy bytes finished e []
-unheaded_by policy bytes finished all n stop.Full e says h = absurd (cc)
-unheaded_by policy bytes finished all n stop.End e says h = absurd (cc)
-unheaded_by policy bytes finished all n stop.More e says h =
-    let m = unheaded_more (length bytes) e h in
-    subst (λ (x : Ending). Shows policy bytes finished x []) (sym m.1) (says.1, inl (record { short = m.0; text_is = refl }))
-unheaded_by policy bytes finished all n (stop.Bad bad) e says h = bad_header policy bytes finished bad e h all says.1 says.2
-
--- a trace without an accepted header: nothing is put
-pub unheaded_puts : (policy : PlainPolicy) (bytes : List ℕ) (p : Progress) (first : RoundRead) (now : Option (List ℕ)) (e : Ending) → ReadsFirst policy p bytes first → unheaded_of first.stop (length bytes) ≡ Some e → Puts policy bytes p.finished now now e
-unheaded_puts policy bytes p first now e r h = puts_all policy bytes p.finished now now e [] (unheaded_by policy bytes p.finished ([] ++ r.records) (length r.records) first.stop e r.says h) (grows_none now)
 
 pub record HasHeader (bytes : List ℕ) : Type 0 where
   pub form : Form

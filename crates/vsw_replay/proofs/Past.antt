@@ -1,5 +1,5 @@
 -- As many records as a trace may have.
-use Rattle.std.proofs.Common.{◌≡◌, ℕ, zero, suc, ◌-◌, ◌*◌, ◌<◌, inr, List, [], ◌∷◌, ◌++◌, Option, Some, None, Ok, length, drop, refl, sym, ◌∙◌, ap, subst, arith, append-nil, length-append, length-drop}
+use Rattle.std.proofs.Common.{◌≡◌, ℕ, zero, suc, ◌*◌, ◌<◌, inr, List, [], ◌∷◌, ◌++◌, Option, Some, None, Ok, length, drop, refl, sym, subst, arith, length-append}
 use Rattle.std.proofs.lemmas.Grind.{common_steps}
 use Rattle.std.proofs.lemmas.List.{nil_from_length}
 use Rattle.vsw_config.specs.declared.policy.PlainPolicy.{PlainPolicy}
@@ -21,7 +21,7 @@ use Rattle.vsw_rounds.specs.Rounds.{AreRounds, report, round_size}
 use Rattle.vsw_replay.specs.Trace.{most_records, Shows, ShowsLimit, ShowsRead, Puts}
 use Rattle.vsw_replay.specs.Unheaded.{past_limit_of, past_limit_at}
 use Rattle.vsw_replay.specs.Going.{Going}
-use Rattle.vsw_replay.proofs.Splitting.{splits_at, splits_shorter, stops_at, stands_passed}
+use Rattle.vsw_replay.proofs.Splitting.{splits_at, stands_passed}
 use Rattle.vsw_rounds.proofs.Rounding.{are_all}
 use Rattle.vsw_replay.proofs.Showing.{just_given, limit_at}
 use Rattle.vsw_replay.proofs.Putting.{puts_all}

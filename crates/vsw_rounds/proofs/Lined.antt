@@ -1,5 +1,5 @@
 -- The lines of a round, one record after another.
-use Rattle.std.proofs.Common.{◌≡◌, ℕ, ◌+◌, ◌≤◌, ◌<◌, List, [], ◌∷◌, ◌++◌, Some, length, refl, sym, ◌∙◌, ap, subst, arith, append_assoc, append-nil, length-append}
+use Rattle.std.proofs.Common.{◌≡◌, ℕ, ◌+◌, ◌≤◌, ◌<◌, List, [], ◌∷◌, ◌++◌, Some, length, sym, ◌∙◌, ap, subst, arith, append_assoc, append-nil, length-append}
 use Rattle.vsw_config.specs.declared.policy.PlainPolicy.{PlainPolicy}
 use Rattle.vsw_pcap.specs.Progress.{Progress}
 use Rattle.vsw_pcap.specs.Capture.{IsCapture}
@@ -35,9 +35,6 @@ pub record LinesSoFar (policy : PlainPolicy) (p : Progress) (bytes : List ℕ) (
   pub loose : lines.loose ≡ loose_lines policy first records
   pub count_is : count ≡ length records
   pub stands : Stands p bytes (given ++ records)
-
-pub lines_start : (policy : PlainPolicy) (p : Progress) (bytes : List ℕ) (given : List Record) (first : ℕ) (lines : Lines) → lines.told ≡ [] → lines.loose ≡ [] → Stands p bytes given → LinesSoFar policy p bytes given first lines 0
-lines_start policy p bytes given first lines t l s = record { records = []; told = t; loose = l; count_is = refl; stands = let P : List Record → Type 0 = Stands p bytes in subst P (sym (append-nil given)) s }
 
 pub lines_on : (policy : PlainPolicy) (p q : Progress) (bytes : List ℕ) (given : List Record) (first : ℕ) (lines more : Lines) (count : ℕ) (r : Record) → (so_far : LinesSoFar policy p bytes given first lines count) → Stands q bytes ((given ++ so_far.records) ++ r ∷ []) → more.told ≡ lines.told ++ told_of (first + count) r (outcome_of policy r) → more.loose ≡ lines.loose ++ loose_of (first + count) (outcome_of policy r) → LinesSoFar policy q bytes given first more (count + 1)
 lines_on policy p q bytes given first lines more count r f s t l = record {

@@ -1,13 +1,11 @@
 -- A run over files of the form that is built ends well, but for faults and want of memory.
-use Rattle.std.proofs.Common.{◌≡◌, ℕ, suc, ◌+◌, ◌≤◌, ◌<◌, ◌⊎◌, inl, inr, List, [], ◌∷◌, ◌++◌, Bool, true, false, Option, Some, None, Result, Ok, Err, length, take, drop, take_all, refl, sym, ◌∙◌, ap, subst, arith}
+use Rattle.std.proofs.Common.{◌≡◌, ℕ, ◌+◌, ◌≤◌, ◌⊎◌, inl, inr, List, [], ◌∷◌, Bool, true, false, Option, Some, None, Ok, length, take, drop, refl, sym, ◌∙◌, ap, subst, arith}
 use Rattle.std.proofs.Math.Seq.{take-length}
-use Rattle.vsw_host.specs.Outside.{Inputs, Outside, Rose, Grows}
+use Rattle.vsw_host.specs.Outside.{Inputs, Outside, Rose}
 use Rattle.vsw_config.specs.declared.policy.PlainPolicy.{PlainPolicy}
 use Rattle.vsw_config.specs.Policy.{IsPolicy}
-use Rattle.vsw_pcap.specs.Capture.{header_of, front_of, Splits, Stops, IsCapture}
+use Rattle.vsw_pcap.specs.Capture.{header_of, front_of, Splits, IsCapture}
 use Rattle.vsw_pcap.specs.declared.capture.Form.{Form}
-use Rattle.vsw_pcap.specs.declared.capture.Front.{Front}
-use Rattle.vsw_pcap.specs.declared.capture.Front.TheVariants.{Whole, Part, Oversize}
 use Rattle.vsw_pcap.specs.declared.capture.Record.{Record}
 use Rattle.vsw_pcap.specs.declared.fault.BadTrace.{BadTrace}
 use Rattle.vsw_pcap.specs.declared.fault.BadTrace.TheVariants.{NotPcap, Version, LinkType, Cut, Huge}
@@ -16,11 +14,11 @@ use Rattle.vsw_app.specs.declared.ending.Status.TheVariants as status
 use Rattle.vsw_pcap.proofs.Unique.{captures_are_unique}
 use Rattle.vsw_replay.specs.declared.ending.Ending.{Ending}
 use Rattle.vsw_replay.specs.declared.ending.Ending.TheVariants.{Done, Usage, ReadFault, WriteFault, Refused, Records, NotBuilt, Memory}
-use Rattle.vsw_app.specs.Words.{Names, names_of}
+use Rattle.vsw_app.specs.Words.{Names}
 use Rattle.vsw_app.specs.Ending.{status_of}
-use Rattle.vsw_app.specs.Files.{HoldsPolicy, HoldsNoPolicy, HoldsCommands, StopsAtPolicy, StopsAtCommands, StopsAtTrace}
-use Rattle.vsw_replay.specs.Trace.{Shows, ShowsRefused, ShowsLimit, Puts, most_records}
-use Rattle.vsw_app.specs.IsRun.{Leaves, LeavesBy, LeavesTold, EndsByTrace, IsRun, AreAdmitted, IsComplete, AtPolicy, AtCommands, BeforeTrace, ByTrace, judged}
+use Rattle.vsw_app.specs.Files.{HoldsPolicy, StopsAtPolicy, StopsAtCommands, StopsAtTrace}
+use Rattle.vsw_replay.specs.Trace.{ShowsRefused, ShowsLimit, Puts, most_records}
+use Rattle.vsw_app.specs.IsRun.{Leaves, LeavesTold, EndsByTrace, IsRun, IsComplete, AtPolicy, AtCommands, BeforeTrace, ByTrace, judged}
 use Rattle.vsw_replay.proofs.Splitting.{one_whole}
 
 -- nothing follows as many records as a capture has that ends cleanly

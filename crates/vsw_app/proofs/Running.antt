@@ -1,5 +1,5 @@
 -- The files of a run, one after another.
-use Rattle.std.proofs.Common.{◌≡◌, ℕ, inl, inr, List, [], ◌∷◌, ◌++◌, Bool, false, Option, Some, None, Ok, Err, take, refl, sym, ◌∙◌, ap, subst, arith, append-nil, append_assoc, ◌≤◌, true}
+use Rattle.std.proofs.Common.{◌≡◌, ℕ, inl, inr, List, [], ◌∷◌, ◌++◌, Bool, false, Option, Some, None, Ok, Err, take, refl, sym, ◌∙◌, ap, subst, arith, append-nil, append_assoc, ◌≤◌}
 use Rattle.std.specs.Prelude.{⊤}
 use Rattle.vsw_host.specs.Outside.{Opened, Inputs, Outside, OpensSince, SameOutputs, SameInputs, Rose, Grows}
 use Rattle.vsw_config.specs.declared.policy.PlainPolicy.{PlainPolicy}

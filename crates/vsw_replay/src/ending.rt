@@ -4,7 +4,7 @@ use vsw_pcap::BadTrace;
 
 /// How a run ended, with what the complaint names. Those before the trace is read are here too, so that
 /// one type tells of a whole run.
-#[derive(Clone, Copy, Debug, PartialEq, Eq)]
+#[derive(Clone, Copy)]
 pub enum Ending {
     /// All files were read to their ends, and the whole report was put.
     Done,

@@ -19,7 +19,7 @@ use vsw_walk::verdict;
 pub const ROUND_SIZE: u32 = 1_024;
 
 /// Why no more packets were read into a round.
-#[derive(Clone, Copy, Debug, PartialEq, Eq)]
+#[derive(Clone, Copy)]
 pub enum Stop {
     /// It is whole.
     Full,

@@ -1,8 +1,9 @@
 -- Lists of sixteen.
-use Rattle.std.proofs.Common.{◌≡◌, ℕ, suc, ◌/◌, ◌%◌, ◌<◌, ◌==◌, true, List, [], ◌∷◌, ◌++◌, map, length, take, drop, replicate, slice_index, refl, ap₂, arith, Fits, w8}
+use Rattle.std.proofs.Common.{◌≡◌, ℕ, suc, ◌+◌, ◌/◌, ◌%◌, ◌<◌, ◌≤◌, ◌==◌, true, List, [], ◌∷◌, ◌++◌, map, length, take, drop, slice_index, refl, sym, ap, ap₂, ◌∙◌, arith, Fits, w8}
 use Rattle.std.proofs.lemmas.Bool.{agree_below_at, eqb-true}
+use Rattle.std.proofs.lemmas.Simd.{put_chunk_is}
+use Rattle.std.proofs.lemmas.List.{take_at, drop_at, drop-drop, length-drop, length-append, append_assoc}
 use lib.Lanes.{pick_l, put_chunk, Each1}
-use borrow.Rule.Slice.PartMut.{put_mid}
 use Rattle.hex.specs.Hex.{encode_lower, encode_with, lower_digits}
 use Rattle.vsw_hex.specs.Digit.{high, low, zipped}
 
@@ -44,11 +45,18 @@ back_is h l eh el =
     open_16 (λ h. pick_l 0 (h ++ l) (8 ∷ 24 ∷ 9 ∷ 25 ∷ 10 ∷ 26 ∷ 11 ∷ 27 ∷ 12 ∷ 28 ∷ 13 ∷ 29 ∷ 14 ∷ 30 ∷ 15 ∷ 31 ∷ []) ≡ drop 16 (zipped h l)) (λ x0 x1 x2 x3 x4 x5 x6 x7 x8 x9 x10 x11 x12 x13 x14 x15.
     open_16 (λ l. pick_l 0 ((x0 ∷ x1 ∷ x2 ∷ x3 ∷ x4 ∷ x5 ∷ x6 ∷ x7 ∷ x8 ∷ x9 ∷ x10 ∷ x11 ∷ x12 ∷ x13 ∷ x14 ∷ x15 ∷ []) ++ l) (8 ∷ 24 ∷ 9 ∷ 25 ∷ 10 ∷ 26 ∷ 11 ∷ 27 ∷ 12 ∷ 28 ∷ 13 ∷ 29 ∷ 14 ∷ 30 ∷ 15 ∷ 31 ∷ []) ≡ drop 16 (zipped (x0 ∷ x1 ∷ x2 ∷ x3 ∷ x4 ∷ x5 ∷ x6 ∷ x7 ∷ x8 ∷ x9 ∷ x10 ∷ x11 ∷ x12 ∷ x13 ∷ x14 ∷ x15 ∷ []) l)) (λ y0 y1 y2 y3 y4 y5 y6 y7 y8 y9 y10 y11 y12 y13 y14 y15. refl) l el) h eh
 
--- two stores into thirty-two places
-pub stored_is : (f b : List ℕ) → length f ≡ 16 → length b ≡ 16 → put_mid 16 16 (put_chunk 0 (replicate 32 0) f) (put_chunk 0 (take 16 (drop 16 (put_chunk 0 (replicate 32 0) f))) b) ≡ f ++ b
-stored_is f b ef eb =
-    open_16 (λ f. put_mid 16 16 (put_chunk 0 (replicate 32 0) f) (put_chunk 0 (take 16 (drop 16 (put_chunk 0 (replicate 32 0) f))) b) ≡ f ++ b) (λ x0 x1 x2 x3 x4 x5 x6 x7 x8 x9 x10 x11 x12 x13 x14 x15.
-    open_16 (λ b. put_mid 16 16 (put_chunk 0 (replicate 32 0) (x0 ∷ x1 ∷ x2 ∷ x3 ∷ x4 ∷ x5 ∷ x6 ∷ x7 ∷ x8 ∷ x9 ∷ x10 ∷ x11 ∷ x12 ∷ x13 ∷ x14 ∷ x15 ∷ [])) (put_chunk 0 (take 16 (drop 16 (put_chunk 0 (replicate 32 0) (x0 ∷ x1 ∷ x2 ∷ x3 ∷ x4 ∷ x5 ∷ x6 ∷ x7 ∷ x8 ∷ x9 ∷ x10 ∷ x11 ∷ x12 ∷ x13 ∷ x14 ∷ x15 ∷ [])))) b) ≡ (x0 ∷ x1 ∷ x2 ∷ x3 ∷ x4 ∷ x5 ∷ x6 ∷ x7 ∷ x8 ∷ x9 ∷ x10 ∷ x11 ∷ x12 ∷ x13 ∷ x14 ∷ x15 ∷ []) ++ b) (λ y0 y1 y2 y3 y4 y5 y6 y7 y8 y9 y10 y11 y12 y13 y14 y15. refl) b eb) f ef
+-- two stores, one after the other, over the front of a text
+pub stored_is : (t f b : List ℕ) → length f ≡ 16 → length b ≡ 16 → 32 ≤ length t → put_chunk 16 (put_chunk 0 t f) b ≡ (f ++ b) ++ drop 32 t
+stored_is t f b ef eb long =
+    let w : put_chunk 0 t f ≡ f ++ drop 16 t = put_chunk_is 0 t f (omega (arith, ef, long)) ∙ ap (λ (k : ℕ). f ++ drop k t) ef in
+    let room : 16 + length b ≤ length (f ++ drop 16 t) = omega (arith, ef, eb, long, length-append f (drop 16 t), length-drop 16 t) in
+    ap (λ (l : List ℕ). put_chunk 16 l b) w
+    ∙ put_chunk_is 16 (f ++ drop 16 t) b room
+    ∙ ap (λ (l : List ℕ). l ++ (b ++ drop (length b) (drop 16 (f ++ drop 16 t)))) (take_at f (drop 16 t) 16 ef)
+    ∙ ap (λ (k : ℕ). f ++ (b ++ drop k (drop 16 (f ++ drop 16 t)))) eb
+    ∙ ap (λ (l : List ℕ). f ++ (b ++ drop 16 l)) (drop_at f (drop 16 t) 16 ef)
+    ∙ ap (λ (l : List ℕ). f ++ (b ++ l)) (drop-drop 16 16 t)
+    ∙ sym (append_assoc f b (drop 32 t))
 
 -- the digits by arithmetic are those of the table
 high_is : (b : ℕ) → b < 256 → high b ≡ slice_index lower_digits (b / 16)

@@ -1,6 +1,6 @@
 //! The text of sixteen bytes, by vectors of sixteen lanes.
 
-ghost use Rattle.std.specs.Prelude.{◌≡◌, ◌+◌, ◌*◌, ◌<◌, ◌≤◌, map, take, drop, length};
+ghost use Rattle.std.specs.Prelude.{◌≡◌, ◌+◌, ◌*◌, ◌<◌, ◌≤◌, ◌++◌, map, take, drop, length};
 ghost use Rattle.std.specs.Simd.Lanes.{Each1};
 ghost use Rattle.hex.specs.Hex.{encode_lower};
 ghost use Rattle.vsw_hex.specs.Digit.{digit, high, low, zipped, sixteen};
@@ -56,17 +56,16 @@ fn back(high: u8x16, low: u8x16) -> u8x16
     )
 }
 
-/// The text of sixteen bytes.
+/// Writes the text of the sixteen bytes from this place on over the first 32 bytes of `text`.
 #[inline(always)]
-pub fn sixteen_at(bytes: &[u8], from: usize) -> [u8; 32]
-    requires { from + 16 ≤ length bytes.now }
-    ensures { result ≡ encode_lower (take 16 (drop from bytes.now)) }
+pub fn write_sixteen(bytes: &[u8], from: usize, text: &mut [u8])
+    requires bytes { from + 16 ≤ length bytes.now }
+    requires text { 32 ≤ length text.old }
+    ensures { text.new ≡ encode_lower (take 16 (drop from bytes.now)) ++ drop 32 text.old }
 {
     let v = u8x16::from_slice(&bytes[from..]);
     let high = highs(v);
     let low = lows(v);
-    let mut out = [0u8; 32];
-    front(high, low).copy_to_slice(&mut out);
-    back(high, low).copy_to_slice(&mut out[16..]);
-    out
+    front(high, low).copy_to_slice(text);
+    back(high, low).copy_to_slice(&mut text[16..]);
 }

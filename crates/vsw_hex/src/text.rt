@@ -1,37 +1,67 @@
 //! Hexadecimal text at the end of a text.
 
-ghost use Rattle.std.specs.Prelude.{◌≡◌, ◌+◌, ◌*◌, ◌≤◌, ◌++◌, OnOk, take, drop, length};
+ghost use Rattle.std.specs.Prelude.{◌≡◌, ◌+◌, ◌*◌, ◌<◌, ◌≤◌, ◌++◌, OnOk, IfSome, take, drop, length};
 ghost use Rattle.hex.specs.Hex.{encode_lower};
 
-use crate::block::sixteen_at;
+use crate::block::write_sixteen;
 use std::alloc::AllocError;
 
-/// Appends the text of fewer than sixteen bytes, those that fill no block.
-fn append_few(out: &mut Vec<u8>, bytes: &[u8]) -> Result<(), AllocError>
-    ensures { OnOk result (out.new.items ≡ out.old.items ++ encode_lower bytes.now) }
+/// Writes the text of fewer than sixteen bytes, those that fill no block.
+fn write_few(bytes: &[u8], text: &mut [u8])
+    requires bytes { length bytes.now < 16 }
+    requires text { length text.old ≡ 2 * length bytes.now }
+    ensures { text.new ≡ encode_lower bytes.now }
 {
-    let text = hex::encode(*out.allocator(), bytes)?;
-    out.extend_from_slice(text.as_bytes())
+    let mut block = [0u8; 16];
+    block[..bytes.len()].copy_from_slice(bytes);
+    let mut whole = [0u8; 32];
+    write_sixteen(&block, 0, &mut whole);
+    text.copy_from_slice(&whole[..text.len()]);
 }
 
-/// Appends the text of the block of this number.
+/// Writes the text of the block of this number where it belongs.
 #[inline(always)]
-fn append_block(out: &mut Vec<u8>, bytes: &[u8], i: usize) -> Result<(), AllocError>
-    requires { 16 * i + 16 ≤ length bytes.now }
-    ensures { OnOk result (out.new.items ≡ out.old.items ++ encode_lower (take 16 (drop (16 * i) bytes.now))) }
+fn write_block(bytes: &[u8], i: usize, text: &mut [u8])
+    requires bytes { 16 * i + 16 ≤ length bytes.now }
+    requires text { 32 * i + 32 ≤ length text.old }
+    ensures front { take (32 * (i + 1)) text.new ≡ take (32 * i) text.old ++ encode_lower (take 16 (drop (16 * i) bytes.now)) }
+    ensures long { length text.new ≡ length text.old }
 {
-    out.extend_from_slice(&sixteen_at(bytes, 16 * i))
+    write_sixteen(bytes, 16 * i, &mut text[32 * i..]);
 }
 
-/// Appends two digits for each byte. Where there is no memory, some of them may have been appended.
-pub fn append_hex(out: &mut Vec<u8>, bytes: &[u8]) -> Result<(), AllocError>
-    ensures { OnOk result (out.new.items ≡ out.old.items ++ encode_lower bytes.now) }
+/// Writes two digits for each byte over a text of that length.
+fn write_hex(bytes: &[u8], text: &mut [u8])
+    requires { length text.old ≡ 2 * length bytes.now }
+    ensures { text.new ≡ encode_lower bytes.now }
 {
     let blocks = bytes.len() / 16;
     for i in 0..blocks {
-        append_block(out, bytes, i)?;
+        write_block(bytes, i, text);
     }
-    append_few(out, &bytes[16 * blocks..])
+    write_few(&bytes[16 * blocks..], &mut text[32 * blocks..]);
+}
+
+/// How long a text is with two digits more for each of so many bytes.
+fn longer(len: usize, bytes: usize) -> Option<usize>
+    ensures { IfSome result (λ end. end ≡ len + 2 * bytes) }
+{
+    len.checked_add(bytes.checked_mul(2)?)
+}
+
+/// Appends two digits for each byte.
+pub fn append_hex(out: &mut Vec<u8>, bytes: &[u8]) -> Result<(), AllocError>
+    ensures { OnOk result (out.new.items ≡ out.old.items ++ encode_lower bytes.now) }
+{
+    let len = out.len();
+    match longer(len, bytes.len()) {
+        Some(end) => {
+            out.resize(end, 0)?;
+            write_hex(bytes, &mut out[len..]);
+            Ok(())
+        }
+        None => Err(AllocError),
+    }
 }
 
 #[cfg(test)]

@@ -1,11 +1,12 @@
 //! Printing a line.
 
-ghost use Rattle.std.specs.Prelude.{◌≡◌, ◌++◌, ◌∷◌, [], OnOk, decimal, codes};
+ghost use Rattle.std.specs.Prelude.{◌≡◌, ◌≤◌, ◌+◌, ◌++◌, ◌∷◌, [], OnOk, decimal, codes, length, drop};
 ghost use Rattle.hex.specs.Hex.{encode_lower};
 ghost use Rattle.vsw_report.specs.Print.{layer_text, dir_text, cause_text, fate_text, mark_text, line_text, loose_text, fault_text};
+ghost use Rattle.vsw_report.specs.Front.{front_text};
 
 use crate::round::{Loose, LooseCause, PacketLine};
-use itoa::Buffer;
+use itoa::write_digits;
 use std::alloc::AllocError;
 use vsw_base::{BadFrame, Cause, Dir, Fate};
 use vsw_hex::append_hex;
@@ -17,12 +18,35 @@ pub fn word(out: &mut Vec<u8>, bytes: &[u8]) -> Result<(), AllocError>
     out.extend_from_slice(bytes)
 }
 
+/// Writes bytes that end at `end`, and answers where they begin.
+#[inline(always)]
+fn before(room: &mut [u8], end: usize, bytes: &[u8]) -> usize
+    requires { (length bytes.now ≤ end) × (end ≤ length room.old) }
+    ensures start { result + length bytes.now ≡ end }
+    ensures written { drop result room.new ≡ bytes.now ++ drop end room.old }
+{
+    let start = end - bytes.len();
+    room[start..end].copy_from_slice(bytes);
+    start
+}
+
+/// Writes a number in decimal that ends at `end`, and answers where it begins.
+#[inline(always)]
+fn number_before(room: &mut [u8], end: usize, n: u32) -> usize
+    requires { (10 ≤ end) × (end ≤ length room.old) }
+    ensures start { (result ≤ end) × (end ≤ result + 10) }
+    ensures written { drop result room.new ≡ decimal n ++ drop end room.old }
+{
+    write_digits(u64::from(n), room, end)
+}
+
 /// Appends a number in decimal.
 pub fn number(out: &mut Vec<u8>, n: u32) -> Result<(), AllocError>
     ensures { OnOk result (out.new.items ≡ out.old.items ++ decimal n) }
 {
-    let mut buffer = Buffer::new();
-    word(out, buffer.format(n).as_bytes())
+    let mut room = [0u8; 10];
+    let start = number_before(&mut room, 10, n);
+    word(out, &room[start..])
 }
 
 #[tactic(auto, unfolding(crate::specs::Print::layer_text))]
@@ -90,45 +114,76 @@ fn cause(out: &mut Vec<u8>, cause: &Cause) -> Result<(), AllocError>
     }
 }
 
-fn fate(out: &mut Vec<u8>, fate: &Fate, bytes: &[u8]) -> Result<(), AllocError>
-    ensures { OnOk result (out.new.items ≡ out.old.items ++ fate_text fate.now bytes.now) }
+/// What stands before a count.
+fn mark(entry: bool) -> &'static [u8]
+    ensures { result.now ≡ mark_text entry }
 {
-    match fate {
+    if entry { b" +" } else { b" @" }
+}
+
+/// Bytes of the longest front of a line: three words, two marks, four numbers of ten digits.
+const FRONT_LEN: usize = 64;
+
+/// Writes a line's front that ends at `end`, up to its fate, and answers where it begins.
+#[tactic(auto, unfolding(crate::specs::Front::front_text))]
+fn front_before(room: &mut [u8], end: usize, line: &PacketLine) -> usize
+    requires { (40 ≤ end) × (end ≤ length room.old) }
+    ensures start { result ≤ end }
+    ensures written { drop result room.new ≡ front_text line.now ++ drop end room.old }
+{
+    let at = before(room, end, b" ");
+    let at = number_before(room, at, line.count);
+    let at = before(room, at, mark(line.entry));
+    let at = number_before(room, at, line.packet);
+    let at = before(room, at, b" ");
+    let at = number_before(room, at, line.worker);
+    before(room, at, b"w")
+}
+
+/// Appends a line's front, with the length of a pass.
+fn pass_front(out: &mut Vec<u8>, line: &PacketLine, len: u32) -> Result<(), AllocError>
+    ensures { OnOk result (out.new.items ≡ out.old.items ++ front_text line.now ++ codes "pass " ++ decimal len ++ codes " ") }
+{
+    let mut room = [0u8; FRONT_LEN];
+    let at = before(&mut room, FRONT_LEN, b" ");
+    let at = number_before(&mut room, at, len);
+    let at = before(&mut room, at, b"pass ");
+    let at = front_before(&mut room, at, line);
+    word(out, &room[at..])
+}
+
+/// Appends a line's front, up to the cause of a drop.
+fn drop_front(out: &mut Vec<u8>, line: &PacketLine) -> Result<(), AllocError>
+    ensures { OnOk result (out.new.items ≡ out.old.items ++ front_text line.now ++ codes "drop ") }
+{
+    let mut room = [0u8; FRONT_LEN];
+    let at = before(&mut room, FRONT_LEN, b"drop ");
+    let at = front_before(&mut room, at, line);
+    word(out, &room[at..])
+}
+
+/// Appends a line but for its line feed.
+fn body(out: &mut Vec<u8>, line: &PacketLine) -> Result<(), AllocError>
+    ensures { OnOk result (out.new.items ≡ out.old.items ++ front_text line.now ++ fate_text line.now.fate line.now.bytes) }
+{
+    match &line.fate {
         Fate::Pass { len } => {
-            word(out, b"pass ")?;
-            number(out, *len)?;
-            word(out, b" ")?;
-            append_hex(out, bytes)
+            pass_front(out, line, *len)?;
+            append_hex(out, line.bytes.as_slice())
         }
         Fate::Drop(why) => {
-            word(out, b"drop ")?;
+            drop_front(out, line)?;
             cause(out, why)
         }
     }
 }
 
-fn mark(out: &mut Vec<u8>, entry: bool) -> Result<(), AllocError>
-    ensures { OnOk result (out.new.items ≡ out.old.items ++ mark_text entry) }
-{
-    if entry {
-        word(out, b" +")
-    } else {
-        word(out, b" @")
-    }
-}
-
 /// Appends a packet's line.
+#[tactic(auto, unfolding(crate::specs::Front::front_text))]
 pub fn packet_line(out: &mut Vec<u8>, line: &PacketLine) -> Result<(), AllocError>
     ensures { OnOk result (out.new.items ≡ out.old.items ++ line_text line.now) }
 {
-    word(out, b"w")?;
-    number(out, line.worker)?;
-    word(out, b" ")?;
-    number(out, line.packet)?;
-    mark(out, line.entry)?;
-    number(out, line.count)?;
-    word(out, b" ")?;
-    fate(out, &line.fate, line.bytes.as_slice())?;
+    body(out, line)?;
     word(out, b"\n")
 }
 

@@ -48,13 +48,14 @@ fn outcome(policy: &PlainPolicy, captured: &Record) -> Result<Verdict, LooseCaus
     if captured.bytes.len() < captured.original as usize {
         return Err(LooseCause::Snapped);
     }
-    let frame = match read_frame(captured.bytes.as_slice()) {
-        Ok(frame) => frame,
-        Err(fault) => return Err(LooseCause::Malformed(fault)),
-    };
-    match choose_port(&[policy.mac], frame.stack()) {
-        None => Err(LooseCause::NoPort),
-        Some(place) => Ok(verdict(&policy.layer, place.dir, frame.stack())),
+    // The frame is large: it is looked at where it was read, and not moved.
+    let read = read_frame(captured.bytes.as_slice());
+    match &read {
+        Err(fault) => Err(LooseCause::Malformed(*fault)),
+        Ok(frame) => match choose_port(&[policy.mac], frame.stack()) {
+            None => Err(LooseCause::NoPort),
+            Some(place) => Ok(verdict(&policy.layer, place.dir, frame.stack())),
+        },
     }
 }
 
@@ -105,6 +106,7 @@ fn line(alloc: Global, packet: u32, verdict: Verdict, bytes: Items<u8>) -> Packe
     }
 }
 
+#[inline(always)]
 fn push<T: Drop>(list: &mut Items<T>, value: T) -> Result<(), NoMemory>
     ensures { OnOk result (list.new ≡ list.old ++ value ∷ []) }
 {

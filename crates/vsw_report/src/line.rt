@@ -121,7 +121,7 @@ fn mark(entry: bool) -> &'static [u8]
     if entry { b" +" } else { b" @" }
 }
 
-/// Bytes of the longest front of a line: three words, two marks, four numbers of ten digits.
+/// Room for a line's front, which has 51 bytes at most.
 const FRONT_LEN: usize = 64;
 
 /// Writes a line's front that ends at `end`, up to its fate, and answers where it begins.

@@ -53,15 +53,18 @@ fn word(bytes: &[u8], at: usize) -> u16
 fn address(bytes: &[u8], at: usize) -> Ip4
     requires { at ≤ 4000 }
 {
-    let [high, low] = [word(bytes, at), word(bytes, at + 2)];
-    Ip4::of(u32::from(high) * 0x1_0000 + u32::from(low))
+    let high = u32::from(word(bytes, at));
+    let low = u32::from(word(bytes, at + 2));
+    Ip4::of(high * 0x1_0000 + low)
 }
 
 fn mac(bytes: &[u8], at: usize) -> Mac
     requires { at ≤ 4000 }
 {
-    let [high, middle, low] = [word(bytes, at), word(bytes, at + 2), word(bytes, at + 4)];
-    Mac::of(u64::from(high) * 0x1_0000_0000 + u64::from(middle) * 0x1_0000 + u64::from(low))
+    let high = u64::from(word(bytes, at));
+    let middle = u64::from(word(bytes, at + 2));
+    let low = u64::from(word(bytes, at + 4));
+    Mac::of(high * 0x1_0000_0000 + middle * 0x1_0000 + low)
 }
 
 fn add(headers: &mut Headers, header: Header) {

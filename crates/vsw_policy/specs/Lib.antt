@@ -1,0 +1,5 @@
+pub mod Obey
+pub mod Layers
+pub mod Sound
+pub mod Own
+pub mod Refusals

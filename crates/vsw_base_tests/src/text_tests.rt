@@ -2,7 +2,6 @@
 
 use vsw_base::{BadText, Ip4, Mac, Prefix};
 
-
 #[test]
 fn addresses_are_read_from_their_texts(rt: HostRuntime) {
     assert_eq!(rt;

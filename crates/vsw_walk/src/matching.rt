@@ -42,7 +42,9 @@ fn condition_holds(condition: &PlainCond, addresses: &Option<Addresses>) -> bool
 {
     match addresses {
         None => false,
-        Some(addresses) => condition.prefix.holds(u64::from(field(condition.field, addresses).number())),
+        Some(addresses) => condition
+            .prefix
+            .holds(u64::from(field(condition.field, addresses).number())),
     }
 }
 

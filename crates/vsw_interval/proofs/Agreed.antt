@@ -1,7 +1,6 @@
 -- The ranges by their low ends answer as the list of items does.
-use Rattle.std.proofs.Common.{◌≤◌, ◌&&◌, ℕ, Bool, leb, List, Option, Some, None, get_or, sym, ap, subst, ◌∙◌}
+use Rattle.std.proofs.Common.{ℕ, List}
 use Rattle.std.specs.List.Sorted.{IsPermutation}
-use Rattle.std.proofs.lemmas.Bool.{le-leb, leb-true, leb-false, and_from, and_parts}
 use Rattle.vsw_interval.specs.declared.placed.PlacedRange.{PlacedRange}
 use Rattle.vsw_interval.specs.Least.{holds, counts, least_of, Answers}
 use Rattle.vsw_interval.specs.Block.{Agrees}

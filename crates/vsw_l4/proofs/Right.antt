@@ -1,5 +1,5 @@
 -- What becomes of TCP and UDP checksums where endpoints change.
-use Rattle.std.proofs.Common.{◌≡◌, ℕ, zero, suc, ◌+◌, ◌*◌, ◌/◌, ◌%◌, ◌^◌, ◌<◌, ◌≤◌, List, [], ◌∷◌, ◌++◌, refl, sym, ◌∙◌, ap, arith, length, take, drop, subst, ◌⊎◌}
+use Rattle.std.proofs.Common.{◌≡◌, ℕ, zero, suc, ◌+◌, ◌*◌, ◌/◌, ◌%◌, ◌<◌, ◌≤◌, List, [], ◌∷◌, ◌++◌, refl, sym, ◌∙◌, ap, arith, length, take, drop, subst, ◌⊎◌}
 use Rattle.vsw_sum.specs.Sum.{AreBytes, AreWords, checksum, words_of}
 use Rattle.vsw_sum.specs.Update.{IsOtherZero, written}
 use Rattle.vsw_sum.proofs.Folds.{are_words}

@@ -1,10 +1,10 @@
 -- What becomes of UDP checksums where endpoints change.
-use Rattle.std.proofs.Common.{◌≡◌, ℕ, zero, suc, ◌+◌, ◌*◌, ◌-◌, ◌/◌, ◌%◌, ◌<◌, ◌≤◌, ◌==◌, List, [], ◌∷◌, refl, sym, ◌∙◌, ap, arith, length, take, drop, if◌then◌else◌, Bool, true, false, length-take}
+use Rattle.std.proofs.Common.{◌≡◌, ℕ, suc, ◌+◌, ◌*◌, ◌-◌, ◌/◌, ◌%◌, ◌<◌, ◌≤◌, ◌==◌, List, [], ◌∷◌, refl, sym, ◌∙◌, ap, arith, length, take, drop, if◌then◌else◌, Bool, true, false, length-take}
 use Rattle.std.proofs.lemmas.Grind.{common_steps}
 use Rattle.std.proofs.Math.Seq.{take-add}
 use Rattle.byteorder.specs.Endian.{big_number}
 use Rattle.vsw_base.specs.Udp.{udp_length}
-use Rattle.vsw_sum.specs.Sum.{AreBytes, AreWords, checksum, words_of}
+use Rattle.vsw_sum.specs.Sum.{AreWords, checksum, words_of}
 use Rattle.vsw_sum.specs.Update.{written}
 use Rattle.vsw_sum.proofs.Folds.{are_words}
 use Rattle.vsw_l4.specs.Change.{checksum_changed, udp_changed, udp_checksum_changed}

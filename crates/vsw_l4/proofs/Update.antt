@@ -4,7 +4,7 @@ use Rattle.std.proofs.lemmas.Grind.{common_steps}
 use Rattle.std.proofs.lemmas.List.Sums.{sum_by-cons}
 use Rattle.vsw_sum.specs.Sum.{AreWords, checksum}
 use Rattle.vsw_sum.specs.Update.{AreChanged, IsOtherZero, changes, written}
-use Rattle.vsw_sum.proofs.Changed.{ignores_same, stays_right, stays_written, sum_cons}
+use Rattle.vsw_sum.proofs.Changed.{ignores_same, stays_right, stays_written}
 use Rattle.vsw_sum.proofs.Folds.{sum_is}
 use Rattle.vsw_l4.specs.Change.{checksum_changed, endpoint_words}
 use Rattle.vsw_l4.specs.Right.{AreEndpoints}

@@ -1,5 +1,5 @@
 -- TCP and UDP checksums that are right, and what becomes of them where endpoints change.
-use Rattle.std.specs.Prelude.{◌≡◌, ◌≢◌, ◌≤◌, ◌<◌, ◌^◌, ℕ, List, ◌∷◌, ◌++◌, length, take, drop, slice_index, ◌⊎◌}
+use Rattle.std.specs.Prelude.{◌≡◌, ◌≢◌, ◌≤◌, ◌<◌, ◌^◌, ℕ, List, ◌∷◌, ◌++◌, length, take, drop, ◌⊎◌}
 use Rattle.byteorder.specs.Endian.{big_number}
 use Rattle.vsw_base.specs.Udp.{udp_length}
 use Rattle.vsw_sum.specs.Sum.{AreBytes, checksum, pseudo_words, words_of}

@@ -2,7 +2,7 @@
 use Rattle.std.proofs.Common.{◌≡◌, ℕ, ◌+◌, ◌-◌, ◌%◌, ◌<◌, List, [], ◌∷◌, refl, sym, ◌∙◌, ap, arith, sum, ◌⊎◌}
 use Rattle.std.proofs.lemmas.Grind.{common_steps}
 use Rattle.vsw_sum.specs.Sum.{AreWords, checksum, plus_ones, sum_ones}
-use Rattle.vsw_sum.specs.Update.{AreChanged, IsOtherZero, WasRight, changes, update_of, written}
+use Rattle.vsw_sum.specs.Update.{IsOtherZero, WasRight, changes, written}
 use Rattle.vsw_sum.proofs.Changed.{stays_written}
 use Rattle.vsw_sum.proofs.Folds.{fold_fits, sum_is}
 

@@ -1,5 +1,3 @@
-use Rattle.std.specs.Prelude.{option_copied}
-use Rattle.vsw_rule.specs.Choice as spec
 use Rattle.vsw_rule.proofs.Picks.{pick_is}
 use Rattle.vsw_rule.proofs.choice.pick.Goals as goal
 

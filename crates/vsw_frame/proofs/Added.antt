@@ -1,5 +1,5 @@
 -- Headers that were pushed.
-use Rattle.std.proofs.Common.{◌≡◌, List, [], ◌∷◌, ◌++◌, length, drop, sym, ◌∙◌, ap, append_assoc}
+use Rattle.std.proofs.Common.{◌≡◌, ◌≤◌, ◌+◌, List, [], ◌∷◌, ◌++◌, length, drop, sym, ◌∙◌, ap, arith, append_assoc, length-append}
 use Rattle.std.proofs.Math.Seq.{drop-append_seam}
 use Rattle.vsw_base.specs.declared.header.Header.{Header}
 use Rattle.vsw_frame.specs.Seen.{added, Adds}
@@ -22,3 +22,7 @@ more_behind old mid next new h a e b = more old mid new (h ∷ added next new) a
 
 pub added_first : (old new : List Header) → old ≡ [] → added old new ≡ new
 added_first old new e = ap (λ (l : List Header). drop (length l) new) e
+
+-- where few were pushed, the list is hardly longer
+pub few_more : (old new : List Header) → Adds old new → length (added old new) ≤ 2 → length new ≤ length old + 2
+few_more old new a few = omega (arith, ap length a, length-append old (added old new), few)

@@ -34,3 +34,12 @@ kept_written l m ls from to u old x y same a h e w f =
     ∙ ap (λ (b : List ℕ). b ++ (x ++ (y ++ (l.slack ++ l.trailer)))) before
     ∙ ap (λ (b : List ℕ). take (udp_at l.bytes) l.bytes ++ (b ++ (y ++ (l.slack ++ l.trailer)))) kept
     ∙ ap (λ (b : List ℕ). take (udp_at l.bytes) l.bytes ++ (udp_kept changed (take 16 (drop (udp_at l.bytes) l.bytes)) ++ (b ++ (l.slack ++ l.trailer)))) f
+
+-- the inner frame is as it was behind UDP and VXLAN headers that were written
+pub inside_kept : (l : Level) (inner : List ℕ) (u : ℕ) (old x : List ℕ) → old ≡ l.bytes → IsAround l inner → u ≡ udp_at l.bytes → length x ≡ length (take (u + 16 - u) (drop u old)) → take (u + 16 + length inner - (u + 16)) (drop (u + 16) (put_mid u (u + 16 - u) old x)) ≡ inner
+inside_kept l inner u old x same a h w =
+    let n : ℕ = length inner in
+    let room : u + 16 + n ≤ length old = omega (arith, a.room, h, ap length same) in
+    let len : length x ≡ 16 = omega (arith, w, length-take (u + 16 - u) (drop u old), length-drop u old, room) in
+    let behind : drop (u + 16) (put_mid u (u + 16 - u) old x) ≡ drop (u + 16) old = drop-put_mid u (u + 16 - u) old x (u + 16) (omega arith) (omega (arith, room)) (omega (arith, len)) in
+    ap (λ (k : ℕ). take k (drop (u + 16) (put_mid u (u + 16 - u) old x))) (omega arith) ∙ ap (take n) (behind ∙ ap (drop (u + 16)) same ∙ ap (λ (v : ℕ). drop (v + 16) l.bytes) h) ∙ a.inside

@@ -70,12 +70,15 @@ fn slack<'a>(end: &End<'a>) -> &'a [u8]
     }
 }
 
-/// A frame in which no encapsulation is looked for, or found.
-fn plain<'a>(bytes: &'a [u8], opened: &Opened<'a>) -> Found<'a>
+/// A frame in which no encapsulation is looked for, or found. Its ports are pushed.
+fn plain<'a>(bytes: &'a [u8], opened: &Opened<'a>, headers: &mut Headers) -> Found<'a>
+    requires room { length headers.old ≤ 8 }
+    ensures pushed { headers.new ≡ headers.old ++ ports (end_fields opened.now.end) }
     ensures parts { (front : List Header) → found_parts (front ++ ports (end_fields opened.now.end)) result ≡ plain_parts bytes.now (opened_fields front opened.now) }
     ensures first { result.first.bytes.now ≡ bytes.now }
     ensures single { (result.second ≡ None) × (result.third ≡ None) }
 {
+    push_ports(headers, &opened.end);
     Found {
         control: control(&opened.end),
         first: Level {
@@ -122,12 +125,10 @@ pub fn find<'a>(depth: u8, bytes: &'a [u8], headers: &mut Headers) -> Result<Fou
         Err(fault) => return Err(fault),
     };
     if depth == 0 {
-        push_ports(headers, &opened.end);
-        return Ok(plain(bytes, &opened));
+        return Ok(plain(bytes, &opened, headers));
     }
     let Some(inner) = look_within(&opened.end) else {
-        push_ports(headers, &opened.end);
-        return Ok(plain(bytes, &opened));
+        return Ok(plain(bytes, &opened, headers));
     };
     headers.push(Header::Vxlan { vni: inner.vni });
     match find(depth - 1, inner.frame, headers) {

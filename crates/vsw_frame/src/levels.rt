@@ -4,7 +4,8 @@ ghost use Rattle.std.specs.Prelude.{◌≡◌, ◌≤◌, ◌<◌, ◌+◌, List
 ghost use Rattle.vsw_base.specs.declared.header.Header.{Header};
 ghost use Rattle.vsw_base.specs.Shape.{encaps, inner};
 ghost use Rattle.vsw_frame.specs.Frame.{parts};
-ghost use Rattle.vsw_frame.specs.Levels.{levels_of, IsInOrder, Stand};
+ghost use Rattle.vsw_frame.specs.Layout.{IsAround};
+ghost use Rattle.vsw_frame.specs.Levels.{level_fields, levels_of, IsInOrder, Stand};
 
 use crate::frame::{Frame, Levels};
 
@@ -28,6 +29,7 @@ pub fn within<'a>(levels: &Levels<'a>) -> Levels<'a>
     ensures levels { levels_of result ≡ drop 1 (levels_of levels.now) }
     ensures in_order { IsInOrder result }
     ensures stand { (hs : List Header) → Stand hs levels.now → Stand hs result }
+    ensures around { (hs : List Header) → Stand hs levels.now → IsAround (level_fields levels.now.first) result.first.bytes.now }
 {
     let Some(second) = levels.second else {
         unreachable!()

@@ -8,7 +8,7 @@ use std::alloc::Global;
 use std::process::Abort;
 use std::test::Fail;
 use vsw_base::{Control, Header, Headers, Ip4, Mac, Sizes};
-use vsw_frame::read_frame;
+use vsw_frame::{Frame, read_frame};
 
 /// TCP with 4 bytes of options and 2 of payload, from port 1234 of 10.0.0.5 to port 80 of 10.0.0.9.
 const SEGMENT: [u8; 60] = [
@@ -242,21 +242,29 @@ fn widened(sizes: Sizes) -> [usize; 3] {
     [sizes.whole, sizes.one, sizes.two].map(|size| size as usize)
 }
 
+/// The number of a frame's fault, 0 where there is none.
+fn fault(bytes: &[u8]) -> u8 {
+    match read_frame(bytes) {
+        Ok(_) => 0,
+        Err(fault) => fault.number(),
+    }
+}
+
+/// A frame that was read says the same.
+fn agree(rt: &impl Abort, frame: &Frame<'_>, said: &Said<'_>, place: usize) {
+    assert_eq!(rt; frame.stack().headers(), said.headers.as_slice(), "{place}");
+    assert_eq!(rt; frame.control(), said.control, "{place}");
+    assert_eq!(rt; widened(frame.sizes()), said.sizes, "{place}");
+    assert_eq!(rt; frame.payload(), said.payload, "{place}");
+}
+
 /// The reader and the plain program say the same of these bytes.
 fn compare(rt: &impl Abort, bytes: &[u8], place: usize) {
     match plain(bytes) {
-        Err(number) => match read_frame(bytes) {
-            Ok(_) => assert_eq!(rt; Some(number), None, "{place}"),
-            Err(fault) => assert_eq!(rt; fault.number(), number, "{place}"),
-        },
+        Err(number) => assert_eq!(rt; fault(bytes), number, "{place}"),
         Ok(said) => match read_frame(bytes) {
-            Err(fault) => assert_eq!(rt; Some(fault), None, "{place}"),
-            Ok(frame) => {
-                assert_eq!(rt; frame.stack().headers(), said.headers.as_slice(), "{place}");
-                assert_eq!(rt; frame.control(), said.control, "{place}");
-                assert_eq!(rt; widened(frame.sizes()), said.sizes, "{place}");
-                assert_eq!(rt; frame.payload(), said.payload, "{place}");
-            }
+            Ok(frame) => agree(rt, &frame, &said, place),
+            Err(fault) => panic!(rt; "{place}: {}", fault.name()),
         },
     }
 }

@@ -3,7 +3,7 @@
 use crate::frames::{DELIVERED, QUERY, REPLY, SENT, nested, outer};
 use std::process::Abort;
 use vsw_base::{BadFrame, Control, Header, Ip4, Mac, Sizes};
-use vsw_frame::read_frame;
+use vsw_frame::{Frame, read_frame};
 
 /// TCP from port 1234 to port 80 with SYN and ACK and no payload.
 const SYN_ACK: [u8; 20] = [
@@ -51,16 +51,21 @@ fn with_tcp() -> [u8; 54] {
     frame
 }
 
+/// A frame of these bytes, payload and sizes.
+fn holds(rt: &impl Abort, frame: &Frame<'_>, bytes: &[u8], payload: &[u8], sizes: Sizes) {
+    assert_eq!(rt; frame.bytes(), bytes);
+    assert_eq!(rt; frame.payload(), payload);
+    assert_eq!(rt; frame.sizes(), sizes);
+}
+
 /// Reads a frame of these headers, payload and sizes.
 fn reads(rt: &impl Abort, bytes: &[u8], headers: &[Header], payload: &[u8], sizes: Sizes) {
     match read_frame(bytes) {
         Ok(frame) => {
             assert_eq!(rt; frame.stack().headers(), headers);
-            assert_eq!(rt; frame.bytes(), bytes);
-            assert_eq!(rt; frame.payload(), payload);
-            assert_eq!(rt; frame.sizes(), sizes);
+            holds(rt, &frame, bytes, payload, sizes);
         }
-        Err(fault) => assert_eq!(rt; Some(fault), None),
+        Err(fault) => panic!(rt; "it is no frame: {}", fault.name()),
     }
 }
 
@@ -211,7 +216,7 @@ fn frames_up_to_65600_bytes_are_read(rt: HostRuntime) {
 fn has(rt: &impl Abort, bytes: &[u8], headers: &[Header]) {
     match read_frame(bytes) {
         Ok(frame) => assert_eq!(rt; frame.stack().headers(), headers),
-        Err(fault) => assert_eq!(rt; Some(fault), None),
+        Err(fault) => panic!(rt; "it is no frame: {}", fault.name()),
     }
 }
 

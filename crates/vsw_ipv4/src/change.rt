@@ -2,7 +2,6 @@
 
 ghost use Rattle.std.specs.Prelude.{◌≡◌, ◌≤◌, ◌++◌, ◌*◌, length, slice_index, bit_and};
 ghost use Rattle.byteorder.specs.Endian.{big_bytes};
-ghost use Rattle.vsw_base.specs.Ipv4.{ip_header};
 ghost use Rattle.vsw_ipv4.specs.Change as change;
 ghost use Rattle.vsw_ipv4.specs.Change.{ip_changed, checksum_changed};
 
@@ -21,15 +20,6 @@ const DST: usize = 16;
 
 /// Offset of what follows the addresses.
 const END: usize = 20;
-
-/// Bytes of the header that the bytes begin with, its options among them.
-pub fn header_len(bytes: &[u8]) -> usize
-    requires { 1 ≤ length bytes.now }
-    ensures value { result ≡ ip_header bytes.now }
-    ensures small { result ≤ 60 }
-{
-    4 * usize::from(bytes[0] & 0x0f)
-}
 
 /// The words of a source and a destination address.
 fn address_words(src: u32, dst: u32) -> [u16; 4]

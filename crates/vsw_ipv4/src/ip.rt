@@ -3,10 +3,10 @@
 //! (1), checksum (2), source (4), destination (4), options. Numbers have their highest byte first.
 
 ghost use Rattle.std.specs.Prelude.{◌≡◌, ◌≤◌, IfOk, drop, length, take};
-ghost use Rattle.vsw_base.specs.Ipv4.{ip_of};
+ghost use Rattle.vsw_base.specs.Ipv4.{ip_header, ip_total, is_part, ip_fields, ip_of};
 ghost use Rattle.vsw_base.specs.Fits.{IsFit};
 ghost use Rattle.vsw_base.specs.declared.header.Header.TheVariants.{Ip};
-ghost use Rattle.vsw_ipv4.specs.Ip.{ip_bytes, ip_seen, pushed_ip_bytes};
+ghost use Rattle.vsw_ipv4.specs.Ip.{ip_bytes, ip_view, ip_seen, pushed_ip_bytes};
 
 use byteorder::{BigEndian, ByteOrder};
 use vsw_base::{BadFrame, Ip4};
@@ -47,6 +47,48 @@ pub struct IpPart<'a> {
     pub trailer: &'a [u8],
 }
 
+/// Bytes of the header that the bytes begin with, its options among them.
+pub fn header_len(bytes: &[u8]) -> usize
+    requires { 1 ≤ length bytes.now }
+    ensures value { result ≡ ip_header bytes.now }
+    ensures small { result ≤ 60 }
+{
+    4 * usize::from(bytes[0] & 0x0f)
+}
+
+/// Bytes of the packet with its header.
+fn total_len(bytes: &[u8]) -> usize
+    requires { 20 ≤ length bytes.now }
+    ensures { result ≡ ip_total bytes.now }
+{
+    usize::from(BigEndian::read_u16(&bytes[TOTAL..]))
+}
+
+/// Whether this is a fragment.
+fn is_fragment(bytes: &[u8]) -> bool
+    requires { 20 ≤ length bytes.now }
+    ensures { result ≡ is_part bytes.now }
+{
+    BigEndian::read_u16(&bytes[FRAGMENT..]) & PART_BITS != 0
+}
+
+/// The fields of a header whose lengths were found to be right.
+fn fields<'a>(bytes: &'a [u8], header: usize, total: usize) -> IpPart<'a>
+    requires within { (20 ≤ length bytes.now) × (total ≤ length bytes.now) × (header ≤ total) }
+    requires lengths { (header ≡ ip_header bytes.now) × (total ≡ ip_total bytes.now) }
+    ensures fields { ip_view result ≡ ip_fields bytes.now }
+    ensures fit { IsFit (Ip result.src result.dst result.proto result.part) }
+{
+    IpPart {
+        src: Ip4::of(BigEndian::read_u32(&bytes[SRC..])),
+        dst: Ip4::of(BigEndian::read_u32(&bytes[DST..])),
+        proto: bytes[PROTO],
+        part: is_fragment(bytes),
+        payload: &bytes[..total][header..],
+        trailer: &bytes[total..],
+    }
+}
+
 /// The header that the bytes begin with. Options are skipped, and the checksum isn't looked at:
 /// captures under checksum offload hold wrong ones.
 pub fn read_ip<'a>(bytes: &'a [u8]) -> Result<IpPart<'a>, BadFrame>
@@ -59,19 +101,12 @@ pub fn read_ip<'a>(bytes: &'a [u8]) -> Result<IpPart<'a>, BadFrame>
     if bytes[0] >> 4 != 4 {
         return Err(BadFrame::IpVersion);
     }
-    let header_len = 4 * usize::from(bytes[0] & 0x0f);
-    let total = usize::from(BigEndian::read_u16(&bytes[TOTAL..]));
-    if header_len < IP_LEN || total < header_len || bytes.len() < total {
+    let header = header_len(bytes);
+    let total = total_len(bytes);
+    if header < IP_LEN || total < header || bytes.len() < total {
         return Err(BadFrame::IpLength);
     }
-    Ok(IpPart {
-        src: Ip4::of(BigEndian::read_u32(&bytes[SRC..])),
-        dst: Ip4::of(BigEndian::read_u32(&bytes[DST..])),
-        proto: bytes[PROTO],
-        part: BigEndian::read_u16(&bytes[FRAGMENT..]) & PART_BITS != 0,
-        payload: &bytes[..total][header_len..],
-        trailer: &bytes[total..],
-    })
+    Ok(fields(bytes, header, total))
 }
 
 /// The bytes of the header of an encapsulation: version 4, header length 5 words, service 0, id 0,

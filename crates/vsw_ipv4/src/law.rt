@@ -11,11 +11,3 @@ pub fn laws()
     ensures right { StaysRight }
     ensures wrong { StaysWrong }
 {}
-
-ghost use Rattle.vsw_ipv4.specs.Vectors.{PlainIsRight, OptionsAreRight};
-
-/// The definitions of right checksums, evaluated.
-fn definition()
-    ensures plain { PlainIsRight }
-    ensures options { OptionsAreRight }
-{}

@@ -2,11 +2,13 @@
 #![tactic(auto)]
 
 mod change;
+mod examples;
 mod ip;
 mod law;
 #[cfg(test)]
 mod tests;
 
-pub use change::{change_ip, header_len};
-pub use ip::{IpPart, read_ip, write_ip};
+pub use change::change_ip;
+pub use examples::vectors;
+pub use ip::{IpPart, header_len, read_ip, write_ip};
 pub use law::laws;

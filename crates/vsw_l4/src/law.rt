@@ -16,11 +16,3 @@ pub fn laws()
     ensures udp_without { UdpStaysWithout }
     ensures udp_with { UdpStaysWith }
 {}
-
-ghost use Rattle.vsw_l4.specs.Vectors.{HelloIsRight, QueryIsRight};
-
-/// The definitions of right checksums, evaluated.
-fn definition()
-    ensures tcp { HelloIsRight }
-    ensures udp { QueryIsRight }
-{}

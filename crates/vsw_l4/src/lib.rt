@@ -2,6 +2,7 @@
 #![tactic(auto)]
 
 mod change;
+mod examples;
 mod law;
 mod tcp;
 #[cfg(test)]
@@ -10,6 +11,7 @@ mod udp;
 mod vxlan;
 
 pub use change::{Endpoints, change_tcp, change_udp, uncheck_udp};
+pub use examples::vectors;
 pub use law::laws;
 pub use tcp::{TcpPart, read_tcp};
 pub use udp::{UdpPart, read_udp};

@@ -6,8 +6,6 @@ mod capture;
 mod cutting;
 mod fault;
 mod reader;
-#[cfg(test)]
-mod tests;
 
 pub use capture::Record;
 pub use cutting::cuttings_agree;

@@ -17,14 +17,3 @@ pub fn laws()
     ensures kept { KeepEncapsulations }
     ensures pushed { PushRight }
 {}
-
-ghost use Rattle.vsw_roundtrip.specs.Vectors.{ReadsInside, ReadsPlain, WritesAnswer, WritesEncapsulated};
-
-/// The definitions, evaluated on frames that were rewritten by hand, and on one whose payload looks like an
-/// encapsulation.
-fn definition()
-    ensures encapsulated { WritesEncapsulated }
-    ensures answer { WritesAnswer }
-    ensures plain { ReadsPlain }
-    ensures inside { ReadsInside }
-{}

@@ -1,6 +1,7 @@
 //! Laws above the bytes that are written for a frame, and tests of frames.
 #![tactic(auto)]
 
+mod examples;
 #[cfg(test)]
 mod frames;
 mod law;
@@ -13,4 +14,5 @@ mod rewriting_tests;
 #[cfg(test)]
 mod tests;
 
+pub use examples::vectors;
 pub use law::laws;

@@ -2,10 +2,10 @@
 
 ghost use Rattle.std.specs.Prelude.{◌≡◌, ◌+◌, ◌<◌, ◌≤◌, length, OnOk};
 
-use super::*;
 use std::alloc::Global;
 use std::test::Fail;
 use vsw_base::Moment;
+use vsw_pcap::{BadTrace, Next, Reader, Record};
 
 /// A header in little-endian order and microseconds: version 2.4, snap length 262,144, link type 1.
 const LITTLE: &[u8; 24] =

@@ -1,6 +1,6 @@
 use Rattle.vsw_roundtrip.proofs.Deeper.{reads_inside, reads_plain}
 use Rattle.vsw_roundtrip.proofs.Written.{writes_answer, writes_encapsulated}
-use Rattle.vsw_roundtrip.proofs.law.definition.Goals as goal
+use Rattle.vsw_roundtrip.proofs.examples.vectors.Goals as goal
 
 pub returns-clause-encapsulated : goal.returns-clause-encapsulated
 returns-clause-encapsulated c = writes_encapsulated

@@ -1,5 +1,5 @@
 use Rattle.vsw_ipv4.proofs.Rights.{plain_is_right, options_are_right}
-use Rattle.vsw_ipv4.proofs.law.definition.Goals as goal
+use Rattle.vsw_ipv4.proofs.examples.vectors.Goals as goal
 
 pub returns-clause-plain : goal.returns-clause-plain
 returns-clause-plain c = plain_is_right

@@ -1,5 +1,5 @@
 use Rattle.std.proofs.Common.{◌≡◌, ◌+◌, length}
-use Rattle.vsw_pcap.proofs.tests.drain.Given as goal
+use Rattle.vsw_pcap_tests.proofs.tests.drain.Given as goal
 
 abbrev pub invariant-loop-record : goal.invariant-loop-record
 invariant-loop-record l = record {

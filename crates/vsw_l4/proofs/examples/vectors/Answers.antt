@@ -1,5 +1,5 @@
 use Rattle.vsw_l4.proofs.Rights.{hello_is_right, query_is_right}
-use Rattle.vsw_l4.proofs.law.definition.Goals as goal
+use Rattle.vsw_l4.proofs.examples.vectors.Goals as goal
 
 pub returns-clause-tcp : goal.returns-clause-tcp
 returns-clause-tcp c = hello_is_right

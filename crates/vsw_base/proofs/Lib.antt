@@ -7,3 +7,4 @@ pub mod Truths
 pub mod Numbers
 pub mod Readings
 pub mod Dropped
+pub mod Octets

@@ -1,5 +1,5 @@
 -- The texts of addresses.
-use Rattle.std.specs.Prelude.{ℕ, ◌+◌, ◌*◌, ◌-◌, ◌==◌, ◌&&◌, List, [], ◌∷◌, nat_le, take, drop, position, Option, Some, None, option_map, option_and_then, if◌then◌else◌, Result, Ok, Err}
+use Rattle.std.specs.Prelude.{ℕ, Bool, true, ◌+◌, ◌*◌, ◌-◌, ◌==◌, ◌&&◌, List, [], ◌∷◌, nat_le, take, drop, position, Option, Some, None, option_map, option_and_then, if◌then◌else◌, Result, Ok, Err}
 use Rattle.vsw_base.specs.declared.address.Prefix.{Prefix}
 use Rattle.vsw_base.specs.Six.{six}
 
@@ -17,11 +17,20 @@ hex_value c = if nat_le 48 c && nat_le c 57 then Some (c - 48)
 abbrev pub octet_of : ℕ → ℕ → Option ℕ
 octet_of high low = option_and_then (λ h. option_map (λ l. 16 * h + l) (hex_value low)) (hex_value high)
 
+-- all values, where each is there
+abbrev pub all_of : List (Option ℕ) → Option (List ℕ)
+all_of [] = Some []
+all_of (o ∷ os) = option_and_then (λ x. option_map (λ xs. x ∷ xs) (all_of os)) o
+
+abbrev pub are_colons : List ℕ → Bool
+are_colons [] = true
+are_colons (b ∷ bs) = (b == 58) && are_colons bs
+
 -- six groups of two hexadecimal digits with colons between
 unfoldable pub octets_of : List ℕ → Option (List ℕ)
 octets_of (a ∷ b ∷ p ∷ c ∷ d ∷ q ∷ e ∷ f ∷ r ∷ g ∷ h ∷ s ∷ i ∷ j ∷ t ∷ k ∷ l ∷ []) =
-    if (p == 58) && (q == 58) && (r == 58) && (s == 58) && (t == 58)
-    then option_and_then (λ u. option_and_then (λ v. option_and_then (λ w. option_and_then (λ x. option_and_then (λ y. option_map (λ z. u ∷ v ∷ w ∷ x ∷ y ∷ z ∷ []) (octet_of k l)) (octet_of i j)) (octet_of g h)) (octet_of e f)) (octet_of c d)) (octet_of a b)
+    if are_colons (p ∷ q ∷ r ∷ s ∷ t ∷ [])
+    then all_of (octet_of a b ∷ octet_of c d ∷ octet_of e f ∷ octet_of g h ∷ octet_of i j ∷ octet_of k l ∷ [])
     else None
 octets_of _ = None
 

@@ -1,7 +1,7 @@
 //! Reading the texts of addresses.
 
 ghost use Rattle.std.specs.Prelude.{◌≡◌, ◌<◌, ◌^◌, ◌==◌, length, position, IfSome, option_map};
-ghost use Rattle.vsw_base.specs.Spelling.{hex_value, octet_of, octets_of, mac_of, small_of, digit_of, cut_at, ip4_of, prefix_of, or_error};
+ghost use Rattle.vsw_base.specs.Spelling.{all_of, are_colons, hex_value, octet_of, octets_of, mac_of, small_of, digit_of, cut_at, ip4_of, prefix_of, or_error};
 
 use crate::address::{BadText, Ip4, Mac, Prefix};
 
@@ -25,39 +25,39 @@ fn octet(high: u8, low: u8) -> Option<u8>
     Some(16 * high + low)
 }
 
-#[tactic(auto, unfolding(crate::specs::Spelling::octets_of))]
+fn are_colons(bytes: [u8; 5]) -> bool
+    requires { length bytes ≡ 5 }
+    ensures { result ≡ are_colons bytes }
+{
+    let [v, w, x, y, z] = bytes;
+    v == b':' && (w == b':' && (x == b':' && (y == b':' && z == b':')))
+}
+
+/// All octets, where each was read.
+fn all(octets: [Option<u8>; 6]) -> Option<[u8; 6]>
+    requires { length octets ≡ 6 }
+    ensures { result ≡ all_of octets }
+{
+    let [a, b, c, d, e, f] = octets;
+    Some([a?, b?, c?, d?, e?, f?])
+}
+
 fn octets(text: &[u8]) -> Option<[u8; 6]>
     ensures { result ≡ octets_of text.now }
 {
-    let [
-        a,
-        b,
-        b':',
-        c,
-        d,
-        b':',
-        e,
-        f,
-        b':',
-        g,
-        h,
-        b':',
-        i,
-        j,
-        b':',
-        k,
-        l,
-    ] = text
-    else {
+    let [a, b, v, c, d, w, e, f, x, g, h, y, i, j, z, k, l] = text else {
         return None;
     };
-    Some([
-        octet(*a, *b)?,
-        octet(*c, *d)?,
-        octet(*e, *f)?,
-        octet(*g, *h)?,
-        octet(*i, *j)?,
-        octet(*k, *l)?,
+    if !are_colons([*v, *w, *x, *y, *z]) {
+        return None;
+    }
+    all([
+        octet(*a, *b),
+        octet(*c, *d),
+        octet(*e, *f),
+        octet(*g, *h),
+        octet(*i, *j),
+        octet(*k, *l),
     ])
 }
 

@@ -4,11 +4,14 @@ use Rattle.std.specs.List.{find, list_any}
 use Rattle.std.proofs.lemmas.Bool.Decides.{nat_tests}
 use Rattle.vsw_base.proofs.Truths.{both}
 use Rattle.vsw_rule.proofs.Same.{rule_tells, rule_knows}
+use Rattle.vsw_layer.specs.Groups.{changed, removed}
+use Rattle.vsw_layer.specs.Layer.{LayerSeen}
+use Rattle.vsw_layer.specs.Staying.{same_rule}
 use Rattle.vsw_policy.specs.declared.command.Command.{Command}
 use Rattle.vsw_policy.specs.declared.command.Command.TheVariants.{AddLayer, RemoveLayer, AddGroup, RemoveGroup, PutRules, AddRule, RemoveRule, SetDefault, Sweep}
 use Rattle.vsw_policy.specs.declared.refusal.Refusal.{Refusal}
-use Rattle.vsw_policy.specs.Layers.{LayerSeen, is_of, is_layer, is_before}
-use Rattle.vsw_policy.specs.Obey.{changed, removed, placed, empty_layer, within, tests, after, first_refusal, answered, same_rule}
+use Rattle.vsw_policy.specs.Layers.{is_of, is_layer, is_before}
+use Rattle.vsw_policy.specs.Obey.{placed, empty_layer, within, tests, after, first_refusal, answered}
 use Rattle.vsw_policy.specs.Own.{OthersStay, of_own, ObeysAlone, SameIsEqual}
 use Rattle.vsw_policy.specs.Sound.{Each, AreInOrder}
 use Rattle.vsw_policy.proofs.Orders.{across-before}

@@ -1,14 +1,17 @@
--- The first element that passes a test: where it is, what is changed there, and the same through a view.
-use Rattle.std.proofs.Common.{◌≡◌, zero, suc, ◌<◌, ◌+◌, ℕ, Bool, true, false, not, cond, List, [], ◌∷◌, ◌++◌, map, length, take, drop, Option, Some, None, refl, ap, sym, ◌∙◌, arith, get_or}
-use Rattle.std.specs.Prelude.{option_map, nat_lt, if◌then◌else◌, Result, Ok, Err, OnOk, OnErr}
+-- The first layer that passes a test, seen through a view: where it is, what is changed or taken there, and where a new one goes.
+use Rattle.std.proofs.Common.{◌≡◌, suc, ◌<◌, ◌+◌, ℕ, Bool, true, false, not, cond, List, [], ◌∷◌, ◌++◌, map, length, take, drop, Option, Some, None, refl, ap, sym, ◌∙◌, arith, get_or}
+use Rattle.std.specs.Prelude.{option_map, nat_lt, if◌then◌else◌}
 use Rattle.std.specs.List.{slice_set, list_any, find, position, position_or_len, insert, remove}
 use Rattle.std.proofs.lemmas.Bool.Decides.{nat_tests}
 use Rattle.std.proofs.lemmas.List.{map-set, get_or-map, length-map, map-append, take-map, drop-map}
 use Rattle.std.proofs.lemmas.List.Sums.{prefix_len-le-length}
 use Rattle.std.proofs.lemmas.List.Quantifiers.{position-Some}
-use Rattle.vsw_policy.specs.Obey.{changed, removed, placed}
-use Rattle.vsw_policy.specs.declared.layer.Layer.{Layer}
-use Rattle.vsw_policy.specs.Layers.{LayerSeen, seen, is_before}
+use Rattle.vsw_layer.specs.declared.layer.Layer.{Layer}
+use Rattle.vsw_layer.specs.Groups.{changed, removed}
+use Rattle.vsw_layer.specs.Layer.{LayerSeen, seen}
+use Rattle.vsw_layer.proofs.Firsts.{changed-none, changed-at, removed-at}
+use Rattle.vsw_policy.specs.Layers.{is_before}
+use Rattle.vsw_policy.specs.Obey.{placed}
 
 pub any-map : {A B : Type 0} (s : A → B) (p : B → Bool) (xs : List A) → list_any (λ x. p (s x)) xs ≡ list_any p (map s xs)
 any-map s p [] = refl
@@ -29,37 +32,6 @@ first-map s p (x ∷ xs) =
 pub position-map : {A B : Type 0} (s : A → B) (p : B → Bool) (xs : List A) → position (λ x. p (s x)) xs ≡ position p (map s xs)
 position-map s p xs = rw (first-map s p xs, length-map xs s) refl
 
-shifted : (n m : ℕ) → cond (nat_lt (1 + n) (suc m)) (Some (1 + n)) None ≡ option_map suc (cond (nat_lt n m) (Some n) None)
-shifted n m = grind (arith, nat_tests)
-
-position-step : {A : Type 0} (p : A → Bool) (x : A) (xs : List A) → p x ≡ false → position p (x ∷ xs) ≡ option_map suc (position p xs)
-position-step p x xs e = rw e (shifted (position_or_len p xs) (length xs))
-
-position-here : {A : Type 0} (p : A → Bool) (x : A) (xs : List A) → p x ≡ true → position p (x ∷ xs) ≡ Some 0
-position-here p x xs e = rw e (grind (arith, nat_tests))
-
--- where nothing passes, nothing is changed
-pub changed-none : {A : Type 0} (p : A → Bool) (f : A → A) (xs : List A) → position p xs ≡ None → changed p f xs ≡ xs
-changed-none p f [] h = refl
-changed-none p f (x ∷ xs) h = by (p x) refl (position p xs) refl (changed-none p f xs)
-  where
-    by : (b : Bool) → p x ≡ b → (o : Option ℕ) → position p xs ≡ o → (position p xs ≡ None → changed p f xs ≡ xs) → changed p f (x ∷ xs) ≡ x ∷ xs
-    by true e o i ih = let never = sym (position-here p x xs e) ∙ h in absurd (cc)
-    by false e None i ih = rw e (ap (λ ys. x ∷ ys) (ih i))
-    by false e (Some n) i ih = let s = sym (position-step p x xs e ∙ ap (option_map suc) i) ∙ h in absurd (cc)
-
-at-index : {A : Type 0} (p : A → Bool) (f : A → A) (xs : List A) (i : ℕ) (d : A) → i < length xs → p (get_or xs i d) ≡ true → ((k : ℕ) → k < i → p (get_or xs k d) ≡ false) → slice_set xs i (f (get_or xs i d)) ≡ changed p f xs
-at-index p f [] i d lt here before = absurd (omega arith)
-at-index p f (x ∷ xs) zero d lt here before = rw here refl
-at-index p f (x ∷ xs) (suc i) d lt here before =
-    let e = before 0 (omega arith) in
-    let ih = at-index p f xs i d (omega arith) here (λ k l. before (suc k) (omega arith)) in
-    rw e (ap (λ ys. x ∷ ys) ih)
-
--- what stands at the place of the first is changed
-pub changed-at : {A : Type 0} (p : A → Bool) (f : A → A) (xs : List A) (i : ℕ) (d : A) → position p xs ≡ Some i → slice_set xs i (f (get_or xs i d)) ≡ changed p f xs
-changed-at p f xs i d h = let t = position-Some p xs i d h in at-index p f xs i d t.0 t.1 t.2
-
 -- the same through a view
 pub changed-seen : {A B : Type 0} (s : A → B) (p : B → Bool) (f : B → B) (xs : List A) (i : ℕ) (y d : A) → position p (map s xs) ≡ Some i → s y ≡ f (s (get_or xs i d)) → map s (slice_set xs i y) ≡ changed p f (map s xs)
 changed-seen s p f xs i y d h e =
@@ -67,29 +39,6 @@ changed-seen s p f xs i y d h e =
     let n = length-map xs s in
     let lt : i < length xs = omega arith in
     map-set s xs i y ∙ ap (λ z. slice_set (map s xs) i z) (e ∙ ap f (sym (get_or-map s xs i d (s d) lt))) ∙ changed-at p f (map s xs) i (s d) h
-
--- where nothing passes, nothing goes
-pub removed-none : {A : Type 0} (p : A → Bool) (xs : List A) → position p xs ≡ None → removed p xs ≡ xs
-removed-none p [] h = refl
-removed-none p (x ∷ xs) h = by (p x) refl (position p xs) refl (removed-none p xs)
-  where
-    by : (b : Bool) → p x ≡ b → (o : Option ℕ) → position p xs ≡ o → (position p xs ≡ None → removed p xs ≡ xs) → removed p (x ∷ xs) ≡ x ∷ xs
-    by true e o i ih = let never = sym (position-here p x xs e) ∙ h in absurd (cc)
-    by false e None i ih = rw e (ap (λ ys. x ∷ ys) (ih i))
-    by false e (Some n) i ih = let s = sym (position-step p x xs e ∙ ap (option_map suc) i) ∙ h in absurd (cc)
-
-gone-index : {A : Type 0} (p : A → Bool) (xs : List A) (i : ℕ) (d : A) → i < length xs → p (get_or xs i d) ≡ true → ((k : ℕ) → k < i → p (get_or xs k d) ≡ false) → remove xs i ≡ removed p xs
-gone-index p [] i d lt here before = absurd (omega arith)
-gone-index p (x ∷ xs) zero d lt here before = rw here refl
-gone-index p (x ∷ xs) (suc i) d lt here before =
-    let e = before 0 (omega arith) in
-    let ih = gone-index p xs i d (omega arith) here (λ k l. before (suc k) (omega arith)) in
-    rw e (ap (λ ys. x ∷ ys) ih)
-
--- what stands at the place of the first goes
-pub removed-at : {A : Type 0} (p : A → Bool) (xs : List A) (i : ℕ) → position p xs ≡ Some i → remove xs i ≡ removed p xs
-removed-at p [] i h = absurd (cc)
-removed-at p (x ∷ xs) i h = let t = position-Some p (x ∷ xs) i x h in gone-index p (x ∷ xs) i x t.0 t.1 t.2
 
 pub removed-seen : {A B : Type 0} (s : A → B) (p : B → Bool) (xs : List A) (i : ℕ) → position p (map s xs) ≡ Some i → map s (remove xs i) ≡ removed p (map s xs)
 removed-seen s p xs i h =
@@ -129,15 +78,6 @@ none-seen s p f xs ys o e same none = sym (changed-none p f (map s xs) (ap (λ z
 pub some-seen : {A B : Type 0} (s : A → B) (p : B → Bool) (f : B → B) (xs ys : List A) (o : Option ℕ) (i : ℕ) (x y : A) → o ≡ position p (map s ys) → ys ≡ xs → o ≡ Some i → x ≡ get_or xs i x → s y ≡ f (s x) → map s (slice_set xs i y) ≡ changed p f (map s xs)
 some-seen s p f xs ys o i x y e same some here given =
     changed-seen s p f xs i y x (ap (λ zs. position p (map s zs)) (sym same) ∙ sym e ∙ some) (given ∙ ap (λ z. f (s z)) here)
-
--- what follows on an answer
-pub on_ok : {A E P Q : Type 0} (r : Result A E) → (P → Q) → OnOk r P → OnOk r Q
-on_ok (Ok x) f p = f p
-on_ok (Err e) f p = p
-
-pub on_err : {A E P Q : Type 0} (r : Result A E) → (P → Q) → OnErr r P → OnErr r Q
-on_err (Ok x) f p = p
-on_err (Err e) f p = f p
 
 -- a layer that was put in its place
 pub inserted : (cs : List ℕ) (l : LayerSeen) (ls ms new : List Layer) (y : Layer) (i : ℕ) → new ≡ insert ls i y → i ≡ position_or_len (is_before cs l) (map seen ms) → ms ≡ ls → seen y ≡ l → map seen new ≡ placed cs l (map seen ls)

@@ -9,12 +9,14 @@ use Rattle.vsw_base.specs.declared.packet.Dir.TheVariants.{Out, In}
 use Rattle.vsw_rule.specs.declared.rule.Cond.{Cond}
 use Rattle.vsw_rule.specs.declared.rule.Group.{Group}
 use Rattle.vsw_rule.specs.declared.rule.Rule.{Rule}
-use Rattle.vsw_policy.specs.declared.layer.LayerSpec.{LayerSpec}
+use Rattle.vsw_layer.specs.declared.layer.LayerSpec.{LayerSpec}
+use Rattle.vsw_layer.specs.Groups.{is_group, is_rule, changed, removed, rules_in, has_twice, with_rules, with_rule, without_rule}
+use Rattle.vsw_layer.specs.Layer.{LayerSeen, with_spec, defaulting}
 use Rattle.vsw_policy.specs.declared.command.Command.{Command}
 use Rattle.vsw_policy.specs.declared.command.Command.TheVariants.{AddLayer, RemoveLayer, AddGroup, RemoveGroup, PutRules, AddRule, RemoveRule, SetDefault, Sweep}
 use Rattle.vsw_policy.specs.declared.refusal.Refusal.{Refusal}
-use Rattle.vsw_policy.specs.Layers.{LayerSeen, is_of, is_layer, is_group, is_rule, is_before, with_spec, with_rules, defaulting}
-use Rattle.vsw_policy.specs.Obey.{changed, removed, placed, has_twice, empty_layer, with_rule, without_rule, within, groups_in, rules_in, tests, after, first_refusal, rules_given}
+use Rattle.vsw_policy.specs.Layers.{is_of, is_layer, is_before}
+use Rattle.vsw_policy.specs.Obey.{placed, empty_layer, within, groups_in, tests, after, first_refusal, rules_given}
 use Rattle.vsw_policy.specs.Sound.{Each, IsGoodRule, IsGoodGroup, IsGoodLayer, AreApart, AreInOrder, AreGood, IsSound, same_layer, same_group, same_number, is_listed}
 use Rattle.vsw_policy.proofs.Orders.{flip-before, over-before}
 

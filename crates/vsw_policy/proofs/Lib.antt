@@ -1,5 +1,4 @@
 pub mod Firsts
-pub mod Stays
 pub mod Orders
 pub mod Keeps
 pub mod Counts

@@ -1,47 +1,27 @@
 -- What a controller's command answers, and the layers after it.
-use Rattle.std.specs.Prelude.{ℕ, ◌&&◌, ◌||◌, List, [], ◌∷◌, ◌++◌, Bool, true, false, not, nat_le, nat_lt, filter, length, Option, Some, None, Result, Ok, Err, if◌then◌else◌}
+use Rattle.std.specs.Prelude.{ℕ, List, [], ◌∷◌, ◌++◌, Bool, true, false, not, nat_le, nat_lt, filter, length, Option, Some, None, Result, Ok, Err, if◌then◌else◌}
 use Rattle.std.specs.List.{find, list_any}
-use Rattle.vsw_layerflow.specs.declared.pair.Pair.{Pair}
 use Rattle.vsw_layerflow.specs.Pairs.{of_rule}
 use Rattle.vsw_layerflow.specs.Life.{is_over}
 use Rattle.vsw_rule.specs.declared.rule.Group.{Group}
 use Rattle.vsw_rule.specs.declared.rule.Rule.{Rule}
-use Rattle.vsw_rule.specs.contracts.rule.RulePartialEq.TheImpl as equal
-use Rattle.vsw_policy.specs.declared.layer.LayerSpec.{LayerSpec}
+use Rattle.vsw_layer.specs.declared.layer.LayerSpec.{LayerSpec}
+use Rattle.vsw_layer.specs.Groups.{is_group, is_rule, changed, removed, rules_in, has_twice, with_rules, with_rule, without_rule}
+use Rattle.vsw_layer.specs.Layer.{LayerSeen, with_spec, with_parts, defaulting}
+use Rattle.vsw_layer.specs.Staying.{staying}
 use Rattle.vsw_policy.specs.declared.command.Command.{Command}
 use Rattle.vsw_policy.specs.declared.command.Command.TheVariants.{AddLayer, RemoveLayer, AddGroup, RemoveGroup, PutRules, AddRule, RemoveRule, SetDefault, Sweep}
 use Rattle.vsw_policy.specs.declared.refusal.Refusal.{Refusal}
 use Rattle.vsw_policy.specs.declared.refusal.Refusal.TheVariants.{NoLayer, LayerExists, NoGroup, GroupExists, NoRule, RuleExists, ManyLayers, ManyGroups, ManyRules, Memory}
-use Rattle.vsw_policy.specs.Layers.{LayerSeen, is_of, is_layer, is_group, is_rule, is_before, with_spec, with_parts, defaulting, with_rules}
+use Rattle.vsw_policy.specs.Layers.{is_of, is_layer, is_before}
 
--- the first element that passes is changed, or goes, and the others stay
-abbrev pub changed : {A : Type 0} → (A → Bool) → (A → A) → List A → List A
-changed p f [] = []
-changed p f (x ∷ xs) = if p x then f x ∷ xs else x ∷ changed p f xs
-
-abbrev pub removed : {A : Type 0} → (A → Bool) → List A → List A
-removed p [] = []
-removed p (x ∷ xs) = if p x then xs else x ∷ removed p xs
-
--- the groups of a layer, and the rules of a group; none where there is no such layer or group
+-- the groups of a layer; none where there is no such layer
 abbrev pub groups_of : Option LayerSeen → List Group
 groups_of None = []
 groups_of (Some l) = l.groups
 
-abbrev pub rules_of : Option Group → List Rule
-rules_of None = []
-rules_of (Some g) = g.rules
-
 abbrev pub groups_in : List LayerSeen → ℕ → ℕ → List Group
 groups_in ls c n = groups_of (find (is_layer c n) ls)
-
-abbrev pub rules_in : List Group → ℕ → List Rule
-rules_in gs g = rules_of (find (is_group g) gs)
-
--- two rules have one number
-abbrev pub has_twice : List Rule → Bool
-has_twice [] = false
-has_twice (r ∷ rs) = list_any (is_rule r.number) rs || has_twice rs
 
 -- what a command is refused for, in the order of the tests
 abbrev pub no_layer : List LayerSeen → ℕ → ℕ → Bool × Refusal
@@ -68,27 +48,6 @@ placed cs l (m ∷ ms) = if is_before cs l m then l ∷ m ∷ ms else m ∷ plac
 
 abbrev pub empty_layer : ℕ → LayerSpec → LayerSeen
 empty_layer c s = record { controller = c; spec = s; groups = []; pairs = []; next_pair = 0 }
-
-abbrev pub with_rule : Rule → Group → Group
-with_rule r g = with_rules (g.rules ++ r ∷ []) g
-
-abbrev pub without_rule : ℕ → Group → Group
-without_rule k g = with_rules (removed (is_rule k) g.rules) g
-
--- equal in every field
-abbrev pub same_rule : Rule → Rule → Bool
-same_rule r s = equal.eq-value.it r s
-
--- the rule isn't among these
-abbrev pub is_gone : List Rule → Rule → Bool
-is_gone rs r = not (list_any (same_rule r) rs)
-
--- a pair of a group goes where a rule that made it isn't among the group's new ones
-abbrev pub goes : ℕ → List Rule → List Rule → Pair → Bool
-goes g old new p = list_any (λ r. is_gone new r && of_rule g r.number p) old
-
-abbrev pub staying : ℕ → List Rule → List Rule → List Pair → List Pair
-staying g old new ps = filter (λ p. not (goes g old new p)) ps
 
 -- what a command makes of the layer that it names
 abbrev pub within : Command → LayerSeen → LayerSeen

@@ -1,10 +1,12 @@
 -- Controllers apart: what a command finds and leaves of the layers of its own controller and of others.
 use Rattle.std.specs.Prelude.{◌≡◌, ◌↔◌, ℕ, ◌==◌, List, true, false, filter, Result, Ok, Err}
 use Rattle.vsw_rule.specs.declared.rule.Rule.{Rule}
+use Rattle.vsw_layer.specs.Layer.{LayerSeen}
+use Rattle.vsw_layer.specs.Staying.{same_rule}
 use Rattle.vsw_policy.specs.declared.command.Command.{Command}
 use Rattle.vsw_policy.specs.declared.refusal.Refusal.{Refusal}
-use Rattle.vsw_policy.specs.Layers.{LayerSeen, is_of}
-use Rattle.vsw_policy.specs.Obey.{obey, same_rule}
+use Rattle.vsw_policy.specs.Layers.{is_of}
+use Rattle.vsw_policy.specs.Obey.{obey}
 use Rattle.vsw_policy.specs.Sound.{AreInOrder}
 
 -- the layers of every other controller are as they were

@@ -4,7 +4,9 @@ use Rattle.std.specs.List.{list_any}
 use Rattle.vsw_rule.specs.declared.rule.Group.{Group}
 use Rattle.vsw_rule.specs.declared.rule.Rule.{Rule}
 use Rattle.vsw_rule.specs.Check.{bad_rule_of}
-use Rattle.vsw_policy.specs.Layers.{LayerSeen, PolicySeen, is_of, is_layer, is_group, is_rule, is_before}
+use Rattle.vsw_layer.specs.Groups.{is_group, is_rule}
+use Rattle.vsw_layer.specs.Layer.{LayerSeen}
+use Rattle.vsw_policy.specs.Layers.{PolicySeen, is_of, is_layer, is_before}
 
 -- P holds of each element
 abbrev pub Each : {A : Type 0} → (A → Type 0) → List A → Type 0

@@ -1,19 +1,20 @@
 //! The policy of a port.
 
 ghost use Rattle.std.specs.Prelude.{◌≡◌, ◌≤◌, [], false, true, IsTrue, length, map, IfOk, OnErr};
-ghost use Rattle.vsw_policy.specs.Layers.{seen, PolicySeen};
+ghost use Rattle.vsw_layer.specs.Layer.{seen};
+ghost use Rattle.vsw_policy.specs.Layers.{PolicySeen};
 ghost use Rattle.vsw_policy.specs.Obey.{obey, told, is_memory, rules_given};
 ghost use Rattle.vsw_policy.specs.Own.{OthersStay};
 ghost use Rattle.vsw_policy.specs.Sound.{Each, IsGoodRule, IsSound, is_listed, are_distinct};
 
-use crate::change::change;
+use crate::changes::change;
 use crate::command::Command;
 use crate::judge::judge;
-use crate::layer::Layer;
 use crate::refusal::Refusal;
 use std::alloc::Global;
 use std::marker::Model;
 use vsw_base::{Items, NoMemory};
+use vsw_layer::Layer;
 
 /// The layers of a port, and the controllers that they belong to.
 #[derive(Drop)]
@@ -25,7 +26,8 @@ pub struct Policy {
 
 impl Model for Policy {
     ghost use Rattle.std.specs.Prelude.{map};
-    ghost use Rattle.vsw_policy.specs.Layers.{PolicySeen, seen};
+    ghost use Rattle.vsw_layer.specs.Layer.{seen};
+    ghost use Rattle.vsw_policy.specs.Layers.{PolicySeen};
     ghost use Rattle.vsw_policy.specs.Sound.{IsSound};
 
     ghost Value = { PolicySeen };

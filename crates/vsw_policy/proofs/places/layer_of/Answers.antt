@@ -2,7 +2,8 @@ use Rattle.std.proofs.Common.{rules, tests, ◌∙◌, ap}
 use Rattle.std.proofs.lemmas.Iterator.{YieldsList-from_slice}
 use Rattle.std.specs.Prelude.{option_map}
 use Rattle.std.proofs.lemmas.Iterator.Search.{find_from_yields_List}
-use Rattle.vsw_policy.specs.Layers.{seen, is_layer}
+use Rattle.vsw_layer.specs.Layer.{seen}
+use Rattle.vsw_policy.specs.Layers.{is_layer}
 use Rattle.vsw_policy.proofs.Firsts.{find-map}
 use Rattle.vsw_policy.proofs.places.layer_of.Goals as goal
 

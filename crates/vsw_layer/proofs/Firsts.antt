@@ -1,0 +1,70 @@
+-- The first element that passes a test: where it is, what is changed or taken there, and what follows on an answer.
+use Rattle.std.proofs.Common.{◌≡◌, zero, suc, ◌<◌, ◌+◌, ℕ, Bool, true, false, cond, List, [], ◌∷◌, length, Option, Some, None, refl, ap, sym, ◌∙◌, arith, get_or}
+use Rattle.std.specs.Prelude.{option_map, nat_lt, Result, Ok, Err, OnOk, OnErr}
+use Rattle.std.specs.List.{slice_set, position, position_or_len, remove}
+use Rattle.std.proofs.lemmas.Bool.Decides.{nat_tests}
+use Rattle.std.proofs.lemmas.List.Quantifiers.{position-Some}
+use Rattle.vsw_layer.specs.Groups.{changed, removed}
+
+shifted : (n m : ℕ) → cond (nat_lt (1 + n) (suc m)) (Some (1 + n)) None ≡ option_map suc (cond (nat_lt n m) (Some n) None)
+shifted n m = grind (arith, nat_tests)
+
+position-step : {A : Type 0} (p : A → Bool) (x : A) (xs : List A) → p x ≡ false → position p (x ∷ xs) ≡ option_map suc (position p xs)
+position-step p x xs e = rw e (shifted (position_or_len p xs) (length xs))
+
+position-here : {A : Type 0} (p : A → Bool) (x : A) (xs : List A) → p x ≡ true → position p (x ∷ xs) ≡ Some 0
+position-here p x xs e = rw e (grind (arith, nat_tests))
+
+-- where nothing passes, nothing is changed
+pub changed-none : {A : Type 0} (p : A → Bool) (f : A → A) (xs : List A) → position p xs ≡ None → changed p f xs ≡ xs
+changed-none p f [] h = refl
+changed-none p f (x ∷ xs) h = by (p x) refl (position p xs) refl (changed-none p f xs)
+  where
+    by : (b : Bool) → p x ≡ b → (o : Option ℕ) → position p xs ≡ o → (position p xs ≡ None → changed p f xs ≡ xs) → changed p f (x ∷ xs) ≡ x ∷ xs
+    by true e o i ih = let never = sym (position-here p x xs e) ∙ h in absurd (cc)
+    by false e None i ih = rw e (ap (λ ys. x ∷ ys) (ih i))
+    by false e (Some n) i ih = let s = sym (position-step p x xs e ∙ ap (option_map suc) i) ∙ h in absurd (cc)
+
+at-index : {A : Type 0} (p : A → Bool) (f : A → A) (xs : List A) (i : ℕ) (d : A) → i < length xs → p (get_or xs i d) ≡ true → ((k : ℕ) → k < i → p (get_or xs k d) ≡ false) → slice_set xs i (f (get_or xs i d)) ≡ changed p f xs
+at-index p f [] i d lt here before = absurd (omega arith)
+at-index p f (x ∷ xs) zero d lt here before = rw here refl
+at-index p f (x ∷ xs) (suc i) d lt here before =
+    let e = before 0 (omega arith) in
+    let ih = at-index p f xs i d (omega arith) here (λ k l. before (suc k) (omega arith)) in
+    rw e (ap (λ ys. x ∷ ys) ih)
+
+-- what stands at the place of the first is changed
+pub changed-at : {A : Type 0} (p : A → Bool) (f : A → A) (xs : List A) (i : ℕ) (d : A) → position p xs ≡ Some i → slice_set xs i (f (get_or xs i d)) ≡ changed p f xs
+changed-at p f xs i d h = let t = position-Some p xs i d h in at-index p f xs i d t.0 t.1 t.2
+
+-- where nothing passes, nothing goes
+pub removed-none : {A : Type 0} (p : A → Bool) (xs : List A) → position p xs ≡ None → removed p xs ≡ xs
+removed-none p [] h = refl
+removed-none p (x ∷ xs) h = by (p x) refl (position p xs) refl (removed-none p xs)
+  where
+    by : (b : Bool) → p x ≡ b → (o : Option ℕ) → position p xs ≡ o → (position p xs ≡ None → removed p xs ≡ xs) → removed p (x ∷ xs) ≡ x ∷ xs
+    by true e o i ih = let never = sym (position-here p x xs e) ∙ h in absurd (cc)
+    by false e None i ih = rw e (ap (λ ys. x ∷ ys) (ih i))
+    by false e (Some n) i ih = let s = sym (position-step p x xs e ∙ ap (option_map suc) i) ∙ h in absurd (cc)
+
+gone-index : {A : Type 0} (p : A → Bool) (xs : List A) (i : ℕ) (d : A) → i < length xs → p (get_or xs i d) ≡ true → ((k : ℕ) → k < i → p (get_or xs k d) ≡ false) → remove xs i ≡ removed p xs
+gone-index p [] i d lt here before = absurd (omega arith)
+gone-index p (x ∷ xs) zero d lt here before = rw here refl
+gone-index p (x ∷ xs) (suc i) d lt here before =
+    let e = before 0 (omega arith) in
+    let ih = gone-index p xs i d (omega arith) here (λ k l. before (suc k) (omega arith)) in
+    rw e (ap (λ ys. x ∷ ys) ih)
+
+-- what stands at the place of the first goes
+pub removed-at : {A : Type 0} (p : A → Bool) (xs : List A) (i : ℕ) → position p xs ≡ Some i → remove xs i ≡ removed p xs
+removed-at p [] i h = absurd (cc)
+removed-at p (x ∷ xs) i h = let t = position-Some p (x ∷ xs) i x h in gone-index p (x ∷ xs) i x t.0 t.1 t.2
+
+-- what follows on an answer
+pub on_ok : {A E P Q : Type 0} (r : Result A E) → (P → Q) → OnOk r P → OnOk r Q
+on_ok (Ok x) f p = f p
+on_ok (Err e) f p = p
+
+pub on_err : {A E P Q : Type 0} (r : Result A E) → (P → Q) → OnErr r P → OnErr r Q
+on_err (Ok x) f p = p
+on_err (Err e) f p = f p

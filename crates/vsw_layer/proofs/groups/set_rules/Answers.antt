@@ -1,0 +1,20 @@
+use Rattle.std.proofs.Common.{◌∙◌, get_or, sym, ap}
+use Rattle.std.specs.List.{position, slice_set}
+use Rattle.vsw_layer.specs.Groups.{is_group, with_rules}
+use Rattle.vsw_layer.proofs.Firsts.{changed-none, changed-at}
+use Rattle.vsw_layer.proofs.groups.set_rules.Goals as goal
+
+pub returns-in_default : goal.returns-in_default
+returns-in_default c =
+    sym (changed-none (is_group c.args.group) (with_rules c.args.rules) c.args.groups.now (ap (position (is_group c.args.group)) (sym c.as_slice.ensures) ∙ sym c.group_place.ensures ∙ c.in_default.is))
+
+pub returns : goal.returns
+returns c =
+    let p = is_group c.args.group in
+    let i = ap (position p) (sym c.as_slice.ensures) ∙ sym c.group_place.ensures ∙ c.in-Some.is in
+    let same = c.into_vec-all.ensures ∙ c.replace.ensures.value in
+    let e = changed-at p (with_rules c.args.rules) c.args.groups.now c.in-Some.place c.index_mut.result.now i in
+    c.of.ensures
+    ∙ ap (λ gs. slice_set gs c.in-Some.place (with_rules c.args.rules c.index_mut.result.now)) same
+    ∙ ap (λ g. slice_set c.args.groups.now c.in-Some.place (with_rules c.args.rules g)) (c.index_mut.ensures.value ∙ ap (λ gs. get_or gs c.in-Some.place c.index_mut.result.now) same)
+    ∙ e

@@ -1,0 +1,3 @@
+pub mod Layer
+pub mod Groups
+pub mod Staying

@@ -1,0 +1,155 @@
+//! A layer, what its controller says of it when it is added, and what a command changes within it.
+
+ghost use Rattle.std.specs.Prelude.{◌≡◌, [], ◌∷◌, ◌++◌, filter, not, OnOk, OnErr};
+ghost use Rattle.vsw_layerflow.specs.Pairs.{of_rule};
+ghost use Rattle.vsw_layerflow.specs.Life.{is_over};
+ghost use Rattle.vsw_layer.specs.Groups as groups;
+ghost use Rattle.vsw_layer.specs.Groups.{is_group, changed, removed, with_rules, with_rule, without_rule};
+ghost use Rattle.vsw_layer.specs.Layer.{seen, with_spec, with_parts, defaulting};
+ghost use Rattle.vsw_layer.specs.Staying.{staying};
+
+use crate::copies::{copy_conditions, copy_rule, copy_rules};
+use crate::groups::{cut_group, cut_in, push_in, set_rules};
+use crate::places::{is_gone, rules_in};
+use std::alloc::Global;
+use vsw_base::{Dir, Items, Moment, NoMemory};
+use vsw_layerflow::Flows;
+use vsw_rule::{Cond, Group, Rule};
+
+/// What a controller says of a layer that it adds.
+#[derive(Clone, Copy, Debug, PartialEq, Eq)]
+pub struct LayerSpec {
+    /// Its number among the layers of its controller. Layers of two controllers may have one number.
+    pub layer: u16,
+    /// Outbound packets cross layers of lesser order first.
+    pub order: u16,
+    /// Whether outbound and inbound packets go on that meet no rule.
+    pub allow_out: bool,
+    pub allow_in: bool,
+    /// The most pairs that it may have.
+    pub pairs: u32,
+    /// How long a pair lives after its last use, and after its last use where it is closed, in seconds.
+    pub idle: u32,
+    pub linger: u32,
+}
+
+/// A layer of a port, named by its controller and its number.
+#[derive(Drop)]
+pub struct Layer {
+    pub controller: u16,
+    pub spec: LayerSpec,
+    /// In the order in which they were added.
+    pub groups: Items<Group>,
+    pub flows: Flows,
+    /// The number of the next pair.
+    pub next_pair: u32,
+}
+
+/// The pairs of the old rules of a group go that aren't among the new ones.
+fn drop_gone(flows: &mut Flows, group: u16, old: &[Rule], new: &[Rule])
+    ensures { flows.new.pairs ≡ staying group old.now new.now flows.old.pairs }
+{
+    let mut left = old.len();
+    while left > 0 {
+        left -= 1;
+        let rule = &old[left];
+        if is_gone(new, rule) {
+            let _ = flows.drop_rule(group, rule.number);
+        }
+    }
+}
+
+impl Layer {
+    /// Adds a group behind those of the layer.
+    fn push_group(&mut self, group: Group) -> Result<(), NoMemory>
+        ensures ok { OnOk result (seen self.new ≡ with_parts (self.old.groups ++ group ∷ []) self.old.flows.pairs (seen self.old)) }
+        ensures err { OnErr result (seen self.new ≡ seen self.old) }
+    {
+        match self.groups.push(group) {
+            Ok(()) => Ok(()),
+            Err(_) => Err(NoMemory),
+        }
+    }
+
+    /// Adds a group without rules behind those of the layer.
+    pub fn add_group(
+        &mut self,
+        alloc: Global,
+        group: u16,
+        dir: Dir,
+        when: &[Cond],
+    ) -> Result<(), NoMemory>
+        ensures ok { OnOk result (seen self.new ≡ with_parts (self.old.groups ++ (record { number = group; dir = dir; when = when.now; rules = [] }) ∷ []) self.old.flows.pairs (seen self.old)) }
+        ensures err { OnErr result (seen self.new ≡ seen self.old) }
+    {
+        let when = copy_conditions(alloc, when)?;
+        let group = Group {
+            number: group,
+            dir,
+            when,
+            rules: Items::new(alloc),
+        };
+        self.push_group(group)
+    }
+
+    /// A group goes, with its rules and their pairs.
+    pub fn remove_group(&mut self, alloc: Global, group: u16)
+        ensures { seen self.new ≡ with_parts (removed (is_group group) self.old.groups) (staying group (groups.rules_in self.old.groups group) [] self.old.flows.pairs) (seen self.old) }
+    {
+        let old = rules_in(self.groups.as_slice(), group);
+        drop_gone(&mut self.flows, group, old, &[]);
+        cut_group(alloc, &mut self.groups, group);
+    }
+
+    fn put_copies(&mut self, alloc: Global, group: u16, rules: Items<Rule>)
+        ensures { seen self.new ≡ with_parts (changed (is_group group) (with_rules rules) self.old.groups) (staying group (groups.rules_in self.old.groups group) rules self.old.flows.pairs) (seen self.old) }
+    {
+        let old = rules_in(self.groups.as_slice(), group);
+        drop_gone(&mut self.flows, group, old, rules.as_slice());
+        set_rules(alloc, &mut self.groups, group, rules);
+    }
+
+    /// Puts other rules in place of all that a group has, and the pairs go of those that aren't among them.
+    pub fn put_rules(&mut self, alloc: Global, group: u16, rules: &[Rule]) -> Result<(), NoMemory>
+        ensures ok { OnOk result (seen self.new ≡ with_parts (changed (is_group group) (with_rules rules.now) self.old.groups) (staying group (groups.rules_in self.old.groups group) rules.now self.old.flows.pairs) (seen self.old)) }
+        ensures err { OnErr result (seen self.new ≡ seen self.old) }
+    {
+        let rules = copy_rules(alloc, rules)?;
+        self.put_copies(alloc, group, rules);
+        Ok(())
+    }
+
+    /// Adds a rule behind those of a group.
+    pub fn add_rule(&mut self, alloc: Global, group: u16, rule: &Rule) -> Result<(), NoMemory>
+        ensures ok { OnOk result (seen self.new ≡ with_parts (changed (is_group group) (with_rule rule.now) self.old.groups) self.old.flows.pairs (seen self.old)) }
+        ensures err { OnErr result (seen self.new ≡ seen self.old) }
+    {
+        let rule = copy_rule(alloc, rule)?;
+        push_in(alloc, &mut self.groups, group, rule)
+    }
+
+    /// A rule goes, with its pairs.
+    pub fn remove_rule(&mut self, alloc: Global, group: u16, number: u16)
+        ensures { seen self.new ≡ with_parts (changed (is_group group) (without_rule number) self.old.groups) (filter (λ p. not (of_rule group number p)) self.old.flows.pairs) (seen self.old) }
+    {
+        let _ = self.flows.drop_rule(group, number);
+        cut_in(alloc, &mut self.groups, group, number);
+    }
+
+    /// Sets whether packets of a direction go on that meet no rule.
+    pub fn set_default(&mut self, dir: Dir, allow: bool)
+        ensures { seen self.new ≡ with_spec (defaulting dir allow self.old.spec) (seen self.old) }
+    {
+        match dir {
+            Dir::Out => self.spec.allow_out = allow,
+            Dir::In => self.spec.allow_in = allow,
+        }
+    }
+
+    /// The pairs go whose life has ended by now.
+    pub fn sweep(&mut self, now: Moment)
+        ensures { seen self.new ≡ with_parts self.old.groups (filter (λ p. not (is_over now self.old.spec.idle self.old.spec.linger p)) self.old.flows.pairs) (seen self.old) }
+    {
+        let _ = self.flows.sweep(now, self.spec.idle, self.spec.linger);
+    }
+}

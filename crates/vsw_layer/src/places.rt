@@ -1,0 +1,98 @@
+//! Where the group or the rule of a number is, and which rules are there.
+
+ghost use Rattle.std.specs.Prelude.{◌≡◌, ℕ, ◌<◌, false, IfOk, length, get_or, option_copied};
+ghost use Rattle.std.specs.List.{list_any, find, position};
+ghost use Rattle.vsw_layer.specs.Groups as spec;
+ghost use Rattle.vsw_layer.specs.Staying as staying;
+
+use std::alloc::Global;
+use vsw_base::NoMemory;
+use vsw_rule::{Group, Rule};
+
+/// How many numbers there are for the rules of a group.
+const NUMBERS: usize = 65_536;
+
+/// The place of the group of this number.
+pub fn group_place(groups: &[Group], number: u16) -> Option<usize>
+    ensures { result ≡ position (spec.is_group number) groups.now }
+{
+    groups.iter().position(|group| number == group.number)
+}
+
+/// The group of this number.
+fn group_of(groups: &[Group], number: u16) -> Option<&Group>
+    ensures { option_copied result ≡ find (spec.is_group number) groups.now }
+{
+    groups.iter().find(|group| number == group.number)
+}
+
+/// The rules of a group, and none where it isn't there.
+pub fn rules_in(groups: &[Group], number: u16) -> &[Rule]
+    ensures { result.now ≡ spec.rules_in groups.now number }
+{
+    match group_of(groups, number) {
+        Some(group) => group.rules.as_slice(),
+        None => &[],
+    }
+}
+
+/// Whether there is one.
+pub fn has_group(groups: &[Group], number: u16) -> bool
+    ensures { result ≡ list_any (spec.is_group number) groups.now }
+{
+    groups.iter().any(|group| number == group.number)
+}
+
+/// The place of the rule of this number.
+pub fn rule_place(rules: &[Rule], number: u16) -> Option<usize>
+    ensures { result ≡ position (spec.is_rule number) rules.now }
+{
+    rules.iter().position(|rule| number == rule.number)
+}
+
+/// Whether there is one.
+pub fn has_rule(rules: &[Rule], number: u16) -> bool
+    ensures { result ≡ list_any (spec.is_rule number) rules.now }
+{
+    rules.iter().any(|rule| number == rule.number)
+}
+
+fn is_same(a: &Rule, b: &Rule) -> bool
+    ensures { result ≡ staying.same_rule a.now b.now }
+{
+    *a == *b
+}
+
+/// Whether a rule isn't among these.
+pub fn is_gone(rules: &[Rule], rule: &Rule) -> bool
+    ensures { result ≡ staying.is_gone rules.now rule.now }
+{
+    !rules.iter().any(|other| is_same(rule, other))
+}
+
+/// So many marks, none of them set.
+fn no_marks(alloc: Global, count: usize) -> Result<Vec<bool>, NoMemory>
+    ensures size { IfOk result (λ marks. length marks.items ≡ count) }
+    ensures none { IfOk result (λ marks. (n : ℕ) → n < count → get_or marks.items n false ≡ false) }
+{
+    match vec![in alloc; false; count] {
+        Ok(marks) => Ok(marks),
+        Err(_) => Err(NoMemory),
+    }
+}
+
+/// Whether two rules have one number. It takes 64 KiB for as long as it looks.
+pub fn has_twice(alloc: Global, rules: &[Rule]) -> Result<bool, NoMemory>
+    ensures { IfOk result (λ twice. twice ≡ spec.has_twice rules.now) }
+{
+    let mut marks = no_marks(alloc, NUMBERS)?;
+    let mut twice = false;
+    let mut left = rules.len();
+    while left > 0 {
+        left -= 1;
+        let number = usize::from(rules[left].number);
+        twice = marks[number] || twice;
+        marks[number] = true;
+    }
+    Ok(twice)
+}

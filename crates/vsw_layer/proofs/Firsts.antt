@@ -1,7 +1,8 @@
 -- The first element that passes a test: where it is, what is changed or taken there, and what follows on an answer.
 use Rattle.std.proofs.Common.{◌≡◌, zero, suc, ◌<◌, ◌+◌, ℕ, Bool, true, false, cond, List, [], ◌∷◌, length, Option, Some, None, refl, ap, sym, ◌∙◌, arith, get_or}
 use Rattle.std.specs.Prelude.{option_map, nat_lt, Result, Ok, Err, OnOk, OnErr}
-use Rattle.std.specs.List.{slice_set, position, position_or_len, remove}
+use Rattle.std.specs.List.{slice_set, list_any, find, position, position_or_len, remove}
+use Rattle.std.specs.Option.{is_some}
 use Rattle.std.proofs.lemmas.Bool.Decides.{nat_tests}
 use Rattle.std.proofs.lemmas.List.Quantifiers.{position-Some}
 use Rattle.vsw_layer.specs.Groups.{changed, removed}
@@ -14,6 +15,40 @@ position-step p x xs e = rw e (shifted (position_or_len p xs) (length xs))
 
 position-here : {A : Type 0} (p : A → Bool) (x : A) (xs : List A) → p x ≡ true → position p (x ∷ xs) ≡ Some 0
 position-here p x xs e = rw e (grind (arith, nat_tests))
+
+some-suc : (o : Option ℕ) → is_some (option_map suc o) ≡ is_some o
+some-suc None = refl
+some-suc (Some n) = refl
+
+-- there is a place where there is an element that passes
+pub some-any : {A : Type 0} (p : A → Bool) (xs : List A) → is_some (position p xs) ≡ list_any p xs
+some-any p [] = refl
+some-any p (x ∷ xs) = by (p x) refl (some-any p xs)
+  where
+    by : (b : Bool) → p x ≡ b → is_some (position p xs) ≡ list_any p xs → is_some (position p (x ∷ xs)) ≡ list_any p (x ∷ xs)
+    by true e ih = ap is_some (position-here p x xs e) ∙ rw e refl
+    by false e ih = ap is_some (position-step p x xs e) ∙ some-suc (position p xs) ∙ ih ∙ rw e refl
+
+-- what is found stands at that place
+pub find-none : {A : Type 0} (p : A → Bool) (xs : List A) → position p xs ≡ None → find p xs ≡ None
+find-none p [] h = refl
+find-none p (x ∷ xs) h = by (p x) refl (position p xs) refl (find-none p xs)
+  where
+    by : (b : Bool) → p x ≡ b → (o : Option ℕ) → position p xs ≡ o → (position p xs ≡ None → find p xs ≡ None) → find p (x ∷ xs) ≡ None
+    by true e o i ih = let never = sym (position-here p x xs e) ∙ h in absurd (cc)
+    by false e None i ih = rw e (ih i)
+    by false e (Some n) i ih = let s = sym (position-step p x xs e ∙ ap (option_map suc) i) ∙ h in absurd (cc)
+
+find-index : {A : Type 0} (p : A → Bool) (xs : List A) (i : ℕ) (d : A) → i < length xs → p (get_or xs i d) ≡ true → ((k : ℕ) → k < i → p (get_or xs k d) ≡ false) → find p xs ≡ Some (get_or xs i d)
+find-index p [] i d lt here before = absurd (omega arith)
+find-index p (x ∷ xs) zero d lt here before = rw here refl
+find-index p (x ∷ xs) (suc i) d lt here before =
+    let e = before 0 (omega arith) in
+    let ih = find-index p xs i d (omega arith) here (λ k l. before (suc k) (omega arith)) in
+    rw e ih
+
+pub find-some : {A : Type 0} (p : A → Bool) (xs : List A) (i : ℕ) (d : A) → position p xs ≡ Some i → find p xs ≡ Some (get_or xs i d)
+find-some p xs i d h = let t = position-Some p xs i d h in find-index p xs i d t.0 t.1 t.2
 
 -- where nothing passes, nothing is changed
 pub changed-none : {A : Type 0} (p : A → Bool) (f : A → A) (xs : List A) → position p xs ≡ None → changed p f xs ≡ xs

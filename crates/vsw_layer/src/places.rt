@@ -1,7 +1,7 @@
 //! Where the group or the rule of a number is, and which rules are there.
 
-ghost use Rattle.std.specs.Prelude.{◌≡◌, ℕ, ◌<◌, false, IfOk, length, get_or, option_copied};
-ghost use Rattle.std.specs.List.{list_any, find, position};
+ghost use Rattle.std.specs.Prelude.{◌≡◌, ℕ, ◌<◌, false, IfOk, length, get_or};
+ghost use Rattle.std.specs.List.{list_any, position};
 ghost use Rattle.vsw_layer.specs.Groups as spec;
 ghost use Rattle.vsw_layer.specs.Staying as staying;
 
@@ -19,19 +19,12 @@ pub fn group_place(groups: &[Group], number: u16) -> Option<usize>
     groups.iter().position(|group| number == group.number)
 }
 
-/// The group of this number.
-fn group_of(groups: &[Group], number: u16) -> Option<&Group>
-    ensures { option_copied result ≡ find (spec.is_group number) groups.now }
-{
-    groups.iter().find(|group| number == group.number)
-}
-
 /// The rules of a group, and none where it isn't there.
 pub fn rules_in(groups: &[Group], number: u16) -> &[Rule]
     ensures { result.now ≡ spec.rules_in groups.now number }
 {
-    match group_of(groups, number) {
-        Some(group) => group.rules.as_slice(),
+    match group_place(groups, number) {
+        Some(place) => groups[place].rules.as_slice(),
         None => &[],
     }
 }
@@ -40,7 +33,7 @@ pub fn rules_in(groups: &[Group], number: u16) -> &[Rule]
 pub fn has_group(groups: &[Group], number: u16) -> bool
     ensures { result ≡ list_any (spec.is_group number) groups.now }
 {
-    groups.iter().any(|group| number == group.number)
+    group_place(groups, number).is_some()
 }
 
 /// The place of the rule of this number.
@@ -54,7 +47,7 @@ pub fn rule_place(rules: &[Rule], number: u16) -> Option<usize>
 pub fn has_rule(rules: &[Rule], number: u16) -> bool
     ensures { result ≡ list_any (spec.is_rule number) rules.now }
 {
-    rules.iter().any(|rule| number == rule.number)
+    rule_place(rules, number).is_some()
 }
 
 fn is_same(a: &Rule, b: &Rule) -> bool

@@ -1,7 +1,7 @@
 -- The first layer that passes a test, seen through a view: where it is, what is changed or taken there, and where a new one goes.
 use Rattle.std.proofs.Common.{◌≡◌, suc, ◌<◌, ◌+◌, ℕ, Bool, true, false, not, cond, List, [], ◌∷◌, ◌++◌, map, length, take, drop, Option, Some, None, refl, ap, sym, ◌∙◌, arith, get_or}
-use Rattle.std.specs.Prelude.{option_map, nat_lt, if◌then◌else◌}
-use Rattle.std.specs.List.{slice_set, list_any, find, position, position_or_len, insert, remove}
+use Rattle.std.specs.Prelude.{nat_lt, if◌then◌else◌}
+use Rattle.std.specs.List.{slice_set, find, position, position_or_len, insert, remove}
 use Rattle.std.proofs.lemmas.Bool.Decides.{nat_tests}
 use Rattle.std.proofs.lemmas.List.{map-set, get_or-map, length-map, map-append, take-map, drop-map}
 use Rattle.std.proofs.lemmas.List.Sums.{prefix_len-le-length}
@@ -9,19 +9,9 @@ use Rattle.std.proofs.lemmas.List.Quantifiers.{position-Some}
 use Rattle.vsw_layer.specs.declared.layer.Layer.{Layer}
 use Rattle.vsw_layer.specs.Groups.{changed, removed}
 use Rattle.vsw_layer.specs.Layer.{LayerSeen, seen}
-use Rattle.vsw_layer.proofs.Firsts.{changed-none, changed-at, removed-at}
+use Rattle.vsw_layer.proofs.Firsts.{find-some, changed-none, changed-at, removed-at}
 use Rattle.vsw_policy.specs.Layers.{is_before}
 use Rattle.vsw_policy.specs.Obey.{placed}
-
-pub any-map : {A B : Type 0} (s : A → B) (p : B → Bool) (xs : List A) → list_any (λ x. p (s x)) xs ≡ list_any p (map s xs)
-any-map s p [] = refl
-any-map s p (x ∷ xs) = rw (any-map s p xs) refl
-
-pub find-map : {A B : Type 0} (s : A → B) (p : B → Bool) (xs : List A) → option_map s (find (λ x. p (s x)) xs) ≡ find p (map s xs)
-find-map s p [] = refl
-find-map s p (x ∷ xs) =
-    let ih = find-map s p xs in
-    elim (p (s x)) as (λ b. option_map s (cond b (Some x) (find (λ x. p (s x)) xs)) ≡ cond b (Some (s x)) (find p (map s xs))) [ true ↦ refl | false ↦ ih ]
 
 pub first-map : {A B : Type 0} (s : A → B) (p : B → Bool) (xs : List A) → position_or_len (λ x. p (s x)) xs ≡ position_or_len p (map s xs)
 first-map s p [] = refl
@@ -32,7 +22,15 @@ first-map s p (x ∷ xs) =
 pub position-map : {A B : Type 0} (s : A → B) (p : B → Bool) (xs : List A) → position (λ x. p (s x)) xs ≡ position p (map s xs)
 position-map s p xs = rw (first-map s p xs, length-map xs s) refl
 
--- the same through a view
+-- what is found through a view stands at the place of the first
+pub found-seen : {A B : Type 0} (s : A → B) (p : B → Bool) (xs : List A) (i : ℕ) (d : A) → position p (map s xs) ≡ Some i → find p (map s xs) ≡ Some (s (get_or xs i d))
+found-seen s p xs i d h =
+    let t = position-Some p (map s xs) i (s d) h in
+    let n = length-map xs s in
+    let lt : i < length xs = omega arith in
+    find-some p (map s xs) i (s d) h ∙ ap (λ y. Some y) (get_or-map s xs i d (s d) lt)
+
+-- what stands at that place is changed
 pub changed-seen : {A B : Type 0} (s : A → B) (p : B → Bool) (f : B → B) (xs : List A) (i : ℕ) (y d : A) → position p (map s xs) ≡ Some i → s y ≡ f (s (get_or xs i d)) → map s (slice_set xs i y) ≡ changed p f (map s xs)
 changed-seen s p f xs i y d h e =
     let t = position-Some p (map s xs) i (s d) h in

@@ -1,7 +1,7 @@
 //! Where the layer of a name is, and where a new one goes.
 
-ghost use Rattle.std.specs.Prelude.{◌≡◌, ◌≤◌, map, filter, length, option_copied, option_map};
-ghost use Rattle.std.specs.List.{list_any, find, position, position_or_len};
+ghost use Rattle.std.specs.Prelude.{◌≡◌, ◌≤◌, map, filter, length};
+ghost use Rattle.std.specs.List.{list_any, position, position_or_len};
 ghost use Rattle.vsw_layer.specs.Layer.{seen};
 ghost use Rattle.vsw_policy.specs.Layers as spec;
 ghost use Rattle.vsw_policy.specs.Obey as obey;
@@ -15,16 +15,7 @@ fn is_layer(controller: u16, number: u16, layer: &Layer) -> bool
     controller == layer.controller && number == layer.spec.layer
 }
 
-/// The layer of a controller that has this number.
-pub fn layer_of(layers: &[Layer], controller: u16, number: u16) -> Option<&Layer>
-    ensures { option_map seen (option_copied result) ≡ find (spec.is_layer controller number) (map seen layers.now) }
-{
-    layers
-        .iter()
-        .find(|layer| is_layer(controller, number, layer))
-}
-
-/// Its place.
+/// The place of the layer of a controller that has this number.
 pub fn layer_place(layers: &[Layer], controller: u16, number: u16) -> Option<usize>
     ensures { result ≡ position (spec.is_layer controller number) (map seen layers.now) }
 {
@@ -37,9 +28,7 @@ pub fn layer_place(layers: &[Layer], controller: u16, number: u16) -> Option<usi
 pub fn has_layer(layers: &[Layer], controller: u16, number: u16) -> bool
     ensures { result ≡ list_any (spec.is_layer controller number) (map seen layers.now) }
 {
-    layers
-        .iter()
-        .any(|layer| is_layer(controller, number, layer))
+    layer_place(layers, controller, number).is_some()
 }
 
 /// How many layers a controller has.
@@ -61,8 +50,8 @@ pub fn count_layers(layers: &[Layer], controller: u16) -> usize
 pub fn groups_in(layers: &[Layer], controller: u16, number: u16) -> &[Group]
     ensures { result.now ≡ obey.groups_in (map seen layers.now) controller number }
 {
-    match layer_of(layers, controller, number) {
-        Some(layer) => layer.groups.as_slice(),
+    match layer_place(layers, controller, number) {
+        Some(place) => layers[place].groups.as_slice(),
         None => &[],
     }
 }

@@ -14,7 +14,20 @@ use vsw_base::{Items, NoMemory};
 use vsw_layer::{Layer, LayerSpec};
 use vsw_layerflow::Flows;
 
-/// Adds an empty layer in its place.
+/// A layer without groups and pairs.
+fn empty_layer(alloc: Global, controller: u16, spec: &LayerSpec) -> Layer
+    ensures { seen result ≡ obey.empty_layer controller spec.now }
+{
+    Layer {
+        controller,
+        spec: *spec,
+        groups: Items::new(alloc),
+        flows: Flows::new(alloc),
+        next_pair: 0,
+    }
+}
+
+/// Adds one in its place.
 fn add_layer(
     alloc: Global,
     controllers: &[u16],
@@ -26,14 +39,7 @@ fn add_layer(
     ensures err { OnErr result (map seen layers.new.items ≡ map seen layers.old.items) }
 {
     let place = place_for(controllers, layers, controller, spec);
-    let layer = Layer {
-        controller,
-        spec: *spec,
-        groups: Items::new(alloc),
-        flows: Flows::new(alloc),
-        next_pair: 0,
-    };
-    match layers.insert(place, layer) {
+    match layers.insert(place, empty_layer(alloc, controller, spec)) {
         Ok(()) => Ok(()),
         Err(_) => Err(NoMemory),
     }

@@ -5,7 +5,7 @@ use vsw_layer::LayerSpec;
 use vsw_rule::{Cond, Rule};
 
 /// What a controller asks of its own layers, which are told by their numbers.
-#[derive(PartialEq, Eq, Drop)]
+#[derive(Drop)]
 pub enum Command {
     /// A further layer, without groups and pairs.
     AddLayer {

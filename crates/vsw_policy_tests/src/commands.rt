@@ -35,6 +35,11 @@ pub fn add_group(alloc: Global, group: u16) -> Command {
     }
 }
 
+/// A group of layer 10 goes.
+pub fn remove_group(group: u16) -> Command {
+    Command::RemoveGroup { layer: 10, group }
+}
+
 /// An inbound group 2 of layer 10, for packets to port 80, or to 443 and above.
 pub fn add_web(alloc: Global) -> Result<Command, AllocError> {
     let one = Item::Range { low: 80, high: 80 };

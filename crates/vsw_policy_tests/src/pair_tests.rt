@@ -3,7 +3,7 @@
 ghost use Rattle.std.specs.Prelude.{◌≡◌, ◌+◌};
 ghost use Rattle.vsw_layerflow.specs.Pairs.{AllBelow};
 
-use crate::commands::{put_two, rule, spec};
+use crate::commands::{put_two, remove_group, remove_rule, rule, spec};
 use crate::told::told_rules;
 use std::alloc::Global;
 use vsw_base::{Dir, Ip4, Items, LayerKey, Moment, Set, Track};
@@ -142,9 +142,9 @@ fn left(flows: &Flows) -> u32 {
 }
 
 /// Which pairs are left after a command of controller 1.
-fn left_after(alloc: Global, command: &Command) -> u32 {
+fn left_after(alloc: Global, command: Command) -> u32 {
     let mut layers = layers(alloc);
-    if change(alloc, &[1], &mut layers, 1, command).is_err() {
+    if change(alloc, &[1], &mut layers, 1, &command).is_err() {
         return 0;
     }
     match layers.as_slice() {
@@ -158,19 +158,16 @@ fn pairs_go_with_a_rule_that_goes_or_changes(rt: HostRuntime) {
     let alloc = rt.alloc();
     assert_eq!(rt; left(&flows(alloc)), 12_345);
     // Rule 6 stays as it was, 5 changes, and 7 goes.
-    assert_eq!(rt;
-        left_after(alloc, &put_two(alloc, 10, (5, 20), (6, 10))),
-        25
-    );
+    assert_eq!(rt; left_after(alloc, put_two(alloc, 10, (5, 20), (6, 10))), 25);
     // Their places count for nothing.
     assert_eq!(rt;
-        left_after(alloc, &put_two(alloc, 10, (7, 10), (5, 10))),
+        left_after(alloc, put_two(alloc, 10, (7, 10), (5, 10))),
         1_345
     );
-    assert_eq!(rt; left_after(alloc, &put_two(alloc, 10, (8, 10), (9, 10))), 5);
+    assert_eq!(rt; left_after(alloc, put_two(alloc, 10, (8, 10), (9, 10))), 5);
     // Layer 11 isn't there.
     assert_eq!(rt;
-        left_after(alloc, &put_two(alloc, 11, (8, 10), (9, 10))),
+        left_after(alloc, put_two(alloc, 11, (8, 10), (9, 10))),
         12_345
     );
 }
@@ -178,23 +175,14 @@ fn pairs_go_with_a_rule_that_goes_or_changes(rt: HostRuntime) {
 /// Which pairs a sweep of a layer leaves.
 fn left_at(alloc: Global, layer: u16, micros: u64) -> u32 {
     let now = Moment::of(micros);
-    left_after(alloc, &Command::Sweep { layer, now })
+    left_after(alloc, Command::Sweep { layer, now })
 }
 
 #[test]
 fn pairs_go_with_their_group_their_rule_and_their_time(rt: HostRuntime) {
     let alloc = rt.alloc();
-    let group = Command::RemoveGroup {
-        layer: 10,
-        group: 1,
-    };
-    assert_eq!(rt; left_after(alloc, &group), 5);
-    let rule = Command::RemoveRule {
-        layer: 10,
-        group: 1,
-        number: 5,
-    };
-    assert_eq!(rt; left_after(alloc, &rule), 235);
+    assert_eq!(rt; left_after(alloc, remove_group(1)), 5);
+    assert_eq!(rt; left_after(alloc, remove_rule(5)), 235);
     // They are open, and live for 240 seconds.
     assert_eq!(rt; left_at(alloc, 10, 242_999_999), 345);
     assert_eq!(rt; left_at(alloc, 10, 243_000_000), 45);

@@ -3,6 +3,7 @@
 use crate::commands::{add_group, add_layer, add_rule, put_many, put_two, remove_rule};
 use crate::told::told_rules;
 use crate::trial::Trial;
+use std::alloc::Global;
 use vsw_policy::{Policy, Refusal};
 
 #[test]
@@ -40,13 +41,18 @@ fn a_rule_is_added_last_and_goes_by_its_number(rt: HostRuntime) {
     assert_eq!(rt; told_rules(trial.policy.layers(), 0), Some((3, 20, 2)));
 }
 
+/// Puts 1,024 rules, numbered from 0, into group 1 of layer 10.
+fn fill(trial: &mut Trial, alloc: Global) {
+    trial.done(1, add_layer(10, 10));
+    trial.done(1, add_group(alloc, 1));
+    trial.done(1, put_many(alloc, 1023, 1023));
+}
+
 #[test]
 fn a_group_has_at_most_1024_rules(rt: HostRuntime) {
     let alloc = rt.alloc();
     let mut trial = Trial::of(Policy::new(alloc, &[1]).expect(&rt, "memory"));
-    trial.done(1, add_layer(10, 10));
-    trial.done(1, add_group(alloc, 1));
-    trial.done(1, put_many(alloc, 1023, 1023));
+    fill(&mut trial, alloc);
     trial.refused(1, put_many(alloc, 1024, 1024), Refusal::ManyRules);
     trial.refused(1, put_many(alloc, 1024, 0), Refusal::RuleExists);
     trial.refused(1, add_rule(alloc, 1024, 10), Refusal::ManyRules);
@@ -56,9 +62,17 @@ fn a_group_has_at_most_1024_rules(rt: HostRuntime) {
         told_rules(trial.policy.layers(), 0),
         Some((1023, 10, 1024))
     );
+}
+
+#[test]
+fn a_full_group_has_room_for_a_rule_that_went_and_for_others(rt: HostRuntime) {
+    let alloc = rt.alloc();
+    let mut trial = Trial::of(Policy::new(alloc, &[1]).expect(&rt, "memory"));
+    fill(&mut trial, alloc);
+    trial.refused(1, add_rule(alloc, 7, 10), Refusal::RuleExists);
     trial.done(1, remove_rule(7));
     trial.done(1, add_rule(alloc, 7, 10));
     trial.done(1, put_many(alloc, 0, 65_535));
-    assert_eq!(rt; trial.passed, 10);
+    assert_eq!(rt; trial.passed, 7);
     assert_eq!(rt; told_rules(trial.policy.layers(), 0), Some((65_535, 10, 1)));
 }

@@ -5,7 +5,7 @@ use Rattle.std.proofs.lemmas.Bool.Decides.{nat_tests}
 use Rattle.vsw_base.specs.declared.header.Header.{Header}
 use Rattle.vsw_rule.specs.declared.rule.Rule.{Rule}
 use Rattle.vsw_rule.specs.Match.{matches}
-use Rattle.vsw_rule.specs.Choice.{better, pick, Each, IsAfter, IsNotBefore, IsPick, NoneMatches, Picks}
+use Rattle.vsw_choice.specs.Choice.{better, pick, Each, IsAfter, IsNotBefore, IsPick, NoneMatches, Picks}
 
 -- rules after another one are not before a rule of unmatched greater priority
 weaker : (r s : Rule) (hs : List Header) → r.priority ≤ s.priority → (ts : List Rule) → Each (IsAfter s hs) ts → Each (IsNotBefore r hs) ts

@@ -1,7 +1,7 @@
 use Rattle.std.proofs.Common.{◌≡◌, ◌≤◌, length, drop, option_map}
-use Rattle.vsw_rule.specs.Choice.{choose}
-use Rattle.vsw_rule.specs.ChoiceSeen.{seen}
-use Rattle.vsw_rule.proofs.choice.choose.Given as goal
+use Rattle.vsw_choice.specs.Choice.{choose}
+use Rattle.vsw_choice.specs.ChoiceSeen.{seen}
+use Rattle.vsw_choice.proofs.choice.choose.Given as goal
 
 abbrev pub invariant-loop-left : goal.invariant-loop-left
 invariant-loop-left l = record {

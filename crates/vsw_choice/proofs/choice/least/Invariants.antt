@@ -1,6 +1,6 @@
 use Rattle.std.proofs.Common.{◌≡◌, ◌≤◌, length, drop, option_copied}
-use Rattle.vsw_rule.specs.Choice.{pick}
-use Rattle.vsw_rule.proofs.choice.least.Given as goal
+use Rattle.vsw_choice.specs.Choice.{pick}
+use Rattle.vsw_choice.proofs.choice.least.Given as goal
 
 abbrev pub invariant-loop-left : goal.invariant-loop-left
 invariant-loop-left l = record {

@@ -1,11 +1,11 @@
 //! Every field on every kind of stack, and the edges of what a rule may ask of it.
 
-use crate::tests::{condition, encap, ether, plain, ports, prefix, range, rule, udp};
-use crate::{Action, BadRule, Field, Item};
+use crate::samples::{condition, encap, ether, plain, ports, prefix, range, rule, udp};
 use std::alloc::{AllocError, Global};
 use std::process::Abort;
 use std::test::Fail;
 use vsw_base::{BadShape, Header, Ip4, Items, Mac, Stack};
+use vsw_rule::{Action, BadRule, Field, Item};
 
 /// A field: whether its values are IPv4 addresses, the greatest that it can have, and its values on
 /// ARP, on a fragment, and on UDP under no, one and two encapsulations.

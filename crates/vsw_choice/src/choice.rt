@@ -1,12 +1,11 @@
 //! The rule that a packet meets.
 
 ghost use Rattle.std.specs.Prelude.{◌≡◌, ◌≤◌, option_copied, option_map};
-ghost use Rattle.vsw_rule.specs.Choice as spec;
-ghost use Rattle.vsw_rule.specs.ChoiceSeen.{seen};
+ghost use Rattle.vsw_choice.specs.Choice as spec;
+ghost use Rattle.vsw_choice.specs.ChoiceSeen.{seen};
 
-use crate::matching::all_hold;
-use crate::rule::{Group, Rule};
 use vsw_base::{Dir, Stack};
+use vsw_rule::{Group, Rule, all_hold};
 
 /// A rule that was chosen, and the number of its group.
 #[derive(Clone, Copy)]

@@ -4,8 +4,6 @@
 pub mod flows;
 mod maps;
 pub mod pair;
-#[cfg(test)]
-mod tests;
 
 pub use flows::Flows;
 pub use pair::{Pair, Probe, due, life};

@@ -3,8 +3,8 @@
 ghost use Rattle.std.specs.Prelude.{◌≡◌, ◌+◌, [], IsTrue};
 ghost use Rattle.vsw_layerflow.specs.Pairs.{AllBelow};
 
-use crate::{Flows, Pair, due};
 use vsw_base::{Dir, Ip4, LayerKey, Moment, Set, Track};
+use vsw_layerflow::{Flows, Pair, due};
 
 /// The most pairs that a layer may have.
 const MOST: u32 = 65_536;
@@ -72,7 +72,7 @@ fn back_of(number: u32) -> LayerKey {
 }
 
 /// Adds a pair whose keys are free, and tells whether it did.
-#[tactic(auto, using(crate::proofs::Order::below_next, crate::proofs::Order::below_push))]
+#[tactic(auto, using(vsw_layerflow::proofs::Order::below_next, vsw_layerflow::proofs::Order::below_push))]
 fn put(flows: &mut Flows, pair: Pair) -> bool
     requires number_last { AllBelow pair.number flows.old.pairs }
     ensures number_last { AllBelow (pair.number + 1) flows.new.pairs }
@@ -107,7 +107,7 @@ fn fill(flows: &mut Flows, count: u32) -> bool
 }
 
 /// Takes a pair away, and adds one with its keys under a new number.
-#[tactic(auto, using(crate::proofs::Order::below_filter))]
+#[tactic(auto, using(vsw_layerflow::proofs::Order::below_filter))]
 fn reopen(flows: &mut Flows, number: u32, next: u32) -> bool
     requires number_last { AllBelow next flows.old.pairs }
     ensures number_last { AllBelow (next + 1) flows.new.pairs }
@@ -120,7 +120,7 @@ fn reopen(flows: &mut Flows, number: u32, next: u32) -> bool
 }
 
 /// Opens the pairs of every third number again, each under a number that is greater by `MOST`.
-#[tactic(auto, using(crate::proofs::Order::below_next))]
+#[tactic(auto, using(vsw_layerflow::proofs::Order::below_next))]
 fn reopen_thirds(flows: &mut Flows) -> bool
     requires number_last { AllBelow 65536 flows.old.pairs }
 {
@@ -132,54 +132,99 @@ fn reopen_thirds(flows: &mut Flows) -> bool
     true
 }
 
-/// The number and the state of the pair that is found.
-fn found(flows: &Flows, dir: Dir, key: &LayerKey) -> Option<(u32, Track)> {
+/// The number and the state of a pair, where one is found.
+type Found = Option<(u32, Track)>;
+
+fn found(flows: &Flows, dir: Dir, key: &LayerKey) -> Found {
     let pair = flows.find(dir, key)?;
     Some((pair.number, pair.state))
 }
+
+/// What the keys of `there` and `back` lead to, each out and in.
+fn found_by_both(flows: &Flows) -> [Found; 4] {
+    [
+        found(flows, Dir::Out, &there()),
+        found(flows, Dir::In, &there()),
+        found(flows, Dir::Out, &back()),
+        found(flows, Dir::In, &back()),
+    ]
+}
+
+// What they lead to: nothing, or pair 0, which goes out.
+const NOTHING: [Found; 4] = [None, None, None, None];
+
+const OPENING: [Found; 4] = [
+    Some((0, Track::Opening)),
+    None,
+    None,
+    Some((0, Track::Opening)),
+];
+
+const CLOSED: [Found; 4] = [
+    Some((0, Track::Closed)),
+    None,
+    None,
+    Some((0, Track::Closed)),
+];
 
 #[test]
 fn a_pair_is_found_either_way_until_it_goes(rt: HostRuntime) {
     let mut flows = Flows::new(rt.alloc());
     assert!(rt; put(&mut flows, pair(0, Dir::Out, there(), back())));
     assert_eq!(rt; flows.len(), 1);
-    assert_eq!(rt;
-        found(&flows, Dir::Out, &there()),
-        Some((0, Track::Opening))
-    );
-    assert_eq!(rt; found(&flows, Dir::In, &back()), Some((0, Track::Opening)));
-    assert_eq!(rt; found(&flows, Dir::In, &there()), None);
-    assert_eq!(rt; found(&flows, Dir::Out, &back()), None);
+    assert_eq!(rt; found_by_both(&flows), OPENING);
     flows.touch(0, Track::Closed, Moment::of(2_000_000));
-    assert_eq!(rt; found(&flows, Dir::In, &back()), Some((0, Track::Closed)));
+    assert_eq!(rt; found_by_both(&flows), CLOSED);
     flows.remove(1);
     assert_eq!(rt; flows.len(), 1);
     flows.remove(0);
     assert_eq!(rt; flows.len(), 0);
-    assert_eq!(rt; found(&flows, Dir::Out, &there()), None);
-    assert_eq!(rt; found(&flows, Dir::In, &back()), None);
+    assert_eq!(rt; found_by_both(&flows), NOTHING);
 }
+
+/// The key of `there` from the next port.
+fn there_from_next() -> LayerKey {
+    key(0x0a00_0005, 0x0a00_0009, 40001, 80)
+}
+
+/// Adds three pairs and tells whether it did: the second goes the other way with the keys of the first,
+/// the third differs by one port.
+fn open_three(flows: &mut Flows) -> bool
+    requires none { flows.old.pairs ≡ [] }
+    ensures below { AllBelow 3 flows.new.pairs }
+{
+    let first = put(flows, pair(0, Dir::Out, there(), back()));
+    let second = put(flows, pair(1, Dir::In, there(), back()));
+    let third = put(
+        flows,
+        pair(2, Dir::Out, there_from_next(), there_from_next()),
+    );
+    first && second && third
+}
+
+// What `there` and `back` lead to then, and once the second is open and the first has gone.
+const BOTH: [Found; 4] = [
+    Some((0, Track::Opening)),
+    Some((1, Track::Opening)),
+    Some((1, Track::Opening)),
+    Some((0, Track::Opening)),
+];
+
+const SECOND: [Found; 4] = [None, Some((1, Track::Open)), Some((1, Track::Open)), None];
 
 #[test]
 fn pairs_whose_keys_touch_stay_apart(rt: HostRuntime) {
     let mut flows = Flows::new(rt.alloc());
-    let next = key(0x0a00_0005, 0x0a00_0009, 40001, 80);
-    // The second goes the other way with the keys of the first, the third differs by one port.
-    assert!(rt; put(&mut flows, pair(0, Dir::Out, there(), back())));
-    assert!(rt; put(&mut flows, pair(1, Dir::In, there(), back())));
-    assert!(rt; put(&mut flows, pair(2, Dir::Out, next, next)));
+    assert!(rt; open_three(&mut flows));
     // The fourth's replies are those of the first.
     assert!(rt; !put(&mut flows, pair(3, Dir::Out, key(1, 2, 3, 4), back())));
-    assert_eq!(rt; found(&flows, Dir::In, &back()), Some((0, Track::Opening)));
-    assert_eq!(rt; found(&flows, Dir::In, &there()), Some((1, Track::Opening)));
+    assert_eq!(rt; found_by_both(&flows), BOTH);
     flows.touch(1, Track::Open, Moment::of(2_000_000));
     flows.remove(0);
-    assert_eq!(rt; found(&flows, Dir::Out, &there()), None);
-    assert_eq!(rt; found(&flows, Dir::In, &back()), None);
-    assert_eq!(rt; found(&flows, Dir::In, &there()), Some((1, Track::Open)));
-    assert_eq!(rt; found(&flows, Dir::Out, &back()), Some((1, Track::Open)));
-    assert_eq!(rt; found(&flows, Dir::Out, &next), Some((2, Track::Opening)));
-    assert_eq!(rt; found(&flows, Dir::In, &next), Some((2, Track::Opening)));
+    assert_eq!(rt; found_by_both(&flows), SECOND);
+    let third = Some((2, Track::Opening));
+    assert_eq!(rt; found(&flows, Dir::Out, &there_from_next()), third);
+    assert_eq!(rt; found(&flows, Dir::In, &there_from_next()), third);
 }
 
 /// How many of the numbers below this have a pair that both of its keys lead to.
@@ -266,19 +311,22 @@ fn a_sweep_at_the_greatest_moment_takes_every_pair(rt: HostRuntime) {
     assert_eq!(rt; flows.sweep(Moment::of(u64::MAX), u32::MAX, u32::MAX), 3);
 }
 
+/// A last use, a state, the layer's idle and linger times, and the moment after which a packet is due.
+const DUES: [(u64, Track, u32, u32, u64); 4] = [
+    (2_000_000, Track::Closed, 240, 10, 4_500_000),
+    (2_000_000, Track::Half(Dir::Out), 240, 10, 62_000_000),
+    (2_000_000, Track::Open, 1, 0, 2_250_000),
+    (u64::MAX - 1, Track::Open, 240, 10, u64::MAX),
+];
+
 #[test]
 fn a_packet_is_due_after_a_quarter_of_the_life(rt: HostRuntime) {
-    let last = Moment::of(2_000_000);
-    assert_eq!(rt; due(last, Track::Closed, 240, 10), Moment::of(4_500_000));
-    assert_eq!(rt;
-        due(last, Track::Half(Dir::Out), 240, 10),
-        Moment::of(62_000_000)
-    );
-    assert_eq!(rt; due(last, Track::Open, 1, 0), Moment::of(2_250_000));
-    assert_eq!(rt;
-        due(Moment::of(u64::MAX - 1), Track::Open, 240, 10),
-        Moment::of(u64::MAX)
-    );
+    for (last, state, idle, linger, moment) in DUES {
+        assert_eq!(rt;
+            due(Moment::of(last), state, idle, linger),
+            Moment::of(moment)
+        );
+    }
 }
 
 /// A pair of this rule, with keys of its number's own.
@@ -291,23 +339,41 @@ fn pair_by(number: u32, group: u16, rule: u16) -> Pair
     pair
 }
 
+/// Adds four pairs and tells whether it did: the first and the last are of one rule, the second of a rule
+/// of its number in another group, the third of another rule of its group.
+fn open_by_rules(flows: &mut Flows) -> bool
+    requires none { flows.old.pairs ≡ [] }
+{
+    let first = put(flows, pair_by(0, 2, 7));
+    let second = put(flows, pair_by(1, 3, 7));
+    let third = put(flows, pair_by(2, 2, 8));
+    let fourth = put(flows, pair_by(3, 2, 7));
+    first && second && third && fourth
+}
+
+/// What the keys of the numbers below 4 lead to, and what those of their replies do.
+fn found_out(flows: &Flows) -> [Found; 4] {
+    [0u32, 1, 2, 3].map(|number| found(flows, Dir::Out, &there_of(number)))
+}
+
+fn found_in(flows: &Flows) -> [Found; 4] {
+    [0u32, 1, 2, 3].map(|number| found(flows, Dir::In, &back_of(number)))
+}
+
+/// What is left without the first and the last.
+const MIDDLE: [Found; 4] = [
+    None,
+    Some((1, Track::Opening)),
+    Some((2, Track::Opening)),
+    None,
+];
+
 #[test]
 fn pairs_go_with_their_rule_alone(rt: HostRuntime) {
     let mut flows = Flows::new(rt.alloc());
-    assert!(rt; put(&mut flows, pair_by(0, 2, 7)));
-    assert!(rt; put(&mut flows, pair_by(1, 3, 7)));
-    assert!(rt; put(&mut flows, pair_by(2, 2, 8)));
-    assert!(rt; put(&mut flows, pair_by(3, 2, 7)));
+    assert!(rt; open_by_rules(&mut flows));
     assert_eq!(rt; flows.drop_rule(1, 7), 0);
     assert_eq!(rt; flows.drop_rule(2, 7), 2);
-    assert_eq!(rt; found(&flows, Dir::Out, &there_of(0)), None);
-    assert_eq!(rt;
-        found(&flows, Dir::In, &back_of(1)),
-        Some((1, Track::Opening))
-    );
-    assert_eq!(rt;
-        found(&flows, Dir::Out, &there_of(2)),
-        Some((2, Track::Opening))
-    );
-    assert_eq!(rt; found(&flows, Dir::In, &back_of(3)), None);
+    assert_eq!(rt; found_out(&flows), MIDDLE);
+    assert_eq!(rt; found_in(&flows), MIDDLE);
 }

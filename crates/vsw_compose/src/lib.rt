@@ -4,8 +4,6 @@
 mod composition;
 mod edit;
 mod law;
-#[cfg(test)]
-mod tests;
 
 pub use composition::compose;
 pub use edit::act_of;

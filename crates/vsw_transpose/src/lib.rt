@@ -7,8 +7,6 @@ mod acts;
 mod doing;
 mod form;
 mod law;
-#[cfg(test)]
-mod tests;
 mod transposition;
 
 pub use act::{Act, Change};

@@ -1,67 +1,8 @@
 //! Transpositions of frames that were read by hand, and acts that make none.
 
-ghost use Rattle.std.specs.Prelude.{◌<◌, ◌^◌};
-
-use crate::{Act, BadActs, Change, Transposition};
+use crate::samples::{encap, ether, plain, query, sent};
 use vsw_base::{BadShape, Header, Ip4, Mac, Stack};
-
-const IPV4: u16 = 0x0800;
-
-fn ether(dst: u64, src: u64, kind: u16) -> Header
-    requires dst { dst < 2 ^ 48 }
-    requires src { src < 2 ^ 48 }
-{
-    Header::Ether {
-        dst: Mac::of(dst),
-        src: Mac::of(src),
-        kind,
-    }
-}
-
-fn udp(src: u32, dst: u32) -> Header {
-    Header::Ip {
-        src: Ip4::of(src),
-        dst: Ip4::of(dst),
-        proto: 17,
-        part: false,
-    }
-}
-
-fn ports(src: u16) -> Header {
-    Header::Ports {
-        proto: 17,
-        src,
-        dst: 53,
-    }
-}
-
-/// UDP to port 53 of 10.0.0.9, from this port of this address.
-fn query(src: u32, src_port: u16) -> [Header; 3] {
-    [
-        ether(0x0200_0000_0099, 0x0200_0000_0001, IPV4),
-        udp(src, 0x0a00_0009),
-        ports(src_port),
-    ]
-}
-
-/// An encapsulation in network 5001, from 172.16.0.1 to 172.16.0.2.
-fn encap() -> [Header; 3] {
-    [
-        ether(0x0200_0000_0a02, 0x0200_0000_0a01, IPV4),
-        udp(0xac10_0001, 0xac10_0002),
-        Header::Vxlan { vni: 5001 },
-    ]
-}
-
-fn plain() -> Result<Stack, BadShape> {
-    Stack::of(&query(0x0a00_0005, 1234))
-}
-
-fn once() -> Result<Stack, BadShape> {
-    let [a, b, c] = encap();
-    let [d, e, f] = query(0xc000_0207, 40_000);
-    Stack::of(&[a, b, c, d, e, f])
-}
+use vsw_transpose::{Act, BadActs, Change, Transposition};
 
 fn twice() -> Result<Stack, BadShape> {
     let [a, b, c] = encap();
@@ -105,19 +46,19 @@ fn decap() -> Result<Transposition, BadActs> {
 fn an_edited_query_stands_in_a_network(rt: HostRuntime) {
     let edit = edit().expect(&rt, "it has the form");
     let plain = plain().expect(&rt, "it has the shape");
-    let once = once().expect(&rt, "it has the shape");
-    assert!(rt; edit.fits(&plain) && !edit.fits(&once));
-    assert!(rt; edit.apply(&plain).is_same(&once));
+    let sent = sent().expect(&rt, "it has the shape");
+    assert!(rt; edit.fits(&plain) && !edit.fits(&sent));
+    assert!(rt; edit.apply(&plain).is_same(&sent));
     assert_eq!(rt; edit.kept(), 0);
 }
 
 #[test]
 fn the_first_encapsulation_goes(rt: HostRuntime) {
     let decap = decap().expect(&rt, "it has the form");
-    let once = once().expect(&rt, "it has the shape");
+    let sent = sent().expect(&rt, "it has the shape");
     let inner = Stack::of(&query(0xc000_0207, 40_000)).expect(&rt, "it has the shape");
-    assert!(rt; decap.fits(&once) && !decap.fits(&inner));
-    assert!(rt; decap.apply(&once).is_same(&inner));
+    assert!(rt; decap.fits(&sent) && !decap.fits(&inner));
+    assert!(rt; decap.apply(&sent).is_same(&inner));
     assert_eq!(rt; decap.kept(), 0);
 }
 
@@ -184,7 +125,7 @@ fn redirect() -> Act {
 
 #[test]
 fn fields_are_written_into_inner_headers_of_their_kind(rt: HostRuntime) {
-    let once = once().expect(&rt, "it has the shape");
+    let sent = sent().expect(&rt, "it has the shape");
     let inner = [
         Act::Ignore,
         Act::Ignore,
@@ -193,7 +134,7 @@ fn fields_are_written_into_inner_headers_of_their_kind(rt: HostRuntime) {
         Act::Ignore,
         Act::Ignore,
     ];
-    assert!(rt; fits(&inner, &once) && !fits(&inner[..5], &once));
+    assert!(rt; fits(&inner, &sent) && !fits(&inner[..5], &sent));
     let outer = [
         redirect(),
         Act::Ignore,
@@ -202,7 +143,7 @@ fn fields_are_written_into_inner_headers_of_their_kind(rt: HostRuntime) {
         Act::Ignore,
         Act::Ignore,
     ];
-    assert!(rt; !fits(&outer, &once));
+    assert!(rt; !fits(&outer, &sent));
     let other = [
         Act::Ignore,
         Act::Ignore,
@@ -211,7 +152,7 @@ fn fields_are_written_into_inner_headers_of_their_kind(rt: HostRuntime) {
         redirect(),
         Act::Ignore,
     ];
-    assert!(rt; !fits(&other, &once));
+    assert!(rt; !fits(&other, &sent));
 }
 
 fn is_refused(acts: &[Act]) -> bool {

@@ -3,6 +3,7 @@
 ghost use Rattle.std.specs.Prelude.{◌≡◌, ◌+◌, [], IsTrue};
 ghost use Rattle.vsw_layerflow.specs.Pairs.{AllBelow};
 
+use std::process::Abort;
 use vsw_base::{Dir, Ip4, LayerKey, Moment, Set, Track};
 use vsw_layerflow::{Flows, Pair, due};
 
@@ -252,31 +253,48 @@ fn open_all(flows: &mut Flows, count: u32) {
     }
 }
 
-#[test]
-fn a_full_layer_is_touched_opened_again_and_swept(rt: HostRuntime) {
-    let mut flows = Flows::new(rt.alloc());
-    assert!(rt; fill(&mut flows, MOST));
+/// Fills a layer, and opens a third of its pairs again: none of those that are found is open.
+fn check_filled(rt: &impl Abort, flows: &mut Flows)
+    requires none { flows.old.pairs ≡ [] }
+{
+    assert!(rt; fill(flows, MOST));
     assert_eq!(rt; flows.len(), 65_536);
-    assert!(rt; reopen_thirds(&mut flows));
+    assert!(rt; reopen_thirds(flows));
     assert_eq!(rt; flows.len(), 65_536);
-    assert_eq!(rt; count_found(&flows, MOST), 0);
-    open_all(&mut flows, MOST);
-    assert_eq!(rt; count_found(&flows, MOST), 43_690);
+    assert_eq!(rt; count_found(flows, MOST), 0);
+}
+
+/// Opens the pairs that weren't opened again.
+fn check_opened(rt: &impl Abort, flows: &mut Flows) {
+    open_all(flows, MOST);
+    assert_eq!(rt; count_found(flows, MOST), 43_690);
     let third = Some((MOST + 3, Track::Opening));
-    assert_eq!(rt; found(&flows, Dir::Out, &there_of(3)), third);
-    assert_eq!(rt; found(&flows, Dir::In, &back_of(3)), third);
+    assert_eq!(rt; found(flows, Dir::Out, &there_of(3)), third);
+    assert_eq!(rt; found(flows, Dir::In, &back_of(3)), third);
+}
+
+/// Sweeps half of the open pairs and all that were opened again, and drops the others.
+fn check_swept(rt: &impl Abort, flows: &mut Flows) {
     // Those up to number 32,767 were last used by second 32,768, those opened again at second 1.
     assert_eq!(rt;
         flows.sweep(Moment::of(33_008_000_000), 240, 10),
         21_846 + 21_845
     );
-    assert_eq!(rt; found(&flows, Dir::Out, &there_of(32_767)), None);
+    assert_eq!(rt; found(flows, Dir::Out, &there_of(32_767)), None);
     let first = Some((32_768, Track::Open));
-    assert_eq!(rt; found(&flows, Dir::Out, &there_of(32_768)), first);
-    assert_eq!(rt; count_found(&flows, MOST), 21_845);
+    assert_eq!(rt; found(flows, Dir::Out, &there_of(32_768)), first);
+    assert_eq!(rt; count_found(flows, MOST), 21_845);
     assert_eq!(rt; flows.drop_rule(2, 7), 21_845);
     assert_eq!(rt; flows.len(), 0);
-    assert_eq!(rt; count_found(&flows, MOST), 0);
+    assert_eq!(rt; count_found(flows, MOST), 0);
+}
+
+#[test]
+fn a_full_layer_is_touched_opened_again_and_swept(rt: HostRuntime) {
+    let mut flows = Flows::new(rt.alloc());
+    check_filled(&rt, &mut flows);
+    check_opened(&rt, &mut flows);
+    check_swept(&rt, &mut flows);
 }
 
 /// The state of a pair, the moment it was last used, and the last moment at which a sweep leaves it,

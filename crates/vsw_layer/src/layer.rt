@@ -109,7 +109,7 @@ impl Layer {
         set_rules(alloc, &mut self.groups, group, rules);
     }
 
-    /// Puts other rules in place of all that a group has, and the pairs go of those that aren't among them.
+    /// Puts other rules in place of all that a group has. An old one that isn't among them takes its pairs with it.
     pub fn put_rules(&mut self, alloc: Global, group: u16, rules: &[Rule]) -> Result<(), NoMemory>
         ensures ok { OnOk result (seen self.new ≡ with_parts (changed (is_group group) (with_rules rules.now) self.old.groups) (staying group (groups.rules_in self.old.groups group) rules.now self.old.flows.pairs) (seen self.old)) }
         ensures err { OnErr result (seen self.new ≡ seen self.old) }

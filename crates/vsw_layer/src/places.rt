@@ -19,7 +19,7 @@ pub fn group_place(groups: &[Group], number: u16) -> Option<usize>
     groups.iter().position(|group| number == group.number)
 }
 
-/// The rules of a group, and none where it isn't there.
+/// The rules of the group of this number, and none where it isn't there.
 pub fn rules_in(groups: &[Group], number: u16) -> &[Rule]
     ensures { result.now ≡ spec.rules_in groups.now number }
 {
@@ -29,7 +29,7 @@ pub fn rules_in(groups: &[Group], number: u16) -> &[Rule]
     }
 }
 
-/// Whether there is one.
+/// Whether there is a group of this number.
 pub fn has_group(groups: &[Group], number: u16) -> bool
     ensures { result ≡ list_any (spec.is_group number) groups.now }
 {
@@ -43,7 +43,7 @@ pub fn rule_place(rules: &[Rule], number: u16) -> Option<usize>
     rules.iter().position(|rule| number == rule.number)
 }
 
-/// Whether there is one.
+/// Whether there is a rule of this number.
 pub fn has_rule(rules: &[Rule], number: u16) -> bool
     ensures { result ≡ list_any (spec.is_rule number) rules.now }
 {

@@ -27,7 +27,7 @@ fn empty_layer(alloc: Global, controller: u16, spec: &LayerSpec) -> Layer
     }
 }
 
-/// Adds one in its place.
+/// Adds an empty layer in its place.
 fn add_layer(
     alloc: Global,
     controllers: &[u16],

@@ -4,8 +4,6 @@
 mod ending;
 mod files;
 mod run;
-#[cfg(test)]
-mod tests;
 mod words;
 
 pub use ending::Status;

@@ -1,10 +1,11 @@
 //! Files in memory, read through the calls of a host.
 
-use crate::{Host, MemoryFile, MemoryHost, ReadEnd, are_distinct, read_file};
 use std::alloc::{AllocError, Global};
 use std::process::Abort;
 use std::test::Fail;
 use vsw_base::{Items, Text};
+use vsw_host::{Host, ReadEnd, read_file};
+use vsw_memory_host::{MemoryFile, MemoryHost, are_distinct};
 
 fn file(alloc: Global, name: &str, bytes: Vec<u8>) -> Result<MemoryFile, AllocError> {
     Ok(MemoryFile {

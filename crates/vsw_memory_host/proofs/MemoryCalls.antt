@@ -8,12 +8,12 @@ use Rattle.std.proofs.lemmas.Bool.{lt-ltb, and_left}
 use Rattle.std.proofs.lemmas.Bool.Decides.{nat_tests}
 use Rattle.std.proofs.lemmas.List.{length-map}
 use Rattle.vsw_host.specs.Outside.{Opened, DoesOpen, DoesRead}
-use Rattle.vsw_host.specs.Files.{held}
-use Rattle.vsw_host.specs.Memory.{Memory, outside, openings, raised, fails, may_open, next_count, after_open, after_read}
-use Rattle.vsw_host.specs.MemoryInside.{seen, opened_of, all_opened, OpensNext, OpensNone, ReadsNext}
-use Rattle.vsw_host.specs.declared.opening.Opening.{Opening}
-use Rattle.vsw_host.specs.declared.memory_host.MemoryHost.TheInside.{Inside}
-use Rattle.vsw_host.proofs.Held.{placed, held-unplaced, all_opened-append, slice_get-all_opened, all_opened-set}
+use Rattle.vsw_memory_host.specs.Files.{held}
+use Rattle.vsw_memory_host.specs.Memory.{Memory, outside, openings, raised, fails, may_open, next_count, after_open, after_read}
+use Rattle.vsw_memory_host.specs.MemoryInside.{seen, opened_of, all_opened, OpensNext, OpensNone, ReadsNext}
+use Rattle.vsw_memory_host.specs.declared.opening.Opening.{Opening}
+use Rattle.vsw_memory_host.specs.declared.memory_host.MemoryHost.TheInside.{Inside}
+use Rattle.vsw_memory_host.proofs.Held.{placed, held-unplaced, all_opened-append, slice_get-all_opened, all_opened-set}
 
 length-all_opened : (s : Inside) → length (all_opened s.files.items s.opened.items) ≡ length s.opened.items
 length-all_opened s = length-map s.opened.items (λ (o : Opening). opened_of (slice_get s.files.items o.file) o.read)

@@ -2,7 +2,7 @@
 
 ghost use Rattle.std.specs.Prelude.{◌≡◌};
 ghost use Rattle.std.specs.List.{list_any};
-ghost use Rattle.vsw_host.specs.Files.{is_named, place, are_distinct};
+ghost use Rattle.vsw_memory_host.specs.Files.{is_named, place, are_distinct};
 
 use vsw_base::{Items, Text};
 

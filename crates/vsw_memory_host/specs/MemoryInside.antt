@@ -1,11 +1,11 @@
 -- How a host in memory keeps what it is: openings name their files by place.
 use Rattle.std.specs.Prelude.{◌≡◌, ℕ, ◌+◌, ◌-◌, ◌≤◌, ◌<◌, ◌⊎◌, min, List, [], ◌∷◌, ◌++◌, length, map, take, drop, slice_get, slice_set, Option, Some, None, All, vec_capacity}
 use Rattle.vsw_host.specs.Outside.{Opened}
-use Rattle.vsw_host.specs.Files.{place}
-use Rattle.vsw_host.specs.Memory.{Memory, openings}
-use Rattle.vsw_host.specs.declared.memory_file.MemoryFile.{MemoryFile}
-use Rattle.vsw_host.specs.declared.opening.Opening.{Opening}
-use Rattle.vsw_host.specs.declared.memory_host.MemoryHost.TheInside.{Inside}
+use Rattle.vsw_memory_host.specs.Files.{place}
+use Rattle.vsw_memory_host.specs.Memory.{Memory, openings}
+use Rattle.vsw_memory_host.specs.declared.memory_file.MemoryFile.{MemoryFile}
+use Rattle.vsw_memory_host.specs.declared.opening.Opening.{Opening}
+use Rattle.vsw_memory_host.specs.declared.memory_host.MemoryHost.TheInside.{Inside}
 
 abbrev pub opened_of : Option MemoryFile → ℕ → Opened
 opened_of None read = record { name = []; bytes = []; read = read }

@@ -1,8 +1,8 @@
 use Rattle.std.proofs.Common.{rules, sym, ◌∙◌, ◌≡◌, false}
-use Rattle.vsw_host.specs.Memory.{fails}
-use Rattle.vsw_host.specs.MemoryInside.{seen}
-use Rattle.vsw_host.proofs.MemoryCalls.{may_open-opened, may_open-refused, unrefused, seen-open, opens-seen}
-use Rattle.vsw_host.proofs.memory_host.MemoryHostHost.open.Goals as goal
+use Rattle.vsw_memory_host.specs.Memory.{fails}
+use Rattle.vsw_memory_host.specs.MemoryInside.{seen}
+use Rattle.vsw_memory_host.proofs.MemoryCalls.{may_open-opened, may_open-refused, unrefused, seen-open, opens-seen}
+use Rattle.vsw_memory_host.proofs.memory_host.MemoryHostHost.open.Goals as goal
 
 pub returns-in-Some-clause-opens : goal.returns-in-Some-clause-opens
 returns-in-Some-clause-opens c =

@@ -1,11 +1,11 @@
 use Rattle.std.proofs.Common.{arith, ◌≡◌, ◌∙◌, ap, length, ℕ}
 use Rattle.std.specs.Vec.{with_items}
 use Rattle.std.proofs.lemmas.List.{with_items_is}
-use Rattle.vsw_host.specs.Memory.{next_count}
-use Rattle.vsw_host.specs.MemoryInside.{seen, ReadsNext}
-use Rattle.vsw_host.proofs.MemoryCalls.{reads-seen, seen-read, next_count-read}
-use Rattle.vsw_host.proofs.memory_host.MemoryHostHost.read.Goals as goal
-use Rattle.vsw_host.proofs.memory_host.MemoryHostHost.read.Goals.{After-read_next}
+use Rattle.vsw_memory_host.specs.Memory.{next_count}
+use Rattle.vsw_memory_host.specs.MemoryInside.{seen, ReadsNext}
+use Rattle.vsw_memory_host.proofs.MemoryCalls.{reads-seen, seen-read, next_count-read}
+use Rattle.vsw_memory_host.proofs.memory_host.MemoryHostHost.read.Goals as goal
+use Rattle.vsw_memory_host.proofs.memory_host.MemoryHostHost.read.Goals.{After-read_next}
 
 -- what the step did, to the host's own lists
 read_step : (c : After-read_next) → ReadsNext c.self.inside.files.items c.self.inside.opened.items (with_items c.self.inside.opened c.read_next.new.opened).items c.self.inside.most c.args.file c.read_next.new.buffer c.read_next.result

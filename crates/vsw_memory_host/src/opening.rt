@@ -1,8 +1,8 @@
 //! The files that a host in memory has open.
 
 ghost use Rattle.std.specs.Prelude.{◌≡◌, ◌≤◌, ◌<◌, min, length, take, IfSome, IfNone, All, vec_capacity};
-ghost use Rattle.vsw_host.specs.Memory.{openings};
-ghost use Rattle.vsw_host.specs.MemoryInside.{IsWithin, OpensNext, OpensNone, ReadsNext};
+ghost use Rattle.vsw_memory_host.specs.Memory.{openings};
+ghost use Rattle.vsw_memory_host.specs.MemoryInside.{IsWithin, OpensNext, OpensNone, ReadsNext};
 
 use crate::memory_file::{MemoryFile, find_place};
 

@@ -2,18 +2,18 @@
 
 ghost use Rattle.std.specs.Prelude.{◌≡◌, [], IsSome, ◌≤◌, ◌<◌, ◌+◌, ◌++◌, length, nat_le, not, ◌&&◌, if◌then◌else◌, is_ok};
 ghost use Rattle.std.specs.Prelude.{IfOk, IsErr, IsTrue, vec_capacity};
-ghost use Rattle.vsw_host.specs.Files.{are_distinct, held};
+ghost use Rattle.vsw_memory_host.specs.Files.{are_distinct, held};
 ghost use Rattle.vsw_host.specs.Outside.{DoesOpen, DoesRead, DoesPut, DoesComplain};
-ghost use Rattle.vsw_host.specs.Memory.{made, openings, outside, raised, contains, fails};
-ghost use Rattle.vsw_host.specs.Memory.{may_open, after_open, next_count, after_read};
-ghost use Rattle.vsw_host.specs.Memory.{may_write, after_put, after_complain};
+ghost use Rattle.vsw_memory_host.specs.Memory.{made, openings, outside, raised, contains, fails};
+ghost use Rattle.vsw_memory_host.specs.Memory.{may_open, after_open, next_count, after_read};
+ghost use Rattle.vsw_memory_host.specs.Memory.{may_write, after_put, after_complain};
 
-use crate::host::{Failed, Host};
 use crate::memory_file::MemoryFile;
 use crate::opening::{OPENINGS, Opening, open_file, read_next};
 use std::alloc::Global;
 use std::marker::Model;
 use vsw_base::NoMemory;
+use vsw_host::{Failed, Host};
 
 /// A host that holds files in memory, keeps what is put and complained, and fails in the calls that
 /// it is told. It never takes more memory than it has when it is made.
@@ -33,11 +33,11 @@ pub struct MemoryHost {
 }
 
 impl Model for MemoryHost {
-    ghost use Rattle.vsw_host.specs.Memory.{Memory};
+    ghost use Rattle.vsw_memory_host.specs.Memory.{Memory};
 
     ghost Value = { Memory };
 
-    ghost use Rattle.vsw_host.specs.MemoryInside.{seen, IsSound};
+    ghost use Rattle.vsw_memory_host.specs.MemoryInside.{seen, IsSound};
 
     ghost view = { seen };
 

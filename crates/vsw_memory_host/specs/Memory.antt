@@ -4,9 +4,9 @@ use Rattle.std.specs.Prelude.{ℕ, ◌+◌, ◌-◌, ◌^◌, ◌==◌, ◌&&◌
 use Rattle.std.specs.List.{list_any}
 use Rattle.std.specs.Option.{option_map_or}
 use Rattle.vsw_host.specs.Outside.{Opened, Outside}
-use Rattle.vsw_host.specs.Files.{held}
+use Rattle.vsw_memory_host.specs.Files.{held}
 use Rattle.vsw_host.specs.declared.host.Failed.{Failed}
-use Rattle.vsw_host.specs.declared.memory_file.MemoryFile.{MemoryFile}
+use Rattle.vsw_memory_host.specs.declared.memory_file.MemoryFile.{MemoryFile}
 
 pub record Memory : Type 0 where
   pub files : List MemoryFile

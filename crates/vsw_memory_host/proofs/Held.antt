@@ -9,10 +9,10 @@ use Rattle.std.proofs.lemmas.List.{map-append, map-set}
 use Rattle.std.proofs.lemmas.Slice.Eq.{bytes_eq-Decides}
 use Rattle.std.proofs.lemmas.Bool.Decides.{nat_tests}
 use Rattle.vsw_host.specs.Outside.{Opened}
-use Rattle.vsw_host.specs.Files.{is_named, place, held}
-use Rattle.vsw_host.specs.MemoryInside.{opened_of, all_opened}
-use Rattle.vsw_host.specs.declared.memory_file.MemoryFile.{MemoryFile}
-use Rattle.vsw_host.specs.declared.opening.Opening.{Opening}
+use Rattle.vsw_memory_host.specs.Files.{is_named, place, held}
+use Rattle.vsw_memory_host.specs.MemoryInside.{opened_of, all_opened}
+use Rattle.vsw_memory_host.specs.declared.memory_file.MemoryFile.{MemoryFile}
+use Rattle.vsw_memory_host.specs.declared.opening.Opening.{Opening}
 
 -- the file at the place of a name
 pub record Placed (files : List MemoryFile) (name : List ℕ) (i : ℕ) : Type 0 where

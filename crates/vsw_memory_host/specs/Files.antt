@@ -1,7 +1,7 @@
 -- Files by their names.
 use Rattle.std.specs.Prelude.{ℕ, List, [], ◌∷◌, Bool, true, not, ◌&&◌, Option, option_map, find, position, bytes_eq}
 use Rattle.std.specs.List.{list_any}
-use Rattle.vsw_host.specs.declared.memory_file.MemoryFile.{MemoryFile}
+use Rattle.vsw_memory_host.specs.declared.memory_file.MemoryFile.{MemoryFile}
 
 abbrev pub is_named : List ℕ → MemoryFile → Bool
 is_named name f = bytes_eq f.name name

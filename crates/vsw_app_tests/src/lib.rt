@@ -1,0 +1,9 @@
+//! Tests of the program, kept apart from `vsw_app`: with tests of its own it would be proved once more.
+#![tactic(auto)]
+
+#[cfg(test)]
+mod ending_tests;
+#[cfg(test)]
+mod report_tests;
+#[cfg(test)]
+mod running;

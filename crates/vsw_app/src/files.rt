@@ -4,8 +4,9 @@ ghost use Rattle.std.specs.Prelude.{◌≡◌};
 ghost use Rattle.vsw_app.specs.Reads.{Judges, ReadsPolicy, ReadsCommands, ReadsTrace};
 
 use std::alloc::Global;
-use vsw_config::{PlainPolicy, PolicyFault, read_policy};
+use vsw_config::{PlainPolicy, read_policy};
 use vsw_host::{Host, ReadEnd, read_file};
+use vsw_members::PolicyFault;
 use vsw_replay::{Ending, TraceBytes};
 
 /// Bytes of the longest policy file.

@@ -1,8 +1,11 @@
-//! Tests of the program, kept apart from `vsw_app`: with tests of its own it would be proved once more.
+//! Tests of the program and of its policy file, kept apart from `vsw_app` and `vsw_config`: with tests of their own
+//! they would be proved once more.
 #![tactic(auto)]
 
 #[cfg(test)]
 mod ending_tests;
+#[cfg(test)]
+mod policy_tests;
 #[cfg(test)]
 mod report_tests;
 #[cfg(test)]

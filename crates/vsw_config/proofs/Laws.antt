@@ -1,39 +1,18 @@
 -- Bytes are the text of one policy at most, and its rules have distinct numbers.
-use Rattle.std.proofs.Common.{◌≡◌, ℕ, List, [], Some, subst, arith}
+use Rattle.std.proofs.Common.{◌≡◌, ℕ, List, Some, subst}
 use Rattle.serde_json.specs.Data.{Data}
-use Rattle.vsw_walk.specs.declared.layer.PlainRule.{PlainRule}
-use Rattle.vsw_walk.specs.declared.layer.PlainGroup.{PlainGroup}
 use Rattle.vsw_walk.specs.declared.layer.PlainLayer.{PlainLayer}
+use Rattle.vsw_members.specs.declared.word.Word.TheVariants.{Version, Controllers, Ports, Port, Mac, Rows, Layers, Controller, Layer, Order, DefaultOut, DefaultIn, Pairs, Idle, Linger, Groups}
+use Rattle.vsw_members.specs.Object.{object_among, read_in, found}
+use Rattle.vsw_members.specs.Value.{short_of, allows_of, only_item, only}
+use Rattle.vsw_members.proofs.Steps.{taken, same_value}
+use Rattle.vsw_group.specs.Group.{group_of, AreDistinct}
+use Rattle.vsw_group.proofs.Groups.{group_distinct}
 use Rattle.vsw_config.specs.declared.policy.PlainPolicy.{PlainPolicy}
-use Rattle.vsw_config.specs.declared.word.Word.TheVariants.{Version, Controllers, Ports, Port, Mac, Rows, Layers, Controller, Layer, Order, DefaultOut, DefaultIn, Pairs, Idle, Linger, Groups, Group, Dir, When, Rules}
-use Rattle.vsw_config.specs.Object.{object_among, read_in, found}
-use Rattle.vsw_config.specs.Value.{short_of, allows_of, items_to, only_item}
-use Rattle.vsw_config.specs.Rule.{rules_of}
-use Rattle.vsw_config.specs.Policy.{only, dir_of, group_words, group_of, listed_number, layer_words, pairs_of, seconds_of, layer_of, port_words, address_of, rows_of, port_of, file_words, version_of, controllers_of, policy_of, IsPolicy, AreDistinct}
-use Rattle.vsw_config.proofs.Rules.{taken, same_value, items_distinct}
+use Rattle.vsw_config.specs.Policy.{listed_number, layer_words, pairs_of, seconds_of, layer_of, port_words, address_of, rows_of, port_of, file_words, version_of, controllers_of, policy_of, IsPolicy}
 
 pub policy_alone : (bytes : List ℕ) (p q : PlainPolicy) → IsPolicy bytes p → IsPolicy bytes q → p ≡ q
 policy_alone bytes p q h k = cc
-
-none_distinct : AreDistinct []
-unfolding AreDistinct
-none_distinct i j d lower within same = omega arith
-
-rules_distinct : (d : Data) (rules : List PlainRule) → rules_of d ≡ Some rules → AreDistinct rules
-rules_distinct d rules h =
-    taken (items_to 1024 d) _ rules h (λ ds e h.
-    items_distinct [] ds rules none_distinct h)
-
-group_distinct : (d : Data) (group : PlainGroup) → group_of d ≡ Some group → AreDistinct group.rules
-unfolding group_of read_in
-group_distinct d group h =
-    taken (object_among group_words d) _ group h (λ o e h.
-    taken (read_in Group o short_of) _ group h (λ number e h.
-    taken (read_in Dir o dir_of) _ group h (λ dir e h.
-    taken (read_in When o (items_to 0)) _ group h (λ none e h.
-    taken (read_in Rules o rules_of) _ group h (λ rules e h.
-    taken (found Rules o) _ rules e (λ place f value.
-    subst (λ (g : PlainGroup). AreDistinct g.rules) (same_value _ group h) (rules_distinct place rules value)))))))
 
 layer_distinct : (listed : ℕ) (d : Data) (layer : PlainLayer) → layer_of listed d ≡ Some layer → AreDistinct layer.group.rules
 unfolding layer_of read_in

@@ -1,4 +1,1 @@
 pub mod Policy
-pub mod Rule
-pub mod Object
-pub mod Value

@@ -1,47 +1,22 @@
 -- What a policy file says.
-use Rattle.std.specs.Prelude.{◌≡◌, ◌≢◌, ℕ, ◌≤◌, ◌==◌, List, [], ◌∷◌, length, Option, Some, None, Result, Ok, Err, IsUtf8, codes, if◌then◌else◌}
-use Rattle.std.specs.List.{AllPairs}
+use Rattle.std.specs.Prelude.{◌≡◌, ℕ, ◌≤◌, ◌==◌, List, [], ◌∷◌, length, Option, Some, None, Result, Ok, Err, IsUtf8, if◌then◌else◌}
 use Rattle.serde_json.specs.Data.{Data}
 use Rattle.serde_json.specs.Find.{as_str}
 use Rattle.serde_json.specs.Read.{read}
-use Rattle.vsw_base.specs.declared.packet.Dir.{Dir}
-use Rattle.vsw_base.specs.declared.packet.Dir.TheVariants.{Out, In}
 use Rattle.vsw_base.specs.Spelling.{◌>>=◌, mac_of}
-use Rattle.vsw_walk.specs.declared.layer.PlainRule.{PlainRule}
-use Rattle.vsw_walk.specs.declared.layer.PlainGroup.{PlainGroup}
 use Rattle.vsw_walk.specs.declared.layer.PlainLayer.{PlainLayer}
 use Rattle.vsw_config.specs.declared.policy.PlainPolicy.{PlainPolicy}
-use Rattle.vsw_config.specs.declared.policy.PolicyFault.{PolicyFault}
-use Rattle.vsw_config.specs.declared.policy.PolicyFault.TheVariants.{NotBuilt, Memory}
-use Rattle.vsw_config.specs.declared.word.Word.{Word}
-use Rattle.vsw_config.specs.declared.word.Word.TheVariants as word
-use Rattle.vsw_config.specs.Object.{object_among, read_in}
-use Rattle.vsw_config.specs.Value.{number_from, short_of, choice_of, allows_of, items_to, only_item}
-use Rattle.vsw_config.specs.Rule.{rules_of}
-
-abbrev pub dir_of : Data → Option Dir
-dir_of d = choice_of ((codes "out", Out) ∷ (codes "in", In) ∷ []) d
+use Rattle.vsw_members.specs.declared.fault.PolicyFault.{PolicyFault}
+use Rattle.vsw_members.specs.declared.fault.PolicyFault.TheVariants.{NotBuilt, Memory}
+use Rattle.vsw_members.specs.declared.word.Word.{Word}
+use Rattle.vsw_members.specs.declared.word.Word.TheVariants as word
+use Rattle.vsw_members.specs.Object.{object_among, read_in}
+use Rattle.vsw_members.specs.Value.{number_from, short_of, allows_of, only}
+use Rattle.vsw_group.specs.Group.{group_of}
 
 -- an Ethernet address, spelt as a text
 abbrev pub address_of : Data → Option ℕ
 address_of d = as_str d >>= mac_of
-
--- the one item of a list, read
-abbrev pub only : {A : Type 0} → (Data → Option A) → Data → Option A
-only f d = only_item d >>= f
-
-abbrev pub group_words : List Word
-group_words = word.Group ∷ word.Dir ∷ word.When ∷ word.Rules ∷ []
-
--- a group; only groups without conditions are built
-unfoldable pub group_of : Data → Option PlainGroup
-group_of d = do
-  o ← object_among group_words d
-  number ← read_in word.Group o short_of
-  dir ← read_in word.Dir o dir_of
-  none ← read_in word.When o (items_to 0)
-  rules ← read_in word.Rules o rules_of
-  Some (record { number = number; dir = dir; rules = rules })
 
 abbrev pub layer_words : List Word
 layer_words = word.Controller ∷ word.Layer ∷ word.Order ∷ word.DefaultOut ∷ word.DefaultIn ∷ word.Pairs ∷ word.Idle ∷ word.Linger ∷ word.Groups ∷ []
@@ -109,10 +84,6 @@ policy_of d = do
 -- the bytes are the text of this policy
 abbrev pub IsPolicy : List ℕ → PlainPolicy → Type 0
 IsPolicy bytes p = (length bytes ≤ 65536) × (d : Data) × IsUtf8 bytes × (read bytes ≡ Some d) × (policy_of d ≡ Some p)
-
--- no number stands twice
-unfoldable pub AreDistinct : List PlainRule → Type 0
-AreDistinct rules = AllPairs (λ r s. r.number ≢ s.number) rules
 
 -- what each answer says of the bytes
 abbrev pub Answers : List ℕ → Result PlainPolicy PolicyFault → Type 0

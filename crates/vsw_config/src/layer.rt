@@ -1,25 +1,21 @@
-//! Layers and their groups.
-#![tactic(auto, unfolding(crate::specs::Object::read_in))]
+//! Layers.
+#![tactic(auto, unfolding(vsw_members::specs::Object::read_in))]
 
 ghost use Rattle.std.specs.Prelude.{◌≡◌};
 ghost use Rattle.serde_json.specs.View.{view};
-ghost use Rattle.vsw_config.specs.Value.{Gives, Says};
-ghost use Rattle.vsw_config.specs.Object.{read_in};
-ghost use Rattle.vsw_config.specs.declared.word.Word.{Word};
-ghost use Rattle.vsw_config.specs.declared.word.Word.TheVariants as word;
-ghost use Rattle.vsw_config.specs.Policy.{only, dir_of, group_words, group_of, listed_number, layer_words, pairs_of, seconds_of, layer_of};
+ghost use Rattle.vsw_members.specs.Value.{Gives, Says, only};
+ghost use Rattle.vsw_group.specs.Group.{group_of};
+ghost use Rattle.vsw_members.specs.Object.{read_in};
+ghost use Rattle.vsw_members.specs.declared.word.Word.{Word};
+ghost use Rattle.vsw_members.specs.declared.word.Word.TheVariants as word;
+ghost use Rattle.vsw_config.specs.Policy.{listed_number, layer_words, pairs_of, seconds_of, layer_of};
 
-use crate::object::{object_in, value_in};
-use crate::policy::PolicyFault::{self, NotBuilt};
-use crate::rule::rules;
-use crate::value::{allows_in, items_up_to, number, only_item, short_in, text};
-use crate::word::Word;
 use serde_json::Value;
 use std::alloc::Global;
-use vsw_base::Dir;
-use vsw_walk::{PlainGroup, PlainLayer};
-
-const GROUP_WORDS: [Word; 4] = [Word::Group, Word::Dir, Word::When, Word::Rules];
+use vsw_group::only_group;
+use vsw_members::PolicyFault::{self, NotBuilt};
+use vsw_members::{Word, allows_in, number, object_in, short_in, value_in};
+use vsw_walk::PlainLayer;
 
 const LAYER_WORDS: [Word; 9] = [
     Word::Controller,
@@ -32,35 +28,6 @@ const LAYER_WORDS: [Word; 9] = [
     Word::Linger,
     Word::Groups,
 ];
-
-fn dir(object: &Value) -> Result<Dir, PolicyFault>
-    ensures { Gives result (read_in word.Dir (view object.now) dir_of) }
-{
-    match text(value_in(object, Word::Dir)?)? {
-        "out" => Ok(Dir::Out),
-        "in" => Ok(Dir::In),
-        _ => Err(NotBuilt),
-    }
-}
-
-#[tactic(auto, unfolding(crate::specs::Policy::group_of))]
-fn group(alloc: Global, value: &Value) -> Result<PlainGroup, PolicyFault>
-    ensures { Says result (group_of (view value.now)) }
-{
-    let object = object_in(&GROUP_WORDS, value)?;
-    let number = short_in(object, Word::Group)?;
-    let dir = dir(object)?;
-    items_up_to(0, object, Word::When)?;
-    let rules = rules(alloc, object)?;
-    Ok(PlainGroup { number, dir, rules })
-}
-
-fn only_group(alloc: Global, object: &Value) -> Result<PlainGroup, PolicyFault>
-    ensures { Says result (read_in word.Groups (view object.now) (only group_of)) }
-{
-    let group = group(alloc, only_item(object, Word::Groups)?)?;
-    Ok(group)
-}
 
 fn listed(controller: u16, object: &Value) -> Result<u16, PolicyFault>
     ensures { Gives result (read_in word.Controller (view object.now) (listed_number controller)) }

@@ -5,13 +5,8 @@
 #![tactic(auto)]
 
 mod layer;
-mod list;
-mod object;
 mod policy;
 mod read;
-mod rule;
-mod value;
-mod word;
 
-pub use policy::{PlainPolicy, PolicyFault};
+pub use policy::PlainPolicy;
 pub use read::read_policy;

@@ -1,23 +1,22 @@
 //! Reading a policy file.
-#![tactic(auto, unfolding(crate::specs::Object::read_in))]
+#![tactic(auto, unfolding(vsw_members::specs::Object::read_in))]
 
 ghost use Rattle.std.specs.Prelude.{◌≡◌, IfOk};
 ghost use Rattle.serde_json.specs.View.{view};
 ghost use Rattle.vsw_config.specs.declared.policy.PlainPolicy.{PlainPolicy};
-ghost use Rattle.vsw_config.specs.Value.{Gives, Says};
-ghost use Rattle.vsw_config.specs.Object.{read_in};
-ghost use Rattle.vsw_config.specs.declared.word.Word.TheVariants as word;
-ghost use Rattle.vsw_config.specs.Policy.{only, layer_of, address_of, rows_of, port_of, version_of, controllers_of, policy_of, IsPolicy, AreDistinct, Answers};
+ghost use Rattle.vsw_members.specs.Value.{Gives, Says, only};
+ghost use Rattle.vsw_group.specs.Group.{AreDistinct};
+ghost use Rattle.vsw_members.specs.Object.{read_in};
+ghost use Rattle.vsw_members.specs.declared.word.Word.TheVariants as word;
+ghost use Rattle.vsw_config.specs.Policy.{layer_of, address_of, rows_of, port_of, version_of, controllers_of, policy_of, IsPolicy, Answers};
 
 use crate::layer::layer;
-use crate::object::{object_in, value_in};
 use crate::policy::PlainPolicy;
-use crate::policy::PolicyFault::{self, NotBuilt};
-use crate::value::{number, only_item, short, short_in, text};
-use crate::word::Word;
 use serde_json::Value;
 use std::alloc::Global;
 use vsw_base::Mac;
+use vsw_members::PolicyFault::{self, NotBuilt};
+use vsw_members::{Word, number, object_in, only_item, short, short_in, text, value_in};
 use vsw_walk::PlainLayer;
 
 /// Bytes of the longest policy file that is read.
@@ -111,6 +110,3 @@ pub fn read_policy(alloc: Global, bytes: &[u8]) -> Result<PlainPolicy, PolicyFau
         Err(_) => Err(NotBuilt),
     }
 }
-
-#[cfg(test)]
-mod tests;

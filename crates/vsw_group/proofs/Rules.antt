@@ -1,34 +1,19 @@
 -- The rules that are read have distinct numbers.
-use Rattle.std.proofs.Common.{◌≡◌, ◌≢◌, ◌==◌, ℕ, List, [], ◌∷◌, ◌++◌, Bool, true, false, Option, Some, None, refl, subst, ◌||◌, get_or, arith, if◌then◌else◌}
+use Rattle.std.proofs.Common.{◌≡◌, ◌≢◌, ◌==◌, ℕ, List, [], ◌∷◌, ◌++◌, true, false, Some, subst, ◌||◌, get_or, arith}
 use Rattle.std.specs.List.{list_any}
 use Rattle.std.proofs.lemmas.Bool.Decides.{nat_tests}
 use Rattle.std.proofs.lemmas.List.Folds.{list_any_at}
 use Rattle.std.proofs.lemmas.List.Quantifiers.{all_pairs_push}
 use Rattle.serde_json.specs.Data.{Data}
-use Rattle.vsw_base.specs.Spelling.{◌>>=◌}
 use Rattle.vsw_walk.specs.declared.layer.PlainRule.{PlainRule}
-use Rattle.vsw_config.specs.Value.{items_after, short_of, allows_of}
-use Rattle.vsw_config.specs.Rule.{conds_of, fresh_number, rule_words, rule_of}
-use Rattle.vsw_config.specs.Object.{object_among, read_in, found}
-use Rattle.vsw_config.specs.declared.word.Word.TheVariants.{When, Rule, Priority, Action, Stateful, Last}
+use Rattle.vsw_members.specs.Value.{short_of, allows_of, items_to}
+use Rattle.vsw_group.specs.List.{items_after}
+use Rattle.vsw_group.specs.Rule.{conds_of, fresh_number, rule_words, rule_of, rules_of}
+use Rattle.vsw_members.specs.Object.{object_among, read_in, found}
+use Rattle.vsw_members.specs.declared.word.Word.TheVariants.{When, Rule, Priority, Action, Stateful, Last}
 use Rattle.serde_json.specs.Find.{as_bool}
-use Rattle.vsw_config.specs.Policy.{AreDistinct}
-
--- a value that comes of two steps comes of a value of the first
-pub both : {A B : Type 0} (o : Option A) (f : A → Option B) (y : B) → (o >>= f) ≡ Some y → (x : A) × (o ≡ Some x) × (f x ≡ Some y)
-both None f y h = cc
-both (Some x) f y h = (x, refl, h)
-
--- the same for what follows of the parts; they are variables there, and so terms stay small
-pub taken : {A B P : Type 0} (o : Option A) (f : A → Option B) (y : B) → (o >>= f) ≡ Some y → ((x : A) → o ≡ Some x → f x ≡ Some y → P) → P
-taken o f y h k = let b = both o f y h in k b.0 b.1 b.2
-
-pub same_value : {A : Type 0} (x y : A) → Some x ≡ Some y → x ≡ y
-same_value x y h = cc
-
-pub unless_some : {A : Type 0} (b : Bool) (x y : A) → (if b then None else Some x) ≡ Some y → (b ≡ false) × (x ≡ y)
-unless_some true x y h = cc
-unless_some false x y h = (refl, cc)
+use Rattle.vsw_group.specs.Group.{AreDistinct}
+use Rattle.vsw_members.proofs.Steps.{both, taken, unless_some}
 
 -- a fresh number is none of those so far
 pub fresh_number_apart : (done : List PlainRule) (d : Data) (n : ℕ) → fresh_number done d ≡ Some n → list_any (λ r. r.number == n) done ≡ false
@@ -65,3 +50,12 @@ items_distinct done [] rules distinct h = let same : done ≡ rules = cc in subs
 items_distinct done (d ∷ ds) rules distinct rest =
     let (r, here, rest) = both (rule_of done d) _ rules rest in
     items_distinct (done ++ r ∷ []) ds rules (distinct_push done r distinct (rule_apart done d r here)) rest
+
+none_distinct : AreDistinct []
+unfolding AreDistinct
+none_distinct i j d lower within same = omega arith
+
+pub rules_distinct : (d : Data) (rules : List PlainRule) → rules_of d ≡ Some rules → AreDistinct rules
+rules_distinct d rules h =
+    taken (items_to 1024 d) _ rules h (λ ds e h.
+    items_distinct [] ds rules none_distinct h)

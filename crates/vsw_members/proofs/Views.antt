@@ -6,9 +6,9 @@ use Rattle.std.specs.declared.alloc.Global.{Global}
 use Rattle.serde_json.specs.View.{members_view, items_of}
 use Rattle.serde_json.specs.Data.{Data}
 use Rattle.serde_json.specs.declared.value.Value.{Value}
-use Rattle.vsw_config.specs.Object.{is_among, are_among}
-use Rattle.vsw_config.specs.Value.{list_of}
-use Rattle.vsw_config.specs.declared.word.Word.{Word}
+use Rattle.vsw_members.specs.Object.{is_among, are_among}
+use Rattle.vsw_members.specs.Value.{list_of}
+use Rattle.vsw_members.specs.declared.word.Word.{Word}
 
 pub all_keys_among : (words : List Word) → (es : List (String Global × Value)) → list_all (λ k. is_among words (string_bytes k)) (map (λ e. e.0) es) ≡ are_among words (members_view es)
 all_keys_among words [] = refl

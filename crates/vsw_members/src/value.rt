@@ -4,12 +4,12 @@
 ghost use Rattle.std.specs.Prelude.{◌≡◌, map};
 ghost use Rattle.serde_json.specs.View.{view};
 ghost use Rattle.serde_json.specs.Find.{as_bool, as_str};
-ghost use Rattle.vsw_config.specs.Object.{read_in};
-ghost use Rattle.vsw_config.specs.declared.word.Word.{Word};
-ghost use Rattle.vsw_config.specs.Value.{Gives, seen, number_from, short_of, allows_of, items_in, items_to, only_item};
+ghost use Rattle.vsw_members.specs.Object.{read_in};
+ghost use Rattle.vsw_members.specs.declared.word.Word.{Word};
+ghost use Rattle.vsw_members.specs.Value.{Gives, seen, number_from, short_of, allows_of, items_in, items_to, only_item};
 
+use crate::fault::PolicyFault::{self, NotBuilt};
 use crate::object::value_in;
-use crate::policy::PolicyFault::{self, NotBuilt};
 use crate::word::Word;
 use serde_json::Value;
 

@@ -4,8 +4,8 @@ use Rattle.std.specs.List.{list_any}
 use Rattle.serde_json.specs.Data.{Data, Members, no_members, member}
 use Rattle.serde_json.specs.Find.{as_object, get}
 use Rattle.vsw_base.specs.Spelling.{◌>>=◌}
-use Rattle.vsw_config.specs.declared.word.Word.{Word}
-use Rattle.vsw_config.specs.declared.word.Word.TheVariants.{Version, Controllers, Ports, Port, Mac, Rows, Layers, Controller, Layer, Order, DefaultOut, DefaultIn, Pairs, Idle, Linger, Groups, Group, Dir, When, Rules, Rule, Priority, Action, Stateful, Last, Field, Any}
+use Rattle.vsw_members.specs.declared.word.Word.{Word}
+use Rattle.vsw_members.specs.declared.word.Word.TheVariants.{Version, Controllers, Ports, Port, Mac, Rows, Layers, Controller, Layer, Order, DefaultOut, DefaultIn, Pairs, Idle, Linger, Groups, Group, Dir, When, Rules, Rule, Priority, Action, Stateful, Last, Field, Any}
 
 unfoldable pub word_text : Word → List ℕ
 word_text Version = codes "version"

@@ -1,7 +1,7 @@
 //! The names of members.
 
 ghost use Rattle.std.specs.Prelude.{◌≡◌};
-ghost use Rattle.vsw_config.specs.Object.{word_text, is_among};
+ghost use Rattle.vsw_members.specs.Object.{word_text, is_among};
 
 /// The name of a member, objects from the outside in, and in each the order of reading.
 #[derive(Clone, Copy, Debug, PartialEq, Eq)]

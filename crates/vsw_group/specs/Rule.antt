@@ -9,10 +9,11 @@ use Rattle.vsw_walk.specs.declared.layer.PlainField.{PlainField}
 use Rattle.vsw_walk.specs.declared.layer.PlainField.TheVariants.{SrcIp, DstIp}
 use Rattle.vsw_walk.specs.declared.layer.PlainCond.{PlainCond}
 use Rattle.vsw_walk.specs.declared.layer.PlainRule.{PlainRule}
-use Rattle.vsw_config.specs.declared.word.Word.{Word}
-use Rattle.vsw_config.specs.declared.word.Word.TheVariants.{When, Rule, Priority, Action, Stateful, Last, Field, Any}
-use Rattle.vsw_config.specs.Object.{object_among, read_in}
-use Rattle.vsw_config.specs.Value.{short_of, choice_of, allows_of, items_to, only_item, items_after}
+use Rattle.vsw_members.specs.declared.word.Word.{Word}
+use Rattle.vsw_members.specs.declared.word.Word.TheVariants.{When, Rule, Priority, Action, Stateful, Last, Field, Any}
+use Rattle.vsw_members.specs.Object.{object_among, read_in}
+use Rattle.vsw_members.specs.Value.{short_of, choice_of, allows_of, items_to, only_item}
+use Rattle.vsw_group.specs.List.{items_after}
 
 -- a field of the inner IPv4 header
 abbrev pub field_of : Data → Option PlainField

@@ -4,10 +4,10 @@ ghost use Rattle.std.specs.Prelude.{◌≡◌, string_bytes};
 ghost use Rattle.std.specs.List.{list_all};
 ghost use Rattle.std.specs.BTreeMap.{keys};
 ghost use Rattle.serde_json.specs.View.{view, members_view};
-ghost use Rattle.vsw_config.specs.Object.{is_among, are_among, has_names_among, object_among, found};
-ghost use Rattle.vsw_config.specs.Value.{Gives, seen};
+ghost use Rattle.vsw_members.specs.Object.{is_among, are_among, has_names_among, object_among, found};
+ghost use Rattle.vsw_members.specs.Value.{Gives, seen};
 
-use crate::policy::PolicyFault::{self, NotBuilt};
+use crate::fault::PolicyFault::{self, NotBuilt};
 use crate::word::{Word, is_known};
 use serde_json::{Map, Value};
 

@@ -1,7 +1,9 @@
 //! Policy files by hand.
 
-use super::*;
-use vsw_base::{Dir, Ip4, Items, Prefix};
+use std::alloc::Global;
+use vsw_base::{Dir, Ip4, Items, Mac, Prefix};
+use vsw_config::{PlainPolicy, read_policy};
+use vsw_members::PolicyFault::{self, NotBuilt};
 use vsw_walk::{PlainCond, PlainField, PlainGroup, PlainLayer, PlainRule};
 
 /// The pieces of a policy file: what stands before the rows, the rows, what stands before the

@@ -1,22 +1,22 @@
 //! Rules and their conditions.
-#![tactic(auto, unfolding(crate::specs::Object::read_in))]
+#![tactic(auto, unfolding(vsw_members::specs::Object::read_in))]
 
 ghost use Rattle.std.specs.Prelude.{◌≡◌, ◌==◌, codes};
 ghost use Rattle.std.specs.List.{list_any};
 ghost use Rattle.serde_json.specs.View.{view};
-ghost use Rattle.vsw_config.specs.Value.{Gives, Says};
-ghost use Rattle.vsw_config.specs.Object.{read_in};
-ghost use Rattle.vsw_config.specs.declared.word.Word.TheVariants as word;
-ghost use Rattle.vsw_config.specs.Rule.{field_of, only_prefix, cond_of, conds_of, fresh_number, rule_words, rule_of, rules_of};
+ghost use Rattle.vsw_members.specs.Value.{Gives, Says};
+ghost use Rattle.vsw_members.specs.Object.{read_in};
+ghost use Rattle.vsw_members.specs.declared.word.Word.TheVariants as word;
+ghost use Rattle.vsw_group.specs.Rule.{field_of, only_prefix, cond_of, conds_of, fresh_number, rule_words, rule_of, rules_of};
 
-use crate::list::{Listed, list};
-use crate::object::{object_in, value_in};
-use crate::policy::PolicyFault::{self, NotBuilt};
-use crate::value::{allows_in, items_up_to, only_item, short_in, text, truth_in};
-use crate::word::Word;
+use crate::items::{Listed, list};
 use serde_json::Value;
 use std::alloc::Global;
 use vsw_base::{Items, Prefix};
+use vsw_members::PolicyFault::{self, NotBuilt};
+use vsw_members::{
+    Word, allows_in, items_up_to, object_in, only_item, short_in, text, truth_in, value_in,
+};
 use vsw_walk::{PlainCond, PlainField, PlainRule};
 
 fn field(object: &Value) -> Result<PlainField, PolicyFault>

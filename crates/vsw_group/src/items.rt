@@ -3,12 +3,13 @@
 ghost use Rattle.std.specs.Prelude.{◌≡◌, map, List, Option, []};
 ghost use Rattle.serde_json.specs.View.{view};
 ghost use Rattle.serde_json.specs.Data.{Data};
-ghost use Rattle.vsw_config.specs.Value.{Says, Grows, items_after};
+ghost use Rattle.vsw_members.specs.Value.{Says};
+ghost use Rattle.vsw_group.specs.List.{Grows, items_after};
 
-use crate::policy::PolicyFault;
 use serde_json::Value;
 use std::alloc::Global;
 use vsw_base::Items;
+use vsw_members::PolicyFault;
 
 /// What stands in lists.
 pub trait Listed: Sized {

@@ -1,10 +1,10 @@
 -- Numbers, texts and lists.
-use Rattle.std.specs.Prelude.{◌≡◌, ℕ, ◌&&◌, List, [], ◌∷◌, ◌++◌, length, Bool, true, false, nat_le, Option, Some, None, option_map, Result, Ok, Err, ⊤, codes, bytes_eq, if◌then◌else◌}
+use Rattle.std.specs.Prelude.{◌≡◌, ℕ, ◌&&◌, List, [], ◌∷◌, length, Bool, true, false, nat_le, Option, Some, None, option_map, Result, Ok, Err, codes, bytes_eq, if◌then◌else◌}
 use Rattle.serde_json.specs.Data.{Data, Items, no_items, item}
 use Rattle.serde_json.specs.Find.{as_number, as_u64, as_array, as_str}
 use Rattle.vsw_base.specs.Spelling.{◌>>=◌}
-use Rattle.vsw_config.specs.declared.policy.PolicyFault.{PolicyFault}
-use Rattle.vsw_config.specs.declared.policy.PolicyFault.TheVariants.{NotBuilt, Memory}
+use Rattle.vsw_members.specs.declared.fault.PolicyFault.{PolicyFault}
+use Rattle.vsw_members.specs.declared.fault.PolicyFault.TheVariants.{NotBuilt, Memory}
 
 -- the answer is the value where there is one, and else that it isn't built
 abbrev pub Gives : {A : Type 0} → Result A PolicyFault → Option A → Type 0
@@ -22,11 +22,6 @@ Says (Err Memory) value = Unit {0}
 abbrev pub seen : {A B : Type 0} → (A → B) → Result A PolicyFault → Result B PolicyFault
 seen f (Ok x) = Ok (f x)
 seen f (Err fault) = Err fault
-
--- the item was appended, or there was no memory
-abbrev pub Grows : {A : Type 0} → Result ⊤ PolicyFault → List A → List A → A → Type 0
-Grows (Ok u) old new x = new ≡ old ++ x ∷ []
-Grows (Err fault) old new x = fault ≡ Memory
 
 -- a whole number, without sign, fraction or exponent, from `low` to `high`
 unfoldable pub number_from : ℕ → ℕ → Data → Option ℕ
@@ -73,7 +68,6 @@ the_one (d ∷ e ∷ ds) = None
 unfoldable pub only_item : Data → Option Data
 only_item d = items_in d >>= the_one
 
--- the items so far, and then the rest, each of which is read against those before it
-abbrev pub items_after : {A : Type 0} → (List A → Data → Option A) → List A → List Data → Option (List A)
-items_after f done [] = Some done
-items_after f done (d ∷ ds) = f done d >>= (λ x. items_after f (done ++ x ∷ []) ds)
+-- the one item of a list, read
+abbrev pub only : {A : Type 0} → (Data → Option A) → Data → Option A
+only f d = only_item d >>= f

@@ -1,0 +1,3 @@
+pub mod Group
+pub mod Rule
+pub mod List

@@ -1,5 +1,5 @@
-//! Tests of the program and of its policy file, kept apart from `vsw_app` and `vsw_config`: with tests of their own
-//! they would be proved once more.
+//! Tests of the program, from the policy file to the report, kept apart from `vsw_app`, `vsw_config` and
+//! `vsw_report`: with tests of their own they would be proved once more.
 #![tactic(auto)]
 
 #[cfg(test)]
@@ -8,5 +8,7 @@ mod ending_tests;
 mod policy_tests;
 #[cfg(test)]
 mod report_tests;
+#[cfg(test)]
+mod round_tests;
 #[cfg(test)]
 mod running;

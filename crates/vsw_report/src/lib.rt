@@ -4,8 +4,6 @@
 mod line;
 mod print;
 mod round;
-#[cfg(test)]
-mod tests;
 
 pub use print::{HEAD_LINE, print_round};
 pub use round::{Loose, LooseCause, PacketLine, PortRound, Round};

@@ -1,9 +1,9 @@
 //! The text of a round, written by hand.
 
-use crate::{HEAD_LINE, Loose, LooseCause, PacketLine, PortRound, Round, print_round};
 use std::alloc::{AllocError, Global};
 use std::test::Fail;
 use vsw_base::{BadFrame, Cause, Dir, Fate, Items};
+use vsw_report::{HEAD_LINE, Loose, LooseCause, PacketLine, PortRound, Round, print_round};
 
 fn entry(alloc: Global, packet: u32, count: u32, why: Cause) -> PacketLine {
     PacketLine {

@@ -131,11 +131,11 @@ pub const HEAD: &[u8] = b"vsw report 1\n";
 
 pub const ROUND: &[u8] = b"round 0\nport 1 0 0\n";
 
-pub fn low(len: usize) -> u8 {
+fn low(len: usize) -> u8 {
     (len % 256) as u8
 }
 
-pub fn high(len: usize) -> u8 {
+fn high(len: usize) -> u8 {
     (len / 256 % 256) as u8
 }
 

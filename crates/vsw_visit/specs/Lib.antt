@@ -1,0 +1,4 @@
+pub mod Visit
+pub mod Known
+pub mod Wanted
+pub mod Law

@@ -1,2 +1,2 @@
-pub mod Can
+pub mod Chosen
 pub mod Turned

@@ -72,7 +72,8 @@ fn by_rule(
     leaves: Option<u32>,
 ) -> Visit
     requires can { IsTrue (can_do rule.now.action stack.now) }
-    ensures { result ≡ spec.by_rule (seen layer.now) dir control moment stack.now leaves group rule.now }
+    ensures value { result ≡ spec.by_rule (seen layer.now) dir control moment stack.now leaves group rule.now }
+    ensures can { IfGoes result (λ action. IsTrue (can_do action stack.now)) }
 {
     if matches!(rule.action, Action::Drop) {
         return Visit::Stops(Verdict::Rule {
@@ -99,7 +100,9 @@ pub fn ask(
     stack: &Stack,
     leaves: Option<u32>,
 ) -> Visit
-    ensures { result ≡ spec.asked (seen layer.now) dir control moment stack.now leaves }
+    ensures value { result ≡ spec.asked (seen layer.now) dir control moment stack.now leaves }
+    ensures goes_on { IfGoes result (λ action. IsTrue (goes_on action)) }
+    ensures can { IfGoes result (λ action. IsTrue (can_do action stack.now)) }
 {
     match choose(dir, layer.groups.as_slice(), stack) {
         None => by_default(layer, dir, leaves),

@@ -1,6 +1,6 @@
 use Rattle.std.proofs.Common.{sym, ap, ◌∙◌, option_map}
 use Rattle.vsw_choice.specs.ChoiceSeen.{seen}
-use Rattle.vsw_visit.proofs.Can.{chosen_can}
+use Rattle.vsw_visit.proofs.Chosen.{chosen_can}
 use Rattle.vsw_visit.proofs.asked.ask.Goals as goal
 
 pub by_rule-requires : goal.by_rule-requires

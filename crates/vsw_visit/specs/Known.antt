@@ -4,20 +4,15 @@ use Rattle.vsw_base.specs.declared.flow.Set.{Set}
 use Rattle.vsw_base.specs.declared.flow.Track.{Track}
 use Rattle.vsw_base.specs.declared.flow.Track.TheVariants.{Plain, Opening, Open, Half, Closed}
 use Rattle.vsw_base.specs.declared.packet.Dir.{Dir}
-use Rattle.vsw_base.specs.declared.packet.Dir.TheVariants.{Out, In}
 use Rattle.vsw_layer.specs.declared.layer.LayerSpec.{LayerSpec}
 use Rattle.vsw_layerflow.specs.declared.pair.Pair.{Pair}
 use Rattle.vsw_layerflow.specs.Life.{due}
+use Rattle.vsw_layerflow.specs.Pairs.{same_dir}
 use Rattle.vsw_rule.specs.declared.rule.Action.TheVariants.{Edit}
 use Rattle.vsw_visit.specs.declared.outcome.Visit.{Visit}
 use Rattle.vsw_visit.specs.declared.outcome.Visit.TheVariants.{Goes}
 use Rattle.vsw_visit.specs.declared.outcome.Want.{Want}
 use Rattle.vsw_visit.specs.declared.outcome.Want.TheVariants.{Touch}
-
-abbrev pub same_dir : Dir → Dir → Bool
-same_dir Out Out = true
-same_dir In In = true
-same_dir d e = false
 
 abbrev pub same_state : Track → Track → Bool
 same_state Plain Plain = true
@@ -39,5 +34,5 @@ touch s t moment p = if nat_lt (due p.last_use t s.idle s.linger) moment then So
     else Some (Touch p.number t p.last_use)
 
 -- the packet goes on with what the pair writes into packets of its direction
-abbrev pub kept : LayerSpec → Dir → ℕ → Track → Pair → Visit
-kept s d moment t p = Goes (Edit false (set_towards d p) None) None (touch s t moment p)
+abbrev pub goes_with : LayerSpec → Dir → ℕ → Track → Pair → Visit
+goes_with s d moment t p = Goes (Edit false (set_towards d p) None) None (touch s t moment p)

@@ -21,7 +21,7 @@ use Rattle.vsw_visit.specs.declared.outcome.Visit.{Visit}
 use Rattle.vsw_visit.specs.declared.outcome.Visit.TheVariants.{Stops, Goes}
 use Rattle.vsw_visit.specs.declared.outcome.Want.{Want}
 use Rattle.vsw_visit.specs.declared.outcome.Want.TheVariants.{Make}
-use Rattle.vsw_visit.specs.Known.{kept}
+use Rattle.vsw_visit.specs.Known.{goes_with}
 use Rattle.vsw_visit.specs.Wanted.{wanted_pair}
 
 abbrev pub allows : LayerSpec → Dir → Bool
@@ -56,7 +56,7 @@ asked l d c moment hs leaves = by_choice l d c moment hs leaves (choose d l.grou
 
 -- the rules are asked about a packet that re-opens the pair; any other goes on as the pair says
 abbrev pub by_state : LayerSeen → Dir → Control → ℕ → List Header → Pair → Tracked → Visit
-by_state l d c moment hs p (To t) = kept l.spec d moment t p
+by_state l d c moment hs p (To t) = goes_with l.spec d moment t p
 by_state l d c moment hs p Reopen = asked l d c moment hs (Some p.number)
 
 abbrev pub by_pair : LayerSeen → Dir → Control → ℕ → List Header → Option Pair → Visit

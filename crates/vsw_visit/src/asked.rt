@@ -15,12 +15,12 @@ use vsw_layer::{Layer, LayerSpec};
 use vsw_rule::{Action, Rule};
 
 /// Whether packets of this direction go on that meet no rule.
-fn allows(of: &LayerSpec, dir: Dir) -> bool
-    ensures { result ≡ spec.allows of.now dir }
+fn allows(defaults: &LayerSpec, dir: Dir) -> bool
+    ensures { result ≡ spec.allows defaults.now dir }
 {
     match dir {
-        Dir::Out => of.allow_out,
-        Dir::In => of.allow_in,
+        Dir::Out => defaults.allow_out,
+        Dir::In => defaults.allow_in,
     }
 }
 

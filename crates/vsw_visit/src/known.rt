@@ -1,6 +1,7 @@
 //! A packet of a pair.
 
 ghost use Rattle.std.specs.Prelude.{◌≡◌, IsTrue};
+ghost use Rattle.vsw_layerflow.specs.Pairs.{same_dir};
 ghost use Rattle.vsw_visit.specs.Known as spec;
 
 use crate::outcome::{Visit, Want};
@@ -10,7 +11,7 @@ use vsw_layerflow::{Pair, due};
 use vsw_rule::Action;
 
 fn is_same_dir(a: Dir, b: Dir) -> bool
-    ensures { result ≡ spec.same_dir a b }
+    ensures { result ≡ same_dir a b }
 {
     matches!((a, b), (Dir::Out, Dir::Out) | (Dir::In, Dir::In))
 }
@@ -39,11 +40,11 @@ fn set_towards(pair: &Pair, dir: Dir) -> Set
     }
 }
 
-/// The touch that is wanted where a packet of this moment moves the pair to this state.
-fn touch(of: &LayerSpec, pair: &Pair, state: Track, moment: Moment) -> Option<Want>
-    ensures { result ≡ spec.touch of.now state moment pair.now }
+/// What is wanted of the pair, where a packet of this moment moves it to this state.
+fn touch(times: &LayerSpec, pair: &Pair, state: Track, moment: Moment) -> Option<Want>
+    ensures { result ≡ spec.touch times.now state moment pair.now }
 {
-    let due = due(pair.last_use, state, of.idle, of.linger);
+    let due = due(pair.last_use, state, times.idle, times.linger);
     if moment.micros() > due.micros() {
         return Some(Want::Touch {
             number: pair.number,
@@ -61,9 +62,9 @@ fn touch(of: &LayerSpec, pair: &Pair, state: Track, moment: Moment) -> Option<Wa
     })
 }
 
-/// The packet goes on as the pair says.
-pub fn keep(of: &LayerSpec, pair: &Pair, state: Track, dir: Dir, moment: Moment) -> Visit
-    ensures { result ≡ spec.kept of.now dir moment state pair.now }
+/// The packet goes on with what the pair writes in its direction.
+pub fn go_with(times: &LayerSpec, pair: &Pair, state: Track, dir: Dir, moment: Moment) -> Visit
+    ensures { result ≡ spec.goes_with times.now dir moment state pair.now }
 {
     Visit::Goes {
         action: Action::Edit {
@@ -72,6 +73,6 @@ pub fn keep(of: &LayerSpec, pair: &Pair, state: Track, dir: Dir, moment: Moment)
             encap: None,
         },
         leaves: None,
-        wants: touch(of, pair, state, moment),
+        wants: touch(times, pair, state, moment),
     }
 }

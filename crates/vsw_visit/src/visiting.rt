@@ -7,7 +7,7 @@ ghost use Rattle.vsw_rule.specs.Match.{can_do};
 ghost use Rattle.vsw_visit.specs.Visit.{visit_of, IfGoes};
 
 use crate::asked::ask;
-use crate::known::keep;
+use crate::known::go_with;
 use crate::outcome::Visit;
 use vsw_base::{Control, Dir, Moment, Stack};
 use vsw_flowid::key_of;
@@ -25,7 +25,7 @@ pub fn visit(layer: &Layer, dir: Dir, control: Control, moment: Moment, stack: &
         return ask(layer, dir, control, moment, stack, None);
     };
     match track(pair.state, pair.dir, control, dir) {
-        Tracked::To(state) => keep(&layer.spec, pair, state, dir, moment),
+        Tracked::To(state) => go_with(&layer.spec, pair, state, dir, moment),
         Tracked::Reopen => ask(layer, dir, control, moment, stack, Some(pair.number)),
     }
 }

@@ -2,13 +2,10 @@
 //! by hand.
 
 use std::alloc::{AllocError, Global};
-use vsw_base::{
-    BadShape, Control, Dir, Header, Ip4, Items, LayerKey, Mac, Moment, Set, Stack, Track,
-};
+use vsw_base::{BadShape, Dir, Header, Ip4, Items, LayerKey, Mac, Moment, Set, Stack, Track};
 use vsw_layer::{Layer, LayerSpec};
 use vsw_layerflow::{Flows, Pair};
 use vsw_rule::{Action, Group, Rule};
-use vsw_visit::{Visit, visit};
 
 /// The host inside, the name that it has outside, and the host that it speaks to.
 pub const INSIDE: u32 = 0x0a00_0005;
@@ -58,6 +55,15 @@ pub fn request() -> Result<Stack, BadShape> {
 /// From the server to port 50000 outside.
 pub fn reply() -> Result<Stack, BadShape> {
     tcp(SERVER, OUTSIDE, 80, 50_000)
+}
+
+/// The request and the reply once they were translated.
+pub fn request_outside() -> Result<Stack, BadShape> {
+    tcp(OUTSIDE, SERVER, 50_000, 80)
+}
+
+pub fn reply_inside() -> Result<Stack, BadShape> {
+    tcp(SERVER, INSIDE, 80, 40_000)
 }
 
 /// A fragment from inside to the server.
@@ -206,13 +212,4 @@ fn flows_of(alloc: Global, pair: Pair) -> Flows {
 /// The layer with pair 5 in this state.
 pub fn with_pair(alloc: Global, action: &Action, state: Track) -> Result<Layer, AllocError> {
     layer(alloc, action, flows_of(alloc, pair(5, state, USED)))
-}
-
-/// What the layer makes of a request, or of a reply.
-pub fn made(layer: &Layer, dir: Dir, control: Control, micros: u64) -> Option<Visit> {
-    let stack = match dir {
-        Dir::Out => request(),
-        Dir::In => reply(),
-    };
-    Some(visit(layer, dir, control, Moment::of(micros), &stack.ok()?))
 }

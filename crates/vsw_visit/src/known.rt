@@ -1,6 +1,6 @@
 //! A packet of a pair.
 
-ghost use Rattle.std.specs.Prelude.{◌≡◌, IsTrue};
+ghost use Rattle.std.specs.Prelude.{◌≡◌};
 ghost use Rattle.vsw_layerflow.specs.Pairs.{same_dir};
 ghost use Rattle.vsw_visit.specs.Known as spec;
 

@@ -1,0 +1,12 @@
+//! A packet's walk over the layers of a port. Nothing of the layers is changed here; what the packet wants
+//! of their pairs is told.
+#![tactic(auto)]
+
+mod between;
+mod law;
+mod scratch;
+mod walking;
+
+pub use law::laws;
+pub use scratch::{Scratch, Wanted};
+pub use walking::{Walked, walk};

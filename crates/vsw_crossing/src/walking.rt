@@ -1,0 +1,141 @@
+//! The walk over the layers.
+
+ghost use Rattle.std.specs.Prelude.{◌≡◌, ◌≢◌, ◌≤◌, ◌+◌, ◌*◌, ℕ, List, [], IsTrue, length, map, reverse};
+ghost use Rattle.vsw_base.specs.declared.fate.Verdict.TheVariants.{Pass};
+ghost use Rattle.vsw_base.specs.declared.header.Header.{Header};
+ghost use Rattle.vsw_crossing.specs.Between.{Leads, stepped};
+ghost use Rattle.vsw_crossing.specs.Walk.{Walk, along, by_visit, ended, placed, telling, walk_of};
+ghost use Rattle.vsw_layer.specs.Layer.{seen};
+ghost use Rattle.vsw_transpose.specs.Apply.{apply};
+ghost use Rattle.vsw_transpose.specs.Fits as fit;
+ghost use Rattle.vsw_visit.specs.Visit.{visit_of};
+
+use crate::between::Between;
+use crate::scratch::Scratch;
+use vsw_base::{Crossing, Dir, Verdict};
+use vsw_layer::Layer;
+use vsw_policy::Policy;
+use vsw_transpose::{Acts, Transposition};
+use vsw_visit::{Visit, visit};
+
+/// What a walk comes to: the verdict, and what all layers do to the packet, as one transposition. For a
+/// packet that is dropped it has no acts.
+#[derive(Clone, Copy, PartialEq, Eq)]
+pub struct Walked {
+    pub verdict: Verdict,
+    pub by: Transposition,
+}
+
+/// The packet meets the layer at this place. Where it is dropped there, the verdict.
+fn step(
+    layer: &Layer,
+    place: u32,
+    crossing: &Crossing,
+    between: &mut Between,
+    scratch: &mut Scratch,
+) -> Option<Verdict>
+    requires leads { Leads crossing.now.id.stack between.old }
+    requires room { length scratch.old + 2 ≤ 256 }
+    ensures leads { Leads crossing.now.id.stack between.new }
+    ensures room { length scratch.new ≤ length scratch.old + 2 }
+    ensures value { (next : List Header → ℕ → Walk) → telling scratch.old (by_visit place between.old.stack (fit.kept between.old.by) (visit_of (seen layer.now) crossing.now.id.dir crossing.now.control crossing.now.moment between.old.stack) next) ≡ stepped result scratch.new between.new.stack (fit.kept between.new.by) next }
+{
+    match visit(
+        layer,
+        crossing.id.dir,
+        crossing.control,
+        crossing.moment,
+        &between.stack,
+    ) {
+        Visit::Stops(verdict) => Some(verdict),
+        Visit::Goes {
+            action,
+            leaves,
+            wants,
+        } => {
+            scratch.tell(place, leaves, &wants);
+            between.go_on(&crossing.id.stack, &action);
+            None
+        }
+    }
+}
+
+/// The packet crosses these layers in order, of which the first has this place.
+fn go_out(
+    layers: &[Layer],
+    place: u32,
+    crossing: &Crossing,
+    between: &mut Between,
+    scratch: &mut Scratch,
+) -> Verdict
+    requires leads { Leads crossing.now.id.stack between.old }
+    requires places { place + length layers.now ≤ 128 }
+    requires room { length scratch.old + 2 * length layers.now ≤ 256 }
+    ensures leads { Leads crossing.now.id.stack between.new }
+    ensures value { telling scratch.old (along crossing.now.id.dir crossing.now.control crossing.now.moment (placed place (map seen layers.now)) between.old.stack (fit.kept between.old.by)) ≡ record { verdict = result; stack = between.new.stack; kept = fit.kept between.new.by; changes = scratch.new } }
+{
+    let [layer, rest @ ..] = layers else {
+        return Verdict::Pass;
+    };
+    if let Some(verdict) = step(layer, place, crossing, between, scratch) {
+        return verdict;
+    }
+    go_out(rest, place + 1, crossing, between, scratch)
+}
+
+/// The packet crosses these layers in reverse, of which the first has place 0.
+#[tactic(auto, using(crate::proofs::Places::last_first))]
+fn go_in(
+    layers: &[Layer],
+    crossing: &Crossing,
+    between: &mut Between,
+    scratch: &mut Scratch,
+) -> Verdict
+    requires leads { Leads crossing.now.id.stack between.old }
+    requires few { length layers.now ≤ 128 }
+    requires room { length scratch.old + 2 * length layers.now ≤ 256 }
+    ensures leads { Leads crossing.now.id.stack between.new }
+    ensures value { telling scratch.old (along crossing.now.id.dir crossing.now.control crossing.now.moment (reverse (placed 0 (map seen layers.now))) between.old.stack (fit.kept between.old.by)) ≡ record { verdict = result; stack = between.new.stack; kept = fit.kept between.new.by; changes = scratch.new } }
+{
+    let Some((layer, rest)) = layers.split_last() else {
+        return Verdict::Pass;
+    };
+    let place = rest.len() as u32;
+    if let Some(verdict) = step(layer, place, crossing, between, scratch) {
+        return verdict;
+    }
+    go_in(rest, crossing, between, scratch)
+}
+
+/// What becomes of a packet that crosses the policy's layers, and what it wants of their pairs. It takes
+/// no memory.
+pub fn walk(policy: &Policy, crossing: &Crossing, scratch: &mut Scratch) -> Walked
+    ensures verdict { result.verdict ≡ (walk_of policy.now.layers crossing.now).verdict }
+    ensures changes { scratch.new ≡ (walk_of policy.now.layers crossing.now).changes }
+    ensures fits { result.verdict ≡ Pass → IsTrue (fit.fits result.by crossing.now.id.stack) }
+    ensures stack { result.verdict ≡ Pass → apply result.by crossing.now.id.stack ≡ (walk_of policy.now.layers crossing.now).stack }
+    ensures kept { result.verdict ≡ Pass → fit.kept result.by ≡ (walk_of policy.now.layers crossing.now).kept }
+    ensures acts { result.verdict ≢ Pass → result.by ≡ [] }
+{
+    scratch.clear();
+    let mut between = Between::of(&crossing.id.stack);
+    let verdict = match crossing.id.dir {
+        Dir::Out => go_out(policy.layers(), 0, crossing, &mut between, scratch),
+        Dir::In => go_in(policy.layers(), crossing, &mut between, scratch),
+    };
+    Walked {
+        verdict,
+        by: handed(verdict, &between),
+    }
+}
+
+/// What is handed out of a walk with this verdict.
+fn handed(verdict: Verdict, between: &Between) -> Transposition
+    ensures passed { verdict ≡ Pass → result ≡ between.now.by }
+    ensures dropped { verdict ≢ Pass → result ≡ [] }
+{
+    match verdict {
+        Verdict::Pass => between.by,
+        _ => Transposition::new(Acts::new()),
+    }
+}

@@ -1,9 +1,9 @@
 -- A packet that goes on with one transposition for all that was done.
-use Rattle.std.proofs.Common.{◌≡◌, ◌≤◌, ◌+◌, ◌*◌, ◌∙◌, ℕ, List, [], ◌∷◌, true, refl, sym, ap, arith}
+use Rattle.std.proofs.Common.{◌≡◌, ◌≤◌, ◌∙◌, List, [], ◌∷◌, true, refl, sym, ap, arith}
 use Rattle.std.specs.Prelude.{min}
 use Rattle.vsw_base.specs.declared.header.Header.{Header}
 use Rattle.vsw_base.specs.Shape.{encaps, is_stack}
-use Rattle.vsw_compose.specs.Edit.{edited, kept_after}
+use Rattle.vsw_compose.specs.Edit.{kept_after}
 use Rattle.vsw_compose.specs.Law.{Composes}
 use Rattle.vsw_compose.proofs.Along.{along}
 use Rattle.vsw_crossing.specs.declared.between.Between.{Between}
@@ -13,9 +13,9 @@ use Rattle.vsw_rule.specs.Match.{can_do}
 use Rattle.vsw_transpose.specs.declared.act.Act.{Act}
 use Rattle.vsw_transpose.specs.Apply.{apply}
 use Rattle.vsw_transpose.specs.Form.{is_form}
-use Rattle.vsw_transpose.specs.Fits.{alike, fits, kept, outer}
+use Rattle.vsw_transpose.specs.Fits.{alike, fits, kept}
 use Rattle.vsw_transpose.proofs.Kept.{fits_parts, rest_is}
-use Rattle.vsw_transpose.proofs.Parts.{left, outer_after}
+use Rattle.vsw_transpose.proofs.Parts.{outer_after}
 
 pub alike_itself : (hs : List Header) → alike hs hs
 alike_itself [] = tt

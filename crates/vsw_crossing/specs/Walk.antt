@@ -66,5 +66,5 @@ along d c moment [] hs kept = ended Pass hs kept
 along d c moment (l ∷ ls) hs kept = by_visit l.0 hs kept (visit_of l.1 d c moment hs) (λ ks left. along d c moment ls ks left)
 
 -- the walk over the layers of a port, each of which is told by its place there. At first all encapsulations are kept
-abbrev pub walk_of : List LayerSeen → Crossing → Walk
+unfoldable pub walk_of : List LayerSeen → Crossing → Walk
 walk_of ls x = along x.id.dir x.control x.moment (crossed x.id.dir (placed 0 ls)) x.id.stack (encaps x.id.stack)

@@ -109,6 +109,7 @@ fn go_in(
 
 /// What becomes of a packet that crosses the policy's layers, and what it wants of their pairs. It takes
 /// no memory.
+#[tactic(auto, unfolding(crate::specs::Walk::walk_of))]
 pub fn walk(policy: &Policy, crossing: &Crossing, scratch: &mut Scratch) -> Walked
     ensures verdict { result.verdict ≡ (walk_of policy.now.layers crossing.now).verdict }
     ensures changes { scratch.new ≡ (walk_of policy.now.layers crossing.now).changes }

@@ -17,7 +17,10 @@ const ROOM: usize = 256;
 #[derive(Clone, Copy, Debug, PartialEq, Eq)]
 pub enum Wanted {
     /// A pair of the packet's flow.
-    Make { layer: u32, pair: Pair },
+    Make {
+        layer: u32,
+        pair: Pair,
+    },
     /// Another state or last use of the pair of this number.
     Touch {
         layer: u32,
@@ -26,7 +29,10 @@ pub enum Wanted {
         last: Moment,
     },
     /// The pair of this number goes, since the packet re-opens it.
-    Leave { layer: u32, number: u32 },
+    Leave {
+        layer: u32,
+        number: u32,
+    },
 }
 
 /// Room for the changes that a walk wants, kept from packet to packet.
@@ -84,11 +90,13 @@ impl Scratch {
             Some(Want::Make(pair)) => {
                 let _ = self.wanted.push(Wanted::Make { layer, pair: *pair });
             }
-            Some(Want::Touch {
-                number,
-                state,
-                last,
-            }) => {
+            Some(
+                Want::Touch {
+                    number,
+                    state,
+                    last,
+                },
+            ) => {
                 let _ = self.wanted.push(Wanted::Touch {
                     layer,
                     number: *number,

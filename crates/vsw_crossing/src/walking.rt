@@ -4,7 +4,7 @@ ghost use Rattle.std.specs.Prelude.{◌≡◌, ◌≢◌, ◌≤◌, ◌+◌, �
 ghost use Rattle.vsw_base.specs.declared.fate.Verdict.TheVariants.{Pass};
 ghost use Rattle.vsw_base.specs.declared.header.Header.{Header};
 ghost use Rattle.vsw_crossing.specs.Between.{Leads, stepped};
-ghost use Rattle.vsw_crossing.specs.Walk.{Walk, along, by_visit, ended, placed, telling, walk_of};
+ghost use Rattle.vsw_crossing.specs.Walk.{Walk, along, by_visit, crossed, placed, telling, walk_of};
 ghost use Rattle.vsw_layer.specs.Layer.{seen};
 ghost use Rattle.vsw_transpose.specs.Apply.{apply};
 ghost use Rattle.vsw_transpose.specs.Fits as fit;
@@ -107,6 +107,25 @@ fn go_in(
     go_in(rest, crossing, between, scratch)
 }
 
+/// The packet crosses these layers, of which the first has place 0, in the order of its direction.
+fn cross(
+    layers: &[Layer],
+    crossing: &Crossing,
+    between: &mut Between,
+    scratch: &mut Scratch,
+) -> Verdict
+    requires leads { Leads crossing.now.id.stack between.old }
+    requires few { length layers.now ≤ 128 }
+    requires room { length scratch.old + 2 * length layers.now ≤ 256 }
+    ensures leads { Leads crossing.now.id.stack between.new }
+    ensures value { telling scratch.old (along crossing.now.id.dir crossing.now.control crossing.now.moment (crossed crossing.now.id.dir (placed 0 (map seen layers.now))) between.old.stack (fit.kept between.old.by)) ≡ record { verdict = result; stack = between.new.stack; kept = fit.kept between.new.by; changes = scratch.new } }
+{
+    match crossing.id.dir {
+        Dir::Out => go_out(layers, 0, crossing, between, scratch),
+        Dir::In => go_in(layers, crossing, between, scratch),
+    }
+}
+
 /// What becomes of a packet that crosses the policy's layers, and what it wants of their pairs. It takes
 /// no memory.
 #[tactic(auto, unfolding(crate::specs::Walk::walk_of))]
@@ -120,10 +139,7 @@ pub fn walk(policy: &Policy, crossing: &Crossing, scratch: &mut Scratch) -> Walk
 {
     scratch.clear();
     let mut between = Between::of(&crossing.id.stack);
-    let verdict = match crossing.id.dir {
-        Dir::Out => go_out(policy.layers(), 0, crossing, &mut between, scratch),
-        Dir::In => go_in(policy.layers(), crossing, &mut between, scratch),
-    };
+    let verdict = cross(policy.layers(), crossing, &mut between, scratch);
     Walked {
         verdict,
         by: handed(verdict, &between),

@@ -1,0 +1,196 @@
+//! Two layers of two controllers. The first translates: packets of 10.0.0.0/24 come from port 40000 of
+//! 192.0.2.7 behind it, and those to that address go to port 1234 of 10.0.0.5. The second puts packets of
+//! that address in network 5001, but for those to port 23, and takes packets to it out of there.
+
+ghost use Rattle.std.specs.Prelude.{◌<◌, ◌^◌};
+
+use crate::given::give;
+use std::alloc::Global;
+use vsw_base::{Dir, Ip4, Items, Mac, Outer, Prefix, Set};
+use vsw_layer::LayerSpec;
+use vsw_policy::{Command, Policy};
+use vsw_rule::{Action, Cond, Field, Item, Rule};
+
+/// The address that stands for those of 10.0.0.0/24.
+pub const PUBLIC: u32 = 0xc000_0207;
+
+const UNSET: Set = Set {
+    dst_mac: None,
+    src_mac: None,
+    src_ip: None,
+    dst_ip: None,
+    src_port: None,
+    dst_port: None,
+};
+
+fn hide_source() -> Action {
+    Action::Edit {
+        decap: false,
+        set: Set {
+            src_ip: Some(Ip4::of(PUBLIC)),
+            src_port: Some(40_000),
+            ..UNSET
+        },
+        encap: None,
+    }
+}
+
+fn restore_destination() -> Action {
+    Action::Edit {
+        decap: false,
+        set: Set {
+            dst_ip: Some(Ip4::of(0x0a00_0005)),
+            dst_port: Some(1234),
+            ..UNSET
+        },
+        encap: None,
+    }
+}
+
+fn put_in_network() -> Action {
+    Action::Edit {
+        decap: false,
+        set: UNSET,
+        encap: Some(Outer {
+            dst_mac: Mac::of(0x0200_0000_0a02),
+            src_mac: Mac::of(0x0200_0000_0a01),
+            src_ip: Ip4::of(0xac10_0001),
+            dst_ip: Ip4::of(0xac10_0002),
+            vni: 5001,
+        }),
+    }
+}
+
+fn take_out() -> Action {
+    Action::Edit {
+        decap: true,
+        set: UNSET,
+        encap: None,
+    }
+}
+
+/// A condition on one value of a field.
+fn is(alloc: Global, field: Field, value: u64) -> Cond {
+    let mut items = Items::new(alloc);
+    let _ = items.push(Item::Range {
+        low: value,
+        high: value,
+    });
+    Cond { field, items }
+}
+
+/// One condition.
+fn only(alloc: Global, condition: Cond) -> Items<Cond> {
+    let mut when = Items::new(alloc);
+    let _ = when.push(condition);
+    when
+}
+
+/// The source address is one of 10.0.0.0/24.
+fn is_own(alloc: Global) -> Cond {
+    let mut items = Items::new(alloc);
+    let _ = items.push(Item::Prefix(Prefix {
+        value: Ip4::of(0x0a00_0000),
+        bits: 24,
+    }));
+    Cond {
+        field: Field::SrcIp,
+        items,
+    }
+}
+
+/// The packet is in network 5001, and goes to the public address.
+fn is_for_us(alloc: Global) -> Items<Cond> {
+    let mut when = only(alloc, is(alloc, Field::Vni, 5001));
+    let _ = when.push(is(alloc, Field::DstIp, u64::from(PUBLIC)));
+    when
+}
+
+fn rule(number: u16, when: Items<Cond>, action: &Action, stateful: bool) -> Rule {
+    Rule {
+        number,
+        priority: number,
+        when,
+        action: *action,
+        stateful,
+        last: false,
+    }
+}
+
+fn add_layer(layer: u16) -> Command {
+    Command::AddLayer {
+        spec: LayerSpec {
+            layer,
+            order: layer,
+            allow_out: false,
+            allow_in: false,
+            pairs: 16,
+            idle: 240,
+            linger: 10,
+        },
+    }
+}
+
+fn add_group(alloc: Global, layer: u16, group: u16, dir: Dir) -> Command {
+    Command::AddGroup {
+        layer,
+        group,
+        dir,
+        when: Items::new(alloc),
+    }
+}
+
+fn add_rule(layer: u16, group: u16, rule: Rule) -> Command {
+    Command::AddRule { layer, group, rule }
+}
+
+/// Layer 10 of controller 1: group 1 with rule 5, and for inbound packets group 2 with rule 9.
+fn add_translation(alloc: Global, policy: &mut Policy) -> bool {
+    let out = rule(5, only(alloc, is_own(alloc)), &hide_source(), true);
+    let back = rule(
+        9,
+        only(alloc, is(alloc, Field::DstIp, u64::from(PUBLIC))),
+        &restore_destination(),
+        true,
+    );
+    give(policy, 1, add_layer(10))
+        && give(policy, 1, add_group(alloc, 10, 1, Dir::Out))
+        && give(policy, 1, add_rule(10, 1, out))
+        && give(policy, 1, add_group(alloc, 10, 2, Dir::In))
+        && give(policy, 1, add_rule(10, 2, back))
+}
+
+/// Layer 20 of controller 2: group 1 with rules 7, which drops, and 8, and for inbound packets group 2
+/// with rule 3.
+fn add_network(alloc: Global, policy: &mut Policy) -> bool {
+    let stop = rule(
+        7,
+        only(alloc, is(alloc, Field::DstPort, 23)),
+        &Action::Drop,
+        false,
+    );
+    let out = rule(
+        8,
+        only(alloc, is(alloc, Field::SrcIp, u64::from(PUBLIC))),
+        &put_in_network(),
+        false,
+    );
+    let back = rule(3, is_for_us(alloc), &take_out(), false);
+    give(policy, 2, add_layer(20))
+        && give(policy, 2, add_group(alloc, 20, 1, Dir::Out))
+        && give(policy, 2, add_rule(20, 1, stop))
+        && give(policy, 2, add_rule(20, 1, out))
+        && give(policy, 2, add_group(alloc, 20, 2, Dir::In))
+        && give(policy, 2, add_rule(20, 2, back))
+}
+
+/// Both layers, if memory suffices.
+pub fn two_layers(alloc: Global) -> Option<Policy> {
+    let Ok(mut policy) = Policy::new(alloc, &[1, 2]) else {
+        return None;
+    };
+    if add_translation(alloc, &mut policy) && add_network(alloc, &mut policy) {
+        return Some(policy);
+    }
+    None
+}

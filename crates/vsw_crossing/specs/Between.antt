@@ -1,19 +1,34 @@
 -- A packet between two layers, and one that a layer made something of.
 use Rattle.std.specs.Prelude.{◌≡◌, ℕ, List, true, Option, Some, None}
 use Rattle.vsw_base.specs.declared.fate.Verdict.{Verdict}
+use Rattle.vsw_base.specs.declared.flow.Crossing.{Crossing}
 use Rattle.vsw_base.specs.declared.header.Header.{Header}
+use Rattle.vsw_layer.specs.Layer.{LayerSeen}
 use Rattle.vsw_transpose.specs.Apply.{apply}
-use Rattle.vsw_transpose.specs.Fits.{fits}
+use Rattle.vsw_transpose.specs.Fits.{fits, kept}
+use Rattle.vsw_visit.specs.Visit.{visit_of}
 use Rattle.vsw_crossing.specs.declared.between.Between.{Between}
 use Rattle.vsw_crossing.specs.declared.scratch.Wanted.{Wanted}
-use Rattle.vsw_crossing.specs.Walk.{Walk, telling}
+use Rattle.vsw_crossing.specs.Walk.{Walk, along, by_visit, telling}
 
 -- the transposition fits the stack with which the packet came, and makes of it the stack that it has
 pub record Leads (first : List Header) (b : Between) : Type 0 where
   pub fit : fits b.by first ≡ true
   pub made : apply b.by first ≡ b.stack
 
--- a walk of which so much is done: it ended with a verdict, or goes on
-abbrev pub stepped : Option Verdict → List Wanted → List Header → ℕ → (List Header → ℕ → Walk) → Walk
-stepped (Some verdict) told hs kept next = record { verdict = verdict; stack = hs; kept = kept; changes = told }
-stepped None told hs kept next = telling told (next hs kept)
+-- a packet meets a layer at its place, and this is the walk from there
+abbrev pub met : Crossing → ℕ → LayerSeen → Between → (List Header → ℕ → Walk) → Walk
+met x place l b next = by_visit place b.stack (kept b.by) (visit_of l x.id.dir x.control x.moment b.stack) next
+
+-- the walk over the layers that are left, before which these changes were wanted
+abbrev pub from : Crossing → List Wanted → Between → List (ℕ × LayerSeen) → Walk
+from x told b ls = telling told (along x.id.dir x.control x.moment ls b.stack (kept b.by))
+
+-- a walk that ended with this packet
+abbrev pub ended_with : Verdict → List Wanted → Between → Walk
+ended_with verdict told b = record { verdict = verdict; stack = b.stack; kept = kept b.by; changes = told }
+
+-- a walk that a layer ended, if it dropped the packet, and that else goes on
+abbrev pub stepped : Option Verdict → List Wanted → Between → (List Header → ℕ → Walk) → Walk
+stepped (Some verdict) told b next = ended_with verdict told b
+stepped None told b next = telling told (next b.stack (kept b.by))

@@ -71,14 +71,14 @@ impl Scratch {
         &self.wanted
     }
 
-    pub fn clear(&mut self)
+    pub(crate) fn clear(&mut self)
         ensures { self.new ≡ [] }
     {
         self.wanted.clear();
     }
 
     /// Tells what is wanted of a layer: first the pair that leaves, if one does.
-    pub fn tell(&mut self, layer: u32, leaves: Option<u32>, wants: &Option<Want>)
+    pub(crate) fn tell(&mut self, layer: u32, leaves: Option<u32>, wants: &Option<Want>)
         requires { length self.old + 2 ≤ 256 }
         ensures { self.new ≡ self.old ++ (leaving layer leaves ++ wanting layer wants.now) }
     {

@@ -3,12 +3,11 @@
 ghost use Rattle.std.specs.Prelude.{◌≡◌, ◌≢◌, ◌≤◌, ◌+◌, ◌*◌, ℕ, List, [], IsTrue, length, map, reverse};
 ghost use Rattle.vsw_base.specs.declared.fate.Verdict.TheVariants.{Pass};
 ghost use Rattle.vsw_base.specs.declared.header.Header.{Header};
-ghost use Rattle.vsw_crossing.specs.Between.{Leads, stepped};
-ghost use Rattle.vsw_crossing.specs.Walk.{Walk, along, by_visit, crossed, placed, telling, walk_of};
+ghost use Rattle.vsw_crossing.specs.Between.{Leads, ended_with, from, met, stepped};
+ghost use Rattle.vsw_crossing.specs.Walk.{Walk, crossed, placed, telling, walk_of};
 ghost use Rattle.vsw_layer.specs.Layer.{seen};
 ghost use Rattle.vsw_transpose.specs.Apply.{apply};
 ghost use Rattle.vsw_transpose.specs.Fits as fit;
-ghost use Rattle.vsw_visit.specs.Visit.{visit_of};
 
 use crate::between::Between;
 use crate::scratch::Scratch;
@@ -38,7 +37,7 @@ fn step(
     requires room { length scratch.old + 2 ≤ 256 }
     ensures leads { Leads crossing.now.id.stack between.new }
     ensures room { length scratch.new ≤ length scratch.old + 2 }
-    ensures value { (next : List Header → ℕ → Walk) → telling scratch.old (by_visit place between.old.stack (fit.kept between.old.by) (visit_of (seen layer.now) crossing.now.id.dir crossing.now.control crossing.now.moment between.old.stack) next) ≡ stepped result scratch.new between.new.stack (fit.kept between.new.by) next }
+    ensures value { (next : List Header → ℕ → Walk) → telling scratch.old (met crossing.now place (seen layer.now) between.old next) ≡ stepped result scratch.new between.new next }
 {
     match visit(
         layer,
@@ -72,7 +71,7 @@ fn go_out(
     requires places { place + length layers.now ≤ 128 }
     requires room { length scratch.old + 2 * length layers.now ≤ 256 }
     ensures leads { Leads crossing.now.id.stack between.new }
-    ensures value { telling scratch.old (along crossing.now.id.dir crossing.now.control crossing.now.moment (placed place (map seen layers.now)) between.old.stack (fit.kept between.old.by)) ≡ record { verdict = result; stack = between.new.stack; kept = fit.kept between.new.by; changes = scratch.new } }
+    ensures value { from crossing.now scratch.old between.old (placed place (map seen layers.now)) ≡ ended_with result scratch.new between.new }
 {
     let [layer, rest @ ..] = layers else {
         return Verdict::Pass;
@@ -95,7 +94,7 @@ fn go_in(
     requires few { length layers.now ≤ 128 }
     requires room { length scratch.old + 2 * length layers.now ≤ 256 }
     ensures leads { Leads crossing.now.id.stack between.new }
-    ensures value { telling scratch.old (along crossing.now.id.dir crossing.now.control crossing.now.moment (reverse (placed 0 (map seen layers.now))) between.old.stack (fit.kept between.old.by)) ≡ record { verdict = result; stack = between.new.stack; kept = fit.kept between.new.by; changes = scratch.new } }
+    ensures value { from crossing.now scratch.old between.old (reverse (placed 0 (map seen layers.now))) ≡ ended_with result scratch.new between.new }
 {
     let Some((layer, rest)) = layers.split_last() else {
         return Verdict::Pass;
@@ -118,7 +117,7 @@ fn cross(
     requires few { length layers.now ≤ 128 }
     requires room { length scratch.old + 2 * length layers.now ≤ 256 }
     ensures leads { Leads crossing.now.id.stack between.new }
-    ensures value { telling scratch.old (along crossing.now.id.dir crossing.now.control crossing.now.moment (crossed crossing.now.id.dir (placed 0 (map seen layers.now))) between.old.stack (fit.kept between.old.by)) ≡ record { verdict = result; stack = between.new.stack; kept = fit.kept between.new.by; changes = scratch.new } }
+    ensures value { from crossing.now scratch.old between.old (crossed crossing.now.id.dir (placed 0 (map seen layers.now))) ≡ ended_with result scratch.new between.new }
 {
     match crossing.id.dir {
         Dir::Out => go_out(layers, 0, crossing, between, scratch),

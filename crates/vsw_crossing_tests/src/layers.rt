@@ -1,6 +1,7 @@
 //! Two layers of two controllers. The first translates: packets of 10.0.0.0/24 come from port 40000 of
 //! 192.0.2.7 behind it, and those to that address go to port 1234 of 10.0.0.5. The second puts packets of
-//! that address in network 5001, but for those to port 23, and takes packets to it out of there.
+//! that address in network 5001, and takes packets to it out of there. It drops packets to port 23, and
+//! makes pairs of those to port 80 and of answers from there, which stay as they are.
 
 ghost use Rattle.std.specs.Prelude.{◌<◌, ◌^◌};
 
@@ -160,8 +161,17 @@ fn add_translation(alloc: Global, policy: &mut Policy) -> bool {
         && give(policy, 1, add_rule(10, 2, back))
 }
 
-/// Layer 20 of controller 2: group 1 with rules 7, which drops, and 8, and for inbound packets group 2
-/// with rule 3.
+/// A stateful rule that allows packets with this value of a field.
+fn web(alloc: Global, number: u16, field: Field) -> Rule {
+    rule(
+        number,
+        only(alloc, is(alloc, field, 80)),
+        &Action::Allow,
+        true,
+    )
+}
+
+/// Layer 20 of controller 2, and its group 1 with rules 6, which makes pairs, 7, which drops, and 8.
 fn add_network(alloc: Global, policy: &mut Policy) -> bool {
     let stop = rule(
         7,
@@ -175,13 +185,19 @@ fn add_network(alloc: Global, policy: &mut Policy) -> bool {
         &put_in_network(),
         false,
     );
-    let back = rule(3, is_for_us(alloc), &take_out(), false);
     give(policy, 2, add_layer(20))
         && give(policy, 2, add_group(alloc, 20, 1, Dir::Out))
+        && give(policy, 2, add_rule(20, 1, web(alloc, 6, Field::DstPort)))
         && give(policy, 2, add_rule(20, 1, stop))
         && give(policy, 2, add_rule(20, 1, out))
-        && give(policy, 2, add_group(alloc, 20, 2, Dir::In))
+}
+
+/// Group 2 of layer 20, for inbound packets, with rules 3 and 4, which makes pairs.
+fn add_way_back(alloc: Global, policy: &mut Policy) -> bool {
+    let back = rule(3, is_for_us(alloc), &take_out(), false);
+    give(policy, 2, add_group(alloc, 20, 2, Dir::In))
         && give(policy, 2, add_rule(20, 2, back))
+        && give(policy, 2, add_rule(20, 2, web(alloc, 4, Field::SrcPort)))
 }
 
 /// Both layers, if memory suffices.
@@ -189,8 +205,8 @@ pub fn two_layers(alloc: Global) -> Option<Policy> {
     let Ok(mut policy) = Policy::new(alloc, &[1, 2]) else {
         return None;
     };
-    if add_translation(alloc, &mut policy) && add_network(alloc, &mut policy) {
-        return Some(policy);
-    }
-    None
+    let added = add_translation(alloc, &mut policy)
+        && add_network(alloc, &mut policy)
+        && add_way_back(alloc, &mut policy);
+    if added { Some(policy) } else { None }
 }

@@ -88,3 +88,14 @@ pub fn wanted(scratch: &Scratch) -> Option<(u32, u32, u16)> {
         _ => None,
     }
 }
+
+/// Places of the layers, where two pairs are wanted and nothing else.
+pub fn places(scratch: &Scratch) -> Option<(u32, u32)> {
+    match scratch.changes() {
+        [
+            Wanted::Make { layer: first, .. },
+            Wanted::Make { layer: second, .. },
+        ] => Some((*first, *second)),
+        _ => None,
+    }
+}

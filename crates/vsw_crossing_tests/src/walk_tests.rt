@@ -1,7 +1,7 @@
 //! Walks over two layers, and over none.
 
 use crate::layers::{PUBLIC, two_layers};
-use crate::packets::{covered, cross, passes_as, plain, wanted};
+use crate::packets::{covered, cross, passes_as, places, plain, wanted};
 use vsw_base::{Dir, Verdict};
 use vsw_crossing::Scratch;
 use vsw_policy::Policy;
@@ -34,6 +34,18 @@ fn inbound_packets_cross_the_layers_in_reverse(rt: HostRuntime) {
     assert!(rt; passes_as(&walked, &received, &answer));
     assert_eq!(rt; walked.by.kept(), 0);
     assert_eq!(rt; wanted(&scratch), Some((0, 0, 9)));
+}
+
+#[test]
+fn changes_stand_in_crossing_order(rt: HostRuntime) {
+    let policy = two_layers(rt.alloc()).expect(&rt, "memory");
+    let mut scratch = Scratch::new(rt.alloc()).expect(&rt, "memory");
+    let query = plain(OWN, 1234, FAR, 80).expect(&rt, "it has the shape");
+    let _ = cross(&policy, Dir::Out, &query, &mut scratch);
+    assert_eq!(rt; places(&scratch), Some((0, 1)));
+    let answer = plain(FAR, 80, PUBLIC, 40_000).expect(&rt, "it has the shape");
+    let _ = cross(&policy, Dir::In, &answer, &mut scratch);
+    assert_eq!(rt; places(&scratch), Some((1, 0)));
 }
 
 #[test]

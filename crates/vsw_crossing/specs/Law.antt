@@ -1,15 +1,9 @@
 -- What holds of walks.
-use Rattle.std.specs.Prelude.{◌≡◌, ◌≢◌, ℕ, List, []}
-use Rattle.vsw_base.specs.declared.fate.Verdict.{Verdict}
+use Rattle.std.specs.Prelude.{◌≡◌, List, []}
 use Rattle.vsw_base.specs.declared.fate.Verdict.TheVariants.{Pass}
 use Rattle.vsw_base.specs.declared.flow.Crossing.{Crossing}
-use Rattle.vsw_base.specs.declared.header.Header.{Header}
-use Rattle.vsw_base.specs.declared.packet.Control.{Control}
-use Rattle.vsw_base.specs.declared.packet.Dir.{Dir}
 use Rattle.vsw_base.specs.Shape.{encaps}
 use Rattle.vsw_layer.specs.Layer.{LayerSeen}
-use Rattle.vsw_visit.specs.declared.outcome.Visit.TheVariants.{Stops}
-use Rattle.vsw_visit.specs.Visit.{visit_of}
 use Rattle.vsw_crossing.specs.Walk.{ended, walk_of}
 
 -- where there are no layers a packet passes as it came, and wants nothing
@@ -19,7 +13,3 @@ PassesFreely = (x : Crossing) → walk_of [] x ≡ ended Pass x.id.stack (encaps
 -- packets of one identity, control and moment have one walk, whoever brings them, whatever their numbers and sizes are
 abbrev pub Unseen : Type 0
 Unseen = (ls : List LayerSeen) (x y : Crossing) → x.id ≡ y.id → x.control ≡ y.control → x.moment ≡ y.moment → walk_of ls x ≡ walk_of ls y
-
--- a layer that stops a packet drops it, so a packet that passes was let go on by all layers
-abbrev pub StopsDrop : Type 0
-StopsDrop = (l : LayerSeen) (d : Dir) (c : Control) (moment : ℕ) (hs : List Header) (verdict : Verdict) → visit_of l d c moment hs ≡ Stops verdict → verdict ≢ Pass

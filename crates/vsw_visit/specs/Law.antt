@@ -1,5 +1,7 @@
--- What holds of a wanted pair.
-use Rattle.std.specs.Prelude.{◌≡◌, ℕ, List, true, false}
+-- What holds of visits, and of the pairs that they want.
+use Rattle.std.specs.Prelude.{◌≡◌, ◌≢◌, ℕ, List, true, false}
+use Rattle.vsw_base.specs.declared.fate.Verdict.{Verdict}
+use Rattle.vsw_base.specs.declared.fate.Verdict.TheVariants.{Pass}
 use Rattle.vsw_base.specs.declared.header.Header.{Header}
 use Rattle.vsw_base.specs.declared.packet.Control.{Control}
 use Rattle.vsw_base.specs.declared.packet.Dir.{Dir}
@@ -11,6 +13,9 @@ use Rattle.vsw_layerflow.specs.Pairs.{holds, probe, turned}
 use Rattle.vsw_rule.specs.declared.rule.Rule.{Rule}
 use Rattle.vsw_rule.specs.Check.{is_stateless}
 use Rattle.vsw_transpose.specs.Fits.{alike}
+use Rattle.vsw_layer.specs.Layer.{LayerSeen}
+use Rattle.vsw_visit.specs.declared.outcome.Visit.TheVariants.{Stops}
+use Rattle.vsw_visit.specs.Visit.{visit_of}
 use Rattle.vsw_visit.specs.Wanted.{wanted_pair}
 
 -- the reverse set, written into a stack that has the reverse key and inner headers of the kinds of the packet's, gives one whose key is
@@ -29,3 +34,7 @@ abbrev pub HoldsBoth : Type 0
 HoldsBoth = (number : ℕ) (d : Dir) (c : Control) (moment : ℕ) (hs : List Header) (group : ℕ) (r : Rule)
     → (holds (probe d (key_from hs)) (wanted_pair number d c moment hs group r) ≡ true)
     × (holds (probe (turned d) (wanted_pair number d c moment hs group r).reverse) (wanted_pair number d c moment hs group r) ≡ true)
+
+-- a layer that stops a packet drops it, so a packet that passes was let go on by all layers
+abbrev pub StopsDrop : Type 0
+StopsDrop = (l : LayerSeen) (d : Dir) (c : Control) (moment : ℕ) (hs : List Header) (verdict : Verdict) → visit_of l d c moment hs ≡ Stops verdict → verdict ≢ Pass

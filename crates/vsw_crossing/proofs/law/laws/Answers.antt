@@ -1,4 +1,4 @@
-use Rattle.vsw_crossing.proofs.Held.{passes_freely, stops_drop, unseen}
+use Rattle.vsw_crossing.proofs.Held.{passes_freely, unseen}
 use Rattle.vsw_crossing.proofs.law.laws.Goals as goal
 
 pub returns-clause-free : goal.returns-clause-free
@@ -6,6 +6,3 @@ returns-clause-free c = passes_freely
 
 pub returns-clause-unseen : goal.returns-clause-unseen
 returns-clause-unseen c = unseen
-
-pub returns-clause-drops : goal.returns-clause-drops
-returns-clause-drops c = stops_drop

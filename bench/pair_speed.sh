@@ -1,5 +1,6 @@
 #!/bin/sh
-# Speed and room of vsw_layerflow: one layer of 65,536 pairs, filled, searched, touched, thinned and swept.
+# Speed and room of a layer's pairs (vsw_layerflow, vsw_layer): one layer of 65,536 pairs, filled, searched, touched, thinned and swept,
+# and one whose 1,024 rules are all replaced.
 #
 #   bench/pair_speed.sh [RUNS]
 #
@@ -12,7 +13,9 @@ work=$(mktemp -d)
 trap 'rm -rf "$work"' EXIT
 
 mkdir -p "$work/repo/crates"
-cp -r "$root/crates/vsw_base" "$root/crates/vsw_layerflow" "$work/repo/crates"
+for crate in vsw_base vsw_rule vsw_layerflow vsw_layer; do
+    cp -r "$root/crates/$crate" "$work/repo/crates"
+done
 cd "$work/repo"
 git init -q .
 touch crates.txt
@@ -23,8 +26,10 @@ mkdir -p crates/pair_speed/proofs/fill crates/pair_speed/proofs/reopen_all crate
 : > crates/pair_speed/proofs/Lib.antt
 cat > crates.txt << 'END'
 vsw_base: byteorder
+vsw_rule: vsw_base
 vsw_layerflow: vsw_base indexmap
-pair_speed: vsw_base vsw_layerflow
+vsw_layer: vsw_base vsw_rule vsw_layerflow
+pair_speed: vsw_base vsw_rule vsw_layerflow vsw_layer
 END
 cat > crates/pair_speed/src/main.rt << 'END'
 //! Times the calls of a layer's pairs.
@@ -38,10 +43,15 @@ use std::process::ExitCode;
 use std::rt::Clock;
 use std::time::Instant;
 use std::{env, io};
-use vsw_base::{Dir, Ip4, LayerKey, Moment, Set, Track};
+use vsw_base::{Dir, Ip4, Items, LayerKey, Moment, Set, Track};
+use vsw_layer::{Layer, LayerSpec};
 use vsw_layerflow::{Flows, Pair};
+use vsw_rule::{Action, Group, Rule};
 
 const MOST: u32 = 65_536;
+
+/// The rules of the one group.
+const RULES: u16 = 1_024;
 
 fn key(src: u32, dst: u32, src_port: u16, dst_port: u16) -> LayerKey {
     LayerKey {
@@ -82,7 +92,7 @@ fn pair(number: u32) -> Pair
     Pair {
         number,
         group: 2,
-        rule: 7,
+        rule: (number % u32::from(RULES)) as u16,
         dir: Dir::Out,
         forward: there(number),
         forward_set: set(),
@@ -251,6 +261,74 @@ fn time_sweep<R: Clock>(rt: &R, flows: &mut Flows, now: u64, times: &mut Times) 
     Ok(gone)
 }
 
+/// A group's rules, numbered from 0, of one priority.
+fn rules(alloc: Global, priority: u16) -> Items<Rule> {
+    let mut rules = Items::new(alloc);
+    for number in 0..RULES {
+        let _ = rules.push(Rule {
+            number,
+            priority,
+            when: Items::new(alloc),
+            action: Action::Allow,
+            stateful: true,
+            last: false,
+        });
+    }
+    rules
+}
+
+fn groups(alloc: Global) -> Items<Group> {
+    let mut groups = Items::new(alloc);
+    let _ = groups.push(Group {
+        number: 2,
+        dir: Dir::Out,
+        when: Items::new(alloc),
+        rules: rules(alloc, 10),
+    });
+    groups
+}
+
+/// A layer with these pairs, of rules of priority 10.
+fn layer(alloc: Global, flows: Flows) -> Layer {
+    Layer {
+        controller: 1,
+        spec: LayerSpec {
+            layer: 10,
+            order: 10,
+            allow_out: true,
+            allow_in: true,
+            pairs: MOST,
+            idle: 240,
+            linger: 10,
+        },
+        groups: groups(alloc),
+        flows,
+        next_pair: MOST,
+    }
+}
+
+/// Puts rules of a priority in place of those that are there, and answers how many pairs are left.
+fn time_put<R: Clock>(rt: &R, alloc: Global, layer: &mut Layer, priority: u16, times: &mut Times) -> io::Result<u32> {
+    let rules = rules(alloc, priority);
+    let start = Instant::now(rt)?;
+    let _ = layer.put_rules(alloc, 2, rules.as_slice());
+    times.note(rt, start, 1)?;
+    Ok(layer.flows.len())
+}
+
+/// Times what becomes of all pairs of a layer where the same rules are put again, and others.
+fn time_rules<R: Clock>(rt: &R, alloc: Global, times: &mut Times) -> io::Result<bool> {
+    let mut flows = Flows::new(alloc);
+    if !fill(&mut flows, MOST) {
+        return Ok(false);
+    }
+    let mut layer = layer(alloc, flows);
+    if time_put(rt, alloc, &mut layer, 10, times)? != MOST {
+        return Ok(false);
+    }
+    Ok(time_put(rt, alloc, &mut layer, 20, times)? == 0)
+}
+
 /// Times all steps, and tells whether all that was looked for was found.
 fn measure<R: Clock>(rt: &R, flows: &mut Flows, times: &mut Times) -> io::Result<bool>
     requires none { flows.old.pairs ≡ [] }
@@ -271,7 +349,7 @@ fn measure<R: Clock>(rt: &R, flows: &mut Flows, times: &mut Times) -> io::Result
 }
 
 /// The steps, in the order in which they are timed.
-const NAMES: [&str; 12] = [
+const NAMES: [&str; 14] = [
     "add, with two look-ups and reserve_one, in a growing layer",
     "remove the first and add it again, with two look-ups and two readings of the clock",
     "the slowest of these",
@@ -284,6 +362,8 @@ const NAMES: [&str; 12] = [
     "remove, of the last",
     "sweep that takes none, a pair",
     "sweep that takes all, a pair",
+    "put_rules of 1,024 rules that are there, the whole call",
+    "put_rules of 1,024 others, which takes all pairs, the whole call",
 ];
 
 /// Prints the times of one run, or fills one layer with as many pairs as the word has letters, times 4,096.
@@ -300,7 +380,7 @@ fn main(rt: HostRuntime) -> io::Result<ExitCode> {
     let mut times = Times {
         times: Vec::new(alloc),
     };
-    let found = measure(&rt, &mut flows, &mut times)?;
+    let found = measure(&rt, &mut flows, &mut times)? && time_rules(&rt, alloc, &mut times)?;
     for (name, time) in NAMES.iter().zip(times.times.iter()) {
         println!(rt; "{} {}", time, name)?;
     }
@@ -330,7 +410,7 @@ for run in $(seq "$runs"); do
     "$program"
 done | awk '{ time = $1; $1 = ""; if (!($0 in least)) { order[++steps] = $0; least[$0] = time }
     if (time < least[$0]) least[$0] = time }
-    END { for (i = 1; i <= steps; i++) printf "%8d ns %s\n", least[order[i]], order[i] }'
+    END { for (i = 1; i <= steps; i++) printf "%10d ns %s\n", least[order[i]], order[i] }'
 
 # A small launcher, since a process's peak begins with that of the one that started it.
 cat > "$work/peak.c" << 'END'

@@ -1,5 +1,5 @@
 -- Which pairs stay where a group gets other rules.
-use Rattle.std.specs.Prelude.{ℕ, ◌&&◌, List, Bool, not, filter}
+use Rattle.std.specs.Prelude.{ℕ, ◌&&◌, ◌==◌, List, Bool, not, filter}
 use Rattle.std.specs.List.{list_any}
 use Rattle.vsw_layerflow.specs.declared.pair.Pair.{Pair}
 use Rattle.vsw_layerflow.specs.Pairs.{of_rule}
@@ -20,3 +20,7 @@ goes g old new p = list_any (λ r. is_gone new r && of_rule g r.number p) old
 
 abbrev pub staying : ℕ → List Rule → List Rule → List Pair → List Pair
 staying g old new ps = filter (λ p. not (goes g old new p)) ps
+
+-- an old rule of this number isn't among the new ones
+abbrev pub number_goes : List Rule → List Rule → ℕ → Bool
+number_goes old new n = list_any (λ r. is_gone new r && n == r.number) old

@@ -10,7 +10,7 @@ ghost use Rattle.vsw_layer.specs.Staying.{staying};
 
 use crate::copies::{copy_conditions, copy_rule, copy_rules};
 use crate::groups::{cut_group, cut_in, push_in, set_rules};
-use crate::places::{is_gone, rules_in};
+use crate::places::{mark_gone, rules_in, unmarked};
 use std::alloc::Global;
 use vsw_base::{Dir, Items, Moment, NoMemory};
 use vsw_layerflow::Flows;
@@ -49,13 +49,9 @@ pub struct Layer {
 fn drop_gone(flows: &mut Flows, group: u16, old: &[Rule], new: &[Rule])
     ensures { flows.new.pairs ≡ staying group old.now new.now flows.old.pairs }
 {
-    let mut left = old.len();
-    while left > 0 {
-        left -= 1;
-        let rule = &old[left];
-        if is_gone(new, rule) {
-            let _ = flows.drop_rule(group, rule.number);
-        }
+    let mut marks = unmarked();
+    if mark_gone(&mut marks, old, new) {
+        let _ = flows.drop_marked(group, &marks);
     }
 }
 

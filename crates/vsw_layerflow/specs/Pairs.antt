@@ -1,5 +1,5 @@
 -- The pairs of a layer, as a list in order of number.
-use Rattle.std.specs.Prelude.{◌≡◌, ℕ, ◌<◌, ◌==◌, ◌&&◌, ◌||◌, List, [], ◌∷◌, Bool, true, false, not, filter, map, Option, Some, None, if◌then◌else◌}
+use Rattle.std.specs.Prelude.{◌≡◌, ℕ, ◌<◌, ◌==◌, ◌&&◌, ◌||◌, List, [], ◌∷◌, Bool, true, false, not, filter, get_or, map, Option, Some, None, if◌then◌else◌}
 use Rattle.vsw_base.specs.declared.packet.Dir.{Dir}
 use Rattle.vsw_base.specs.declared.packet.Dir.TheVariants.{Out, In}
 use Rattle.vsw_base.specs.declared.flow.LayerKey.{LayerKey}
@@ -70,6 +70,10 @@ without n ps = filter (λ p. not (n == p.number)) ps
 -- whether a rule made this pair
 abbrev pub of_rule : ℕ → ℕ → Pair → Bool
 of_rule g r p = p.group == g && p.rule == r
+
+-- whether a rule of this group made this pair whose number is marked
+abbrev pub of_marked : ℕ → List Bool → Pair → Bool
+of_marked g marks p = p.group == g && get_or marks p.rule false
 
 -- what a layer's pairs are, and for how many more there is room
 pub record Pairs : Type 0 where

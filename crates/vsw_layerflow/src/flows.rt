@@ -2,10 +2,12 @@
 
 ghost use Rattle.std.specs.Prelude.{◌≡◌, ◌≤◌, ◌<◌, ◌+◌, ◌-◌, ◌^◌, ◌++◌, ◌∷◌, [], OnOk, None, option_copied, length, filter, not};
 ghost use Rattle.vsw_layerflow.specs.declared.pair.Pair.{Pair};
-ghost use Rattle.vsw_layerflow.specs.Pairs.{pair_of, turned, touched, without, of_rule, AllBelow, AreRising};
+ghost use Rattle.vsw_layerflow.specs.Pairs.{pair_of, turned, touched, without, of_rule, of_marked, AllBelow, AreRising};
 ghost use Rattle.vsw_layerflow.specs.Life.{is_over};
 
-use crate::maps::{keep_known, keep_living, keep_others, put_pair, put_place, set_use, take_place};
+use crate::maps::{
+    keep_known, keep_living, keep_others, keep_unmarked, put_pair, put_place, set_use, take_place,
+};
 use crate::pair::{Pair, Probe, probes_agree};
 use indexmap::IndexMap;
 use std::alloc::Global;
@@ -122,6 +124,19 @@ impl Flows {
     {
         let before = self.pairs.len();
         keep_others(&mut self.pairs, group, rule);
+        keep_known(&mut self.places, &self.pairs);
+        (before - self.pairs.len()) as u32
+    }
+
+    /// The pairs go that the marked rules of this group made, in one pass; answers how many. The others
+    /// stay in order. A rule is marked by its number, and one beyond the marks isn't.
+    pub fn drop_marked(&mut self, group: u16, marks: &[bool]) -> u32
+        ensures gone { self.new.pairs ≡ filter (λ p. not (of_marked group marks.now p)) self.old.pairs }
+        ensures count { result ≡ length (filter (of_marked group marks.now) self.old.pairs) }
+        ensures spare { self.old.spare ≤ self.new.spare }
+    {
+        let before = self.pairs.len();
+        keep_unmarked(&mut self.pairs, group, marks);
         keep_known(&mut self.places, &self.pairs);
         (before - self.pairs.len()) as u32
     }

@@ -1,12 +1,12 @@
 //! The two maps of a layer, one call at a time.
 
-ghost use Rattle.std.specs.Prelude.{◌≡◌, ◌≤◌, ◌<◌, ◌+◌, ◌++◌, ◌∷◌, [], None, Some, cond, nat_eq, filter, not, is_some};
+ghost use Rattle.std.specs.Prelude.{◌≡◌, ◌≤◌, ◌<◌, ◌+◌, ◌++◌, ◌∷◌, [], None, Some, cond, false, nat_eq, filter, get_or, not, is_some};
 ghost use Rattle.std.proofs.lemmas.Map.Entries.{option_filter};
 ghost use Rattle.std.specs.Map.{lookup, set_value};
 ghost use Rattle.indexmap.specs.IndexMap.{spare};
 ghost use Rattle.vsw_layerflow.specs.declared.pair.Pair.{Pair};
 ghost use Rattle.vsw_layerflow.specs.declared.pair.Probe.{Probe};
-ghost use Rattle.vsw_layerflow.specs.Pairs.{same_probe, with_use, of_rule};
+ghost use Rattle.vsw_layerflow.specs.Pairs.{same_probe, with_use, of_rule, of_marked};
 ghost use Rattle.vsw_layerflow.specs.Life.{is_over};
 
 use crate::pair::{Pair, Probe, probes_agree};
@@ -65,6 +65,28 @@ pub fn keep_others(pairs: &mut IndexMap<u32, Pair>, group: u16, rule: u16)
         |_number: &u32, pair: &mut Pair| -> bool
             ensures { (result ≡ not (of_rule group rule pair.old)) × (pair.new ≡ pair.old) }
         { !(pair.group == group && pair.rule == rule) },
+    );
+}
+
+/// Whether a number is marked. One beyond the marks isn't.
+fn is_marked(marks: &[bool], number: u16) -> bool
+    ensures { result ≡ get_or marks.now number false }
+{
+    match marks.get(usize::from(number)) {
+        Some(mark) => *mark,
+        None => false,
+    }
+}
+
+/// Keeps the pairs that no marked rule of this group made.
+pub fn keep_unmarked(pairs: &mut IndexMap<u32, Pair>, group: u16, marks: &[bool])
+    ensures entries { pairs.new.entries ≡ filter (λ e. not (of_marked group marks.now e.1)) pairs.old.entries }
+    ensures spare { spare pairs.old ≤ spare pairs.new }
+{
+    pairs.retain(
+        |_number: &u32, pair: &mut Pair| -> bool
+            ensures { (result ≡ not (of_marked group marks.entry.now pair.old)) × (pair.new ≡ pair.old) }
+        { !(pair.group == group && is_marked(marks, pair.rule)) },
     );
 }
 

@@ -410,7 +410,7 @@ for run in $(seq "$runs"); do
     "$program"
 done | awk '{ time = $1; $1 = ""; if (!($0 in least)) { order[++steps] = $0; least[$0] = time }
     if (time < least[$0]) least[$0] = time }
-    END { for (i = 1; i <= steps; i++) printf "%10d ns %s\n", least[order[i]], order[i] }'
+    END { for (i = 1; i <= steps; i++) printf "%10.0f ns %s\n", least[order[i]], order[i] }'
 
 # A small launcher, since a process's peak begins with that of the one that started it.
 cat > "$work/peak.c" << 'END'

@@ -1,19 +1,19 @@
 //! A layer, what its controller says of it when it is added, and what a command changes within it.
 
-ghost use Rattle.std.specs.Prelude.{◌≡◌, [], ◌∷◌, ◌++◌, filter, not, OnOk, OnErr};
+ghost use Rattle.std.specs.Prelude.{◌≡◌, ◌≤◌, ◌+◌, [], ◌∷◌, ◌++◌, filter, not, OnOk, OnErr};
 ghost use Rattle.vsw_layerflow.specs.Pairs.{of_rule};
 ghost use Rattle.vsw_layerflow.specs.Life.{is_over};
 ghost use Rattle.vsw_layer.specs.Groups as groups;
 ghost use Rattle.vsw_layer.specs.Groups.{is_group, changed, removed, with_rules, with_rule, without_rule};
-ghost use Rattle.vsw_layer.specs.Layer.{seen, with_spec, with_parts, defaulting};
+ghost use Rattle.vsw_layer.specs.Layer.{seen, room, with_spec, with_parts, with_pair, with_touched, without_pair, defaulting, CanTake};
 ghost use Rattle.vsw_layer.specs.Staying.{staying};
 
 use crate::copies::{copy_conditions, copy_rule, copy_rules};
 use crate::groups::{cut_group, cut_in, push_in, set_rules};
 use crate::places::{mark_gone, rules_in, unmarked};
 use std::alloc::Global;
-use vsw_base::{Dir, Items, Moment, NoMemory};
-use vsw_layerflow::Flows;
+use vsw_base::{Dir, Items, Moment, NoMemory, Track};
+use vsw_layerflow::{Flows, Pair};
 use vsw_rule::{Cond, Group, Rule};
 
 /// What a controller says of a layer that it adds.
@@ -147,5 +147,41 @@ impl Layer {
         ensures { seen self.new ≡ with_parts self.old.groups (filter (λ p. not (is_over now self.old.spec.idle self.old.spec.linger p)) self.old.flows.pairs) (seen self.old) }
     {
         let _ = self.flows.sweep(now, self.spec.idle, self.spec.linger);
+    }
+
+    /// Takes room for one more pair.
+    pub fn reserve_pair(&mut self) -> Result<(), NoMemory>
+        ensures room { OnOk result (1 ≤ room self.new) }
+        ensures spare { room self.old ≤ room self.new }
+        ensures same { seen self.new ≡ seen self.old }
+    {
+        self.flows.reserve_one()
+    }
+
+    /// Adds a pair, which has the next number. It takes no memory.
+    pub fn add_pair(&mut self, pair: Pair)
+        requires room { 1 ≤ room self.old }
+        requires suits { CanTake pair (seen self.old) }
+        ensures added { seen self.new ≡ with_pair pair (seen self.old) }
+        ensures spare { room self.old ≤ room self.new + 1 }
+    {
+        self.flows.add(pair);
+        self.next_pair += 1;
+    }
+
+    /// The pair of this number gets another state and last use.
+    pub fn touch_pair(&mut self, number: u32, state: Track, last: Moment)
+        ensures touched { seen self.new ≡ with_touched number state last (seen self.old) }
+        ensures spare { room self.old ≤ room self.new }
+    {
+        self.flows.touch(number, state, last);
+    }
+
+    /// The pair of this number goes.
+    pub fn remove_pair(&mut self, number: u32)
+        ensures gone { seen self.new ≡ without_pair number (seen self.old) }
+        ensures spare { room self.old ≤ room self.new }
+    {
+        self.flows.remove(number);
     }
 }

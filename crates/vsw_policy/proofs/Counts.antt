@@ -53,8 +53,8 @@ listed : (cs : List ℕ) (ls : List LayerSeen) → Each (IsGoodLayer cs) ls → 
 listed cs [] h = tt
 listed cs (l ∷ ls) h = (h.0.0, listed cs ls h.1)
 
-pub few-layers : (cs : List ℕ) (ls : List Layer) → IsSound (record { controllers = cs; layers = map seen ls }) → length ls ≤ 128
-few-layers cs ls h =
+pub few-layers : (cs : List ℕ) (ls : List Layer) (rooms : List ℕ) → IsSound (record { controllers = cs; layers = map seen ls; rooms = rooms }) → length ls ≤ 128
+few-layers cs ls rooms h =
     let n = all-few cs (map seen ls) (listed cs (map seen ls) h.layers.good) h.layers.few in
     let k = length-map ls seen in
     let m = h.few_controllers in

@@ -1,5 +1,5 @@
 -- Commands leave the layers in order and within the limits.
-use Rattle.std.proofs.Common.{◌≡◌, suc, ◌<◌, ◌≤◌, ℕ, ◌==◌, ◌&&◌, ◌||◌, Bool, true, false, List, [], ◌∷◌, ◌++◌, length, filter, Some, None, refl, ap, ◌∙◌, arith}
+use Rattle.std.proofs.Common.{◌≡◌, suc, ◌<◌, ◌≤◌, ℕ, ◌==◌, ◌&&◌, ◌||◌, Bool, true, false, not, List, [], ◌∷◌, ◌++◌, length, filter, Some, None, refl, ap, ◌∙◌, arith}
 use Rattle.std.specs.Prelude.{nat_le, nat_lt, if◌then◌else◌}
 use Rattle.std.specs.List.{find, list_any}
 use Rattle.std.proofs.lemmas.Bool.Decides.{nat_tests}
@@ -9,9 +9,13 @@ use Rattle.vsw_base.specs.declared.packet.Dir.TheVariants.{Out, In}
 use Rattle.vsw_rule.specs.declared.rule.Cond.{Cond}
 use Rattle.vsw_rule.specs.declared.rule.Group.{Group}
 use Rattle.vsw_rule.specs.declared.rule.Rule.{Rule}
+use Rattle.vsw_layerflow.specs.Pairs.{of_rule}
+use Rattle.vsw_layerflow.specs.Life.{is_over}
+use Rattle.vsw_layerflow.proofs.Order.{below_filter}
 use Rattle.vsw_layer.specs.declared.layer.LayerSpec.{LayerSpec}
 use Rattle.vsw_layer.specs.Groups.{is_group, is_rule, changed, removed, rules_in, has_twice, with_rules, with_rule, without_rule}
 use Rattle.vsw_layer.specs.Layer.{LayerSeen, with_spec, defaulting}
+use Rattle.vsw_layer.specs.Staying.{goes}
 use Rattle.vsw_policy.specs.declared.command.Command.{Command}
 use Rattle.vsw_policy.specs.declared.command.Command.TheVariants.{AddLayer, RemoveLayer, AddGroup, RemoveGroup, PutRules, AddRule, RemoveRule, SetDefault, Sweep}
 use Rattle.vsw_policy.specs.declared.refusal.Refusal.{Refusal}
@@ -20,7 +24,7 @@ use Rattle.vsw_policy.specs.Obey.{placed, empty_layer, within, groups_in, tests,
 use Rattle.vsw_policy.specs.Sound.{Each, IsGoodRule, IsGoodGroup, IsGoodLayer, AreApart, AreInOrder, AreGood, IsSound, same_layer, same_group, same_number, is_listed}
 use Rattle.vsw_policy.proofs.Orders.{flip-before, over-before}
 
-each-as : {A : Type 0} (P Q : A → Type 0) → ((x : A) → P x → Q x) → (xs : List A) → Each P xs → Each Q xs
+pub each-as : {A : Type 0} (P Q : A → Type 0) → ((x : A) → P x → Q x) → (xs : List A) → Each P xs → Each Q xs
 each-as P Q f [] h = tt
 each-as P Q f (x ∷ xs) h = (f x h.0, each-as P Q f xs h.1)
 
@@ -109,10 +113,10 @@ flip-layer a b c d h = grind (arith, nat_tests)
 abbrev pub KeepsName : (LayerSeen → LayerSeen) → Type 0
 KeepsName f = (l : LayerSeen) → ((f l).controller ≡ l.controller) × ((f l).spec.order ≡ l.spec.order) × ((f l).spec.layer ≡ l.spec.layer)
 
-before-left : (cs : List ℕ) (f : LayerSeen → LayerSeen) → KeepsName f → (l m : LayerSeen) → is_before cs m l ≡ false → is_before cs (f m) l ≡ false
+pub before-left : (cs : List ℕ) (f : LayerSeen → LayerSeen) → KeepsName f → (l m : LayerSeen) → is_before cs m l ≡ false → is_before cs (f m) l ≡ false
 before-left cs f k l m h = let n = k m in rw (n.0, n.1, n.2) h
 
-before-right : (cs : List ℕ) (f : LayerSeen → LayerSeen) → KeepsName f → (l m : LayerSeen) → is_before cs m l ≡ false → is_before cs m (f l) ≡ false
+pub before-right : (cs : List ℕ) (f : LayerSeen → LayerSeen) → KeepsName f → (l m : LayerSeen) → is_before cs m l ≡ false → is_before cs m (f l) ≡ false
 before-right cs f k l m h = let n = k l in rw (n.0, n.1, n.2) h
 
 order-changed : (cs : List ℕ) (p : LayerSeen → Bool) (f : LayerSeen → LayerSeen) → KeepsName f → (ls : List LayerSeen) → AreInOrder cs ls → AreInOrder cs (changed p f ls)
@@ -218,7 +222,7 @@ good-placed cs ls c s h listed new room = record {
       let none = each-none (is_layer c s.layer) ls new in
       apart-placed same_layer cs (empty_layer c s) ls h.apart
       (each-as (λ m. is_layer c s.layer m ≡ false) (λ m. same_layer m (empty_layer c s) ≡ false) (λ m i. flip-layer c m.controller s.layer m.spec.layer i) ls none) none;
-  good = each-placed (IsGoodLayer cs) cs (empty_layer c s) ls h.good (listed, omega arith, tt, tt);
+  good = each-placed (IsGoodLayer cs) cs (empty_layer c s) ls h.good (listed, omega arith, tt, tt, tt);
   few = few-placed cs ls c s h.few room;
 }
 
@@ -255,7 +259,7 @@ good-added : (cs : List ℕ) (g : ℕ) (dir : Dir) (when : List Cond) (l : Layer
 good-added cs g dir when l new room ok =
     let h : Group = record { number = g; dir = dir; when = when; rules = [] } in
     let others = each-as (λ x. is_group g x ≡ false) (λ x. same_group x h ≡ false) (λ x i. flip-equal g x.number i) l.groups (each-none (is_group g) l.groups new) in
-    (ok.0, one_more 32 l.groups h room, each-push IsGoodGroup l.groups h ok.2 (good-empty g dir when), apart-push same_group l.groups h ok.3 others)
+    (ok.0, one_more 32 l.groups h room, each-push IsGoodGroup l.groups h ok.2 (good-empty g dir when), apart-push same_group l.groups h ok.3 others, ok.4)
 
 default-keeps : (d : Dir) (b : Bool) → KeepsName (λ l. with_spec (defaulting d b l.spec) l)
 default-keeps Out b l = (refl, refl, refl)
@@ -275,30 +279,31 @@ keeps cs ls c (AddGroup n g dir when) h listed good none =
     (λ l found ok. good-added cs g dir when l (rw found at new) (rw found at room) ok) h
 keeps cs ls c (RemoveGroup n g) h listed good none =
     good-changed cs ls (is_layer c n) (within (RemoveGroup n g)) (λ l. (refl, refl, refl))
-    (λ l found ok. (ok.0, at_most_as _ _ 32 (length-removed (is_group g) l.groups) ok.1, each-removed IsGoodGroup (is_group g) l.groups ok.2, apart-removed same_group (is_group g) l.groups ok.3)) h
+    (λ l found ok. (ok.0, at_most_as _ _ 32 (length-removed (is_group g) l.groups) ok.1, each-removed IsGoodGroup (is_group g) l.groups ok.2, apart-removed same_group (is_group g) l.groups ok.3, below_filter (λ p. not (goes g (rules_in l.groups g) [] p)) l.next_pair l.pairs ok.4)) h
 keeps cs ls c (PutRules n g rs) h listed good none =
     let t = passed (tests ls c (PutRules n g rs)) none in
     let few = at_most 1024 (length rs) t.1.1.1.0 in
     let apart = apart-numbers rs t.1.1.0 in
     good-changed cs ls (is_layer c n) (within (PutRules n g rs)) (λ l. (refl, refl, refl))
-    (λ l found ok. let k = good-groups cs g (with_rules rs) l (λ x. refl) (λ x i j. (few, good, apart)) ok in (ok.0, k.0, k.1, k.2)) h
+    (λ l found ok. let k = good-groups cs g (with_rules rs) l (λ x. refl) (λ x i j. (few, good, apart)) ok in (ok.0, k.0, k.1, k.2, below_filter (λ p. not (goes g (rules_in l.groups g) rs p)) l.next_pair l.pairs ok.4)) h
 keeps cs ls c (AddRule n g r) h listed good none =
     let t = passed (tests ls c (AddRule n g r)) none in
     let new : list_any (is_rule r.number) (rules_in (groups_in ls c n) g) ≡ false = t.1.1.0 in
     let room : nat_le 1024 (length (rules_in (groups_in ls c n) g)) ≡ false = t.1.1.1.0 in
     good-changed cs ls (is_layer c n) (within (AddRule n g r)) (λ l. (refl, refl, refl))
-    (λ l found ok. let k = good-groups cs g (with_rule r) l (λ x. refl) (λ x i j. good-with l.groups g r x (rw found at new) (rw found at room) i good.0 j) ok in (ok.0, k.0, k.1, k.2)) h
+    (λ l found ok. let k = good-groups cs g (with_rule r) l (λ x. refl) (λ x i j. good-with l.groups g r x (rw found at new) (rw found at room) i good.0 j) ok in (ok.0, k.0, k.1, k.2, ok.4)) h
 keeps cs ls c (RemoveRule n g k) h listed good none =
     good-changed cs ls (is_layer c n) (within (RemoveRule n g k)) (λ l. (refl, refl, refl))
-    (λ l found ok. let t = good-groups cs g (without_rule k) l (λ x. refl) (λ x i j. good-without k x j) ok in (ok.0, t.0, t.1, t.2)) h
+    (λ l found ok. let t = good-groups cs g (without_rule k) l (λ x. refl) (λ x i j. good-without k x j) ok in (ok.0, t.0, t.1, t.2, below_filter (λ p. not (of_rule g k p)) l.next_pair l.pairs ok.4)) h
 keeps cs ls c (SetDefault n dir allow) h listed good none =
-    good-changed cs ls (is_layer c n) (within (SetDefault n dir allow)) (default-keeps dir allow) (λ l found ok. (ok.0, ok.1, ok.2, ok.3)) h
+    good-changed cs ls (is_layer c n) (within (SetDefault n dir allow)) (default-keeps dir allow) (λ l found ok. (ok.0, ok.1, ok.2, ok.3, ok.4)) h
 keeps cs ls c (Sweep n now) h listed good none =
-    good-changed cs ls (is_layer c n) (within (Sweep n now)) (λ l. (refl, refl, refl)) (λ l found ok. (ok.0, ok.1, ok.2, ok.3)) h
+    good-changed cs ls (is_layer c n) (within (Sweep n now)) (λ l. (refl, refl, refl))
+    (λ l found ok. (ok.0, ok.1, ok.2, ok.3, below_filter (λ p. not (is_over now l.spec.idle l.spec.linger p)) l.next_pair l.pairs ok.4)) h
 
-pub sound-after : (cs : List ℕ) (ls new : List LayerSeen) (c : ℕ) (m : Command) → IsSound (record { controllers = cs; layers = ls }) → is_listed cs c ≡ true → Each IsGoodRule (rules_given m) → first_refusal (tests ls c m) ≡ None → new ≡ after cs ls c m
-    → IsSound (record { controllers = cs; layers = new })
-sound-after cs ls new c m h listed good none e = record { few_controllers = h.few_controllers; distinct = h.distinct; layers = rw e (keeps cs ls c m h.layers listed good none) }
+pub sound-after : (cs : List ℕ) (ls new : List LayerSeen) (rooms others : List ℕ) (c : ℕ) (m : Command) → IsSound (record { controllers = cs; layers = ls; rooms = rooms }) → is_listed cs c ≡ true → Each IsGoodRule (rules_given m) → first_refusal (tests ls c m) ≡ None → new ≡ after cs ls c m
+    → IsSound (record { controllers = cs; layers = new; rooms = others })
+sound-after cs ls new rooms others c m h listed good none e = record { few_controllers = h.few_controllers; distinct = h.distinct; layers = rw e (keeps cs ls c m h.layers listed good none) }
 
-pub sound-still : (cs : List ℕ) (ls new : List LayerSeen) → IsSound (record { controllers = cs; layers = ls }) → new ≡ ls → IsSound (record { controllers = cs; layers = new })
-sound-still cs ls new h e = rw e h
+pub sound-still : (cs : List ℕ) (ls new : List LayerSeen) (rooms others : List ℕ) → IsSound (record { controllers = cs; layers = ls; rooms = rooms }) → new ≡ ls → IsSound (record { controllers = cs; layers = new; rooms = others })
+sound-still cs ls new rooms others h e = record { few_controllers = h.few_controllers; distinct = h.distinct; layers = rw e h.layers }

@@ -3,3 +3,4 @@ pub mod Orders
 pub mod Keeps
 pub mod Counts
 pub mod Alone
+pub mod At

@@ -1,11 +1,28 @@
 -- The layers of a port, what names one, and the order in which they stand.
-use Rattle.std.specs.Prelude.{ℕ, suc, ◌==◌, ◌&&◌, ◌||◌, List, [], ◌∷◌, Bool, nat_lt, if◌then◌else◌}
+use Rattle.std.specs.Prelude.{ℕ, zero, suc, ◌==◌, ◌&&◌, ◌||◌, List, [], ◌∷◌, Bool, nat_lt, get_or, if◌then◌else◌}
 use Rattle.vsw_layer.specs.Layer.{LayerSeen}
 
--- the controllers of a port, and its layers
+-- the controllers of a port, its layers, and for how many more pairs each of these has room
 pub record PolicySeen : Type 0 where
   pub controllers : List ℕ
   pub layers : List LayerSeen
+  pub rooms : List ℕ
+
+-- for how many more pairs the layer at a place has room
+abbrev pub room_at : PolicySeen → ℕ → ℕ
+room_at p place = get_or p.rooms place 0
+
+-- P holds of the layer at a place, and there is one
+abbrev pub At : ℕ → (LayerSeen → Type 0) → List LayerSeen → Type 0
+At n P [] = ⊥
+At zero P (l ∷ ls) = P l
+At (suc n) P (l ∷ ls) = At n P ls
+
+-- the layer at a place is changed, and the others stay
+abbrev pub changed_at : ℕ → (LayerSeen → LayerSeen) → List LayerSeen → List LayerSeen
+changed_at n f [] = []
+changed_at zero f (l ∷ ls) = f l ∷ ls
+changed_at (suc n) f (l ∷ ls) = l ∷ changed_at n f ls
 
 -- the layer is this controller's
 abbrev pub is_of : ℕ → LayerSeen → Bool

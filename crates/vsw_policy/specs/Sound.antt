@@ -4,6 +4,7 @@ use Rattle.std.specs.List.{list_any}
 use Rattle.vsw_rule.specs.declared.rule.Group.{Group}
 use Rattle.vsw_rule.specs.declared.rule.Rule.{Rule}
 use Rattle.vsw_rule.specs.Check.{bad_rule_of}
+use Rattle.vsw_layerflow.specs.Pairs.{AllBelow}
 use Rattle.vsw_layer.specs.Groups.{is_group, is_rule}
 use Rattle.vsw_layer.specs.Layer.{LayerSeen}
 use Rattle.vsw_policy.specs.Layers.{PolicySeen, is_of, is_layer, is_before}
@@ -42,7 +43,7 @@ abbrev pub IsGoodGroup : Group → Type 0
 IsGoodGroup g = (length g.rules ≤ 1024) × Each IsGoodRule g.rules × AreApart same_number g.rules
 
 abbrev pub IsGoodLayer : List ℕ → LayerSeen → Type 0
-IsGoodLayer cs l = (is_listed cs l.controller ≡ true) × (length l.groups ≤ 32) × Each IsGoodGroup l.groups × AreApart same_group l.groups
+IsGoodLayer cs l = (is_listed cs l.controller ≡ true) × (length l.groups ≤ 32) × Each IsGoodGroup l.groups × AreApart same_group l.groups × AllBelow l.next_pair l.pairs
 
 -- no layer is before one that stands in front of it
 abbrev pub AreInOrder : List ℕ → List LayerSeen → Type 0
@@ -55,7 +56,8 @@ pub record AreGood (cs : List ℕ) (ls : List LayerSeen) : Type 0 where
   pub good : Each (IsGoodLayer cs) ls
   pub few : (c : ℕ) → length (filter (is_of c) ls) ≤ 16
 
--- at most eight controllers, none named twice; the layers are theirs and in order, within the limits, and no two have one name
+-- at most eight controllers, none named twice; the layers are theirs and in order, within the limits, no two have one name, and the
+-- number of the next pair of each is above those of its pairs
 pub record IsSound (p : PolicySeen) : Type 0 where
   pub few_controllers : length p.controllers ≤ 8
   pub distinct : IsTrue (are_distinct p.controllers)

@@ -5,6 +5,7 @@ mod changes;
 mod command;
 mod judge;
 mod law;
+mod pairs;
 mod places;
 mod policy;
 mod refusal;

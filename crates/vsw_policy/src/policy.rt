@@ -1,8 +1,8 @@
 //! The policy of a port.
 
-ghost use Rattle.std.specs.Prelude.{◌≡◌, ◌≤◌, [], false, true, IsTrue, length, map, IfOk, OnErr};
-ghost use Rattle.vsw_layer.specs.Layer.{seen};
-ghost use Rattle.vsw_policy.specs.Layers.{PolicySeen};
+ghost use Rattle.std.specs.Prelude.{◌≡◌, ◌≢◌, ◌≤◌, ◌<◌, ◌+◌, ℕ, [], false, true, IsTrue, length, map, IfOk, OnOk, OnErr};
+ghost use Rattle.vsw_layer.specs.Layer.{seen, with_pair, with_touched, without_pair, CanTake};
+ghost use Rattle.vsw_policy.specs.Layers.{PolicySeen, room_at, At, changed_at};
 ghost use Rattle.vsw_policy.specs.Obey.{obey, told, is_memory, rules_given};
 ghost use Rattle.vsw_policy.specs.Own.{OthersStay};
 ghost use Rattle.vsw_policy.specs.Sound.{Each, IsGoodRule, IsSound, is_listed, are_distinct};
@@ -10,11 +10,13 @@ ghost use Rattle.vsw_policy.specs.Sound.{Each, IsGoodRule, IsSound, is_listed, a
 use crate::changes::change;
 use crate::command::Command;
 use crate::judge::judge;
+use crate::pairs::{add_at, remove_at, reserve_at, touch_at};
 use crate::refusal::Refusal;
 use std::alloc::Global;
 use std::marker::Model;
-use vsw_base::{Items, NoMemory};
+use vsw_base::{Items, Moment, NoMemory, Track};
 use vsw_layer::Layer;
+use vsw_layerflow::Pair;
 
 /// The layers of a port, and the controllers that they belong to.
 #[derive(Drop)]
@@ -26,15 +28,15 @@ pub struct Policy {
 
 impl Model for Policy {
     ghost use Rattle.std.specs.Prelude.{map};
-    ghost use Rattle.vsw_layer.specs.Layer.{seen};
+    ghost use Rattle.vsw_layer.specs.Layer.{seen, room};
     ghost use Rattle.vsw_policy.specs.Layers.{PolicySeen};
     ghost use Rattle.vsw_policy.specs.Sound.{IsSound};
 
     ghost Value = { PolicySeen };
 
-    ghost view = { λ s. record { controllers = s.named; layers = map seen s.ordered.items } };
+    ghost view = { λ s. record { controllers = s.named; layers = map seen s.ordered.items; rooms = map room s.ordered.items } };
 
-    ghost invariant = { λ s. IsSound (record { controllers = s.named; layers = map seen s.ordered.items }) };
+    ghost invariant = { λ s. IsSound (record { controllers = s.named; layers = map seen s.ordered.items; rooms = map room s.ordered.items }) };
 }
 
 impl Policy {
@@ -42,7 +44,7 @@ impl Policy {
     pub fn new(alloc: Global, controllers: &[u16]) -> Result<Policy, NoMemory>
         requires few { length controllers.now ≤ 8 }
         requires distinct { IsTrue (are_distinct controllers.now) }
-        ensures { IfOk result (λ policy. policy ≡ record { controllers = controllers.now; layers = [] }) }
+        ensures { IfOk result (λ policy. policy ≡ record { controllers = controllers.now; layers = []; rooms = [] }) }
     {
         match Vec::from_slice(alloc, controllers) {
             Ok(named) => Ok(Policy {
@@ -95,5 +97,48 @@ impl Policy {
             Ok(()) => Ok(()),
             Err(NoMemory) => Err(Refusal::Memory),
         }
+    }
+
+    /// Takes room for one more pair in the layer at a place.
+    pub fn reserve_pair(&mut self, place: usize) -> Result<(), NoMemory>
+        requires within { place < length self.old.layers }
+        ensures room { OnOk result (1 ≤ room_at self.new place) }
+        ensures rooms { (k : ℕ) → room_at self.old k ≤ room_at self.new k }
+        ensures layers { self.new.layers ≡ self.old.layers }
+        ensures controllers { self.new.controllers ≡ self.old.controllers }
+    {
+        reserve_at(&mut self.ordered, place)
+    }
+
+    /// Adds a pair to the layer at a place, whose next number it has. It takes no memory.
+    pub fn add_pair(&mut self, place: usize, pair: Pair)
+        requires room { 1 ≤ room_at self.old place }
+        requires suits { At place (CanTake pair) self.old.layers }
+        ensures added { self.new.layers ≡ changed_at place (with_pair pair) self.old.layers }
+        ensures room { room_at self.old place ≤ room_at self.new place + 1 }
+        ensures rooms { (k : ℕ) → k ≢ place → room_at self.old k ≤ room_at self.new k }
+        ensures controllers { self.new.controllers ≡ self.old.controllers }
+    {
+        add_at(&mut self.ordered, place, pair);
+    }
+
+    /// A pair of the layer at a place gets another state and last use.
+    pub fn touch_pair(&mut self, place: usize, number: u32, state: Track, last: Moment)
+        requires within { place < length self.old.layers }
+        ensures touched { self.new.layers ≡ changed_at place (with_touched number state last) self.old.layers }
+        ensures rooms { (k : ℕ) → room_at self.old k ≤ room_at self.new k }
+        ensures controllers { self.new.controllers ≡ self.old.controllers }
+    {
+        touch_at(&mut self.ordered, place, number, state, last);
+    }
+
+    /// A pair of the layer at a place goes.
+    pub fn remove_pair(&mut self, place: usize, number: u32)
+        requires within { place < length self.old.layers }
+        ensures gone { self.new.layers ≡ changed_at place (without_pair number) self.old.layers }
+        ensures rooms { (k : ℕ) → room_at self.old k ≤ room_at self.new k }
+        ensures controllers { self.new.controllers ≡ self.old.controllers }
+    {
+        remove_at(&mut self.ordered, place, number);
     }
 }

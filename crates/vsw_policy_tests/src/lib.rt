@@ -11,6 +11,8 @@ mod layer_tests;
 #[cfg(test)]
 mod pair_tests;
 #[cfg(test)]
+mod place_tests;
+#[cfg(test)]
 mod rule_tests;
 #[cfg(test)]
 mod told;

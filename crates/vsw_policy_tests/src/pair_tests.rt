@@ -22,7 +22,7 @@ const UNSET: Set = Set {
 };
 
 /// TCP from 10.0.0.5 to port 80 of 10.0.0.9, and back.
-fn there(port: u16) -> LayerKey {
+pub fn there(port: u16) -> LayerKey {
     LayerKey {
         encaps: 0,
         vni_outer: 0,
@@ -36,7 +36,7 @@ fn there(port: u16) -> LayerKey {
     }
 }
 
-fn back(port: u16) -> LayerKey {
+pub fn back(port: u16) -> LayerKey {
     LayerKey {
         encaps: 0,
         vni_outer: 0,
@@ -51,7 +51,7 @@ fn back(port: u16) -> LayerKey {
 }
 
 /// The pair of a rule, of the flow from this port, last used as many seconds after the epoch.
-fn pair(number: u32, group: u16, rule: u16, port: u16) -> Pair
+pub fn pair(number: u32, group: u16, rule: u16, port: u16) -> Pair
     ensures { result.number ≡ number }
 {
     Pair {
@@ -129,7 +129,7 @@ fn layers(alloc: Global) -> Vec<Layer> {
 }
 
 /// Which of the ports 1 to 5 have a pair, as digits.
-fn left(flows: &Flows) -> u32 {
+pub fn left(flows: &Flows) -> u32 {
     let mut digits = 0u32;
     for port in 1u16..6 {
         if flows.find(Dir::Out, &there(port)).is_some()

@@ -13,8 +13,8 @@ invariant_of-self c =
     let listed = rw (← (ap (λ p. p.controllers) c.self.view_is)) at c.requires.listed in
     let judged = rw c.deref.ensures.value at c.in-Ok.ensures in
     elim c.match-change.branch [
-      | in-Ok-change w ↦ sound-after c.self.inside.named ls _ c.args.controller c.args.command.now c.self.invariant listed c.requires.good (sym judged ∙ c.in_default-refused.is) (rw c.as_slice.ensures at (rw w.in-Ok-change.is at c.change.ensures.ok))
-      | in-Err w ↦ sound-still c.self.inside.named ls _ c.self.invariant (rw w.in-Err.is at c.change.ensures.err)
+      | in-Ok-change w ↦ sound-after c.self.inside.named ls _ _ _ c.args.controller c.args.command.now c.self.invariant listed c.requires.good (sym judged ∙ c.in_default-refused.is) (rw c.as_slice.ensures at (rw w.in-Ok-change.is at c.change.ensures.ok))
+      | in-Err w ↦ sound-still c.self.inside.named ls _ _ _ c.self.invariant (rw w.in-Err.is at c.change.ensures.err)
     ]
 
 pub returns-clause-others : goal.returns-clause-others

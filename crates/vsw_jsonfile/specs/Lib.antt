@@ -1,0 +1,5 @@
+pub mod Path
+pub mod Fault
+pub mod Object
+pub mod Value
+pub mod List

@@ -1,0 +1,10 @@
+//! Reading rules, and groups of rules, of a JSON file.
+//!
+//! Each level of the file is a function over its value, and a definition of the same shape in specs/.
+#![tactic(auto)]
+
+mod group;
+mod rule;
+
+pub use group::{dir_in, groups_in};
+pub use rule::rules_in;

@@ -1,0 +1,115 @@
+//! Reading a policy file.
+
+ghost use Rattle.std.specs.Prelude.{◌≡◌, map};
+ghost use Rattle.serde_json.specs.View.{view};
+ghost use Rattle.vsw_jsonfile.specs.declared.word.Word.{Word};
+ghost use Rattle.vsw_jsonfile.specs.declared.word.Word.TheVariants as word;
+ghost use Rattle.vsw_jsonfile.specs.Fault.{Says, seen};
+ghost use Rattle.vsw_jsonfile.specs.Object.{read_in};
+ghost use Rattle.vsw_jsonfile.specs.List.{items_in};
+ghost use Rattle.vsw_policyfile.specs.Policy.{Tells, looked, json_of, policy_file_of, policy_of};
+ghost use Rattle.vsw_policyfile.specs.Policy as spec;
+
+use crate::file::{PolicyFault, PolicyFile, PortFile};
+use crate::port::ports;
+use serde_json::Value;
+use std::alloc::Global;
+use vsw_base::Items;
+use vsw_jsonfile::{
+    Fault, FreshNumbers, Kind, Step, Word, items, list, number_in, object_in, under_step, value_in,
+};
+
+/// Bytes of the longest policy file that is read.
+const MOST_BYTES: usize = 4_194_304;
+
+const MOST_CONTROLLERS: usize = 8;
+
+const MOST_PORTS: usize = 16;
+
+const FILE_WORDS: [Word; 3] = [Word::Version, Word::Controllers, Word::Ports];
+
+impl From<Fault> for PolicyFault {
+    ghost use Rattle.std.specs.Prelude.{◌≡◌};
+    ghost use Rattle.vsw_policyfile.specs.Policy.{as_policy_fault};
+
+    ghost from_gives = { λ x y. y ≡ as_policy_fault x };
+
+    fn from(fault: Fault) -> PolicyFault {
+        match fault {
+            Fault::Bad { kind, path } => PolicyFault::Bad { kind, path },
+            Fault::Memory => PolicyFault::Memory,
+        }
+    }
+}
+
+#[tactic(auto, unfolding(vsw_jsonfile::specs::Object::read_in))]
+fn items_in<'a>(alloc: Global, object: &'a Value, word: Word) -> Result<&'a [Value], Fault>
+    ensures { Says (seen (λ vs. map view vs.now) result) (read_in word (view object.now) items_in) }
+{
+    let value = value_in(alloc, object, word)?;
+    let values = under_step(Step::Member(word), items(alloc, value))?;
+    Ok(values)
+}
+
+#[tactic(auto, unfolding(crate::specs::Policy::controllers_in, crate::specs::Policy::few_in))]
+fn controllers_in(alloc: Global, object: &Value) -> Result<Items<u16>, PolicyFault>
+    ensures { Tells result (spec.controllers_in (view object.now)) }
+{
+    let values = items_in(alloc, object, Word::Controllers)?;
+    if values.len() > MOST_CONTROLLERS {
+        return Err(PolicyFault::ControllersLimit);
+    }
+    let controllers = list(alloc, &FreshNumbers, values);
+    let controllers = under_step(Step::Member(Word::Controllers), controllers)?;
+    Ok(controllers)
+}
+
+#[tactic(auto, unfolding(crate::specs::Policy::ports_in, crate::specs::Policy::few_in))]
+fn ports_in(alloc: Global, known: &[u16], object: &Value) -> Result<Items<PortFile>, PolicyFault>
+    ensures { Tells result (spec.ports_in known.now (view object.now)) }
+{
+    let values = items_in(alloc, object, Word::Ports)?;
+    if values.len() > MOST_PORTS {
+        return Err(PolicyFault::PortsLimit);
+    }
+    let ports = under_step(Step::Member(Word::Ports), ports(alloc, known, values))?;
+    Ok(ports)
+}
+
+#[tactic(auto, unfolding(crate::specs::Policy::policy_of))]
+fn policy(alloc: Global, value: &Value) -> Result<PolicyFile, PolicyFault>
+    ensures { Tells result (policy_of (view value.now)) }
+{
+    let object = object_in(alloc, &FILE_WORDS, value)?;
+    number_in(alloc, 1, 1, object, Word::Version)?;
+    let controllers = controllers_in(alloc, object)?;
+    let ports = ports_in(alloc, controllers.as_slice(), object)?;
+    Ok(PolicyFile { controllers, ports })
+}
+
+/// The value that the bytes are the text of.
+#[tactic(auto, using(crate::proofs::Json::json_is, crate::proofs::Json::no_json))]
+fn json(alloc: Global, bytes: &[u8]) -> Result<Value, PolicyFault>
+    ensures { Tells (looked view result) (json_of bytes.now) }
+{
+    match Value::from_slice(alloc, bytes) {
+        Ok(value) => Ok(value),
+        Err(error) if error.is_memory() => Err(PolicyFault::Memory),
+        Err(_) => Err(PolicyFault::Bad {
+            kind: Kind::Json,
+            path: Items::new(alloc),
+        }),
+    }
+}
+
+/// Reads a policy file: a JSON value of at most 4,194,304 bytes.
+pub fn read_policy_file(alloc: Global, bytes: &[u8]) -> Result<PolicyFile, PolicyFault>
+    ensures { Tells result (policy_file_of bytes.now) }
+{
+    if bytes.len() > MOST_BYTES {
+        return Err(PolicyFault::PolicyLimit);
+    }
+    let value = json(alloc, bytes)?;
+    let policy = policy(alloc, &value)?;
+    Ok(policy)
+}

@@ -1,0 +1,5 @@
+pub mod Steps
+pub mod Lists
+pub mod Rules
+pub mod Layers
+pub mod Policies

@@ -21,7 +21,7 @@ free-rest k p ps h e = by (same_probe (front p) k) refl
         let g : same_probe (back p) k ≡ true = sym (ap (λ b. b || same_probe (back p) k) f) ∙ e in
         rw (← same_is (back p) k g) h.1
 
-holder-filter : (f : Pair → Bool) (k : Probe) (ps : List Pair) → AllApart ps → holder k (filter f ps) ≡ option_filter f (holder k ps)
+pub holder-filter : (f : Pair → Bool) (k : Probe) (ps : List Pair) → AllApart ps → holder k (filter f ps) ≡ option_filter f (holder k ps)
 holder-filter f k [] h = refl
 holder-filter f k (p ∷ ps) h = by (holds k p) (f p) refl refl (holder-filter f k ps h.3)
   where

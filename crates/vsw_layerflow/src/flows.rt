@@ -2,7 +2,7 @@
 
 ghost use Rattle.std.specs.Prelude.{◌≡◌, ◌≤◌, ◌<◌, ◌+◌, ◌-◌, ◌^◌, ◌++◌, ◌∷◌, [], OnOk, None, option_copied, length, filter, not};
 ghost use Rattle.vsw_layerflow.specs.declared.pair.Pair.{Pair};
-ghost use Rattle.vsw_layerflow.specs.Pairs.{pair_of, turned, touched, without, of_rule, of_marked, AllBelow, AreRising};
+ghost use Rattle.vsw_layerflow.specs.Pairs.{pair_of, turned, touched, without, of_rule, of_marked, AllApart, AllBelow, AreRising};
 ghost use Rattle.vsw_layerflow.specs.Life.{is_over};
 
 use crate::maps::{
@@ -52,6 +52,7 @@ impl Flows {
     pub fn len(&self) -> u32
         ensures count { result ≡ length self.now.pairs }
         ensures in_order { AreRising self.now.pairs }
+        ensures apart { AllApart self.now.pairs }
     {
         self.pairs.len() as u32
     }

@@ -12,8 +12,8 @@ use Rattle.vsw_jsonfile.specs.Object.{object_among, read_in}
 use Rattle.vsw_jsonfile.specs.Value.{short_of}
 use Rattle.vsw_jsonfile.specs.List.{items_in}
 use Rattle.vsw_rulefile.specs.Rule.{groups_of}
-use Rattle.vsw_policyfile.specs.declared.file.LayerFile.{LayerFile}
-use Rattle.vsw_policyfile.specs.Layer.{listed_number, count_by, room_for, fresh_layer, allows_of, pairs_of, seconds_of, spec_in, layer_words, layer_of, layers_of}
+use Rattle.vsw_layerfile.specs.declared.file.LayerFile.{LayerFile}
+use Rattle.vsw_layerfile.specs.Layer.{listed_number, count_by, room_for, fresh_layer, allows_of, pairs_of, seconds_of, spec_in, layer_words, layer_of, layers_of}
 use Rattle.vsw_goodfile.specs.Good.{AreGoodGroups, IsGoodLayer, AreApart, AreGoodLayers}
 use Rattle.vsw_goodfile.proofs.Steps.{taken, same_value, read, passed, unless}
 use Rattle.vsw_goodfile.proofs.Lists.{kept, no_pairs, pairs_push}

@@ -14,7 +14,7 @@ use Rattle.vsw_policyfile.specs.declared.file.PortFile.{PortFile}
 use Rattle.vsw_policyfile.specs.declared.file.PolicyFile.{PolicyFile}
 use Rattle.vsw_policyfile.specs.declared.file.PolicyFault.{PolicyFault}
 use Rattle.vsw_policyfile.specs.declared.file.PolicyFault.TheVariants.{PolicyLimit, PortsLimit, ControllersLimit}
-use Rattle.vsw_policyfile.specs.Layer.{layers_of}
+use Rattle.vsw_layerfile.specs.Layer.{layers_of}
 use Rattle.vsw_policyfile.specs.Port.{fresh_port, fresh_mac, rows_of, port_words, port_of}
 use Rattle.vsw_policyfile.specs.Policy.{of_part, few, few_in, controllers_in, ports_in, file_words, policy_of, json_of}
 use Rattle.vsw_goodfile.specs.Good.{AreGoodLayers, AreGoodPorts, IsGoodPolicy, EachIsGood}

@@ -4,10 +4,10 @@ use Rattle.std.specs.List.{AllPairs, list_any}
 use Rattle.vsw_rule.specs.Check.{bad_rule_of}
 use Rattle.vsw_rule.specs.declared.rule.Rule.{Rule}
 use Rattle.vsw_rule.specs.declared.rule.Group.{Group}
-use Rattle.vsw_policyfile.specs.declared.file.LayerFile.{LayerFile}
+use Rattle.vsw_layerfile.specs.declared.file.LayerFile.{LayerFile}
 use Rattle.vsw_policyfile.specs.declared.file.PortFile.{PortFile}
 use Rattle.vsw_policyfile.specs.declared.file.PolicyFile.{PolicyFile}
-use Rattle.vsw_policyfile.specs.Layer.{count_by}
+use Rattle.vsw_layerfile.specs.Layer.{count_by}
 use Rattle.vsw_policyfile.specs.Policy.{policy_file_of}
 
 -- the rules of a group: at most 1,024, no number twice, and each may be so

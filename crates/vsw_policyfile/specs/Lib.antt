@@ -1,3 +1,2 @@
 pub mod Policy
 pub mod Port
-pub mod Layer

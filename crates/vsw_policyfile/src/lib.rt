@@ -5,9 +5,8 @@
 #![tactic(auto)]
 
 mod file;
-mod layer;
 mod port;
 mod read;
 
-pub use file::{LayerFile, PolicyFault, PolicyFile, PortFile};
+pub use file::{PolicyFault, PolicyFile, PortFile};
 pub use read::read_policy_file;

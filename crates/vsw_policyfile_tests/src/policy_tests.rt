@@ -4,7 +4,8 @@ use crate::samples::ONE;
 use std::alloc::Global;
 use vsw_base::{Dir, Ip4, Items, Mac, Outer, Prefix, Set};
 use vsw_layer::LayerSpec;
-use vsw_policyfile::{LayerFile, PolicyFile, PortFile, read_policy_file};
+use vsw_layerfile::LayerFile;
+use vsw_policyfile::{PolicyFile, PortFile, read_policy_file};
 use vsw_rule::{Action, Cond, Field, Group, Item, Rule};
 
 fn one<T: Drop>(alloc: Global, item: T) -> Option<Items<T>> {

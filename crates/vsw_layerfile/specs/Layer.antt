@@ -12,7 +12,7 @@ use Rattle.vsw_jsonfile.specs.Object.{object_among, read_in}
 use Rattle.vsw_jsonfile.specs.Value.{short_of, number_from, text_of, value_for}
 use Rattle.vsw_jsonfile.specs.List.{items_in, items_after}
 use Rattle.vsw_rulefile.specs.Rule.{groups_of}
-use Rattle.vsw_policyfile.specs.declared.file.LayerFile.{LayerFile}
+use Rattle.vsw_layerfile.specs.declared.file.LayerFile.{LayerFile}
 
 -- a number that is listed
 abbrev pub listed : List ℕ → ℕ → Result ℕ Fault

@@ -8,8 +8,8 @@ ghost use Rattle.vsw_jsonfile.specs.declared.word.Word.{Word};
 ghost use Rattle.vsw_jsonfile.specs.declared.word.Word.TheVariants as word;
 ghost use Rattle.vsw_jsonfile.specs.Fault.{Says};
 ghost use Rattle.vsw_jsonfile.specs.Object.{read_in};
-ghost use Rattle.vsw_policyfile.specs.Layer.{listed, listed_number, room_for, fresh_layer, allows_for, allows_of, seconds_of, spec_in, layer_of, layers_of};
-ghost use Rattle.vsw_policyfile.specs.Layer as spec;
+ghost use Rattle.vsw_layerfile.specs.Layer.{listed, listed_number, room_for, fresh_layer, allows_for, allows_of, seconds_of, spec_in, layer_of, layers_of};
+ghost use Rattle.vsw_layerfile.specs.Layer as spec;
 
 use crate::file::LayerFile;
 use serde_json::Value;

@@ -1,0 +1,4 @@
+pub mod Alike
+pub mod Stays
+pub mod Visits
+pub mod Walks

@@ -1,0 +1,4 @@
+pub mod Admit
+pub mod Long
+pub mod Told
+pub mod Law

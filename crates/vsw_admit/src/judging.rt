@@ -1,0 +1,64 @@
+//! A walk is judged.
+
+ghost use Rattle.std.specs.Prelude.{◌≡◌, None, IsTrue, map};
+ghost use Rattle.vsw_admit.specs.Admit.{refusal, stop_of};
+ghost use Rattle.vsw_admit.specs.Told.{AllThere, AllHold, LeftThere};
+ghost use Rattle.vsw_base.specs.declared.fate.Verdict.TheVariants.{Pass};
+ghost use Rattle.vsw_crossing.specs.Walk.{walk_of};
+ghost use Rattle.vsw_layer.specs.Layer.{seen};
+ghost use Rattle.vsw_transpose.specs.Apply.{apply};
+ghost use Rattle.vsw_transpose.specs.Fits as fit;
+
+use crate::length::is_long;
+use crate::stop::Stop;
+use crate::wanting::refused_at;
+use vsw_base::{Crossing, Verdict};
+use vsw_crossing::{Scratch, Walked, Wanted};
+use vsw_layer::Layer;
+use vsw_policy::Policy;
+
+/// The first refusal of a wanted pair. The pair that leaves a layer is told right before.
+fn judge_changes(layers: &[Layer], left: Option<(u32, u32)>, changes: &[Wanted]) -> Option<Stop>
+    requires left { LeftThere (map seen layers.now) left }
+    requires there { AllThere (map seen layers.now) changes.now }
+    ensures exact { result ≡ refusal (map seen layers.now) left changes.now }
+    ensures hold { result ≡ None → AllHold (map seen layers.now) left changes.now }
+{
+    let [change, rest @ ..] = changes else {
+        return None;
+    };
+    match change {
+        Wanted::Make { layer, pair } => {
+            if let Some(stop) = refused_at(layers, *layer, left, pair) {
+                return Some(stop);
+            }
+            judge_changes(layers, None, rest)
+        }
+        Wanted::Touch { .. } => judge_changes(layers, None, rest),
+        Wanted::Leave { layer, number } => judge_changes(layers, Some((*layer, *number)), rest),
+    }
+}
+
+/// Why the packet is dropped after this walk of it, but for want of memory.
+pub fn judge(
+    policy: &Policy,
+    crossing: &Crossing,
+    walked: &Walked,
+    scratch: &Scratch,
+) -> Option<Stop>
+    requires verdict { walked.now.verdict ≡ (walk_of policy.now.layers crossing.now).verdict }
+    requires changes { scratch.now ≡ (walk_of policy.now.layers crossing.now).changes }
+    requires fits { walked.now.verdict ≡ Pass → IsTrue (fit.fits walked.now.by crossing.now.id.stack) }
+    requires stack { walked.now.verdict ≡ Pass → apply walked.now.by crossing.now.id.stack ≡ (walk_of policy.now.layers crossing.now).stack }
+    requires kept { walked.now.verdict ≡ Pass → fit.kept walked.now.by ≡ (walk_of policy.now.layers crossing.now).kept }
+    ensures exact { result ≡ stop_of policy.now.layers crossing.now (walk_of policy.now.layers crossing.now) }
+    ensures hold { result ≡ None → walked.now.verdict ≡ Pass → AllHold policy.now.layers None scratch.now }
+{
+    let Verdict::Pass = walked.verdict else {
+        return None;
+    };
+    if is_long(crossing, &walked.by) {
+        return Some(Stop::Long);
+    }
+    judge_changes(policy.layers(), None, scratch.changes())
+}

@@ -1,0 +1,47 @@
+//! How long a packet gets under pushed encapsulations.
+
+ghost use Rattle.std.specs.Prelude.{◌≡◌, ◌≤◌, IsTrue};
+ghost use Rattle.vsw_admit.specs.Long as spec;
+ghost use Rattle.vsw_frame.specs.Bytes.{total_over};
+ghost use Rattle.vsw_transpose.specs.Apply.{apply};
+ghost use Rattle.vsw_transpose.specs.Fits as fit;
+
+use vsw_base::{Crossing, Sizes};
+use vsw_transpose::Transposition;
+
+/// The most bytes that the total length of an IPv4 header can tell.
+const MOST: u64 = 65_535;
+
+/// The bytes of a frame without so many of its encapsulations.
+fn size_without(sizes: Sizes, drops: u8) -> u32
+    ensures { result ≡ spec.size_without sizes drops }
+{
+    match drops {
+        0 => sizes.whole,
+        1 => sizes.one,
+        _ => sizes.two,
+    }
+}
+
+/// The outermost total length where so many encapsulations are pushed; 0 where none is.
+fn total(pushes: u8, len: u32) -> u64
+    requires few { pushes ≤ 2 }
+    ensures { result ≡ total_over pushes len }
+{
+    match pushes {
+        0 => 0,
+        1 => 36 + u64::from(len),
+        _ => 86 + u64::from(len),
+    }
+}
+
+/// Whether an encapsulation is pushed in front of more than it can tell the length of.
+pub fn is_long(crossing: &Crossing, by: &Transposition) -> bool
+    requires fits { IsTrue (fit.fits by.now crossing.now.id.stack) }
+    ensures { result ≡ spec.is_long crossing.now (apply by.now crossing.now.id.stack) (fit.kept by.now) }
+{
+    let kept = by.kept();
+    let pushes = by.apply(&crossing.id.stack).encaps().saturating_sub(kept);
+    let drops = crossing.id.stack.encaps().saturating_sub(kept);
+    total(pushes, size_without(crossing.sizes, drops)) > MOST
+}

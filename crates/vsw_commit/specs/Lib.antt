@@ -1,0 +1,2 @@
+pub mod Cross
+pub mod Can

@@ -1,0 +1,49 @@
+//! A walk is carried out.
+
+ghost use Rattle.std.specs.Prelude.{◌≡◌, ◌<◌, ◌-◌, ◌^◌, true, false, IsTrue, OnErr};
+ghost use Rattle.vsw_base.specs.declared.fate.Verdict.TheVariants.{Pass};
+ghost use Rattle.vsw_commit.specs.Cross.{cross_of, is_memory, made_by, makes, told};
+ghost use Rattle.vsw_crossing.specs.Walk.{walk_of};
+ghost use Rattle.vsw_policy.specs.Sound.{Each};
+ghost use Rattle.vsw_transpose.specs.Apply.{apply};
+ghost use Rattle.vsw_transpose.specs.Fits as fit;
+
+use crate::changing::change_all;
+use crate::room::reserve_all;
+use vsw_admit::{Stop, judge};
+use vsw_base::{Crossing, Verdict};
+use vsw_crossing::{Scratch, Walked};
+use vsw_policy::Policy;
+
+/// Carries out the walk of this packet, or refuses to. Ok tells whether the layers were changed.
+pub fn commit(
+    policy: &mut Policy,
+    crossing: &Crossing,
+    walked: &Walked,
+    scratch: &Scratch,
+) -> Result<bool, Stop>
+    requires numbers { Each (λ l. l.next_pair < 2 ^ 32 - 1) policy.old.layers }
+    requires verdict { walked.now.verdict ≡ (walk_of policy.old.layers crossing.now).verdict }
+    requires changes { scratch.now ≡ (walk_of policy.old.layers crossing.now).changes }
+    requires fits { walked.now.verdict ≡ Pass → IsTrue (fit.fits walked.now.by crossing.now.id.stack) }
+    requires stack { walked.now.verdict ≡ Pass → apply walked.now.by crossing.now.id.stack ≡ (walk_of policy.old.layers crossing.now).stack }
+    requires kept { walked.now.verdict ≡ Pass → fit.kept walked.now.by ≡ (walk_of policy.old.layers crossing.now).kept }
+    ensures exact { is_memory result ≡ false → told walked.now.verdict (apply walked.now.by crossing.now.id.stack) (fit.kept walked.now.by) result policy.new.layers ≡ cross_of policy.old.layers crossing.now }
+    ensures memory { is_memory result ≡ true → makes (made_by policy.old.layers crossing.now) ≡ true }
+    ensures unchanged { OnErr result (policy.new.layers ≡ policy.old.layers) }
+{
+    let Verdict::Pass = walked.verdict else {
+        return Ok(false);
+    };
+    if let Some(stop) = judge(policy, crossing, walked, scratch) {
+        return Err(stop);
+    }
+    // It tells the proof that the numbers of all pairs are below the next one.
+    let _ = policy.layers();
+    let changes = scratch.changes();
+    if reserve_all(policy, changes).is_err() {
+        return Err(Stop::Memory);
+    }
+    change_all(policy, changes);
+    Ok(!changes.is_empty())
+}

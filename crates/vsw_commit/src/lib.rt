@@ -1,0 +1,8 @@
+//! What a packet wants changed of the layers that it crossed, done all at once or not at all.
+#![tactic(auto)]
+
+mod changing;
+mod committing;
+mod room;
+
+pub use committing::commit;

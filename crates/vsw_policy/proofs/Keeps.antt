@@ -59,7 +59,7 @@ length-removed p (x ∷ xs) =
     let ih = length-removed p xs in
     elim (p x) as (λ b. length (if b then xs else x ∷ removed p xs) ≤ suc (length xs)) [ true ↦ omega arith | false ↦ omega (arith, ih) ]
 
-each-placed : (P : LayerSeen → Type 0) (cs : List ℕ) (l : LayerSeen) (ls : List LayerSeen) → Each P ls → P l → Each P (placed cs l ls)
+pub each-placed : (P : LayerSeen → Type 0) (cs : List ℕ) (l : LayerSeen) (ls : List LayerSeen) → Each P ls → P l → Each P (placed cs l ls)
 each-placed P cs l [] h i = (i, tt)
 each-placed P cs l (m ∷ ms) h i =
     let ih = each-placed P cs l ms h.1 i in
@@ -103,7 +103,7 @@ apart-numbers : (rs : List Rule) → has_twice rs ≡ false → AreApart same_nu
 apart-numbers [] h = tt
 apart-numbers (r ∷ rs) h = let t = or-false (list_any (is_rule r.number) rs) (has_twice rs) h in (each-none (is_rule r.number) rs t.0, apart-numbers rs t.1)
 
-flip-equal : (a b : ℕ) → (a == b) ≡ false → (b == a) ≡ false
+pub flip-equal : (a b : ℕ) → (a == b) ≡ false → (b == a) ≡ false
 flip-equal a b h = grind (arith, nat_tests)
 
 flip-layer : (a b c d : ℕ) → (a == b && c == d) ≡ false → (b == a && d == c) ≡ false
@@ -172,7 +172,7 @@ good-removed cs ls p h = record {
   few = λ c. at_most_as _ _ 16 (count-removed c p ls) (h.few c);
 }
 
-order-placed : (cs : List ℕ) (l : LayerSeen) (ls : List LayerSeen) → AreInOrder cs ls → AreInOrder cs (placed cs l ls)
+pub order-placed : (cs : List ℕ) (l : LayerSeen) (ls : List LayerSeen) → AreInOrder cs ls → AreInOrder cs (placed cs l ls)
 order-placed cs l [] h = (tt, tt)
 order-placed cs l (m ∷ ms) h = by (is_before cs l m) refl (order-placed cs l ms h.1)
   where
@@ -180,7 +180,7 @@ order-placed cs l (m ∷ ms) h = by (is_before cs l m) refl (order-placed cs l m
     by true e ih = rw e ((flip-before cs l m e, each-as (λ x. is_before cs x m ≡ false) (λ x. is_before cs x l ≡ false) (λ x i. over-before cs l m x e i) ms h.0), h)
     by false e ih = rw e (each-placed (λ x. is_before cs x m ≡ false) cs l ms h.0 e, ih)
 
-count-placed : (c : ℕ) (cs : List ℕ) (l : LayerSeen) (ls : List LayerSeen) → length (filter (is_of c) (placed cs l ls)) ≡ length (filter (is_of c) (l ∷ ls))
+pub count-placed : (c : ℕ) (cs : List ℕ) (l : LayerSeen) (ls : List LayerSeen) → length (filter (is_of c) (placed cs l ls)) ≡ length (filter (is_of c) (l ∷ ls))
 count-placed c cs l [] = refl
 count-placed c cs l (m ∷ ms) = by (is_before cs l m) refl (c == l.controller) refl (c == m.controller) refl (count-placed c cs l ms)
   where

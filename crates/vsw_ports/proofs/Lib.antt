@@ -1,0 +1,5 @@
+pub mod Firsts
+pub mod Groups
+pub mod Placing
+pub mod Slices
+pub mod Good

@@ -1,0 +1,4 @@
+pub mod Ports
+pub mod Order
+pub mod File
+pub mod Groups

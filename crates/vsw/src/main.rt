@@ -57,7 +57,7 @@ mod tests {
     use std::process::ExitCode;
     use std::test::Fail;
     use vsw_app::Status;
-    use vsw_host::MemoryHost;
+    use vsw_memory_host::MemoryHost;
 
     #[test]
     fn every_status_has_its_number(rt: HostRuntime) {

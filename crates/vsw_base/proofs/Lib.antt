@@ -1,10 +1,7 @@
 pub mod Pushed
 pub mod Same
 pub mod Stacks
-pub mod Vectors
-pub mod Least
 pub mod Truths
 pub mod Numbers
 pub mod Readings
 pub mod Dropped
-pub mod Octets

@@ -1,5 +1,5 @@
-//! The types of the switch, and the definitions that every crate above it speaks of: addresses and
-//! their texts, headers and stacks of headers, what a packet brings with it, and what becomes of it.
+//! The types of the switch, and the definitions that every crate above it speaks of: addresses,
+//! headers and stacks of headers, what a packet brings with it, and what becomes of it.
 #![tactic(auto)]
 
 mod address;
@@ -10,11 +10,10 @@ mod header;
 mod headers;
 mod list;
 mod packet;
-mod spelling;
 mod stack;
 mod text;
 
-pub use address::{BadText, Ip4, Mac, Prefix};
+pub use address::{Ip4, Mac, Prefix};
 pub use fate::{Cause, Fate, Verdict, Why};
 pub use fault::{BadFrame, Long, NoMemory};
 pub use flow::{Crossing, LayerKey, Outer, Place, Set, Track, Ufid};

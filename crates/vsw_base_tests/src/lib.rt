@@ -5,7 +5,5 @@
 mod frames;
 #[cfg(test)]
 mod stack_tests;
-#[cfg(test)]
-mod text_tests;
 
 pub use frames::vectors;

@@ -1,8 +1,8 @@
 -- Which rule of a layer's groups a packet meets.
 use Rattle.std.specs.Prelude.{◌≡◌, ℕ, ◌<◌, ◌≤◌, ◌&&◌, List, [], ◌∷◌, ◌++◌, Bool, true, false, nat_le, Option, Some, None, if◌then◌else◌}
+use Rattle.vsw_base.specs.Direction.{same_dir}
 use Rattle.vsw_base.specs.declared.header.Header.{Header}
 use Rattle.vsw_base.specs.declared.packet.Dir.{Dir}
-use Rattle.vsw_base.specs.declared.packet.Dir.TheVariants.{Out, In}
 use Rattle.vsw_rule.specs.declared.rule.Rule.{Rule}
 use Rattle.vsw_rule.specs.declared.rule.Group.{Group}
 use Rattle.vsw_rule.specs.Match.{matches, all_hold}
@@ -16,11 +16,6 @@ better r (Some s) = if nat_le r.priority s.priority then Some r else Some s
 abbrev pub pick : List Rule → List Header → Option Rule
 pick [] hs = None
 pick (r ∷ rs) hs = if matches r hs then better r (pick rs hs) else pick rs hs
-
-abbrev pub same_dir : Dir → Dir → Bool
-same_dir Out Out = true
-same_dir In In = true
-same_dir _ _ = false
 
 -- the group is of the packet's direction, and all its conditions hold
 abbrev pub applies : Dir → List Header → Group → Bool

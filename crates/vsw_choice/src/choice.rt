@@ -48,17 +48,11 @@ fn least<'a>(rules: &'a [Rule], stack: &Stack) -> Option<&'a Rule>
     found
 }
 
-fn is_same(a: Dir, b: Dir) -> bool
-    ensures { result ≡ spec.same_dir a b }
-{
-    matches!((a, b), (Dir::Out, Dir::Out) | (Dir::In, Dir::In))
-}
-
 /// Whether the group is of this direction and all its conditions hold.
 fn applies(group: &Group, dir: Dir, stack: &Stack) -> bool
     ensures { result ≡ spec.applies dir stack.now group.now }
 {
-    is_same(group.dir, dir) && all_hold(group.when.as_slice(), stack)
+    group.dir == dir && all_hold(group.when.as_slice(), stack)
 }
 
 /// A pick marked last is chosen at once; any other gives way to what later groups choose.

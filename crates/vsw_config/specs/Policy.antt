@@ -3,7 +3,7 @@ use Rattle.std.specs.Prelude.{◌≡◌, ℕ, ◌≤◌, ◌==◌, List, [], ◌
 use Rattle.serde_json.specs.Data.{Data}
 use Rattle.serde_json.specs.Find.{as_str}
 use Rattle.serde_json.specs.Read.{read}
-use Rattle.vsw_base.specs.Spelling.{◌>>=◌, mac_of}
+use Rattle.vsw_spelling.specs.Spelling.{◌>>=◌, mac_of}
 use Rattle.vsw_walk.specs.declared.layer.PlainLayer.{PlainLayer}
 use Rattle.vsw_config.specs.declared.policy.PlainPolicy.{PlainPolicy}
 use Rattle.vsw_members.specs.declared.fault.PolicyFault.{PolicyFault}

@@ -17,6 +17,7 @@ use std::alloc::Global;
 use vsw_base::Mac;
 use vsw_members::PolicyFault::{self, NotBuilt};
 use vsw_members::{Word, number, object_in, only_item, short, short_in, text, value_in};
+use vsw_spelling::read_mac;
 use vsw_walk::PlainLayer;
 
 /// Bytes of the longest policy file that is read.
@@ -30,7 +31,7 @@ fn mac(object: &Value) -> Result<Mac, PolicyFault>
     ensures { Gives result (read_in word.Mac (view object.now) address_of) }
 {
     let text = text(value_in(object, Word::Mac)?)?;
-    Mac::read(text.as_bytes()).map_err(|_| NotBuilt)
+    read_mac(text.as_bytes()).map_err(|_| NotBuilt)
 }
 
 fn rows(object: &Value) -> Result<u32, PolicyFault>

@@ -4,7 +4,7 @@ use Rattle.std.specs.List.{AllPairs}
 use Rattle.serde_json.specs.Data.{Data}
 use Rattle.vsw_base.specs.declared.packet.Dir.{Dir}
 use Rattle.vsw_base.specs.declared.packet.Dir.TheVariants.{Out, In}
-use Rattle.vsw_base.specs.Spelling.{◌>>=◌}
+use Rattle.vsw_spelling.specs.Spelling.{◌>>=◌}
 use Rattle.vsw_walk.specs.declared.layer.PlainRule.{PlainRule}
 use Rattle.vsw_walk.specs.declared.layer.PlainGroup.{PlainGroup}
 use Rattle.vsw_members.specs.declared.word.Word.{Word}

@@ -1,7 +1,7 @@
 -- Lists of anything that is read against the items before it.
 use Rattle.std.specs.Prelude.{◌≡◌, List, [], ◌∷◌, ◌++◌, Option, Some, Result, Ok, Err, ⊤}
 use Rattle.serde_json.specs.Data.{Data}
-use Rattle.vsw_base.specs.Spelling.{◌>>=◌}
+use Rattle.vsw_spelling.specs.Spelling.{◌>>=◌}
 use Rattle.vsw_members.specs.declared.fault.PolicyFault.{PolicyFault}
 use Rattle.vsw_members.specs.declared.fault.PolicyFault.TheVariants.{Memory}
 

@@ -4,7 +4,7 @@ use Rattle.std.specs.List.{list_any}
 use Rattle.serde_json.specs.Data.{Data}
 use Rattle.serde_json.specs.Find.{as_str, as_bool}
 use Rattle.vsw_base.specs.declared.address.Prefix.{Prefix}
-use Rattle.vsw_base.specs.Spelling.{◌>>=◌, prefix_of}
+use Rattle.vsw_spelling.specs.Spelling.{◌>>=◌, prefix_of}
 use Rattle.vsw_walk.specs.declared.layer.PlainField.{PlainField}
 use Rattle.vsw_walk.specs.declared.layer.PlainField.TheVariants.{SrcIp, DstIp}
 use Rattle.vsw_walk.specs.declared.layer.PlainCond.{PlainCond}

@@ -17,6 +17,7 @@ use vsw_members::PolicyFault::{self, NotBuilt};
 use vsw_members::{
     Word, allows_in, items_up_to, object_in, only_item, short_in, text, truth_in, value_in,
 };
+use vsw_spelling::read_prefix;
 use vsw_walk::{PlainCond, PlainField, PlainRule};
 
 fn field(object: &Value) -> Result<PlainField, PolicyFault>
@@ -33,7 +34,7 @@ fn prefix(object: &Value) -> Result<Prefix, PolicyFault>
     ensures { Gives result (read_in word.Any (view object.now) only_prefix) }
 {
     let text = text(only_item(object, Word::Any)?)?;
-    Prefix::read(text.as_bytes()).map_err(|_| NotBuilt)
+    read_prefix(text.as_bytes()).map_err(|_| NotBuilt)
 }
 
 #[tactic(auto, unfolding(crate::specs::Rule::cond_of))]

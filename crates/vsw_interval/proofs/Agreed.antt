@@ -4,8 +4,8 @@ use Rattle.std.specs.List.Sorted.{IsPermutation}
 use Rattle.vsw_interval.specs.declared.placed.PlacedRange.{PlacedRange}
 use Rattle.vsw_interval.specs.Least.{holds, counts, least_of, Answers}
 use Rattle.vsw_interval.specs.Block.{Agrees}
-use Rattle.vsw_base.proofs.Least as least
-use Rattle.vsw_base.proofs.Least.{least_by-IsPermutation}
+use Rattle.vsw_least.proofs.Least as least
+use Rattle.vsw_least.proofs.Least.{least_by-IsPermutation}
 
 pub agrees : (items ranges : List PlacedRange) → IsPermutation items ranges → Agrees items ranges
 agrees items ranges moves v f = least_by-IsPermutation (counts v f) (λ (r : PlacedRange). r.place) items ranges moves

@@ -7,9 +7,9 @@ use Rattle.std.proofs.lemmas.List.{get_or_append_left, get_or_push, get_or-take,
 use Rattle.vsw_interval.specs.declared.placed.PlacedRange.{PlacedRange}
 use Rattle.vsw_interval.specs.declared.block.Block.{Block}
 use Rattle.vsw_interval.specs.Least.{counts}
-use Rattle.vsw_base.specs.Least.{lesser_of}
+use Rattle.vsw_least.specs.Least.{lesser_of}
 use Rattle.vsw_interval.specs.Block.{IsWithin, IsBlock, AreBlocks, place_of, reaches}
-use Rattle.vsw_base.proofs.Least.{BestWithin, joined, front_first}
+use Rattle.vsw_least.proofs.Least.{BestWithin, joined, front_first}
 
 -- the bounds of a part of the list
 pub part_bounds : (b : Block) (ranges : List PlacedRange) (low high : ℕ) → low ≤ high → high ≤ length ranges → AllWithin (IsWithin b) (take (high - low) (drop low ranges)) 0 (length (take (high - low) (drop low ranges))) → AllWithin (IsWithin b) ranges low high

@@ -6,7 +6,7 @@ use Rattle.std.proofs.lemmas.Bool.{cases_lt, le-leb, lt-leb, and_right, and_from
 use Rattle.std.proofs.lemmas.List.{get_or_default}
 use Rattle.vsw_interval.specs.declared.placed.PlacedRange.{PlacedRange}
 use Rattle.vsw_interval.specs.Least.{counts, least_of}
-use Rattle.vsw_base.proofs.Least.{found}
+use Rattle.vsw_least.proofs.Least.{found}
 
 -- a range before `from` doesn't count
 pub early : (value from : ℕ) (r : PlacedRange) → r.place < from → counts value from r ≡ false

@@ -1,7 +1,7 @@
 -- The least place whose range holds a value, told from the plain list of placed ranges.
 use Rattle.std.specs.Prelude.{ℕ, ◌&&◌, List, Bool, nat_le, Option}
-use Rattle.vsw_base.specs.Least as least
-use Rattle.vsw_base.specs.Least.{least_by}
+use Rattle.vsw_least.specs.Least as least
+use Rattle.vsw_least.specs.Least.{least_by}
 use Rattle.vsw_interval.specs.declared.placed.PlacedRange.{PlacedRange}
 
 -- the value is from the low to the high end, both among them

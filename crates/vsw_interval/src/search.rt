@@ -1,7 +1,7 @@
 //! The search for a place.
 
 ghost use Rattle.std.specs.Prelude.{◌≡◌};
-ghost use Rattle.vsw_base.specs.Least.{lesser_of};
+ghost use Rattle.vsw_least.specs.Least.{lesser_of};
 ghost use Rattle.vsw_interval.specs.Least.{least_of};
 ghost use Rattle.vsw_interval.specs.Block as spec;
 

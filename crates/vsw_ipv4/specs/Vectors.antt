@@ -1,6 +1,6 @@
 -- Headers with the checksums that other programs gave them. Each is written as hexadecimal text.
 use Rattle.std.specs.Prelude.{ℕ, List, codes}
-use Rattle.vsw_base.specs.Vectors.{spelled}
+use Rattle.vsw_base.specs.Hexadecimal.{spelled}
 use Rattle.vsw_ipv4.specs.Right.{IsRight}
 
 -- from 10.0.0.5 to 10.0.0.9, and two bytes of what follows

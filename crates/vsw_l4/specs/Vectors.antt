@@ -1,6 +1,6 @@
 -- Segments with the checksums that other programs gave them. Each is written as hexadecimal text.
 use Rattle.std.specs.Prelude.{ℕ, List, codes}
-use Rattle.vsw_base.specs.Vectors.{spelled}
+use Rattle.vsw_base.specs.Hexadecimal.{spelled}
 use Rattle.vsw_l4.specs.Right.{IsTcpRight, IsUdpRight}
 
 -- "hello" from 10.0.0.5, port 1234, to 10.0.0.9, port 80: an odd number of bytes

@@ -8,7 +8,8 @@ use Rattle.vsw_base.specs.declared.packet.Dir.TheVariants.{Out, In}
 use Rattle.vsw_base.specs.declared.flow.LayerKey.{LayerKey}
 use Rattle.vsw_layerflow.specs.declared.pair.Probe.{Probe}
 use Rattle.vsw_layerflow.specs.declared.pair.Pair.{Pair}
-use Rattle.vsw_layerflow.specs.Pairs.{same_dir, same_bool, same_key, same_probe, holds, holder, numbered, number_of, AllApart}
+use Rattle.vsw_base.specs.Direction.{same_dir}
+use Rattle.vsw_layerflow.specs.Pairs.{same_bool, same_key, same_probe, holds, holder, numbered, number_of, AllApart}
 
 pub when_ok : {A E : Type 0} {P : Type 0} (r : Result A E) → IsOk r → OnOk r P → P
 when_ok (Ok x) i h = h

@@ -2,6 +2,7 @@
 use Rattle.std.specs.Prelude.{◌≡◌, ℕ, ◌<◌, ◌==◌, ◌&&◌, ◌||◌, List, [], ◌∷◌, Bool, true, false, not, filter, get_or, map, Option, Some, None, if◌then◌else◌}
 use Rattle.vsw_base.specs.declared.packet.Dir.{Dir}
 use Rattle.vsw_base.specs.declared.packet.Dir.TheVariants.{Out, In}
+use Rattle.vsw_base.specs.Direction.{same_dir}
 use Rattle.vsw_base.specs.declared.flow.LayerKey.{LayerKey}
 use Rattle.vsw_base.specs.declared.flow.Track.{Track}
 use Rattle.vsw_layerflow.specs.declared.pair.Probe.{Probe}
@@ -10,11 +11,6 @@ use Rattle.vsw_layerflow.specs.declared.pair.Pair.{Pair}
 abbrev pub turned : Dir → Dir
 turned Out = In
 turned In = Out
-
-abbrev pub same_dir : Dir → Dir → Bool
-same_dir Out Out = true
-same_dir In In = true
-same_dir d e = false
 
 abbrev pub same_bool : Bool → Bool → Bool
 same_bool true b = b

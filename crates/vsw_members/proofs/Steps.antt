@@ -1,6 +1,6 @@
 -- Readings in steps, taken apart.
 use Rattle.std.proofs.Common.{◌≡◌, Bool, true, false, Option, Some, None, refl, if◌then◌else◌}
-use Rattle.vsw_base.specs.Spelling.{◌>>=◌}
+use Rattle.vsw_spelling.specs.Spelling.{◌>>=◌}
 
 -- a value that comes of two steps comes of a value of the first
 pub both : {A B : Type 0} (o : Option A) (f : A → Option B) (y : B) → (o >>= f) ≡ Some y → (x : A) × (o ≡ Some x) × (f x ≡ Some y)

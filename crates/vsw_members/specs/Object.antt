@@ -3,7 +3,7 @@ use Rattle.std.specs.Prelude.{ℕ, List, Bool, true, false, ◌&&◌, Option, So
 use Rattle.std.specs.List.{list_any}
 use Rattle.serde_json.specs.Data.{Data, Members, no_members, member}
 use Rattle.serde_json.specs.Find.{as_object, get}
-use Rattle.vsw_base.specs.Spelling.{◌>>=◌}
+use Rattle.vsw_spelling.specs.Spelling.{◌>>=◌}
 use Rattle.vsw_members.specs.declared.word.Word.{Word}
 use Rattle.vsw_members.specs.declared.word.Word.TheVariants.{Version, Controllers, Ports, Port, Mac, Rows, Layers, Controller, Layer, Order, DefaultOut, DefaultIn, Pairs, Idle, Linger, Groups, Group, Dir, When, Rules, Rule, Priority, Action, Stateful, Last, Field, Any}
 

@@ -2,7 +2,7 @@
 use Rattle.std.specs.Prelude.{◌≡◌, ℕ, ◌&&◌, List, [], ◌∷◌, length, Bool, true, false, nat_le, Option, Some, None, option_map, Result, Ok, Err, codes, bytes_eq, if◌then◌else◌}
 use Rattle.serde_json.specs.Data.{Data, Items, no_items, item}
 use Rattle.serde_json.specs.Find.{as_number, as_u64, as_array, as_str}
-use Rattle.vsw_base.specs.Spelling.{◌>>=◌}
+use Rattle.vsw_spelling.specs.Spelling.{◌>>=◌}
 use Rattle.vsw_members.specs.declared.fault.PolicyFault.{PolicyFault}
 use Rattle.vsw_members.specs.declared.fault.PolicyFault.TheVariants.{NotBuilt, Memory}
 

@@ -5,7 +5,8 @@ use Rattle.vsw_base.specs.declared.fault.BadFrame.{BadFrame}
 use Rattle.vsw_base.specs.declared.header.Header.{Header}
 use Rattle.vsw_base.specs.declared.header.Header.TheVariants.{Ether, Ip, Vxlan, Ports}
 use Rattle.vsw_base.specs.Frame.{Parts, frame_of}
-use Rattle.vsw_base.specs.Vectors.{spelled, plain_frame, encap_frame}
+use Rattle.vsw_base.specs.Hexadecimal.{spelled}
+use Rattle.vsw_base.specs.Vectors.{plain_frame, encap_frame}
 use Rattle.vsw_frame.specs.Bytes.{outgoing}
 
 -- what is written for a frame; nothing where it isn't one

@@ -18,6 +18,7 @@ use vsw_jsonfile::{
     under_step, value_in, whole,
 };
 use vsw_rule::{Cond, Item};
+use vsw_spelling::read_prefix;
 
 /// The most items of a condition.
 const MOST_ITEMS: usize = 64;
@@ -46,7 +47,7 @@ fn prefix(alloc: Global, value: &Value) -> Result<Prefix, Fault>
     ensures { result ≡ prefix_in (view value.now) }
 {
     let text = text(alloc, value)?;
-    Prefix::read(text.as_bytes()).map_err(|_| here(alloc, Kind::Shape))
+    read_prefix(text.as_bytes()).map_err(|_| here(alloc, Kind::Shape))
 }
 
 fn single(alloc: Global, form: Form, value: &Value) -> Result<Item, Fault>

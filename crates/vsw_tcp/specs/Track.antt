@@ -1,19 +1,14 @@
 -- States of a pair of flows (RFC 9293, section 3.3.2, as far as a switch between the ends can tell), row by
 -- row: a state, and what each control of a packet of direction d makes of it.
 use Rattle.std.specs.Prelude.{◌≡◌, ◌↔◌, ◌⊎◌, Bool, true, false, if◌then◌else◌}
+use Rattle.vsw_base.specs.Direction.{same_dir}
 use Rattle.vsw_base.specs.declared.flow.Track.{Track}
 use Rattle.vsw_base.specs.declared.flow.Track.TheVariants.{Plain, Opening, Open, Half, Closed}
 use Rattle.vsw_base.specs.declared.packet.Control.{Control}
 use Rattle.vsw_base.specs.declared.packet.Control.TheVariants.{None, Syn, SynAck, Fin, Rst}
 use Rattle.vsw_base.specs.declared.packet.Dir.{Dir}
-use Rattle.vsw_base.specs.declared.packet.Dir.TheVariants.{Out, In}
 use Rattle.vsw_tcp.specs.declared.state.Tracked.{Tracked}
 use Rattle.vsw_tcp.specs.declared.state.Tracked.TheVariants.{To, Reopen}
-
-abbrev pub is_same : Dir → Dir → Bool
-is_same Out Out = true
-is_same In In = true
-is_same d e = false
 
 -- the state of a pair that a packet makes
 abbrev pub opening_of : Control → Dir → Track
@@ -27,7 +22,7 @@ opening_of None d = Open
 abbrev pub track_of : Track → Dir → Control → Dir → Tracked
 track_of Opening p Rst d = To Closed
 track_of Opening p Fin d = To (Half d)
-track_of Opening p SynAck d = To (if is_same d p then Opening else Open)
+track_of Opening p SynAck d = To (if same_dir d p then Opening else Open)
 track_of Opening p Syn d = To Opening
 track_of Opening p None d = To Opening
 track_of Open p Rst d = To Closed
@@ -36,7 +31,7 @@ track_of Open p SynAck d = To Open
 track_of Open p Syn d = To Open
 track_of Open p None d = To Open
 track_of (Half e) p Rst d = To Closed
-track_of (Half e) p Fin d = To (if is_same d e then Half e else Closed)
+track_of (Half e) p Fin d = To (if same_dir d e then Half e else Closed)
 track_of (Half e) p SynAck d = To (Half e)
 track_of (Half e) p Syn d = To (Half e)
 track_of (Half e) p None d = To (Half e)

@@ -10,12 +10,12 @@ use Rattle.std.proofs.Math.Nat.{div-lt_iff_lt-mul, le-div_iff_mul-le, div-mul-le
 use Rattle.vsw_trie.specs.declared.placed.PlacedPrefix.{PlacedPrefix}
 use Rattle.vsw_trie.specs.declared.span.Span.{Span}
 use Rattle.vsw_trie.specs.declared.chain.Node.{Node}
-use Rattle.vsw_base.specs.Least.{lesser, least, least_by}
+use Rattle.vsw_least.specs.Least.{lesser, least, least_by}
 use Rattle.vsw_trie.specs.Least.{holds, counts, least_of, Answers}
 use Rattle.vsw_trie.specs.Span.{span_of}
 use Rattle.vsw_trie.specs.Chain.{span_counts, Agrees}
-use Rattle.vsw_base.proofs.Least as least
-use Rattle.vsw_base.proofs.Least.{least_by-IsPermutation}
+use Rattle.vsw_least.proofs.Least as least
+use Rattle.vsw_least.proofs.Least.{least_by-IsPermutation}
 
 -- the addresses that agree with a prefix are those between its ends
 between : (a v d : ℕ) → zero < d → (leb (v / d * d) a && leb a ((v / d + 1) * d - 1)) ≡ (a / d == v / d)

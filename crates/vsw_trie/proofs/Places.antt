@@ -5,9 +5,9 @@ use Rattle.std.specs.List.Sorted.{IsNonDecreasingBy}
 use Rattle.std.proofs.lemmas.Bool.{cases_lt, ltb-true, ltb-false, le-leb, lt-leb, and_left, and_right, and_from}
 use Rattle.std.proofs.lemmas.List.{get_or_default, length-take-le, length-drop}
 use Rattle.vsw_trie.specs.declared.chain.Node.{Node}
-use Rattle.vsw_base.specs.Least.{lesser_of}
+use Rattle.vsw_least.specs.Least.{lesser_of}
 use Rattle.vsw_trie.specs.Chain.{IsNode, IsChain, node_counts, first_place, least_in}
-use Rattle.vsw_base.proofs.Least.{Best, BestWithin, found, part, part_at, stands, joined}
+use Rattle.vsw_least.proofs.Least.{Best, BestWithin, found, part, part_at, stands, joined}
 
 pub none_from : (nodes : List Node) (from : ℕ) → AllWithin (λ (n : Node). ltb n.span.place from ≡ true) nodes 0 (length nodes) → None ≡ first_place nodes from
 none_from nodes from all =

@@ -4,7 +4,7 @@ use Rattle.std.specs.List.{AllWithin}
 use Rattle.vsw_trie.specs.declared.placed.PlacedPrefix.{PlacedPrefix}
 use Rattle.vsw_trie.specs.declared.span.Span.{Span}
 use Rattle.vsw_trie.specs.declared.chain.Node.{Node}
-use Rattle.vsw_base.specs.Least.{least_by}
+use Rattle.vsw_least.specs.Least.{least_by}
 use Rattle.vsw_trie.specs.Least.{least_of}
 
 -- the span holds the address and isn't before `from`

@@ -1,7 +1,7 @@
 -- The least place whose prefix holds an address, told from the plain list of placed prefixes.
 use Rattle.std.specs.Prelude.{ℕ, ◌&&◌, List, Bool, nat_le, Option}
-use Rattle.vsw_base.specs.Least as least
-use Rattle.vsw_base.specs.Least.{least_by}
+use Rattle.vsw_least.specs.Least as least
+use Rattle.vsw_least.specs.Least.{least_by}
 use Rattle.vsw_base.specs.Prefix.{in_prefix}
 use Rattle.vsw_trie.specs.declared.placed.PlacedPrefix.{PlacedPrefix}
 

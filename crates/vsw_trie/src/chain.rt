@@ -3,7 +3,7 @@
 ghost use Rattle.std.specs.Prelude.{◌≡◌, ℕ, ◌<◌, ◌≤◌, ◌-◌, IfOk, IfSome, All, length, map, slice_index_or};
 ghost use Rattle.std.specs.List.{AllWithin};
 ghost use Rattle.std.specs.List.Sorted.{IsNonDecreasingBy};
-ghost use Rattle.vsw_base.specs.Least.{lesser_of};
+ghost use Rattle.vsw_least.specs.Least.{lesser_of};
 ghost use Rattle.vsw_trie.specs.Chain.{AreNodes, AreInOrder, IsNode, IsChain, least_in, first_place};
 ghost use Rattle.vsw_trie.specs.declared.span.Span.{Span};
 ghost use Rattle.vsw_trie.specs.declared.chain.Node.{Node};

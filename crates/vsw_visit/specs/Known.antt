@@ -1,5 +1,6 @@
 -- What becomes of a packet that a pair holds, and of the pair.
 use Rattle.std.specs.Prelude.{ℕ, Bool, true, false, nat_lt, Option, Some, None, if◌then◌else◌}
+use Rattle.vsw_base.specs.Direction.{same_dir}
 use Rattle.vsw_base.specs.declared.flow.Set.{Set}
 use Rattle.vsw_base.specs.declared.flow.Track.{Track}
 use Rattle.vsw_base.specs.declared.flow.Track.TheVariants.{Plain, Opening, Open, Half, Closed}
@@ -7,7 +8,6 @@ use Rattle.vsw_base.specs.declared.packet.Dir.{Dir}
 use Rattle.vsw_layer.specs.declared.layer.LayerSpec.{LayerSpec}
 use Rattle.vsw_layerflow.specs.declared.pair.Pair.{Pair}
 use Rattle.vsw_layerflow.specs.Life.{due}
-use Rattle.vsw_layerflow.specs.Pairs.{same_dir}
 use Rattle.vsw_rule.specs.declared.rule.Action.TheVariants.{Edit}
 use Rattle.vsw_visit.specs.declared.outcome.Visit.{Visit}
 use Rattle.vsw_visit.specs.declared.outcome.Visit.TheVariants.{Goes}

@@ -1,7 +1,6 @@
 //! A packet of a pair.
 
 ghost use Rattle.std.specs.Prelude.{◌≡◌};
-ghost use Rattle.vsw_layerflow.specs.Pairs.{same_dir};
 ghost use Rattle.vsw_visit.specs.Known as spec;
 
 use crate::outcome::{Visit, Want};
@@ -9,12 +8,6 @@ use vsw_base::{Dir, Moment, Set, Track};
 use vsw_layer::LayerSpec;
 use vsw_layerflow::{Pair, due};
 use vsw_rule::Action;
-
-fn is_same_dir(a: Dir, b: Dir) -> bool
-    ensures { result ≡ same_dir a b }
-{
-    matches!((a, b), (Dir::Out, Dir::Out) | (Dir::In, Dir::In))
-}
 
 fn is_same_state(a: Track, b: Track) -> bool
     ensures { result ≡ spec.same_state a b }
@@ -24,7 +17,7 @@ fn is_same_state(a: Track, b: Track) -> bool
         | (Track::Opening, Track::Opening)
         | (Track::Open, Track::Open)
         | (Track::Closed, Track::Closed) => true,
-        (Track::Half(a), Track::Half(b)) => is_same_dir(a, b),
+        (Track::Half(a), Track::Half(b)) => a == b,
         _ => false,
     }
 }
@@ -33,7 +26,7 @@ fn is_same_state(a: Track, b: Track) -> bool
 fn set_towards(pair: &Pair, dir: Dir) -> Set
     ensures { result ≡ spec.set_towards dir pair.now }
 {
-    if is_same_dir(dir, pair.dir) {
+    if dir == pair.dir {
         pair.forward_set
     } else {
         pair.reverse_set

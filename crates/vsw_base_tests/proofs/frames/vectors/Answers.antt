@@ -1,4 +1,4 @@
-use Rattle.vsw_base.proofs.Vectors.{reads_plain, reads_encapsulated, reads_faults}
+use Rattle.vsw_base_tests.proofs.Known.{reads_plain, reads_encapsulated, reads_faults}
 use Rattle.vsw_base_tests.proofs.frames.vectors.Goals as goal
 
 pub returns-clause-plain : goal.returns-clause-plain

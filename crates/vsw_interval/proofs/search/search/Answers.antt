@@ -3,7 +3,7 @@ use Rattle.std.proofs.lemmas.Bool.{leb-false}
 use Rattle.std.proofs.lemmas.List.Sorted.{IsPartitionPoint-from_clause, IsPartitionedBy-leb}
 use Rattle.vsw_interval.specs.declared.placed.PlacedRange.{PlacedRange}
 use Rattle.vsw_interval.specs.Least.{counts}
-use Rattle.vsw_base.proofs.Least.{none_within, found}
+use Rattle.vsw_least.proofs.Least.{none_within, found}
 use Rattle.vsw_interval.proofs.Blocks.{looked, all_looked}
 use Rattle.vsw_interval.proofs.search.search.Goals as goal
 

@@ -2,7 +2,7 @@ use Rattle.std.proofs.Common.{◌≤◌, ◌<◌, ◌-◌, length}
 use Rattle.std.specs.List.{AllWithin}
 use Rattle.vsw_interval.specs.declared.placed.PlacedRange.{PlacedRange}
 use Rattle.vsw_interval.specs.Least.{counts}
-use Rattle.vsw_base.proofs.Least.{BestWithin}
+use Rattle.vsw_least.proofs.Least.{BestWithin}
 use Rattle.vsw_interval.proofs.search.search.Given as goal
 
 abbrev pub invariant-loop-at : goal.invariant-loop-at

@@ -2,7 +2,7 @@ use Rattle.std.proofs.Common.{◌≤◌, length}
 use Rattle.std.specs.List.{AllWithin}
 use Rattle.vsw_trie.specs.declared.chain.Node.{Node}
 use Rattle.vsw_trie.specs.Chain.{node_counts}
-use Rattle.vsw_base.proofs.Least.{BestWithin}
+use Rattle.vsw_least.proofs.Least.{BestWithin}
 use Rattle.vsw_trie.proofs.chain.climb.Given as goal
 
 abbrev pub invariant-loop-left : goal.invariant-loop-left

@@ -1,9 +1,14 @@
 //! Reading the texts of addresses.
 
 ghost use Rattle.std.specs.Prelude.{◌≡◌, ◌<◌, ◌^◌, ◌==◌, length, position, IfSome, option_map};
-ghost use Rattle.vsw_base.specs.Spelling.{all_of, are_colons, hex_value, octet_of, octets_of, mac_of, small_of, digit_of, cut_at, ip4_of, prefix_of, or_error};
+ghost use Rattle.vsw_base.specs.Hexadecimal.{hex_value, octet_of};
+ghost use Rattle.vsw_spelling.specs.Spelling.{all_of, are_colons, octets_of, mac_of, small_of, digit_of, cut_at, ip4_of, prefix_of, or_error};
 
-use crate::address::{BadText, Ip4, Mac, Prefix};
+use vsw_base::{Ip4, Mac, Prefix};
+
+/// The text isn't of the form that was asked for.
+#[derive(Clone, Copy, Debug, PartialEq, Eq)]
+pub struct BadText;
 
 fn hex_digit(c: u8) -> Option<u8>
     ensures value { result ≡ hex_value c }
@@ -144,32 +149,26 @@ fn prefix_at(text: &[u8]) -> Option<Prefix>
     }
 }
 
-impl Mac {
-    /// The address that a text spells: six groups of two hexadecimal digits of either case, with
-    /// colons between.
-    pub fn read(text: &[u8]) -> Result<Mac, BadText>
-        ensures { result ≡ or_error (record {}) (mac_of text.now) }
-    {
-        mac_at(text).ok_or(BadText)
-    }
+/// The Ethernet address that a text spells: six groups of two hexadecimal digits of either case, with
+/// colons between.
+pub fn read_mac(text: &[u8]) -> Result<Mac, BadText>
+    ensures { result ≡ or_error (record {}) (mac_of text.now) }
+{
+    mac_at(text).ok_or(BadText)
 }
 
-impl Ip4 {
-    /// The address that a text spells: four decimal numbers from 0 to 255 without leading zeros, with
-    /// dots between.
-    pub fn read(text: &[u8]) -> Result<Ip4, BadText>
-        ensures { result ≡ or_error (record {}) (ip4_of text.now) }
-    {
-        ip4_at(text).ok_or(BadText)
-    }
+/// The IPv4 address that a text spells: four decimal numbers from 0 to 255 without leading zeros, with
+/// dots between.
+pub fn read_ip4(text: &[u8]) -> Result<Ip4, BadText>
+    ensures { result ≡ or_error (record {}) (ip4_of text.now) }
+{
+    ip4_at(text).ok_or(BadText)
 }
 
-impl Prefix {
-    /// The prefix that a text spells: an address, a slash and a number from 0 to 32 without a leading
-    /// zero, or an address alone, which has all 32 bits.
-    pub fn read(text: &[u8]) -> Result<Prefix, BadText>
-        ensures { result ≡ or_error (record {}) (prefix_of text.now) }
-    {
-        prefix_at(text).ok_or(BadText)
-    }
+/// The prefix that a text spells: an address, a slash and a number from 0 to 32 without a leading
+/// zero, or an address alone, which has all 32 bits.
+pub fn read_prefix(text: &[u8]) -> Result<Prefix, BadText>
+    ensures { result ≡ or_error (record {}) (prefix_of text.now) }
+{
+    prefix_at(text).ok_or(BadText)
 }

@@ -1,21 +1,12 @@
 -- The texts of addresses.
 use Rattle.std.specs.Prelude.{ℕ, Bool, true, ◌+◌, ◌*◌, ◌-◌, ◌==◌, ◌&&◌, List, [], ◌∷◌, nat_le, take, drop, position, Option, Some, None, option_map, option_and_then, if◌then◌else◌, Result, Ok, Err}
 use Rattle.vsw_base.specs.declared.address.Prefix.{Prefix}
+use Rattle.vsw_base.specs.Hexadecimal.{octet_of}
 use Rattle.vsw_base.specs.Six.{six}
 
 infixl 10 ◌>>=◌
 abbrev pub ◌>>=◌ : {A B : Type 0} → Option A → (A → Option B) → Option B
 o >>= f = option_and_then f o
-
--- the value of a hexadecimal digit of either case
-abbrev pub hex_value : ℕ → Option ℕ
-hex_value c = if nat_le 48 c && nat_le c 57 then Some (c - 48)
-    else if nat_le 97 c && nat_le c 102 then Some (c - 97 + 10)
-    else if nat_le 65 c && nat_le c 70 then Some (c - 65 + 10)
-    else None
-
-abbrev pub octet_of : ℕ → ℕ → Option ℕ
-octet_of high low = option_and_then (λ h. option_map (λ l. 16 * h + l) (hex_value low)) (hex_value high)
 
 -- all values, where each is there
 abbrev pub all_of : List (Option ℕ) → Option (List ℕ)

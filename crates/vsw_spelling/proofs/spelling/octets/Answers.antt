@@ -1,7 +1,7 @@
 use Rattle.std.proofs.Common.{◌≡◌, ◌∙◌, sym, ap, arith, length, ℕ, List, [], ◌∷◌}
-use Rattle.vsw_base.specs.Spelling.{all_of}
-use Rattle.vsw_base.proofs.Octets.{pairs_in, with_colons, without_colons, of_less, of_more}
-use Rattle.vsw_base.proofs.spelling.octets.Goals as goal
+use Rattle.vsw_spelling.specs.Spelling.{all_of}
+use Rattle.vsw_spelling.proofs.Octets.{pairs_in, with_colons, without_colons, of_less, of_more}
+use Rattle.vsw_spelling.proofs.spelling.octets.Goals as goal
 
 pub returns-in_default : goal.returns-in_default
 returns-in_default c = sym (of_less c.args.text.now c.in_default.len_below)

@@ -1,6 +1,7 @@
 -- The octets of a text by the places of its bytes.
 use Rattle.std.proofs.Common.{◌≡◌, ◌≤◌, ◌<◌, ℕ, List, [], ◌∷◌, length, slice_index, Bool, true, false, if◌then◌else◌, Option, None, refl, ap, ◌∙◌, arith}
-use Rattle.vsw_base.specs.Spelling.{all_of, are_colons, octet_of, octets_of}
+use Rattle.vsw_base.specs.Hexadecimal.{octet_of}
+use Rattle.vsw_spelling.specs.Spelling.{all_of, are_colons, octets_of}
 
 abbrev at : List ℕ → ℕ → ℕ
 at t i = slice_index t i

@@ -6,7 +6,7 @@ use Rattle.std.proofs.lemmas.Bool.{cases_lt, le-leb, leb-true, leb-false, and_fr
 use Rattle.std.proofs.lemmas.List.{get_or-take, get_or-drop, get_or_default, length-take-le, length-drop}
 use Rattle.std.proofs.lemmas.List.Elements.{All-nil, All-cons, All-contains, Contains-get_or}
 use Rattle.std.proofs.lemmas.List.Sorted.{All-permutation, Contains-permutation}
-use Rattle.vsw_base.specs.Least.{lesser, lesser_of, least, least_by, Answers}
+use Rattle.vsw_least.specs.Least.{lesser, lesser_of, least, least_by, Answers}
 
 -- an item that passes has this place, and none that passes a lesser one
 pub record IsBest {X : Type 0} (t : X → Bool) (p : X → ℕ) (xs : List X) (n : ℕ) : Type 0 where

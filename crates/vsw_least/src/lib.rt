@@ -1,0 +1,2 @@
+//! What the least place of the items that pass a test is, and lemmas about it.
+#![tactic(auto)]

@@ -1,0 +1,77 @@
+-- What becomes of a frame at its port: how its packet crosses the layers, and the bytes with which it leaves.
+use Rattle.std.specs.Prelude.{◌≡◌, ◌≤◌, ℕ, List, [], length, take, Bool, true, false, Result, Ok, Err}
+use Rattle.vsw_base.specs.declared.fate.Cause.{Cause}
+use Rattle.vsw_base.specs.declared.fate.Cause.TheVariants.{Memory}
+use Rattle.vsw_base.specs.declared.fate.Fate.{Fate}
+use Rattle.vsw_base.specs.declared.fate.Fate.TheVariants.{Pass, Drop}
+use Rattle.vsw_base.specs.declared.flow.Crossing.{Crossing}
+use Rattle.vsw_base.specs.Frame.{Parts, sizes_of}
+use Rattle.vsw_commit.specs.Cross.{Passing, cross_of, made_by, makes}
+use Rattle.vsw_frame.specs.Bytes.{outgoing}
+use Rattle.vsw_layer.specs.Layer.{LayerSeen}
+use Rattle.vsw_policy.specs.Sound.{Each}
+
+-- the packet is the frame's
+pub record IsOfFrame (x : Crossing) (p : Parts) : Type 0 where
+  pub stack : x.id.stack ≡ p.stack
+  pub sizes : x.sizes ≡ sizes_of p.levels
+
+-- what became of a frame: its fate, the bytes with which it left, the layers after it, and whether it is an entry of the history,
+-- since it changed them
+pub record Passage : Type 0 where
+  pub fate : Fate
+  pub bytes : List ℕ
+  pub layers : List LayerSeen
+  pub entry : Bool
+
+-- a frame passes with its outgoing bytes, and is dropped without any
+abbrev pub fate_of : Parts → Result Passing Cause → Fate
+fate_of p (Ok passing) = Pass (length (outgoing p passing.stack passing.kept))
+fate_of p (Err cause) = Drop cause
+
+abbrev pub bytes_of : Parts → Result Passing Cause → List ℕ
+bytes_of p (Ok passing) = outgoing p passing.stack passing.kept
+bytes_of p (Err cause) = []
+
+-- what its crossing makes of a frame
+unfoldable pub passage_of : List LayerSeen → Crossing → Parts → Passage
+passage_of ls x p = record {
+  fate = fate_of p (cross_of ls x).fate;
+  bytes = bytes_of p (cross_of ls x).fate;
+  layers = (cross_of ls x).layers;
+  entry = (cross_of ls x).changed;
+}
+
+-- there was no memory for a pair: the frame is dropped, and nothing is changed
+abbrev pub unmet : List LayerSeen → Passage
+unmet ls = record { fate = Drop Memory; bytes = []; layers = ls; entry = false }
+
+abbrev pub met : Bool → List LayerSeen → Crossing → Parts → Passage
+met true ls x p = unmet ls
+met false ls x p = passage_of ls x p
+
+-- memory may be wanting only where a pair is to be made
+abbrev pub MayBeShort : Bool → List LayerSeen → Crossing → Type 0
+MayBeShort true ls x = makes (made_by ls x) ≡ true
+MayBeShort false ls x = Unit {0}
+
+abbrev pub is_short : Fate → Bool
+is_short (Drop Memory) = true
+is_short fate = false
+
+-- the outcome that a fate tells, with the bytes at the front of `out` where it is a pass
+abbrev pub bytes_in : Fate → List ℕ → List ℕ
+bytes_in (Pass len) out = take len out
+bytes_in (Drop cause) out = []
+
+abbrev pub told : Fate → Bool → List ℕ → List LayerSeen → Passage
+told fate entry out ls = record { fate = fate; bytes = bytes_in fate out; layers = ls; entry = entry }
+
+-- bytes of a pass, 0 of a drop
+abbrev pub len_of : Fate → ℕ
+len_of (Pass len) = len
+len_of (Drop cause) = 0
+
+-- the next pair of each layer has at most this number
+abbrev pub AreAtMost : ℕ → List LayerSeen → Type 0
+AreAtMost n ls = Each (λ l. l.next_pair ≤ n) ls

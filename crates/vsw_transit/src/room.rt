@@ -1,0 +1,48 @@
+//! A worker's own room.
+
+ghost use Rattle.std.specs.Prelude.{◌≡◌, ◌≤◌, take};
+
+use std::alloc::Global;
+use std::marker::Model;
+use vsw_base::NoMemory;
+use vsw_crossing::Scratch;
+
+/// Bytes of the longest outgoing frame: the longest that is read, with two encapsulations in front.
+const OUT_LEN: usize = 65_700;
+
+/// Room that a worker needs for one frame at a time: for what the walk wants changed, and for the outgoing
+/// bytes. Contracts see these bytes.
+#[derive(Drop)]
+pub struct Room {
+    pub(crate) scratch: Scratch,
+    pub(crate) out: Vec<u8>,
+}
+
+impl Model for Room {
+    ghost use Rattle.std.specs.Prelude.{◌≡◌, ℕ, List, length};
+
+    ghost Value = { List ℕ };
+
+    ghost view = { λ r. r.out.items };
+
+    ghost invariant = { λ r. length r.out.items ≡ 65700 };
+}
+
+impl Room {
+    pub fn new(alloc: Global) -> Result<Room, NoMemory> {
+        let scratch = Scratch::new(alloc)?;
+        let mut out = Vec::new(alloc);
+        match out.resize(OUT_LEN, 0) {
+            Ok(()) => Ok(Room { scratch, out }),
+            Err(_) => Err(NoMemory),
+        }
+    }
+
+    /// The first bytes of the last frame that left.
+    pub fn bytes(&self, len: u32) -> &[u8]
+        requires { len ≤ 65700 }
+        ensures { result.now ≡ take len self.now }
+    {
+        &self.out[..len as usize]
+    }
+}

@@ -1,0 +1,8 @@
+use Rattle.std.proofs.Common.{◌≡◌, map}
+use Rattle.vsw_ports.specs.Ports.{port_seen}
+use Rattle.vsw_switch.specs.Seen.{live_seen}
+use Rattle.vsw_switch.specs.Switch.{port_at_first}
+use Rattle.vsw_switch.proofs.switch.open_all.Given as goal
+
+abbrev pub invariant-loop-port : goal.invariant-loop-port
+invariant-loop-port l = map live_seen l.ports.items ≡ map port_at_first (map port_seen l.yielded)

@@ -1,10 +1,14 @@
 -- Words that are complained piece by piece.
-use Rattle.std.proofs.Common.{◌≡◌, ◌+◌, ◌≤◌, inl, inr, List, ℕ, ◌++◌, Result, Ok, Err, length, min, sym, ◌∙◌, subst, arith}
-use Rattle.std.specs.Prelude.{⊤}
+use Rattle.std.proofs.Common.{refl, ◌≡◌, ◌+◌, ◌≤◌, inl, inr, List, ℕ, ◌++◌, Result, Ok, Err, length, min, sym, ◌∙◌, subst, arith}
+use Rattle.std.specs.Prelude.{⊤, codes}
 use Rattle.vsw_host.specs.Outside.{Outside, Grows, Rose, SameInputs}
 use Rattle.vsw_host.specs.declared.host.Failed.{Failed}
 use Rattle.vsw_replay.specs.declared.ending.Ending.{Ending}
-use Rattle.vsw_app.specs.Ending.{Says, Speaks, KeepsPut, Complains, complaint}
+use Rattle.vsw_app.specs.Ending.{Says, Speaks, KeepsPut, Complains, complaint, ending_text, name_text}
+use Rattle.vsw_app.specs.declared.ending.Last.{Last}
+use Rattle.vsw_jsonfile.specs.Path.{step_text}
+use Rattle.vsw_jsonfile.specs.declared.fault.Step.{Step}
+use Rattle.vsw_jsonfile.specs.declared.fault.Step.TheVariants.{Member, Place}
 use Rattle.vsw_replay.proofs.Growing.{grows_then, front_then, front_more}
 
 pub rose_from : (a b c : ℕ) → a ≤ b → Rose b c → Rose a c
@@ -38,8 +42,11 @@ speaks_part a b xs ys e f p = record {
   put = p.put;
 }
 
-pub speaks_of : (a b : Outside) (e f : Ending) (r : Result ⊤ Failed) → e ≡ f → Speaks a b (complaint f) r → Speaks a b (complaint e) r
-speaks_of a b e f r same s = let P : Ending → Type 0 = λ g. Speaks a b (complaint g) r in subst P (sym same) s
+pub speaks_of : (a b : Outside) (e f : Ending) (r : Result ⊤ Failed) → e ≡ f → Speaks a b (ending_text f) r → Speaks a b (ending_text e) r
+speaks_of a b e f r same s = let P : Ending → Type 0 = λ g. Speaks a b (ending_text g) r in subst P (sym same) s
+
+pub speaks_last : (a b : Outside) (e f : Last) (r : Result ⊤ Failed) → e ≡ f → Speaks a b (complaint f) r → Speaks a b (complaint e) r
+speaks_last a b e f r same s = let P : Last → Type 0 = λ g. Speaks a b (complaint g) r in subst P (sym same) s
 
 pub speaks_is : (a b : Outside) (xs ys : List ℕ) (r : Result ⊤ Failed) → xs ≡ ys → Speaks a b xs r → Speaks a b ys r
 speaks_is a b xs ys r same s = let P : List ℕ → Type 0 = λ t. Speaks a b t r in subst P same s
@@ -48,3 +55,8 @@ speaks_is a b xs ys r same s = let P : List ℕ → Type 0 = λ t. Speaks a b t 
 pub complains_of : (a b : Outside) (xs : List ℕ) (r : Result ⊤ Failed) → Speaks a b xs r → Complains a b xs
 complains_of a b xs (Ok u) s = inl s.says
 complains_of a b xs (Err e) s = inr s.says
+
+-- a step is a slash and its name
+pub step_is : (s : Step) → codes "/" ++ name_text s ≡ step_text s
+step_is (Member w) = refl
+step_is (Place n) = refl

@@ -2,23 +2,32 @@
 use Rattle.std.specs.Prelude.{◌≡◌, ◌≤◌, ℕ, List, [], ◌++◌, take, ◌⊎◌, Result, Ok, Err, ⊤, codes, decimal}
 use Rattle.vsw_host.specs.Outside.{Outside, Rose, Grows, SameInputs}
 use Rattle.vsw_host.specs.declared.host.Failed.{Failed}
+use Rattle.vsw_jsonfile.specs.Path.{word_text, path_text, kind_name}
+use Rattle.vsw_jsonfile.specs.declared.fault.Step.{Step}
+use Rattle.vsw_jsonfile.specs.declared.fault.Step.TheVariants.{Member, Place}
 use Rattle.vsw_pcap.specs.Fault.{trace_name}
 use Rattle.vsw_pcap.specs.declared.fault.BadTrace.{BadTrace}
 use Rattle.vsw_pcap.specs.declared.fault.BadTrace.TheVariants.{NotPcap, Version, LinkType, Cut, Huge}
 use Rattle.vsw_app.specs.declared.ending.Status.{Status}
 use Rattle.vsw_app.specs.declared.ending.Status.TheVariants as status
+use Rattle.vsw_app.specs.declared.ending.Limit.{Limit}
+use Rattle.vsw_app.specs.declared.ending.Limit.TheVariants.{Policy, Ports, Controllers}
+use Rattle.vsw_app.specs.declared.ending.Last.{Last}
+use Rattle.vsw_app.specs.declared.ending.Last.TheVariants.{Bad, Past, Run}
 use Rattle.vsw_replay.specs.declared.ending.Ending.{Ending}
 use Rattle.vsw_replay.specs.declared.ending.Ending.TheVariants.{Done, Usage, ReadFault, WriteFault, Refused, Records, NotBuilt, Memory}
 
-abbrev pub status_of : Ending → Status
-status_of Done = status.Done
-status_of Usage = status.Usage
-status_of ReadFault = status.ReadFault
-status_of WriteFault = status.WriteFault
-status_of (Refused bad) = status.Refused
-status_of Records = status.Limit
-status_of NotBuilt = status.NotBuilt
-status_of Memory = status.Memory
+abbrev pub status_of : Last → Status
+status_of (Bad kind path) = status.Refused
+status_of (Past limit) = status.Limit
+status_of (Run Done) = status.Done
+status_of (Run Usage) = status.Usage
+status_of (Run ReadFault) = status.ReadFault
+status_of (Run WriteFault) = status.WriteFault
+status_of (Run (Refused bad)) = status.Refused
+status_of (Run Records) = status.Limit
+status_of (Run NotBuilt) = status.NotBuilt
+status_of (Run Memory) = status.Memory
 
 -- the byte at which a record is cut or huge
 abbrev pub byte_text : BadTrace → List ℕ
@@ -28,16 +37,31 @@ byte_text LinkType = []
 byte_text (Cut at) = codes " " ++ decimal at
 byte_text (Huge at) = codes " " ++ decimal at
 
--- the words that are complained
-abbrev pub complaint : Ending → List ℕ
-complaint Done = []
-complaint Usage = codes "vsw: usage\n"
-complaint ReadFault = codes "vsw: read fault\n"
-complaint WriteFault = codes "vsw: write fault\n"
-complaint (Refused bad) = codes "vsw: refused trace " ++ (trace_name bad ++ (byte_text bad ++ codes "\n"))
-complaint Records = codes "vsw: limit records\n"
-complaint NotBuilt = codes "vsw: not built\n"
-complaint Memory = codes "vsw: memory\n"
+-- a step without its slash
+abbrev pub name_text : Step → List ℕ
+name_text (Member word) = word_text word
+name_text (Place place) = decimal place
+
+abbrev pub limit_text : Limit → List ℕ
+limit_text Policy = codes "vsw: limit policy\n"
+limit_text Ports = codes "vsw: limit ports\n"
+limit_text Controllers = codes "vsw: limit controllers\n"
+
+abbrev pub ending_text : Ending → List ℕ
+ending_text Done = []
+ending_text Usage = codes "vsw: usage\n"
+ending_text ReadFault = codes "vsw: read fault\n"
+ending_text WriteFault = codes "vsw: write fault\n"
+ending_text (Refused bad) = codes "vsw: refused trace " ++ (trace_name bad ++ (byte_text bad ++ codes "\n"))
+ending_text Records = codes "vsw: limit records\n"
+ending_text NotBuilt = codes "vsw: not built\n"
+ending_text Memory = codes "vsw: memory\n"
+
+-- the words that are complained; a refused policy's are the kind of its fault and the path to it
+abbrev pub complaint : Last → List ℕ
+complaint (Bad kind path) = codes "vsw: refused policy " ++ (kind_name kind ++ (codes " " ++ (path_text path ++ codes "\n")))
+complaint (Past limit) = limit_text limit
+complaint (Run ending) = ending_text ending
 
 -- these words were complained, or a front of them where the host counted a fault
 abbrev pub Complains : Outside → Outside → List ℕ → Type 0

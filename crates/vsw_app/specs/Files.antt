@@ -1,8 +1,14 @@
 -- What the files of a run say, and which of them were opened.
-use Rattle.std.specs.Prelude.{◌≡◌, ◌<◌, ◌⊎◌, ℕ, List, [], ◌∷◌, ◌++◌, length, Some}
+use Rattle.std.specs.Prelude.{◌≡◌, ◌<◌, ◌⊎◌, ℕ, List, [], ◌∷◌, ◌++◌, length, Some, Ok, Err}
 use Rattle.vsw_host.specs.Outside.{Opened, Inputs, OpensSince}
-use Rattle.vsw_config.specs.declared.policy.PlainPolicy.{PlainPolicy}
-use Rattle.vsw_config.specs.Policy.{IsPolicy}
+use Rattle.vsw_policyfile.specs.declared.file.PolicyFile.{PolicyFile}
+use Rattle.vsw_policyfile.specs.declared.file.PolicyFault.{PolicyFault}
+use Rattle.vsw_policyfile.specs.declared.file.PolicyFault.TheVariants as fault
+use Rattle.vsw_policyfile.specs.Policy.{policy_file_of}
+use Rattle.vsw_app.specs.declared.ending.Limit.{Limit}
+use Rattle.vsw_app.specs.declared.ending.Limit.TheVariants.{Policy, Ports, Controllers}
+use Rattle.vsw_app.specs.declared.ending.Last.{Last}
+use Rattle.vsw_app.specs.declared.ending.Last.TheVariants.{Bad, Past, Run}
 use Rattle.vsw_replay.specs.declared.ending.Ending.{Ending}
 use Rattle.vsw_replay.specs.declared.ending.Ending.TheVariants.{Done, Usage, ReadFault, WriteFault, Refused, Records, NotBuilt, Memory}
 
@@ -16,17 +22,23 @@ pub record OpensAtMost (old new : Inputs) (before : List Opened) (file_name : Li
   pub since : OpensSince old new more
   pub last : (more ≡ before) ⊎ ((file : Opened) × (file.name ≡ file_name) × (more ≡ before ++ file ∷ []))
 
--- the file of this name holds a policy of the form that is built
-pub record HoldsPolicy (inputs : Inputs) (file_name : List ℕ) (policy : PlainPolicy) : Type 0 where
+-- the file of this name holds a good policy
+pub record HoldsPolicy (inputs : Inputs) (file_name : List ℕ) (policy : PolicyFile) : Type 0 where
   pub bytes : List ℕ
   pub held : inputs.files file_name ≡ Some bytes
-  pub is_policy : IsPolicy bytes policy
+  pub is_policy : policy_file_of bytes ≡ Ok policy
 
--- or it holds none
-pub record HoldsNoPolicy (inputs : Inputs) (file_name : List ℕ) : Type 0 where
+-- or none, and this is the first thing that is wrong with it
+pub record HoldsBadPolicy (inputs : Inputs) (file_name : List ℕ) (why : PolicyFault) : Type 0 where
   pub bytes : List ℕ
   pub held : inputs.files file_name ≡ Some bytes
-  pub no_policy : (policy : PlainPolicy) → ¬ (IsPolicy bytes policy)
+  pub is_bad : policy_file_of bytes ≡ Err why
+
+-- a limit of the policy file, as its reader names it
+abbrev pub limit_fault : Limit → PolicyFault
+limit_fault Policy = fault.PolicyLimit
+limit_fault Ports = fault.PortsLimit
+limit_fault Controllers = fault.ControllersLimit
 
 -- the file of this name has a byte
 pub record HoldsCommands (inputs : Inputs) (file_name : List ℕ) : Type 0 where
@@ -34,16 +46,18 @@ pub record HoldsCommands (inputs : Inputs) (file_name : List ℕ) : Type 0 where
   pub held : inputs.files file_name ≡ Some bytes
   pub some : 0 < length bytes
 
--- why a run ended at the policy
-abbrev pub StopsAtPolicy : List ℕ → Inputs → Ending → Type 0
-StopsAtPolicy file_name inputs NotBuilt = HoldsNoPolicy inputs file_name
-StopsAtPolicy file_name inputs ReadFault = Unit {0}
-StopsAtPolicy file_name inputs Memory = Unit {0}
-StopsAtPolicy file_name inputs Done = ⊥
-StopsAtPolicy file_name inputs Usage = ⊥
-StopsAtPolicy file_name inputs WriteFault = ⊥
-StopsAtPolicy file_name inputs (Refused bad) = ⊥
-StopsAtPolicy file_name inputs Records = ⊥
+-- why a run ended at the policy: what is wrong with it, or the limit that it passes; a read fault, or want of memory
+abbrev pub StopsAtPolicy : List ℕ → Inputs → Last → Type 0
+StopsAtPolicy file_name inputs (Bad kind path) = HoldsBadPolicy inputs file_name (fault.Bad kind path)
+StopsAtPolicy file_name inputs (Past limit) = HoldsBadPolicy inputs file_name (limit_fault limit)
+StopsAtPolicy file_name inputs (Run ReadFault) = Unit {0}
+StopsAtPolicy file_name inputs (Run Memory) = Unit {0}
+StopsAtPolicy file_name inputs (Run NotBuilt) = ⊥
+StopsAtPolicy file_name inputs (Run Done) = ⊥
+StopsAtPolicy file_name inputs (Run Usage) = ⊥
+StopsAtPolicy file_name inputs (Run WriteFault) = ⊥
+StopsAtPolicy file_name inputs (Run (Refused bad)) = ⊥
+StopsAtPolicy file_name inputs (Run Records) = ⊥
 
 -- why a run ended at the commands: no command is built yet
 abbrev pub StopsAtCommands : List ℕ → Inputs → Ending → Type 0

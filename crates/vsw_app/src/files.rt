@@ -1,41 +1,46 @@
 //! Reading and judging the files of a run, in the order of the words.
 
-ghost use Rattle.std.specs.Prelude.{◌≡◌};
+ghost use Rattle.std.specs.Prelude.{◌≡◌, IfOk};
+ghost use Rattle.vsw_goodfile.specs.Good.{IsGoodPolicy};
 ghost use Rattle.vsw_app.specs.Reads.{Judges, ReadsPolicy, ReadsCommands, ReadsTrace};
 
+use crate::ending::{Last, Limit};
 use std::alloc::Global;
-use vsw_config::{PlainPolicy, read_policy};
 use vsw_host::{Host, ReadEnd, read_file};
-use vsw_members::PolicyFault;
+use vsw_policyfile::{PolicyFault, PolicyFile};
 use vsw_replay::{Ending, TraceBytes};
 
 /// Bytes of the longest policy file.
-const POLICY_MAX: u64 = 65_536;
+const POLICY_MAX: u64 = 4_194_304;
 
 /// Bytes of the longest commands file: no command is built yet.
 const COMMANDS_MAX: u64 = 0;
 
 /// The policy in these bytes, or how the run ends.
-fn judged(alloc: Global, bytes: &[u8]) -> Result<PlainPolicy, Ending>
-    ensures { Judges bytes.now result }
+fn judged(alloc: Global, bytes: &[u8]) -> Result<PolicyFile, Last>
+    ensures says { Judges bytes.now result }
+    ensures good { IfOk result IsGoodPolicy }
 {
-    match read_policy(alloc, bytes) {
+    match vsw_ports::read_file(alloc, bytes) {
         Ok(policy) => Ok(policy),
-        Err(PolicyFault::NotBuilt) => Err(Ending::NotBuilt),
-        Err(PolicyFault::Memory) => Err(Ending::Memory),
+        Err(PolicyFault::Bad { kind, path }) => Err(Last::Bad { kind, path }),
+        Err(PolicyFault::PolicyLimit) => Err(Last::Past(Limit::Policy)),
+        Err(PolicyFault::PortsLimit) => Err(Last::Past(Limit::Ports)),
+        Err(PolicyFault::ControllersLimit) => Err(Last::Past(Limit::Controllers)),
+        Err(PolicyFault::Memory) => Err(Last::Run(Ending::Memory)),
     }
 }
 
 /// Reads the policy file of this name.
-pub fn open_policy<H: Host>(alloc: Global, host: &mut H, name: &str) -> Result<PlainPolicy, Ending>
+pub fn open_policy<H: Host>(alloc: Global, host: &mut H, name: &str) -> Result<PolicyFile, Last>
     ensures { ReadsPolicy (H.outside host.old) (H.outside host.new) name.now result }
 {
     let mut bytes = Vec::new(alloc);
     match read_file(host, name, POLICY_MAX, &mut bytes) {
         ReadEnd::Whole => judged(alloc, &bytes),
-        ReadEnd::Fault => Err(Ending::ReadFault),
-        ReadEnd::Long => Err(Ending::NotBuilt),
-        ReadEnd::Memory => Err(Ending::Memory),
+        ReadEnd::Fault => Err(Last::Run(Ending::ReadFault)),
+        ReadEnd::Long => Err(Last::Past(Limit::Policy)),
+        ReadEnd::Memory => Err(Last::Run(Ending::Memory)),
     }
 }
 

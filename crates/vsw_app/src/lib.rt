@@ -1,6 +1,7 @@
 //! The program: its words, its run and how that ends.
 #![tactic(auto)]
 
+mod complaint;
 mod ending;
 mod files;
 mod run;

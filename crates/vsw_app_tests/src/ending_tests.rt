@@ -84,7 +84,7 @@ fn a_fault_is_named_and_what_was_put_stays(rt: HostRuntime) -> Result<(), Fail> 
 }
 
 #[test]
-fn what_is_not_built_is_refused(rt: HostRuntime) -> Result<(), Fail> {
+fn commands_are_not_built_yet(rt: HostRuntime) -> Result<(), Fail> {
     let alloc = rt.alloc();
     let wanted = (
         Status::NotBuilt,
@@ -94,24 +94,12 @@ fn what_is_not_built_is_refused(rt: HostRuntime) -> Result<(), Fail> {
     let commands = Files {
         rules: &[ALLOW],
         commands: b"\n",
-        trace: &[HEADER],
+        trace: &[b"no capture"],
     };
     check(
         &rt,
         alloc,
         host_of(&rt, alloc, &commands, &[])?,
-        FORWARD,
-        wanted,
-    )?;
-    let policy = Files {
-        rules: &[b"5"],
-        commands: b"",
-        trace: &[HEADER],
-    };
-    check(
-        &rt,
-        alloc,
-        host_of(&rt, alloc, &policy, &[])?,
         FORWARD,
         wanted,
     )
@@ -190,7 +178,7 @@ fn every_front_of_the_files_has_its_status(rt: HostRuntime) -> Result<(), Fail> 
     }
     for len in 0..policy.len() {
         let status = status_of(&rt, alloc, &policy[..len], &trace)?;
-        assert_eq!(rt; status, Status::NotBuilt, "{len}");
+        assert_eq!(rt; status, Status::Refused, "{len}");
     }
     Ok(())
 }

@@ -1,4 +1,4 @@
-//! Tests of the program, from the policy file to the report, kept apart from `vsw_app`, `vsw_config` and
+//! Tests of the program's words, files and endings, and of a report's text, kept apart from `vsw_app` and
 //! `vsw_report`: with tests of their own they would be proved once more.
 #![tactic(auto)]
 

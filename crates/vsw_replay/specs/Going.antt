@@ -1,7 +1,6 @@
 -- A run in the midst of its rounds.
-use Rattle.std.specs.Prelude.{◌⊎◌, Some, None, ◌≡◌, ◌≤◌, ℕ, ◌+◌, ◌*◌, List, length, Option, Result, Ok, Err, ⊤, take}
+use Rattle.std.specs.Prelude.{◌⊎◌, Some, None, ◌≡◌, ◌≤◌, ℕ, ◌+◌, ◌*◌, ◌^◌, Bool, List, length, Option, Result, Ok, Err, ⊤, take}
 use Rattle.vsw_host.specs.Outside.{Outside, SameInputs, Grows, Rose}
-use Rattle.vsw_config.specs.declared.policy.PlainPolicy.{PlainPolicy}
 use Rattle.vsw_pcap.specs.Capture.{header_of}
 use Rattle.vsw_pcap.specs.Progress.{Progress}
 use Rattle.vsw_pcap.specs.Reader.{Stands}
@@ -13,26 +12,37 @@ use Rattle.vsw_report.specs.declared.round.Round.{Round}
 use Rattle.vsw_replay.specs.declared.ending.Ending.{Ending}
 use Rattle.vsw_replay.specs.declared.ending.Ending.TheVariants.{Done, Usage, ReadFault, WriteFault, Refused, Records, NotBuilt, Memory}
 use Rattle.vsw_rounds.specs.declared.round.RoundRead.{RoundRead}
-use Rattle.vsw_rounds.specs.Rounds.{AreRounds, round_size, report}
+use Rattle.vsw_rounds.specs.Rounds.{AreRounds, are_short, round_size, report}
 use Rattle.vsw_rounds.specs.Round.{ReadsRound}
 use Rattle.vsw_replay.specs.Trace.{Puts}
+use Rattle.vsw_switch.specs.Switch.{SwitchNow}
 
--- so many whole rounds were put, and the next was read
-pub record Going (policy : PlainPolicy) (bytes : List ℕ) (before now : Option (List ℕ)) (p : Progress) (number : ℕ) (round : RoundRead) : Type 0 where
+-- so many whole rounds were put, and the next was read; memory was wanting for a packet of those put, or for none
+pub record Going (start : SwitchNow) (bytes : List ℕ) (before now : Option (List ℕ)) (p : Progress) (number : ℕ) (round : RoundRead) (switch : SwitchNow) (short : Bool) : Type 0 where
   pub form : Form
   pub header : header_of bytes ≡ Ok form
   pub given : List Record
   pub rounds : List Round
-  pub are : AreRounds policy 0 given rounds
+  -- the switch before the round that was read
+  pub mid : SwitchNow
+  pub are : AreRounds start given rounds mid
   pub count : length rounds ≡ number
   pub full : length given ≡ round_size * number
+  pub short_is : are_short rounds ≡ short
   pub puts : Grows before now (report rounds)
-  pub reads : ReadsRound policy p bytes given round
+  pub reads : ReadsRound mid switch p bytes given round
 
 -- a further round was put and the next one read, or the run ended
-abbrev pub GoesOn : PlainPolicy → List ℕ → Option (List ℕ) → Option (List ℕ) → Progress → ℕ → Result RoundRead Ending → Type 0
-GoesOn policy bytes before now p number (Ok next) = Going policy bytes before now p (number + 1) next
-GoesOn policy bytes before now p number (Err ending) = Puts policy bytes p.finished before now ending
+abbrev pub GoesOn : SwitchNow → List ℕ → Option (List ℕ) → Option (List ℕ) → Progress → ℕ → SwitchNow → Bool → Result RoundRead Ending → Type 0
+GoesOn start bytes before now p number switch short (Ok next) = Going start bytes before now p (number + 1) next switch short
+GoesOn start bytes before now p number switch short (Err ending) = Puts start bytes p.finished before now ending
+
+-- some bytes were fed and some records given, and packets were numbered up to those of so many rounds, so further ones can be
+pub record IsNear (p : Progress) (switch : SwitchNow) (rounds : ℕ) : Type 0 where
+  pub bytes : List ℕ
+  pub given : List Record
+  pub stands : Stands p bytes given
+  pub low : switch.next ≤ 2 ^ 29 + round_size * rounds
 
 -- nothing but puts was done
 pub record OnlyPuts (old new : Outside) : Type 0 where
@@ -61,8 +71,7 @@ PutsText old new text (Err NotBuilt) = ⊥
 PutsText old new text (Err (Refused bad)) = ⊥
 PutsText old new text (Err Records) = ⊥
 
--- the next round was read, which begins after `number` rounds and one; or the run ends where that one stopped, or
--- for want of memory
-abbrev pub Follows : PlainPolicy → Progress → Progress → ℕ → Stop → Result RoundRead Ending → Type 0
-Follows policy old new number stop (Ok next) = (ended stop ≡ None) × ((bytes : List ℕ) (given : List Record) → Stands old bytes given → length given ≡ (number + 1) * round_size → ReadsRound policy new bytes given next)
-Follows policy old new number stop (Err ending) = (ended stop ≡ Some ending) ⊎ ((ended stop ≡ None) × (ending ≡ Memory))
+-- the next round was read; or the run ends where the one before stopped, or for want of memory
+abbrev pub Follows : SwitchNow → SwitchNow → Progress → Progress → Stop → Bool → Result RoundRead Ending → Type 0
+Follows s t old new stop short (Ok next) = (ended stop short ≡ None) × ((bytes : List ℕ) (given : List Record) → Stands old bytes given → ReadsRound s t new bytes given next)
+Follows s t old new stop short (Err ending) = (ended stop short ≡ Some ending) ⊎ ((ended stop short ≡ None) × (ending ≡ Memory))

@@ -5,7 +5,7 @@ use Rattle.vsw_pcap.specs.Reader.{Stands}
 use Rattle.vsw_pcap.specs.declared.fault.BadTrace.TheVariants.{NotPcap, Version, LinkType, Cut, Huge}
 use Rattle.vsw_replay.specs.declared.trace.TraceBytes.{TraceBytes}
 use Rattle.vsw_replay.specs.declared.ending.Ending.{Ending}
-use Rattle.vsw_replay.specs.declared.ending.Ending.TheVariants.{Done, ReadFault, Refused, Records}
+use Rattle.vsw_replay.specs.declared.ending.Ending.TheVariants.{Done, ReadFault, Refused, Records, Memory}
 use Rattle.vsw_report.specs.Print.{round_text}
 use Rattle.vsw_rounds.specs.declared.round.RoundRead.{RoundRead}
 use Rattle.vsw_rounds.specs.declared.round.Stop.{Stop}
@@ -16,12 +16,17 @@ pub record StandsIn (p : Progress) (t : TraceBytes) : Type 0 where
   pub stands : Stands p t.bytes.items []
   pub finished : p.finished ≡ t.whole
 
+-- the ending of a trace that ended cleanly, where memory was wanting for one of its packets, or for none
+abbrev pub clean_end : Bool → Ending
+clean_end true = Memory
+clean_end false = Done
+
 -- the ending where a round stops
-abbrev pub ended : Stop → Option Ending
-ended Full = None
-ended End = Some Done
-ended More = Some ReadFault
-ended (Bad bad) = Some (Refused bad)
+abbrev pub ended : Stop → Bool → Option Ending
+ended Full short = None
+ended End short = Some (clean_end short)
+ended More short = Some ReadFault
+ended (Bad bad) short = Some (Refused bad)
 
 -- the ending where the first round stops before a header was accepted
 abbrev pub unheaded_of : Stop → ℕ → Option Ending
@@ -48,12 +53,16 @@ is_put_of number count stop = not (count == 0) || ((number == 0) && is_end stop)
 abbrev pub text_put : ℕ → RoundRead → List ℕ
 text_put number round = if is_put_of number round.count round.stop then round_text round.round else []
 
--- the ending after as many records as a trace may have: clean where none follows, and past the limit where a byte does
-abbrev pub past_limit_at : Stop → ℕ → ℕ → Ending
-past_limit_at End count left = if count == 0 then Done else Records
-past_limit_at More count left = if (count == 0) && (left == 0) then ReadFault else Records
-past_limit_at Full count left = Records
-past_limit_at (Bad bad) count left = Records
+-- memory was wanting for a packet of what is put of a round
+abbrev pub short_put : ℕ → RoundRead → Bool
+short_put number round = is_put_of number round.count round.stop && round.short
 
-abbrev pub past_limit_of : RoundRead → Progress → Ending
-past_limit_of round p = past_limit_at round.stop round.count (length p.left)
+-- the ending after as many records as a trace may have: clean where none follows, and past the limit where a byte does
+abbrev pub past_limit_at : Stop → ℕ → ℕ → Bool → Ending
+past_limit_at End count left short = if count == 0 then clean_end short else Records
+past_limit_at More count left short = if (count == 0) && (left == 0) then ReadFault else Records
+past_limit_at Full count left short = Records
+past_limit_at (Bad bad) count left short = Records
+
+abbrev pub past_limit_of : RoundRead → Progress → Bool → Ending
+past_limit_of round p short = past_limit_at round.stop round.count (length p.left) short

@@ -6,7 +6,8 @@ use vsw_pcap::BadTrace;
 /// one type tells of a whole run.
 #[derive(Clone, Copy)]
 pub enum Ending {
-    /// All files were read to their ends, and the whole report was put.
+    /// All files were read to their ends, and the whole report was put. No packet of it was dropped for want
+    /// of memory.
     Done,
     /// The words aren't of the grammar.
     Usage,
@@ -18,8 +19,8 @@ pub enum Ending {
     Refused(BadTrace),
     /// More records than a trace may have.
     Records,
-    /// The policy or the commands ask for what isn't built yet.
+    /// The commands ask for what isn't built yet.
     NotBuilt,
-    /// There was no memory.
+    /// There was no memory: for the run itself, or for a pair of a packet of the report.
     Memory,
 }

@@ -1,21 +1,21 @@
 //! Running a trace: its rounds, one after another (specs/Trace.antt).
 
-ghost use Rattle.std.specs.Prelude.{◌≡◌, ◌≤◌, ◌<◌, ◌*◌, ◌+◌, ◌^◌, ℕ, List, [], Option, IfOk, length, option_to_list};
-ghost use Rattle.vsw_host.specs.Outside.{DoesPut};
+ghost use Rattle.std.specs.Prelude.{◌≡◌, ◌≤◌, ◌<◌, ◌+◌, ◌^◌, ◌||◌, ℕ, List, [], Option, IfOk, OnOk, false, length};
 ghost use Rattle.vsw_pcap.specs.Reader.{Stands};
-ghost use Rattle.vsw_report.specs.Print.{round_text, head_line};
+ghost use Rattle.vsw_report.specs.Print.{round_text};
 ghost use Rattle.vsw_replay.specs.Trace.{Puts};
 ghost use Rattle.vsw_rounds.specs.Round.{ReadsRound};
-ghost use Rattle.vsw_replay.specs.Going.{Going, GoesOn, OnlyPuts, WriteRises, EndRises, PutsText, Follows};
-ghost use Rattle.vsw_replay.specs.Unheaded.{StandsIn, unheaded_of, ended, is_put_of, text_put, past_limit_of};
+ghost use Rattle.vsw_replay.specs.Going.{Going, GoesOn, IsNear, OnlyPuts, WriteRises, EndRises, PutsText, Follows};
+ghost use Rattle.vsw_replay.specs.Unheaded.{StandsIn, clean_end, unheaded_of, ended, is_put_of, text_put, short_put, past_limit_of};
+ghost use Rattle.vsw_switch.specs.Switch.{SwitchNow};
 
 use crate::ending::Ending;
 use std::alloc::Global;
-use vsw_config::PlainPolicy;
 use vsw_host::Host;
 use vsw_pcap::{BadTrace, Reader};
 use vsw_report::{HEAD_LINE, Round, print_round};
-use vsw_rounds::{ROUND_SIZE, RoundRead, Stop, read_round};
+use vsw_rounds::{RoundRead, Stop, read_round};
+use vsw_switch::Switch;
 
 /// Rounds of the longest trace, which has 1,048,576 records.
 const ROUNDS_MAX: u32 = 1_024;
@@ -32,13 +32,29 @@ pub struct TraceBytes {
     pub whole: bool,
 }
 
+/// What was written of a run.
+#[derive(Drop)]
+struct Written {
+    /// Room for the text of a round, which that of the next one finds again.
+    text: Vec<u8>,
+    /// Whether memory was wanting for a packet of the rounds that were put.
+    short: bool,
+}
+
+/// How a run ends whose trace ended cleanly.
+fn clean_ending(short: bool) -> Ending
+    ensures { result ≡ clean_end short }
+{
+    if short { Ending::Memory } else { Ending::Done }
+}
+
 /// How a run ends where its last round stops.
-fn ending(stop: Stop) -> Option<Ending>
-    ensures { result ≡ ended stop }
+fn ending(stop: Stop, short: bool) -> Option<Ending>
+    ensures { result ≡ ended stop short }
 {
     match stop {
         Stop::Full => None,
-        Stop::End => Some(Ending::Done),
+        Stop::End => Some(clean_ending(short)),
         Stop::More => Some(Ending::ReadFault),
         Stop::Bad(bad) => Some(Ending::Refused(bad)),
     }
@@ -104,36 +120,38 @@ fn is_put(number: u32, count: u32, stop: Stop) -> bool
 /// first of a trace that ended cleanly.
 fn put_one<H: Host>(
     host: &mut H,
-    text: &mut Vec<u8>,
+    written: &mut Written,
     number: u32,
     round: &RoundRead,
 ) -> Result<(), Ending>
     ensures puts { PutsText (H.outside host.old) (H.outside host.new) (text_put number round.now) result }
+    ensures short { OnOk result (written.new.short ≡ (written.old.short || short_put number round.now)) }
     ensures rises { EndRises (H.outside host.old) (H.outside host.new) result }
     ensures only { OnlyPuts (H.outside host.old) (H.outside host.new) }
 {
     if is_put(number, round.count, round.stop) {
-        put_round(host, text, &round.round)
+        written.short = written.short || round.short;
+        put_round(host, &mut written.text, &round.round)
     } else {
         Ok(())
     }
 }
 
-/// Reads the round after the `number`th, or ends the run where that one stopped.
+/// Reads the round after one that stopped so, or ends the run where that one stopped.
 fn next_round(
     alloc: Global,
-    policy: &PlainPolicy,
+    switch: &mut Switch,
     reader: &mut Reader,
-    number: u32,
     stop: Stop,
+    short: bool,
 ) -> Result<RoundRead, Ending>
-    requires { number < 1024 }
-    ensures goes { Follows policy.now reader.old reader.new number stop result }
+    requires { switch.old.next ≤ 2 ^ 30 }
+    ensures goes { Follows switch.old switch.new reader.old reader.new stop short result }
     ensures finished { reader.new.finished ≡ reader.old.finished }
 {
-    match ending(stop) {
+    match ending(stop, short) {
         Some(ending) => Err(ending),
-        None => match read_round(alloc, policy, reader, (number + 1) * ROUND_SIZE) {
+        None => match read_round(alloc, switch, reader) {
             Ok(next) => Ok(next),
             Err(_) => Err(Ending::Memory),
         },
@@ -144,30 +162,32 @@ fn next_round(
 fn run_round<H: Host>(
     alloc: Global,
     host: &mut H,
-    text: &mut Vec<u8>,
-    policy: &PlainPolicy,
+    switch: &mut Switch,
     reader: &mut Reader,
+    written: &mut Written,
     number: u32,
     round: &RoundRead,
 ) -> Result<RoundRead, Ending>
-    requires { number < 1024 }
-    ensures goes { (bytes : List ℕ) (before : Option (List ℕ)) → Going policy.now bytes before (H.outside host.old).put reader.old number round.now → GoesOn policy.now bytes before (H.outside host.new).put reader.new number result }
+    requires few { number < 1024 }
+    requires near { IsNear reader.old switch.old (number + 1) }
+    ensures goes { (start : SwitchNow) (bytes : List ℕ) (before : Option (List ℕ)) → Going start bytes before (H.outside host.old).put reader.old number round.now switch.old written.old.short → GoesOn start bytes before (H.outside host.new).put reader.new number switch.new written.new.short result }
+    ensures near { OnOk result (IsNear reader.new switch.new (number + 2)) }
     ensures finished { reader.new.finished ≡ reader.old.finished }
     ensures rises { EndRises (H.outside host.old) (H.outside host.new) result }
     ensures only { OnlyPuts (H.outside host.old) (H.outside host.new) }
 {
-    match put_one(host, text, number, round) {
-        Ok(()) => next_round(alloc, policy, reader, number, round.stop),
+    match put_one(host, written, number, round) {
+        Ok(()) => next_round(alloc, switch, reader, round.stop, written.short),
         Err(ending) => Err(ending),
     }
 }
 
 /// How a run ends that put as many whole rounds as there may be, where `round` is what was read after them.
-fn past_limit(reader: &Reader, round: &RoundRead) -> Ending
-    ensures { result ≡ past_limit_of round.now reader.now }
+fn past_limit(reader: &Reader, round: &RoundRead, short: bool) -> Ending
+    ensures { result ≡ past_limit_of round.now reader.now short }
 {
     match round.stop {
-        Stop::End if round.count == 0 => Ending::Done,
+        Stop::End if round.count == 0 => clean_ending(short),
         Stop::More if round.count == 0 && reader.left() == 0 => Ending::ReadFault,
         _ => Ending::Records,
     }
@@ -177,35 +197,40 @@ fn past_limit(reader: &Reader, round: &RoundRead) -> Ending
 fn run_rounds<H: Host>(
     alloc: Global,
     host: &mut H,
-    policy: &PlainPolicy,
+    switch: &mut Switch,
     reader: &mut Reader,
     first: RoundRead,
 ) -> Ending
-    ensures puts { (bytes : List ℕ) (before : Option (List ℕ)) → Going policy.now bytes before (H.outside host.old).put reader.old 0 first → Puts policy.now bytes reader.old.finished before (H.outside host.new).put result }
+    requires { IsNear reader.old switch.old 1 }
+    ensures puts { (start : SwitchNow) (bytes : List ℕ) (before : Option (List ℕ)) → Going start bytes before (H.outside host.old).put reader.old 0 first switch.old false → Puts start bytes reader.old.finished before (H.outside host.new).put result }
     ensures rises { WriteRises (H.outside host.old) (H.outside host.new) result }
     ensures only { OnlyPuts (H.outside host.old) (H.outside host.new) }
 {
     let mut round = first;
-    let mut text = Vec::new(alloc);
+    let mut written = Written {
+        text: Vec::new(alloc),
+        short: false,
+    };
     for number in 0..ROUNDS_MAX {
-        match run_round(alloc, host, &mut text, policy, reader, number, &round) {
+        match run_round(alloc, host, switch, reader, &mut written, number, &round) {
             Ok(next) => round = next,
             Err(ending) => return ending,
         }
     }
-    past_limit(reader, &round)
+    past_limit(reader, &round, written.short)
 }
 
 /// Runs a trace of which the first round was read, of so many bytes.
 fn run_headed<H: Host>(
     alloc: Global,
     host: &mut H,
-    policy: &PlainPolicy,
+    switch: &mut Switch,
     reader: &mut Reader,
     first: RoundRead,
     size: usize,
 ) -> Ending
-    ensures puts { (bytes : List ℕ) → length bytes ≡ size → ReadsRound policy.now reader.old bytes [] first → Puts policy.now bytes reader.old.finished (H.outside host.old).put (H.outside host.new).put result }
+    requires { IsNear reader.old switch.old 1 }
+    ensures puts { (start : SwitchNow) (bytes : List ℕ) → length bytes ≡ size → ReadsRound start switch.old reader.old bytes [] first → Puts start bytes reader.old.finished (H.outside host.old).put (H.outside host.new).put result }
     ensures rises { WriteRises (H.outside host.old) (H.outside host.new) result }
     ensures only { OnlyPuts (H.outside host.old) (H.outside host.new) }
 {
@@ -213,27 +238,29 @@ fn run_headed<H: Host>(
         return ending;
     }
     match put_text(host, HEAD_LINE) {
-        Ok(()) => run_rounds(alloc, host, policy, reader, first),
+        Ok(()) => run_rounds(alloc, host, switch, reader, first),
         Err(ending) => ending,
     }
 }
 
-/// Runs what was read of a trace: puts the head line and then each round, and answers how the run ends.
-/// Nothing is put before the trace's header was accepted.
+/// Runs what was read of a trace through the switch: puts the head line and then each round, and answers
+/// how the run ends. Nothing is put before the trace's header was accepted. After `Done` the whole report
+/// was put, and no packet of it was dropped for want of memory.
 pub fn run_trace<H: Host>(
     alloc: Global,
     host: &mut H,
-    policy: &PlainPolicy,
+    switch: &mut Switch,
     trace: TraceBytes,
 ) -> Ending
-    ensures puts { Puts policy.now trace.bytes.items trace.whole (H.outside host.old).put (H.outside host.new).put result }
+    requires { switch.old.next ≤ 2 ^ 29 }
+    ensures puts { Puts switch.old trace.bytes.items trace.whole (H.outside host.old).put (H.outside host.new).put result }
     ensures rises { WriteRises (H.outside host.old) (H.outside host.new) result }
     ensures only { OnlyPuts (H.outside host.old) (H.outside host.new) }
 {
     let size = trace.bytes.len();
     let mut reader = over(alloc, trace);
-    match read_round(alloc, policy, &mut reader, 0) {
-        Ok(first) => run_headed(alloc, host, policy, &mut reader, first, size),
+    match read_round(alloc, switch, &mut reader) {
+        Ok(first) => run_headed(alloc, host, switch, &mut reader, first, size),
         Err(_) => Ending::Memory,
     }
 }

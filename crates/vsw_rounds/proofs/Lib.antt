@@ -1,2 +1,3 @@
-pub mod Lined
 pub mod Rounding
+pub mod Forwarding
+pub mod Packets

@@ -1,52 +1,55 @@
 -- Rounds one after another.
-use Rattle.std.proofs.Common.{◌≡◌, ℕ, zero, suc, ◌+◌, ◌*◌, ◌≤◌, ◌<◌, List, [], ◌∷◌, ◌++◌, length, take, drop, take_all, refl, sym, ◌∙◌, ap, subst, arith, length-drop, length-append, append_assoc, append-nil}
+use Rattle.std.proofs.Common.{◌≡◌, ℕ, zero, suc, ◌*◌, ◌≤◌, ◌<◌, Bool, true, false, ◌||◌, List, [], ◌∷◌, ◌++◌, length, take, drop, take_all, refl, sym, ◌∙◌, ap, subst, arith, length-drop, length-append, append_assoc, append-nil}
 use Rattle.std.specs.List.{flat_map}
 use Rattle.std.proofs.lemmas.Grind.{flat_map-append}
 use Rattle.std.proofs.lemmas.List.{take-append-le, drop-append-le, drop_all}
-use Rattle.vsw_config.specs.declared.policy.PlainPolicy.{PlainPolicy}
+use Rattle.std.proofs.lemmas.List.Folds.{list_any-append}
 use Rattle.vsw_pcap.specs.declared.capture.Record.{Record}
 use Rattle.vsw_report.specs.declared.round.Round.{Round}
 use Rattle.vsw_report.specs.Print.{head_line, round_text}
-use Rattle.vsw_rounds.specs.Rounds.{AreRounds, AreAllRounds, round_of, round_size, report}
+use Rattle.vsw_rounds.specs.Rounds.{IsRound, AreRounds, AreAllRounds, are_short, is_short_round, round_size, report}
+use Rattle.vsw_rounds.proofs.Forwarding.{all_forwarded, round_is}
+use Rattle.vsw_switch.specs.Switch.{SwitchNow, next_round, round_of}
 
-pub rounds_append : (policy : PlainPolicy) (first : ℕ) (gs qs : List Record) (rs ts : List Round) → AreRounds policy first gs rs → length gs ≡ round_size * length rs → AreRounds policy (first + length gs) qs ts → AreRounds policy first (gs ++ qs) (rs ++ ts)
-rounds_append policy first gs qs [] ts a e t =
-    let P : List Record → Type 0 = λ g. AreRounds policy first (g ++ qs) ts in
-    let i : first + length gs ≡ first = omega (arith, ap length a) in
-    let Q : ℕ → Type 0 = λ n. AreRounds policy n qs ts in
-    subst P (sym a) (subst Q i t)
-rounds_append policy first gs qs (r ∷ rs) ts a e t =
+pub rounds_append : (s mid t : SwitchNow) (gs qs : List Record) (rs ts : List Round) → AreRounds s gs rs mid → length gs ≡ round_size * length rs → AreRounds mid qs ts t → AreRounds s (gs ++ qs) (rs ++ ts) t
+rounds_append s mid t gs qs [] ts a e b =
+    let P : List Record → Type 0 = λ g. AreRounds s (g ++ qs) ts t in
+    let Q : SwitchNow → Type 0 = λ x. AreRounds x qs ts t in
+    subst P (sym a.0) (subst Q a.1 b)
+rounds_append s mid t gs qs (r ∷ rs) ts a e b =
     let long : round_size ≤ length gs = omega (arith, e) in
     let left : length (drop round_size gs) ≡ round_size * length rs = omega (arith, e, length-drop round_size gs) in
-    let i : first + length gs ≡ first + round_size + length (drop round_size gs) = omega (arith, long, length-drop round_size gs) in
-    let Q : ℕ → Type 0 = λ n. AreRounds policy n qs ts in
-    let D : List Record → Type 0 = λ d. AreRounds policy (first + round_size) d (rs ++ ts) in (
+    let T : List Record → Type 0 = λ l. IsRound s l r a.1.0 in
+    let D : List Record → Type 0 = λ l. AreRounds a.1.0 l (rs ++ ts) t in (
       omega (arith, long, length-append gs qs),
-      a.1 ∙ ap (round_of policy first) (sym (take-append-le round_size gs qs long)),
-      subst D (sym (drop-append-le round_size gs qs long)) (rounds_append policy (first + round_size) (drop round_size gs) qs rs ts a.2 left (subst Q i t)),
+      (
+        a.1.0,
+        subst T (sym (take-append-le round_size gs qs long)) a.1.1,
+        subst D (sym (drop-append-le round_size gs qs long)) (rounds_append a.1.0 mid t (drop round_size gs) qs rs ts a.1.2 left b),
+      ),
     )
 
-pub one_round : (policy : PlainPolicy) (first : ℕ) (qs : List Record) → 0 < length qs → length qs ≤ round_size → AreRounds policy first qs (round_of policy first qs ∷ [])
-one_round policy first qs some few = (some, ap (round_of policy first) (sym (take_all round_size qs few)), drop_all round_size qs few)
+pub one_round : (s t : SwitchNow) (qs : List Record) (r : Round) → 0 < length qs → length qs ≤ round_size → IsRound s qs r t → AreRounds s qs (r ∷ []) t
+one_round s t qs r some few i = let T : List Record → Type 0 = λ l. IsRound s l r t in (some, (t, subst T (sym (take_all round_size qs few)) i, (drop_all round_size qs few, refl)))
 
 -- a further round
-pub rounds_push : (policy : PlainPolicy) (gs qs : List Record) (rs : List Round) → AreRounds policy 0 gs rs → length gs ≡ round_size * length rs → 0 < length qs → length qs ≤ round_size → AreRounds policy 0 (gs ++ qs) (rs ++ round_of policy (length gs) qs ∷ [])
-rounds_push policy gs qs rs a e some few = rounds_append policy 0 gs qs rs (round_of policy (length gs) qs ∷ []) a e
-    (let Q : ℕ → Type 0 = λ n. AreRounds policy n qs (round_of policy (length gs) qs ∷ []) in
-    let i : length gs ≡ 0 + length gs = omega arith in subst Q i (one_round policy (length gs) qs some few))
+pub rounds_push : (s mid t : SwitchNow) (gs qs : List Record) (rs : List Round) (r : Round) → AreRounds s gs rs mid → length gs ≡ round_size * length rs → 0 < length qs → length qs ≤ round_size → IsRound mid qs r t → AreRounds s (gs ++ qs) (rs ++ r ∷ []) t
+rounds_push s mid t gs qs rs r a e some few i = rounds_append s mid t gs qs rs (r ∷ []) a e (one_round mid t qs r some few i)
 
 -- any records have rounds
-pub record HasRounds (policy : PlainPolicy) (first : ℕ) (records : List Record) : Type 0 where
+pub record HasRounds (start : SwitchNow) (records : List Record) : Type 0 where
   pub rounds : List Round
-  pub are : AreRounds policy first records rounds
+  pub after : SwitchNow
+  pub are : AreRounds start records rounds after
 
-pub rounds_within : (n : ℕ) (policy : PlainPolicy) (first : ℕ) (records : List Record) → length records ≤ round_size * n → HasRounds policy first records
-rounds_within zero policy first [] h = record { rounds = []; are = refl }
-rounds_within zero policy first (r ∷ rs) h = absurd (omega (arith, h))
-rounds_within (suc n) policy first [] h = record { rounds = []; are = refl }
-rounds_within (suc n) policy first (r ∷ rs) h =
-    let t = rounds_within n policy (first + round_size) (drop round_size (r ∷ rs)) (omega (arith, h, length-drop round_size (r ∷ rs))) in
-    record { rounds = round_of policy first (take round_size (r ∷ rs)) ∷ t.rounds; are = (omega arith, refl, t.are) }
+pub rounds_within : (n : ℕ) (s : SwitchNow) (records : List Record) → length records ≤ round_size * n → HasRounds s records
+rounds_within zero s [] h = record { rounds = []; after = s; are = (refl, refl) }
+rounds_within zero s (r ∷ rs) h = absurd (omega (arith, h))
+rounds_within (suc n) s [] h = record { rounds = []; after = s; are = (refl, refl) }
+rounds_within (suc n) s (r ∷ rs) h =
+    let last : SwitchNow = all_forwarded s (take round_size (r ∷ rs)) in
+    let t = rounds_within n (next_round last) (drop round_size (r ∷ rs)) (omega (arith, h, length-drop round_size (r ∷ rs))) in
+    record { rounds = round_of last ∷ t.rounds; after = t.after; are = (omega arith, (next_round last, round_is s (take round_size (r ∷ rs)), t.are)) }
 
 flat_one : (r : Round) → flat_map round_text (r ∷ []) ≡ round_text r
 flat_one r = append-nil (round_text r)
@@ -57,11 +60,18 @@ report_append rs ts = ap (λ (t : List ℕ). head_line ++ t) (flat_map-append ro
 pub report_push : (rs : List Round) (r : Round) → report (rs ++ r ∷ []) ≡ report rs ++ round_text r
 report_push rs r = report_append rs (r ∷ []) ∙ ap (λ (t : List ℕ). report rs ++ t) (flat_one r)
 
--- rounds that have a record are all the rounds of a clean end
-pub are_all : (policy : PlainPolicy) (records : List Record) (rounds : List Round) → 0 < length records → AreRounds policy 0 records rounds → AreAllRounds policy records rounds
-are_all policy [] rounds some a = absurd (omega (arith, some))
-are_all policy (r ∷ rs) rounds some a = a
+pub or_none : (b : Bool) → (b || false) ≡ b
+or_none true = refl
+or_none false = refl
 
-pub are_none : (policy : PlainPolicy) (records : List Record) → length records ≡ 0 → AreAllRounds policy records (round_of policy 0 [] ∷ [])
-are_none policy [] e = refl
-are_none policy (r ∷ rs) e = absurd (omega (arith, e))
+pub short_push : (rs : List Round) (r : Round) → are_short (rs ++ r ∷ []) ≡ (are_short rs || is_short_round r)
+short_push rs r = list_any-append is_short_round rs (r ∷ []) ∙ ap (λ (b : Bool). are_short rs || b) (or_none (is_short_round r))
+
+-- rounds that have a record are all the rounds of a clean end
+pub are_all : (s t : SwitchNow) (records : List Record) (rounds : List Round) → 0 < length records → AreRounds s records rounds t → AreAllRounds s records rounds t
+are_all s t [] rounds some a = absurd (omega (arith, some))
+are_all s t (r ∷ rs) rounds some a = a
+
+pub are_none : (s t : SwitchNow) (records : List Record) (r : Round) → length records ≡ 0 → IsRound s records r t → AreAllRounds s records (r ∷ []) t
+are_none s t [] r e i = (r, refl, i)
+are_none s t (x ∷ xs) r e i = absurd (omega (arith, e))

@@ -1,4 +1,4 @@
-//! The rounds of a capture: its packets, 1,024 at a time, each judged by the one layer of its port.
+//! The rounds of a capture: its packets, 1,024 at a time, each forwarded by the switch.
 #![tactic(auto)]
 
 mod round;

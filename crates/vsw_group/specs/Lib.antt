@@ -1,3 +1,0 @@
-pub mod Group
-pub mod Rule
-pub mod List

@@ -7,6 +7,7 @@ use Rattle.serde_json.specs.Data.{Data}
 use Rattle.vsw_jsonfile.specs.declared.word.Word.{Word}
 use Rattle.vsw_jsonfile.specs.declared.word.Word.TheVariants as word
 use Rattle.vsw_jsonfile.specs.declared.fault.Step.TheVariants.{Member}
+use Rattle.vsw_jsonfile.specs.Bytes.{json_of}
 use Rattle.vsw_jsonfile.specs.Object.{object_among, read_in}
 use Rattle.vsw_jsonfile.specs.Value.{short_of, number_from, mac_in}
 use Rattle.vsw_jsonfile.specs.List.{items_in, items_after, fresh_number}
@@ -16,7 +17,7 @@ use Rattle.vsw_policyfile.specs.declared.file.PolicyFault.{PolicyFault}
 use Rattle.vsw_policyfile.specs.declared.file.PolicyFault.TheVariants.{PolicyLimit, PortsLimit, ControllersLimit}
 use Rattle.vsw_layerfile.specs.Layer.{layers_of}
 use Rattle.vsw_policyfile.specs.Port.{fresh_port, fresh_mac, rows_of, port_words, port_of}
-use Rattle.vsw_policyfile.specs.Policy.{of_part, few, few_in, controllers_in, ports_in, file_words, policy_of, json_of}
+use Rattle.vsw_policyfile.specs.Policy.{of_part, few, few_in, controllers_in, ports_in, file_words, policy_of}
 use Rattle.vsw_goodfile.specs.Good.{AreGoodLayers, AreGoodPorts, IsGoodPolicy, EachIsGood}
 use Rattle.vsw_goodfile.proofs.Steps.{taken, same_value, from_under, from_part, read, passed, unless}
 use Rattle.vsw_goodfile.proofs.Lists.{kept, as_many, at_most, no_pairs, pairs_push, apart}
@@ -112,5 +113,5 @@ not_long false r p h = h
 
 pub each_is_good : EachIsGood
 each_is_good bytes p h =
-    taken (json_of bytes) policy_of p (not_long (nat_lt 4194304 (length bytes)) _ p h) (λ d e h.
+    taken (of_part (json_of bytes)) policy_of p (not_long (nat_lt 4194304 (length bytes)) _ p h) (λ d e h.
     policy_good d p h)

@@ -3,3 +3,4 @@ pub mod Fault
 pub mod Object
 pub mod Value
 pub mod List
+pub mod Bytes

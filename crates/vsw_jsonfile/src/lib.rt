@@ -1,6 +1,7 @@
 //! Reading the values of a JSON file, with the place and the kind of the first fault.
 #![tactic(auto)]
 
+mod bytes;
 mod fault;
 mod lists;
 mod object;
@@ -8,6 +9,7 @@ mod path;
 mod value;
 mod word;
 
+pub use bytes::json;
 pub use fault::{Fault, Kind, Step, here, under_step};
 pub use lists::{FreshNumbers, ReadItem, items, items_up_to, list};
 pub use object::{member_if, object_in, value_in};

@@ -4,7 +4,8 @@ ghost use Rattle.std.specs.Prelude.{◌≡◌};
 ghost use Rattle.vsw_jsonfile.specs.Path.{word_text};
 ghost use Rattle.vsw_jsonfile.specs.Object.{is_among};
 
-/// The name of a member, objects from the outside in, and in each the order of reading.
+/// The name of a member: those of the policy file, objects from the outside in, and in each the order of
+/// reading; then what else the lines of a commands file have.
 #[derive(Clone, Copy, Debug, PartialEq, Eq)]
 pub enum Word {
     Version,
@@ -44,6 +45,11 @@ pub enum Word {
     SrcPort,
     DstPort,
     Vni,
+    At,
+    Do,
+    WhenAll,
+    Default,
+    Now,
 }
 
 impl Word {
@@ -90,6 +96,11 @@ impl Word {
             Word::SrcPort => "src_port",
             Word::DstPort => "dst_port",
             Word::Vni => "vni",
+            Word::At => "at",
+            Word::Do => "do",
+            Word::WhenAll => "when_all",
+            Word::Default => "default",
+            Word::Now => "now",
         }
     }
 }

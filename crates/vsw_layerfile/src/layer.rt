@@ -55,7 +55,8 @@ fn listed(alloc: Global, known: &[u16], value: &Value) -> Result<u16, Fault>
     }
 }
 
-fn listed_in(alloc: Global, known: &[u16], object: &Value) -> Result<u16, Fault>
+/// The controller that an object names, which is to be one of these.
+pub fn listed_in(alloc: Global, known: &[u16], object: &Value) -> Result<u16, Fault>
     ensures { Says result (read_in word.Controller (view object.now) (listed_number known.now)) }
 {
     let value = value_in(alloc, object, Word::Controller)?;
@@ -138,7 +139,7 @@ fn allows(alloc: Global, value: &Value) -> Result<bool, Fault>
 }
 
 /// Whether what a member is said of passes.
-fn allows_in(alloc: Global, object: &Value, word: Word) -> Result<bool, Fault>
+pub fn allows_in(alloc: Global, object: &Value, word: Word) -> Result<bool, Fault>
     ensures { Says result (read_in word (view object.now) allows_of) }
 {
     let value = value_in(alloc, object, word)?;
@@ -155,7 +156,7 @@ fn seconds_in(alloc: Global, object: &Value, word: Word) -> Result<u32, Fault>
 
 /// What stands between a layer's number and its groups.
 #[tactic(auto, unfolding(crate::specs::Layer::spec_in))]
-fn spec_in(alloc: Global, layer: u16, object: &Value) -> Result<LayerSpec, Fault>
+pub fn spec_in(alloc: Global, layer: u16, object: &Value) -> Result<LayerSpec, Fault>
     ensures { Says result (spec_in layer (view object.now)) }
 {
     let order = short_in(alloc, object, Word::Order)?;

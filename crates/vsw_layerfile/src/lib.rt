@@ -5,4 +5,4 @@ mod file;
 mod layer;
 
 pub use file::LayerFile;
-pub use layer::layers_in;
+pub use layer::{allows_in, layers_in, listed_in, spec_in};

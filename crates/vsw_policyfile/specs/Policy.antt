@@ -1,15 +1,13 @@
 -- What a policy file says, or the first thing that is wrong with it.
-use Rattle.std.specs.Prelude.{◌≡◌, ℕ, List, [], ◌∷◌, length, Bool, true, false, nat_lt, nat_le, Option, Some, None, Result, Ok, Err, if◌then◌else◌}
-use Rattle.std.specs.Str.{is_utf8}
+use Rattle.std.specs.Prelude.{◌≡◌, ℕ, List, [], ◌∷◌, length, nat_lt, nat_le, Result, Ok, Err, if◌then◌else◌}
 use Rattle.serde_json.specs.Data.{Data}
-use Rattle.serde_json.specs.Read.{read}
 use Rattle.vsw_jsonfile.specs.declared.fault.Fault.{Fault}
 use Rattle.vsw_jsonfile.specs.declared.fault.Fault.TheVariants as fault
 use Rattle.vsw_jsonfile.specs.declared.fault.Step.TheVariants.{Member}
-use Rattle.vsw_jsonfile.specs.declared.fault.Kind.TheVariants.{Json}
 use Rattle.vsw_jsonfile.specs.declared.word.Word.{Word}
 use Rattle.vsw_jsonfile.specs.declared.word.Word.TheVariants as word
 use Rattle.vsw_jsonfile.specs.Fault.{◌>>=◌, under}
+use Rattle.vsw_jsonfile.specs.Bytes.{json_of}
 use Rattle.vsw_jsonfile.specs.Object.{object_among, read_in}
 use Rattle.vsw_jsonfile.specs.Value.{number_from}
 use Rattle.vsw_jsonfile.specs.List.{items_in, items_after, fresh_number}
@@ -27,11 +25,6 @@ Tells (Err PolicyLimit) value = value ≡ Err PolicyLimit
 Tells (Err PortsLimit) value = value ≡ Err PortsLimit
 Tells (Err ControllersLimit) value = value ≡ Err ControllersLimit
 Tells (Err Memory) value = Unit {0}
-
--- an answer, seen
-abbrev pub looked : {A B : Type 0} → (A → B) → Result A PolicyFault → Result B PolicyFault
-looked f (Ok x) = Ok (f x)
-looked f (Err e) = Err e
 
 abbrev pub as_policy_fault : Fault → PolicyFault
 as_policy_fault (fault.Bad kind path) = Bad kind path
@@ -69,16 +62,6 @@ policy_of d = do
   ports ← ports_in controllers o
   Ok (record { controllers = controllers; ports = ports })
 
--- what was read, if the bytes are UTF-8
-abbrev pub if_text : Bool → Option Data → Result Data PolicyFault
-if_text true (Some d) = Ok d
-if_text true None = Err (Bad Json [])
-if_text false o = Err (Bad Json [])
-
--- the value that the bytes are the text of
-unfoldable pub json_of : List ℕ → Result Data PolicyFault
-json_of bytes = if_text (is_utf8 bytes) (read bytes)
-
 -- the policy that the bytes are the text of, at most 4,194,304 of them
 abbrev pub policy_file_of : List ℕ → Result PolicyFile PolicyFault
-policy_file_of bytes = if nat_lt 4194304 (length bytes) then Err PolicyLimit else json_of bytes >>= policy_of
+policy_file_of bytes = if nat_lt 4194304 (length bytes) then Err PolicyLimit else of_part (json_of bytes) >>= policy_of

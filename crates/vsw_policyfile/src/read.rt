@@ -7,7 +7,7 @@ ghost use Rattle.vsw_jsonfile.specs.declared.word.Word.TheVariants as word;
 ghost use Rattle.vsw_jsonfile.specs.Fault.{Says, seen};
 ghost use Rattle.vsw_jsonfile.specs.Object.{read_in};
 ghost use Rattle.vsw_jsonfile.specs.List.{items_in};
-ghost use Rattle.vsw_policyfile.specs.Policy.{Tells, looked, json_of, policy_file_of, policy_of};
+ghost use Rattle.vsw_policyfile.specs.Policy.{Tells, policy_file_of, policy_of};
 ghost use Rattle.vsw_policyfile.specs.Policy as spec;
 
 use crate::file::{PolicyFault, PolicyFile, PortFile};
@@ -16,7 +16,7 @@ use serde_json::Value;
 use std::alloc::Global;
 use vsw_base::Items;
 use vsw_jsonfile::{
-    Fault, FreshNumbers, Kind, Step, Word, items, list, number_in, object_in, under_step, value_in,
+    Fault, FreshNumbers, Step, Word, items, json, list, number_in, object_in, under_step, value_in,
 };
 
 /// Bytes of the longest policy file that is read.
@@ -85,21 +85,6 @@ fn policy(alloc: Global, value: &Value) -> Result<PolicyFile, PolicyFault>
     let controllers = controllers_in(alloc, object)?;
     let ports = ports_in(alloc, controllers.as_slice(), object)?;
     Ok(PolicyFile { controllers, ports })
-}
-
-/// The value that the bytes are the text of.
-#[tactic(auto, using(crate::proofs::Json::json_is, crate::proofs::Json::no_json))]
-fn json(alloc: Global, bytes: &[u8]) -> Result<Value, PolicyFault>
-    ensures { Tells (looked view result) (json_of bytes.now) }
-{
-    match Value::from_slice(alloc, bytes) {
-        Ok(value) => Ok(value),
-        Err(error) if error.is_memory() => Err(PolicyFault::Memory),
-        Err(_) => Err(PolicyFault::Bad {
-            kind: Kind::Json,
-            path: Items::new(alloc),
-        }),
-    }
 }
 
 /// Reads a policy file: a JSON value of at most 4,194,304 bytes.

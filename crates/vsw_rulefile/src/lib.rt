@@ -7,4 +7,4 @@ mod group;
 mod rule;
 
 pub use group::{dir_in, groups_in};
-pub use rule::rules_in;
+pub use rule::{one_rule, rules_in};

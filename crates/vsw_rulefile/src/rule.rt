@@ -69,8 +69,9 @@ fn judged(alloc: Global, rule: Rule) -> Result<Rule, Fault>
     }
 }
 
+/// A rule, read against those that stand before it.
 #[tactic(auto, unfolding(crate::specs::Rule::rule_of))]
-fn rule(alloc: Global, done: &[Rule], value: &Value) -> Result<Rule, Fault>
+pub fn one_rule(alloc: Global, done: &[Rule], value: &Value) -> Result<Rule, Fault>
     ensures { Says result (rule_of done.now (view value.now)) }
 {
     let object = object_in(alloc, &RULE_WORDS, value)?;
@@ -98,7 +99,7 @@ impl ReadItem<Rule> for RuleReader {
     ghost item_of = { λ reader. rule_of };
 
     fn item(&self, alloc: Global, done: &[Rule], value: &Value) -> Result<Rule, Fault> {
-        rule(alloc, done, value)
+        one_rule(alloc, done, value)
     }
 }
 

@@ -6,8 +6,8 @@ use Rattle.std.proofs.lemmas.Str.{IsUtf8-from_is_utf8, is_utf8-from_IsUtf8}
 use Rattle.serde_json.specs.Data.{Data}
 use Rattle.serde_json.specs.Read.{read}
 use Rattle.vsw_jsonfile.specs.declared.fault.Kind.TheVariants.{Json}
-use Rattle.vsw_policyfile.specs.declared.file.PolicyFault.TheVariants.{Bad}
-use Rattle.vsw_policyfile.specs.Policy.{if_text, json_of}
+use Rattle.vsw_jsonfile.specs.declared.fault.Fault.TheVariants.{Bad}
+use Rattle.vsw_jsonfile.specs.Bytes.{if_text, json_of}
 
 text_is : (b : Bool) (o : Option Data) (d : Data) → b ≡ true → o ≡ Some d → if_text b o ≡ Ok d
 text_is true o d t value = rw value refl

@@ -1,0 +1,3 @@
+pub mod Verb
+pub mod Command
+pub mod Line

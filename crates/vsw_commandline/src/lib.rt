@@ -10,3 +10,4 @@ mod verb;
 
 pub use line::Line;
 pub use read::one_line;
+pub use verb::Verb;

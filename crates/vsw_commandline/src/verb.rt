@@ -13,7 +13,7 @@ use vsw_jsonfile::{Fault, Kind, Step, Word, here, text, under_step, value_in};
 
 /// What a line is to do, each a command of the same name.
 #[derive(Clone, Copy)]
-pub(crate) enum Verb {
+pub enum Verb {
     AddLayer,
     RemoveLayer,
     AddGroup,

@@ -30,7 +30,7 @@ spec_layer layer o s h =
     taken (read_in word.Linger o seconds_of) _ s h (λ linger e h.
     sym (ap (λ (s : LayerSpec). s.layer) (same_value _ s h))))))))
 
-known_listed : (known : List ℕ) (d : Data) (c : ℕ) → listed_number known d ≡ Ok c → list_any (λ m. m == c) known ≡ true
+pub known_listed : (known : List ℕ) (d : Data) (c : ℕ) → listed_number known d ≡ Ok c → list_any (λ m. m == c) known ≡ true
 unfolding listed_number
 known_listed known d c h =
     taken (short_of d) _ c h (λ m e h.

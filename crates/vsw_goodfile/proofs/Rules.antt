@@ -38,10 +38,10 @@ unfolding judged
 judged_good r s h = if_good r s (bad_rule_of r) refl h
 
 -- what one rule keeps
-abbrev RulesKept : List Rule → Type 0
+abbrev pub RulesKept : List Rule → Type 0
 RulesKept rs = AllPairs (λ r s. r.number ≢ s.number) rs × All (λ r. bad_rule_of r ≡ None) rs
 
-rule_kept : (done : List Rule) (d : Data) (r : Rule) → RulesKept done → rule_of done d ≡ Ok r → RulesKept (done ++ r ∷ [])
+pub rule_kept : (done : List Rule) (d : Data) (r : Rule) → RulesKept done → rule_of done d ≡ Ok r → RulesKept (done ++ r ∷ [])
 unfolding rule_of
 rule_kept done d r q h =
     taken (object_among rule_words d) _ r h (λ o e h.

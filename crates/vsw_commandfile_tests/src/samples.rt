@@ -90,17 +90,25 @@ fn push_fault(alloc: Global, out: &mut Vec<u8>, fault: &CommandsFault) -> Result
     Ok(())
 }
 
-/// Whether this is what is said of a file: how many lines it gives, or the fault.
-pub fn is_said(alloc: Global, bytes: &[u8], expected: &str) -> Result<bool, Fail> {
+fn push_count(alloc: Global, out: &mut Vec<u8>, count: usize) -> Result<(), Fail> {
+    let text = format!(in alloc; "read {count}")?;
+    out.extend_from_slice(text.as_bytes())?;
+    Ok(())
+}
+
+/// Appends what is said of a file: how many lines it gives, or the fault.
+fn push_said(alloc: Global, out: &mut Vec<u8>, bytes: &[u8]) -> Result<(), Fail> {
     let policy = policy(alloc)?;
-    let mut out = Vec::new(alloc);
     match read_commands_file(alloc, &policy, bytes) {
-        Ok(lines) => {
-            let count = lines.len();
-            out.extend_from_slice(format!(in alloc; "read {count}")?.as_bytes())?;
-        }
-        Err(fault) => push_fault(alloc, &mut out, &fault)?,
+        Ok(lines) => push_count(alloc, out, lines.len()),
+        Err(fault) => push_fault(alloc, out, &fault),
     }
+}
+
+/// Whether this is what is said of a file.
+pub fn is_said(alloc: Global, bytes: &[u8], expected: &str) -> Result<bool, Fail> {
+    let mut out = Vec::new(alloc);
+    push_said(alloc, &mut out, bytes)?;
     Ok(out.as_slice() == expected.as_bytes())
 }
 

@@ -26,12 +26,12 @@ of_line n (Err (fault.Bad kind path)) = Err (Bad n kind path)
 of_line n (Err fault.Memory) = Err Memory
 
 -- the line of this number that the bytes are the text of
-unfoldable pub text_of : PolicyFile → ℕ → List ℕ → Result Line Fault
-text_of policy n bytes = json_of bytes >>= line_of policy n
+unfoldable pub line_in : PolicyFile → ℕ → List ℕ → Result Line Fault
+line_in policy n bytes = json_of bytes >>= line_of policy n
 
 -- the same, unless the line is blank
 unfoldable pub line_at : PolicyFile → ℕ → List ℕ → Result (Option Line) CommandsFault
-line_at policy n bytes = if is_blank bytes then Ok None else of_line n (text_of policy n bytes) >>= (λ line. Ok (Some line))
+line_at policy n bytes = if is_blank bytes then Ok None else of_line n (line_in policy n bytes) >>= (λ line. Ok (Some line))
 
 -- lines, of which the first has this number, one after the other
 abbrev pub lines_from : PolicyFile → ℕ → List (List ℕ) → Result (List Line) CommandsFault

@@ -66,5 +66,6 @@ pub(crate) fn count_lines(bytes: &[u8]) -> usize
 pub(crate) fn is_blank(line: &[u8]) -> bool
     ensures { result ≡ is_blank line.now }
 {
-    line.iter().all(|byte| matches!(*byte, b' ' | b'\t' | b'\r'))
+    line.iter()
+        .all(|byte| matches!(*byte, b' ' | b'\t' | b'\r'))
 }

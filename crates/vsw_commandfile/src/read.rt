@@ -3,7 +3,7 @@
 ghost use Rattle.std.specs.Prelude.{◌≡◌, ◌≤◌, length};
 ghost use Rattle.vsw_jsonfile.specs.Fault.{Says};
 ghost use Rattle.vsw_commandfile.specs.Lines.{lines_of};
-ghost use Rattle.vsw_commandfile.specs.Commands.{Tells, text_of, line_at, lines_from, commands_file_of};
+ghost use Rattle.vsw_commandfile.specs.Commands.{Tells, line_in, line_at, lines_from, commands_file_of};
 
 use crate::fault::{CommandsFault, of_line};
 use crate::lines::{Lines, count_lines, is_blank};
@@ -19,9 +19,10 @@ const MOST_BYTES: usize = 16_777_216;
 /// The most lines of a commands file, blank ones too.
 const MOST_LINES: usize = 65_536;
 
-#[tactic(auto, unfolding(crate::specs::Commands::text_of))]
-fn text_line(alloc: Global, policy: &PolicyFile, number: u32, text: &[u8]) -> Result<Line, Fault>
-    ensures { Says result (text_of policy.now number text.now) }
+/// The line of this number that the text spells.
+#[tactic(auto, unfolding(crate::specs::Commands::line_in))]
+fn line_in(alloc: Global, policy: &PolicyFile, number: u32, text: &[u8]) -> Result<Line, Fault>
+    ensures { Says result (line_in policy.now number text.now) }
 {
     let value = json(alloc, text)?;
     let line = one_line(alloc, policy, number, &value)?;
@@ -41,7 +42,7 @@ fn line_at(
     if is_blank(text) {
         return Ok(None);
     }
-    let line = of_line(number, text_line(alloc, policy, number, text))?;
+    let line = of_line(number, line_in(alloc, policy, number, text))?;
     Ok(Some(line))
 }
 

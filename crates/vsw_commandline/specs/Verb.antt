@@ -1,5 +1,5 @@
 -- What a line is to do, and the names of its members.
-use Rattle.std.specs.Prelude.{ℕ, List, [], ◌∷◌, ◌++◌, Result, codes}
+use Rattle.std.specs.Prelude.{ℕ, List, [], ◌∷◌, Result, codes}
 use Rattle.serde_json.specs.Data.{Data}
 use Rattle.vsw_jsonfile.specs.declared.fault.Fault.{Fault}
 use Rattle.vsw_jsonfile.specs.declared.word.Word.{Word}

@@ -78,7 +78,8 @@ fn packet_in(alloc: Global, object: &Value) -> Result<u32, Fault>
     Ok(packet)
 }
 
-/// A line of this number whose text is that of the value. What is no object has no members.
+/// The line that an object of the commands file is, with its number there. What is no object lacks the
+/// first member.
 #[tactic(auto, unfolding(crate::specs::Line::line_of))]
 pub fn one_line(
     alloc: Global,

@@ -72,9 +72,7 @@ pub(crate) fn names(verb: Verb) -> &'static [Word]
     ensures { result.now ≡ names_of verb }
 {
     match verb {
-        Verb::AddLayer => names!(
-            Layer, Order, DefaultOut, DefaultIn, Pairs, Idle, Linger
-        ),
+        Verb::AddLayer => names!(Layer, Order, DefaultOut, DefaultIn, Pairs, Idle, Linger),
         Verb::RemoveLayer => names!(Layer),
         Verb::AddGroup => names!(Layer, Group, Dir, WhenAll),
         Verb::RemoveGroup => names!(Layer, Group),

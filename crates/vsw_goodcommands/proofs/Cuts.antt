@@ -1,10 +1,10 @@
 -- The lines of some bytes, put together again.
-use Rattle.std.proofs.Common.{◌≡◌, ◌≢◌, ◌==◌, ◌⊎◌, inl, inr, ℕ, suc, List, [], ◌∷◌, ◌++◌, Bool, true, false, refl, ap, arith, if◌then◌else◌}
+use Rattle.std.proofs.Common.{◌≡◌, ◌≢◌, inl, inr, ℕ, suc, List, [], ◌∷◌, ◌++◌, Bool, true, false, refl, ap, arith, if◌then◌else◌}
 use Rattle.std.specs.Prelude.{All}
 use Rattle.std.proofs.lemmas.Bool.Decides.{nat_tests}
 use Rattle.std.proofs.lemmas.List.Elements.{All-nil, All-cons}
 use Rattle.vsw_commandfile.specs.Lines.{is_feed, in_front, lines_of}
-use Rattle.vsw_goodcommands.specs.Good.{with_feeds, AreLines, EachIsCut}
+use Rattle.vsw_goodcommands.specs.Good.{AreLines, EachIsCut}
 
 abbrev IsOther : ℕ → Type 0
 IsOther b = b ≢ 10

@@ -1,5 +1,5 @@
 -- Lines that are read.
-use Rattle.std.proofs.Common.{◌≡◌, ◌==◌, ℕ, suc, ◌+◌, ◌≤◌, ◌<◌, List, [], ◌∷◌, ◌++◌, length, Bool, true, false, Option, Some, None, nat_lt, Result, Ok, Err, refl, ap, subst, sym, ◌∙◌, arith, get_or, if◌then◌else◌}
+use Rattle.std.proofs.Common.{◌≡◌, ◌==◌, ℕ, suc, ◌+◌, ◌≤◌, ◌<◌, List, [], ◌∷◌, ◌++◌, length, Bool, true, false, Option, Some, None, nat_lt, Result, Ok, Err, refl, ap, subst, ◌∙◌, arith, if◌then◌else◌}
 use Prim.Native.Nat.{zero}
 use Rattle.std.specs.Prelude.{All, IfSome, option_to_list}
 use Rattle.std.specs.List.{list_any, AllPairs}
@@ -24,11 +24,11 @@ use Rattle.vsw_commandline.specs.Line.{packet_of, during_of, is_port, port_numbe
 use Rattle.vsw_commandfile.specs.declared.fault.CommandsFault.{CommandsFault}
 use Rattle.vsw_commandfile.specs.declared.fault.CommandsFault.TheVariants.{CommandsLimit, LinesLimit}
 use Rattle.vsw_commandfile.specs.Lines.{is_blank, lines_of}
-use Rattle.vsw_commandfile.specs.Commands.{of_line, text_of, line_at, lines_from}
+use Rattle.vsw_commandfile.specs.Commands.{of_line, line_in, line_at, lines_from}
 use Rattle.vsw_goodfile.proofs.Steps.{taken, same_value, read, passed}
 use Rattle.vsw_goodfile.proofs.Lists.{no_pairs}
 use Rattle.vsw_goodfile.proofs.Layers.{known_listed}
-use Rattle.vsw_goodcommands.specs.Good.{CanAsk, AreGood, EachIsGood}
+use Rattle.vsw_goodcommands.specs.Good.{CanAsk, EachIsGood}
 use Rattle.vsw_goodcommands.proofs.Commands.{command_good}
 
 flip : (a b : ℕ) → (a == b) ≡ (b == a)
@@ -69,8 +69,8 @@ from_line n (Ok y) x h = cc
 from_line n (Err (fault.Bad kind path)) x h = cc
 from_line n (Err fault.Memory) x h = cc
 
-text_good : (policy : PolicyFile) (n : ℕ) (bytes : List ℕ) (l : Line) → text_of policy n bytes ≡ Ok l → Asks policy n l
-unfolding text_of
+text_good : (policy : PolicyFile) (n : ℕ) (bytes : List ℕ) (l : Line) → line_in policy n bytes ≡ Ok l → Asks policy n l
+unfolding line_in
 text_good policy n bytes l h = taken (json_of bytes) (line_of policy n) l h (λ d e h. line_good policy n d l h)
 
 -- a line that isn't blank
@@ -82,7 +82,7 @@ at_good : (policy : PolicyFile) (n : ℕ) (bytes : List ℕ) (o : Option Line) �
 unfolding line_at
 at_good policy n bytes o h =
     unless_blank (is_blank bytes) _ o (Asks policy n) (λ h.
-    taken (of_line n (text_of policy n bytes)) _ o h (λ l e h.
+    taken (of_line n (line_in policy n bytes)) _ o h (λ l e h.
     subst (λ o. IfSome o (Asks policy n)) (same_value (Some l) o h) (text_good policy n bytes l (from_line n _ l e)))) h
 
 -- ---- one after the other

@@ -23,7 +23,7 @@ fn first_line(bytes: &[u8]) -> (&[u8], &[u8])
 }
 
 /// The lines of these bytes, each without its line feed. None is copied.
-#[derive(Clone, Copy)]
+#[derive(Drop)]
 pub(crate) struct Lines<'a> {
     rest: &'a [u8],
 }
@@ -54,7 +54,7 @@ impl<'a> Iterator for Lines<'a> {
     }
 }
 
-/// How many lines the bytes have.
+/// How many lines the bytes of a file have.
 pub(crate) fn count_lines(bytes: &[u8]) -> usize
     requires { length bytes.now ≤ 16777216 }
     ensures { result ≡ length (lines_of bytes.now) }

@@ -1,11 +1,10 @@
 -- The port at a place: what is changed there, and what holds of all.
 use Rattle.std.proofs.Common.{◌≡◌, zero, suc, ◌<◌, ◌≤◌, ◌+◌, ℕ, List, [], ◌∷◌, map, length, get_or, refl, ap, sym, subst, ◌∙◌, arith}
 use Rattle.std.specs.List.{slice_set}
-use Rattle.vsw_layer.specs.Layer.{LayerSeen}
 use Rattle.vsw_policy.specs.Sound.{Each}
 use Rattle.vsw_switch.specs.Switch.{PortNow, AtPlace, changed_at}
 use Rattle.vsw_switch.specs.Seen.{AllAtMost, IsAtMost}
-use Rattle.vsw_transit.specs.Transit.{AreAtMost}
+use Rattle.vsw_transit.proofs.Numbers.{stays_below}
 
 pub set-seen : {A B : Type 0} (s : A → B) (f : B → B) (xs : List A) (i : ℕ) (x y : A) → i < length xs → x ≡ get_or xs i x → s y ≡ f (s x) → map s (slice_set xs i y) ≡ changed_at i f (map s xs)
 set-seen s f [] i x y lt here e = absurd (omega arith)
@@ -23,12 +22,8 @@ each-is s P (z ∷ zs) zero x lt here h = subst (λ w. P (s w)) (sym here) h.0
 each-is s P (z ∷ zs) (suc i) x lt here h = each-is s P zs i x (omega arith) here h.1
 
 -- what a port has met at most, it has met at most later
-pub layers_later : (n : ℕ) (ls : List LayerSeen) → AreAtMost n ls → AreAtMost (n + 1) ls
-layers_later n [] h = tt
-layers_later n (l ∷ ls) h = (omega (arith, h.0), layers_later n ls h.1)
-
 pub later : (n : ℕ) (p : PortNow) → IsAtMost n p → IsAtMost (n + 1) p
-later n p h = record { numbers = layers_later n p.layers h.numbers; count = omega (arith, h.count) }
+later n p h = record { numbers = stays_below n p.layers h.numbers; count = omega (arith, h.count) }
 
 pub all_later : (n : ℕ) (ps : List PortNow) → AllAtMost n ps → AllAtMost (n + 1) ps
 all_later n [] h = tt
@@ -44,7 +39,3 @@ pub set-same : {A B C : Type 0} (s : A → B) (g : B → C) (xs : List A) (i : �
 set-same s g [] i x y here e = refl
 set-same s g (z ∷ zs) zero x y here e = ap (λ c. c ∷ map g (map s zs)) (e ∙ ap (λ w. g (s w)) here)
 set-same s g (z ∷ zs) (suc i) x y here e = ap (λ cs. g (s z) ∷ cs) (set-same s g zs i x y here e)
-
-pub layers_most : (m n : ℕ) (ls : List LayerSeen) → m ≤ n → AreAtMost m ls → AreAtMost n ls
-layers_most m n [] e h = tt
-layers_most m n (l ∷ ls) e h = (omega (arith, e, h.0), layers_most m n ls e h.1)

@@ -1,6 +1,6 @@
 //! A worker's own room.
 
-ghost use Rattle.std.specs.Prelude.{◌≡◌, ◌≤◌, take};
+ghost use Rattle.std.specs.Prelude.{◌≡◌, ◌≤◌, IfOk, length, take};
 
 use std::alloc::Global;
 use std::marker::Model;
@@ -29,7 +29,10 @@ impl Model for Room {
 }
 
 impl Room {
-    pub fn new(alloc: Global) -> Result<Room, NoMemory> {
+    /// Room for the longest outgoing frame, 65,700 bytes.
+    pub fn new(alloc: Global) -> Result<Room, NoMemory>
+        ensures { IfOk result (λ room. length room ≡ 65700) }
+    {
         let scratch = Scratch::new(alloc)?;
         let mut out = Vec::new(alloc);
         match out.resize(OUT_LEN, 0) {

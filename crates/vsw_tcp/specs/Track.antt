@@ -50,3 +50,7 @@ StaysClosed = (p : Dir) (control : Control) (d : Dir) → (track_of Closed p con
 -- nothing leads away from Plain, or to it
 abbrev pub StaysPlain : Type 0
 StaysPlain = (now : Track) (p : Dir) (control : Control) (d : Dir) → (track_of now p control d ≡ To Plain) ↔ (now ≡ Plain)
+
+-- a packet without a control moves no state
+abbrev pub StaysUncontrolled : Type 0
+StaysUncontrolled = (now : Track) (p d : Dir) → track_of now p None d ≡ To now

@@ -1,10 +1,11 @@
 //! What holds of the states.
 
-ghost use Rattle.vsw_tcp.specs.Track.{StaysClosed, StaysPlain};
+ghost use Rattle.vsw_tcp.specs.Track.{StaysClosed, StaysPlain, StaysUncontrolled};
 
 /// Nothing but a re-opening leads away from a closed pair, and nothing leads to or from a pair that
-/// isn't of unfragmented TCP.
+/// isn't of unfragmented TCP. A packet without a control leaves each pair in its state.
 pub fn laws()
     ensures closed { StaysClosed }
     ensures plain { StaysPlain }
+    ensures uncontrolled { StaysUncontrolled }
 {}

@@ -47,12 +47,12 @@ pub fn judge(
     scratch: &Scratch,
 ) -> Option<Stop>
     requires verdict { walked.now.verdict ≡ (walk_of policy.now.layers crossing.now).verdict }
-    requires changes { scratch.now ≡ (walk_of policy.now.layers crossing.now).changes }
+    requires changes { scratch.now.changes ≡ (walk_of policy.now.layers crossing.now).changes }
     requires fits { walked.now.verdict ≡ Pass → IsTrue (fit.fits walked.now.by crossing.now.id.stack) }
     requires stack { walked.now.verdict ≡ Pass → apply walked.now.by crossing.now.id.stack ≡ (walk_of policy.now.layers crossing.now).stack }
     requires kept { walked.now.verdict ≡ Pass → fit.kept walked.now.by ≡ (walk_of policy.now.layers crossing.now).kept }
     ensures exact { result ≡ stop_of policy.now.layers crossing.now (walk_of policy.now.layers crossing.now) }
-    ensures hold { result ≡ None → walked.now.verdict ≡ Pass → AllHold policy.now.layers None scratch.now }
+    ensures hold { result ≡ None → walked.now.verdict ≡ Pass → AllHold policy.now.layers None scratch.now.changes }
 {
     let Verdict::Pass = walked.verdict else {
         return None;

@@ -24,7 +24,7 @@ pub fn commit(
 ) -> Result<bool, Stop>
     requires numbers { Each (λ l. l.next_pair < 2 ^ 32 - 1) policy.old.layers }
     requires verdict { walked.now.verdict ≡ (walk_of policy.old.layers crossing.now).verdict }
-    requires changes { scratch.now ≡ (walk_of policy.old.layers crossing.now).changes }
+    requires changes { scratch.now.changes ≡ (walk_of policy.old.layers crossing.now).changes }
     requires fits { walked.now.verdict ≡ Pass → IsTrue (fit.fits walked.now.by crossing.now.id.stack) }
     requires stack { walked.now.verdict ≡ Pass → apply walked.now.by crossing.now.id.stack ≡ (walk_of policy.old.layers crossing.now).stack }
     requires kept { walked.now.verdict ≡ Pass → fit.kept walked.now.by ≡ (walk_of policy.old.layers crossing.now).kept }

@@ -8,5 +8,5 @@ mod scratch;
 mod walking;
 
 pub use law::laws;
-pub use scratch::{Scratch, Wanted};
+pub use scratch::{Looked, Scratch, Wanted};
 pub use walking::{Walked, walk};

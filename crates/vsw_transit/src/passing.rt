@@ -64,7 +64,7 @@ fn pass(
     requires of { IsOfFrame crossing.now (parts frame.now) }
     requires passes { walked.now.verdict ≡ verdict.Pass }
     requires verdict { walked.now.verdict ≡ (walk_of policy.old.layers crossing.now).verdict }
-    requires changes { scratch.now ≡ (walk_of policy.old.layers crossing.now).changes }
+    requires changes { scratch.now.changes ≡ (walk_of policy.old.layers crossing.now).changes }
     requires fits { IsTrue (fits walked.now.by crossing.now.id.stack) }
     requires stack { apply walked.now.by crossing.now.id.stack ≡ (walk_of policy.old.layers crossing.now).stack }
     requires kept { kept walked.now.by ≡ (walk_of policy.old.layers crossing.now).kept }

@@ -11,5 +11,5 @@ mod wanted;
 
 pub use law::laws;
 pub use outcome::{Visit, Want};
-pub use visiting::visit;
+pub use visiting::{visit, visit_with};
 pub use wanted::reverse_set;

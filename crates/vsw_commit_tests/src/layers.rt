@@ -74,7 +74,8 @@ fn layer(layer: u16, pairs: u32) -> Command {
     }
 }
 
-fn group(alloc: Global, layer: u16, group: u16, dir: Dir) -> Command {
+/// Adds a group without a condition.
+pub fn group(alloc: Global, layer: u16, group: u16, dir: Dir) -> Command {
     Command::AddGroup {
         layer,
         group,

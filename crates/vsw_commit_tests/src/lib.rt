@@ -9,8 +9,12 @@ mod layers;
 #[cfg(test)]
 mod length_tests;
 #[cfg(test)]
+mod look_tests;
+#[cfg(test)]
 mod packets;
 #[cfg(test)]
 mod pair_tests;
 #[cfg(test)]
 mod trial;
+#[cfg(test)]
+mod ways;

@@ -24,22 +24,22 @@ fn ether() -> Header {
     }
 }
 
+fn ip(proto: u8, src: u32, dst: u32) -> Header {
+    Header::Ip {
+        src: Ip4::of(src),
+        dst: Ip4::of(dst),
+        proto,
+        part: false,
+    }
+}
+
+fn ports(proto: u8, src: u16, dst: u16) -> Header {
+    Header::Ports { proto, src, dst }
+}
+
 /// From a port of an address to a port of another.
 fn stack(proto: u8, src: (u32, u16), dst: (u32, u16)) -> Result<Stack, BadShape> {
-    Stack::of(&[
-        ether(),
-        Header::Ip {
-            src: Ip4::of(src.0),
-            dst: Ip4::of(dst.0),
-            proto,
-            part: false,
-        },
-        Header::Ports {
-            proto,
-            src: src.1,
-            dst: dst.1,
-        },
-    ])
+    Stack::of(&[ether(), ip(proto, src.0, dst.0), ports(proto, src.1, dst.1)])
 }
 
 /// A packet of so many bytes.
@@ -52,10 +52,14 @@ pub fn packet(
     whole: u32,
 ) -> Result<Crossing, BadShape> {
     let stack = stack(proto, src, dst)?;
-    Ok(Crossing {
+    Ok(crossing(dir, &stack, control, whole))
+}
+
+fn crossing(dir: Dir, stack: &Stack, control: Control, whole: u32) -> Crossing {
+    Crossing {
         caller: 0,
         packet: 0,
-        id: Ufid { dir, stack },
+        id: Ufid { dir, stack: *stack },
         control,
         moment: Moment::of(1_000),
         sizes: Sizes {
@@ -63,5 +67,18 @@ pub fn packet(
             one: 0,
             two: 0,
         },
-    })
+    }
+}
+
+/// An inbound UDP packet in network 5001.
+pub fn covered(src: (u32, u16), dst: (u32, u16)) -> Result<Crossing, BadShape> {
+    let stack = Stack::of(&[
+        ether(),
+        ip(UDP, 0xac10_0002, 0xac10_0001),
+        Header::Vxlan { vni: 5001 },
+        ether(),
+        ip(UDP, src.0, dst.0),
+        ports(UDP, src.1, dst.1),
+    ])?;
+    Ok(crossing(Dir::In, &stack, Control::None, 94))
 }

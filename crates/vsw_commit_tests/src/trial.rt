@@ -7,7 +7,7 @@ ghost use Rattle.vsw_policy.specs.Sound.{Each};
 use crate::packets::packet;
 use std::alloc::Global;
 use vsw_admit::Stop;
-use vsw_base::{Control, Crossing, Dir};
+use vsw_base::{Control, Crossing, Dir, Moment};
 use vsw_commit::commit;
 use vsw_crossing::{Scratch, walk};
 use vsw_layer::Layer;
@@ -34,6 +34,15 @@ fn cross(
     }
     let walked = walk(policy, crossing, scratch);
     Some(commit(policy, crossing, &walked, scratch))
+}
+
+/// Of the first three layers that a packet meets, each one's place, the source port that is looked for, and
+/// the pair that is found.
+pub type Looks = [Option<(u32, u16, Option<u32>)>; 3];
+
+fn look_at(scratch: &Scratch, met: usize) -> Option<(u32, u16, Option<u32>)> {
+    let look = scratch.looked().get(met)?;
+    Some((look.layer, look.key.src_port, look.found))
 }
 
 /// A policy, and room for walks.
@@ -69,6 +78,26 @@ impl Trial {
             return None;
         };
         cross(&mut self.policy, &mut self.scratch, &crossing)
+    }
+
+    /// What this packet looks for at this moment, and until when its walk holds, in microseconds. The walk is
+    /// carried out.
+    pub fn look(&mut self, crossing: &Crossing, moment: u64) -> Option<(Looks, u64)> {
+        let met = Crossing {
+            moment: Moment::of(moment),
+            ..*crossing
+        };
+        let walked = walk(&self.policy, &met, &mut self.scratch);
+        let looks = [
+            look_at(&self.scratch, 0),
+            look_at(&self.scratch, 1),
+            look_at(&self.scratch, 2),
+        ];
+        let done = cross(&mut self.policy, &mut self.scratch, &met)?;
+        if done.is_err() {
+            return None;
+        }
+        Some((looks, walked.until.micros()))
     }
 
     /// How many pairs the layer at a place has, and the number of its next one.

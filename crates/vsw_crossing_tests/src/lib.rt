@@ -6,6 +6,8 @@ mod given;
 #[cfg(test)]
 mod layers;
 #[cfg(test)]
+mod look_tests;
+#[cfg(test)]
 mod packets;
 #[cfg(test)]
 mod walk_tests;

@@ -99,3 +99,12 @@ pub fn places(scratch: &Scratch) -> Option<(u32, u32)> {
         _ => None,
     }
 }
+
+/// What the packet looked for in the layer that it met after so many others: the layer's place,
+/// encapsulations, source address and source port of the key, and the pair.
+pub fn looked(scratch: &Scratch, met: usize) -> Option<(u32, u8, u32, u16, Option<u32>)> {
+    let look = scratch.looked().get(met)?;
+    let key = &look.key;
+    let address = key.src.number();
+    Some((look.layer, key.encaps, address, key.src_port, look.found))
+}

@@ -1,5 +1,5 @@
 -- What a frame that was read says.
-use Rattle.std.specs.Prelude.{◌≡◌, ℕ, List, ◌∷◌, ◌++◌, Result, Ok, Err}
+use Rattle.std.specs.Prelude.{◌∷◌, ◌++◌, Result, Ok, Err}
 use Rattle.vsw_base.specs.declared.fault.BadFrame.{BadFrame}
 use Rattle.vsw_base.specs.Frame as definition
 use Rattle.vsw_frame.specs.Levels.{level_fields, more_levels}
@@ -11,7 +11,3 @@ parts f = record { stack = f.stack; control = f.control; levels = level_fields f
 abbrev pub seen : Result Frame BadFrame → Result definition.Parts BadFrame
 seen (Ok f) = Ok (parts f)
 seen (Err e) = Err e
-
--- the frame's own bytes are its first level's, and its sizes are its levels'
-abbrev pub IsOf : List ℕ → Frame → Type 0
-IsOf bytes f = (f.first.bytes.now ≡ bytes) × (f.sizes ≡ definition.sizes_of (parts f).levels)

@@ -36,11 +36,13 @@ pub struct Frame<'a> {
     pub(crate) second: Option<Level<'a>>,
     pub(crate) third: Option<Level<'a>>,
     pub(crate) payload: &'a [u8],
-    ghost read: { ∥ IsRead stack control first second third payload.now ∥₁ },
+    ghost read: { ∥ IsRead stack control sizes first second third payload.now ∥₁ },
 }
 
 impl<'a> Frame<'a> {
+    ghost use Rattle.vsw_base.specs.Frame.{sizes_of};
     ghost use Rattle.vsw_frame.specs.Frame.{parts};
+    ghost use Rattle.vsw_frame.specs.Tiles.{outermost};
 
     /// The headers.
     pub fn stack(&self) -> &Stack
@@ -58,14 +60,14 @@ impl<'a> Frame<'a> {
 
     /// Bytes of the frame, and of what is left without its first one and two encapsulations.
     pub fn sizes(&self) -> Sizes
-        ensures { result ≡ self.now.sizes }
+        ensures { result ≡ sizes_of (parts self.now).levels }
     {
         self.sizes
     }
 
     /// All bytes of the frame.
     pub fn bytes(&self) -> &'a [u8]
-        ensures { result.now ≡ self.now.first.bytes.now }
+        ensures { result.now ≡ outermost (parts self.now).levels }
     {
         self.first.bytes
     }

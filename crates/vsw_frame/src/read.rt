@@ -2,7 +2,7 @@
 
 ghost use Rattle.std.specs.Prelude.{◌≡◌, ◌≤◌, Ok, IfOk, OnOk, IsTrue, length};
 ghost use Rattle.vsw_base.specs.Frame.{frame_of};
-ghost use Rattle.vsw_frame.specs.Frame.{parts, seen, IsOf};
+ghost use Rattle.vsw_frame.specs.Frame.{parts, seen};
 ghost use Rattle.vsw_frame.specs.Seen.{Finds, IsShort, found_parts, size_of};
 ghost use Rattle.vsw_frame.specs.Tiles.{Tiles};
 
@@ -31,7 +31,6 @@ fn framed<'a>(bytes: &'a [u8], headers: &Headers, found: &Found<'a>) -> Frame<'a
     requires finds { Finds 2 bytes.now headers.now found.now }
     requires read { frame_of bytes.now ≡ Ok (found_parts headers.now found.now) }
     ensures same { parts result ≡ found_parts headers.now found.now }
-    ensures of { IsOf bytes.now result }
 {
     Frame {
         stack: Stack::new(*headers),
@@ -54,7 +53,6 @@ fn framed<'a>(bytes: &'a [u8], headers: &Headers, found: &Found<'a>) -> Frame<'a
 /// plain UDP. Checksums aren't looked at.
 pub fn read_frame<'a>(bytes: &'a [u8]) -> Result<Frame<'a>, BadFrame>
     ensures parts { seen result ≡ frame_of bytes.now }
-    ensures of { IfOk result (IsOf bytes.now) }
     ensures short { OnOk result (length bytes.now ≤ 65600) }
     ensures tiles { IfOk result (λ f. Tiles bytes.now (parts f)) }
 {

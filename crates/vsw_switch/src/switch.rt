@@ -2,7 +2,7 @@
 
 ghost use Rattle.std.specs.Prelude.{◌≡◌, ◌≤◌, ◌<◌, ◌+◌, ◌^◌, ◌++◌, [], ℕ, Some, length, map, OnOk, IfOk, Ok};
 ghost use Rattle.vsw_flowid.specs.Port.{choose};
-ghost use Rattle.vsw_frame.specs.Frame.{parts, IsOf};
+ghost use Rattle.vsw_frame.specs.Frame.{parts};
 ghost use Rattle.vsw_goodfile.specs.Good.{IsGoodPolicy};
 ghost use Rattle.vsw_ports.specs.Ports.{port_seen, ports_of};
 ghost use Rattle.vsw_switch.specs.Seen.{AllAtMost, Arrives, Crosses, live_seen};
@@ -57,7 +57,6 @@ fn cross(
     requires within { place.port < length ports.old.items }
     requires few { AllAtMost packet (map live_seen ports.old.items) }
     requires small { packet < 2 ^ 31 }
-    requires of { IsOf captured.now.bytes frame.now }
     ensures meets { OnOk result (Crosses packet place captured.now.moment (parts frame.now) (map live_seen ports.old.items) (map live_seen ports.new.items)) }
     ensures few { AllAtMost (packet + 1) (map live_seen ports.new.items) }
     ensures macs { map (λ p. p.mac) (map live_seen ports.new.items) ≡ map (λ p. p.mac) (map live_seen ports.old.items) }

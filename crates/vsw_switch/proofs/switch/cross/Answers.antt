@@ -11,7 +11,7 @@ meet-requires-clause-few c = each-is live_seen (IsAtMost c.args.packet) c.args.p
 pub returns-clause-meets : goal.returns-clause-meets
 returns-clause-meets c =
     crosses c.args.packet c.args.place c.args.captured.now.moment (parts c.args.frame.now) _ c.args.ports.now.items c.index_mut.result.now c.meet.new.self c.meet.result
-    (crossing_is c.args.packet c.args.captured.now.moment c.ufid.result _ _ _ _ _ _ c.ufid.ensures.dir (c.ufid.ensures.stack ∙ c.stack.ensures) c.control.ensures (c.sizes.ensures ∙ c.requires.of.1))
+    (crossing_is c.args.packet c.args.captured.now.moment c.ufid.result _ _ _ _ _ _ c.ufid.ensures.dir (c.ufid.ensures.stack ∙ c.stack.ensures) c.control.ensures c.sizes.ensures)
     c.requires.within c.index_mut.ensures.value c.meet.ensures.meets
 
 pub returns-clause-few : goal.returns-clause-few

@@ -79,34 +79,42 @@ opened_by bytes Q (Ok e) o c q h =
 pub opened_cases : (bytes : List ℕ) (Q : Opened → Type 0) (o : Opened) → OpenedCases bytes Q → opened_of bytes ≡ Ok o → Q o
 opened_cases bytes Q o c h = opened_by bytes Q (ether_of bytes) o c refl h
 
--- a frame in which no encapsulation is found, or one around an inner frame
+-- a frame in which no encapsulation is found, or one around an inner frame in which one less is looked for
+pub record DepthCases (P : ℕ → List ℕ → Parts → Type 0) : Type 1 where
+  pub plain : (n : ℕ) (bytes : List ℕ) (o : Opened) → opened_of bytes ≡ Ok o → P n bytes (plain_parts bytes o)
+  pub encap : (n : ℕ) (bytes : List ℕ) (o : Opened) (v : ℕ) (inner : List ℕ) (p : Parts) → opened_of bytes ≡ Ok o → within o.end ≡ Some (v, inner) → P n inner p → P (suc n) bytes (encap_parts bytes o v p)
+
+plain_case : (P : ℕ → List ℕ → Parts → Type 0) (n : ℕ) (bytes : List ℕ) (o : Opened) (p : Parts) → DepthCases P → opened_of bytes ≡ Ok o → ok_parts (plain_parts bytes o) ≡ Ok p → P n bytes p
+plain_case P n bytes o p c q h = let t : plain_parts bytes o ≡ p = cc in subst (P n bytes) t (c.plain n bytes o q)
+
+encap_case : (P : ℕ → List ℕ → Parts → Type 0) (n : ℕ) (bytes : List ℕ) (o : Opened) (v : ℕ) (inner : List ℕ) (r : Result Parts BadFrame) (p : Parts) → DepthCases P → opened_of bytes ≡ Ok o → within o.end ≡ Some (v, inner) → ((q : Parts) → r ≡ Ok q → P n inner q) → r >>= (λ parts. Ok (encap_parts bytes o v parts)) ≡ Ok p → P (suc n) bytes p
+encap_case P n bytes o v inner (Err f) p c q w ih h = absurd (cc)
+encap_case P n bytes o v inner (Ok parts) p c q w ih h = let t : encap_parts bytes o v parts ≡ p = cc in subst (P (suc n) bytes) t (c.encap n bytes o v inner parts q w (ih parts refl))
+
+looked_case : (P : ℕ → List ℕ → Parts → Type 0) (n : ℕ) (inner : List ℕ → Result Parts BadFrame) (bytes : List ℕ) (o : Opened) (w : Option (ℕ × List ℕ)) (p : Parts) → DepthCases P → ((b : List ℕ) (q : Parts) → inner b ≡ Ok q → P n b q) → opened_of bytes ≡ Ok o → within o.end ≡ w → looked inner bytes o w ≡ Ok p → P (suc n) bytes p
+looked_case P n inner bytes o None p c ih q e h = plain_case P (suc n) bytes o p c q h
+looked_case P n inner bytes o (Some v) p c ih q e h = encap_case P n bytes o v.0 v.1 (inner v.1) p c q e (ih v.1) h
+
+zero_case : (P : ℕ → List ℕ → Parts → Type 0) (bytes : List ℕ) (r : Result Opened BadFrame) (p : Parts) → DepthCases P → opened_of bytes ≡ r → r >>= (λ o. Ok (plain_parts bytes o)) ≡ Ok p → P 0 bytes p
+zero_case P bytes (Ok o) p c q h = plain_case P 0 bytes o p c q h
+zero_case P bytes (Err f) p c q h = absurd (cc)
+
+more_case : (P : ℕ → List ℕ → Parts → Type 0) (n : ℕ) (inner : List ℕ → Result Parts BadFrame) (bytes : List ℕ) (r : Result Opened BadFrame) (p : Parts) → DepthCases P → ((b : List ℕ) (q : Parts) → inner b ≡ Ok q → P n b q) → opened_of bytes ≡ r → r >>= look_in inner bytes ≡ Ok p → P (suc n) bytes p
+more_case P n inner bytes (Ok o) p c ih q h = looked_case P n inner bytes o (within o.end) p c ih q refl (looked_in inner bytes o (within o.end) refl ∙ h)
+more_case P n inner bytes (Err f) p c ih q h = absurd (cc)
+
+pub depth_cases : (P : ℕ → List ℕ → Parts → Type 0) (n : ℕ) (bytes : List ℕ) (p : Parts) → DepthCases P → frame_in n bytes ≡ Ok p → P n bytes p
+unfolding frame_in
+depth_cases P zero bytes p c h = zero_case P bytes (opened_of bytes) p c refl h
+depth_cases P (suc n) bytes p c h = more_case P n (frame_in n) bytes (opened_of bytes) p c (λ b q. depth_cases P n b q c) refl h
+
+-- the same of facts that don't name how many are looked for
 pub record FrameCases (P : List ℕ → Parts → Type 0) : Type 1 where
   pub plain : (bytes : List ℕ) (o : Opened) → opened_of bytes ≡ Ok o → P bytes (plain_parts bytes o)
   pub encap : (bytes : List ℕ) (o : Opened) (v : ℕ) (inner : List ℕ) (p : Parts) → opened_of bytes ≡ Ok o → within o.end ≡ Some (v, inner) → P inner p → P bytes (encap_parts bytes o v p)
 
-plain_case : (P : List ℕ → Parts → Type 0) (bytes : List ℕ) (o : Opened) (p : Parts) → FrameCases P → opened_of bytes ≡ Ok o → ok_parts (plain_parts bytes o) ≡ Ok p → P bytes p
-plain_case P bytes o p c q h = let t : plain_parts bytes o ≡ p = cc in subst (P bytes) t (c.plain bytes o q)
-
-encap_case : (P : List ℕ → Parts → Type 0) (bytes : List ℕ) (o : Opened) (v : ℕ) (inner : List ℕ) (r : Result Parts BadFrame) (p : Parts) → FrameCases P → opened_of bytes ≡ Ok o → within o.end ≡ Some (v, inner) → ((q : Parts) → r ≡ Ok q → P inner q) → r >>= (λ parts. Ok (encap_parts bytes o v parts)) ≡ Ok p → P bytes p
-encap_case P bytes o v inner (Err f) p c q w ih h = absurd (cc)
-encap_case P bytes o v inner (Ok parts) p c q w ih h = let t : encap_parts bytes o v parts ≡ p = cc in subst (P bytes) t (c.encap bytes o v inner parts q w (ih parts refl))
-
-looked_case : (P : List ℕ → Parts → Type 0) (inner : List ℕ → Result Parts BadFrame) (bytes : List ℕ) (o : Opened) (w : Option (ℕ × List ℕ)) (p : Parts) → FrameCases P → ((b : List ℕ) (q : Parts) → inner b ≡ Ok q → P b q) → opened_of bytes ≡ Ok o → within o.end ≡ w → looked inner bytes o w ≡ Ok p → P bytes p
-looked_case P inner bytes o None p c ih q e h = plain_case P bytes o p c q h
-looked_case P inner bytes o (Some v) p c ih q e h = encap_case P bytes o v.0 v.1 (inner v.1) p c q e (ih v.1) h
-
-zero_case : (P : List ℕ → Parts → Type 0) (bytes : List ℕ) (r : Result Opened BadFrame) (p : Parts) → FrameCases P → opened_of bytes ≡ r → r >>= (λ o. Ok (plain_parts bytes o)) ≡ Ok p → P bytes p
-zero_case P bytes (Ok o) p c q h = plain_case P bytes o p c q h
-zero_case P bytes (Err f) p c q h = absurd (cc)
-
-more_case : (P : List ℕ → Parts → Type 0) (inner : List ℕ → Result Parts BadFrame) (bytes : List ℕ) (r : Result Opened BadFrame) (p : Parts) → FrameCases P → ((b : List ℕ) (q : Parts) → inner b ≡ Ok q → P b q) → opened_of bytes ≡ r → r >>= look_in inner bytes ≡ Ok p → P bytes p
-more_case P inner bytes (Ok o) p c ih q h = looked_case P inner bytes o (within o.end) p c ih q refl (looked_in inner bytes o (within o.end) refl ∙ h)
-more_case P inner bytes (Err f) p c ih q h = absurd (cc)
-
 pub frame_cases : (P : List ℕ → Parts → Type 0) (n : ℕ) (bytes : List ℕ) (p : Parts) → FrameCases P → frame_in n bytes ≡ Ok p → P bytes p
-unfolding frame_in
-frame_cases P zero bytes p c h = zero_case P bytes (opened_of bytes) p c refl h
-frame_cases P (suc n) bytes p c h = more_case P (frame_in n) bytes (opened_of bytes) p c (λ b q. frame_cases P n b q c) refl h
+frame_cases P n bytes p c = let all : DepthCases (λ m. P) = record { plain = λ m. c.plain; encap = λ m. c.encap } in depth_cases (λ m. P) n bytes p all
 
 short : (b : Bool) (r : Result Parts BadFrame) (p : Parts) → cond b (Err TooLong) r ≡ Ok p → (b ≡ false) × (r ≡ Ok p)
 short true r p h = absurd (cc)

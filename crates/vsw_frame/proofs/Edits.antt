@@ -8,7 +8,7 @@ use Rattle.vsw_base.specs.Frame.{Level, Parts, size_at}
 use Rattle.vsw_base.specs.Shape.{is_stack, encaps, inner}
 use Rattle.vsw_base.proofs.Stacks.{plain_encaps, stack_cases, encapped}
 use Rattle.vsw_frame.specs.declared.frame.Levels.{Levels}
-use Rattle.vsw_frame.specs.Bytes.{AreLike, answer, levels_changed, outer_total, outgoing, source_port, total_over}
+use Rattle.vsw_frame.specs.Bytes.{AreLike, answer, levels_changed, outer_total, outgoing, outgoing_size, source_port, total_over}
 use Rattle.vsw_change.specs.Push.{pushed}
 use Rattle.vsw_frame.specs.Layout.{AreLaid}
 use Rattle.vsw_change.specs.Push.{AreEncaps}
@@ -42,7 +42,7 @@ like_frame (Vxlan v ∷ hs) (Vxlan w ∷ gs) bytes a h = tt
 like_frame (Ports p x y ∷ hs) (Ports q u v ∷ gs) bytes a h = tt
 like_frame hs gs bytes a h = absurd (grind arith)
 
-like_laid : (hs gs : List Header) (ls : List Level) → AreLike hs gs → AreLaid hs ls → AreLaid gs ls
+pub like_laid : (hs gs : List Header) (ls : List Level) → AreLike hs gs → AreLaid hs ls → AreLaid gs ls
 like_laid hs gs [] a h = h
 like_laid hs gs (l ∷ []) a h = like_frame hs gs l.bytes a h
 like_laid hs gs (l ∷ m ∷ ls) a h = (h.0, like_laid hs gs (m ∷ ls) a h.1)
@@ -89,9 +89,15 @@ pub record Computes (p : Parts) (edited : List Header) (kept : ℕ) (l : Level) 
   pub levels : l ∷ rest ≡ drop (from - kept) p.levels
   pub total_is : total ≡ total_over (to - kept) (length l.bytes)
 
+first_size : (p : Parts) (edited : List Header) (kept : ℕ) (l : Level) (rest : List Level) (from to total : ℕ) → Computes p edited kept l rest from to total → size_at (encaps p.stack - kept) p.levels ≡ length l.bytes
+first_size p edited kept l rest from to total c = size_first p.levels (encaps p.stack - kept) l rest (c.levels ∙ ap (λ (n : ℕ). drop (n - kept) p.levels) c.of_stack)
+
+pub size_is : (p : Parts) (edited : List Header) (kept : ℕ) (l : Level) (rest : List Level) (from to total : ℕ) → Computes p edited kept l rest from to total → 50 * (to - kept) + length l.bytes ≡ outgoing_size p edited kept
+size_is p edited kept l rest from to total c = omega (arith, first_size p edited kept l rest from to total c, c.of_edited)
+
 outer_is : (p : Parts) (edited : List Header) (kept : ℕ) (l : Level) (rest : List Level) (from to total : ℕ) → Computes p edited kept l rest from to total → total ≡ outer_total p edited kept
 outer_is p edited kept l rest from to total c =
-    let size : size_at (encaps p.stack - kept) p.levels ≡ length l.bytes = size_first p.levels (encaps p.stack - kept) l rest (c.levels ∙ ap (λ (n : ℕ). drop (n - kept) p.levels) c.of_stack) in
+    let size : size_at (encaps p.stack - kept) p.levels ≡ length l.bytes = first_size p edited kept l rest from to total c in
     c.total_is ∙ ap (λ (n : ℕ). total_over (n - kept) (length l.bytes)) c.of_edited ∙ ap (total_over (encaps edited - kept)) (sym size)
 
 abbrev told : Bool → ℕ → ℕ → Result ℕ Long

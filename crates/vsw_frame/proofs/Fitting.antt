@@ -19,7 +19,7 @@ use Rattle.vsw_transpose.proofs.Parts.{has_parts, left, outer_after, stays_pops,
 use Rattle.vsw_frame.specs.Bytes.{IsLike, AreLike, IsEdit, kept_headers}
 use Rattle.vsw_base.proofs.Dropped.{drop_none}
 
-same_like : (h : Header) → IsLike h h
+pub same_like : (h : Header) → IsLike h h
 same_like (Ether d s k) = refl
 same_like (Ip a b p f) = (refl, refl)
 same_like (Vxlan v) = refl

@@ -105,7 +105,7 @@ pub record LevelsAre (bytes : List ℕ) (p : Parts) : Type 0 where
   pub count : length p.levels ≡ encaps p.stack + 1
   pub laid : AreLaid (inner p.stack) p.levels
 
-no_vxlan : (o : Opened) (bytes : List ℕ) → opened_of bytes ≡ Ok o → encaps (o.front ++ ports o.end) ≡ 0
+pub no_vxlan : (o : Opened) (bytes : List ℕ) → opened_of bytes ≡ Ok o → encaps (o.front ++ ports o.end) ≡ 0
 no_vxlan o bytes h =
     let Q : Opened → Type 0 = λ o. encaps (o.front ++ ports o.end) ≡ 0 in
     let c : OpenedCases bytes Q = record {
@@ -115,7 +115,7 @@ no_vxlan o bytes h =
     opened_cases bytes Q o c h
 
 -- an encapsulation's two headers in front of VXLAN
-in_front : (bytes inner : List ℕ) (v : ℕ) (o : Opened) (hs : List Header) → opened_of bytes ≡ Ok o → within o.end ≡ Some (v, inner) → (encaps (o.front ++ Vxlan v ∷ hs) ≡ encaps hs + 1) × (drop 3 (o.front ++ Vxlan v ∷ hs) ≡ hs)
+pub in_front : (bytes inner : List ℕ) (v : ℕ) (o : Opened) (hs : List Header) → opened_of bytes ≡ Ok o → within o.end ≡ Some (v, inner) → (encaps (o.front ++ Vxlan v ∷ hs) ≡ encaps hs + 1) × (drop 3 (o.front ++ Vxlan v ∷ hs) ≡ hs)
 in_front bytes inner v o hs h w =
     let Q : Opened → Type 0 = λ o. within o.end ≡ Some (v, inner) → (encaps (o.front ++ Vxlan v ∷ hs) ≡ encaps hs + 1) × (drop 3 (o.front ++ Vxlan v ∷ hs) ≡ hs) in
     let c : OpenedCases bytes Q = record {
@@ -124,7 +124,7 @@ in_front bytes inner v o hs h w =
     } in
     opened_cases bytes Q o c h w
 
-inner_same : (bytes inside : List ℕ) (v : ℕ) (o : Opened) (hs : List Header) → opened_of bytes ≡ Ok o → within o.end ≡ Some (v, inside) → inner (o.front ++ Vxlan v ∷ hs) ≡ inner hs
+pub inner_same : (bytes inside : List ℕ) (v : ℕ) (o : Opened) (hs : List Header) → opened_of bytes ≡ Ok o → within o.end ≡ Some (v, inside) → inner (o.front ++ Vxlan v ∷ hs) ≡ inner hs
 inner_same bytes inside v o hs h w =
     let f = in_front bytes inside v o hs h w in
     ap (λ (n : ℕ). drop n (o.front ++ Vxlan v ∷ hs)) (omega (arith, f.0)) ∙ sym (drop-drop (3 * encaps hs) 3 (o.front ++ Vxlan v ∷ hs)) ∙ ap (drop (3 * encaps hs)) f.1

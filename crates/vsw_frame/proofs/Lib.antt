@@ -11,3 +11,5 @@ pub mod Opens
 pub mod Kept
 pub mod Edits
 pub mod Fitting
+pub mod Carried
+pub mod Sizes

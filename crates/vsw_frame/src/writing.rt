@@ -1,11 +1,11 @@
 //! Rewriting frames.
 
-ghost use Rattle.std.specs.Prelude.{◌≡◌, ◌≤◌, ◌<◌, ◌+◌, ◌*◌, ◌++◌, IsTrue, OnOk, OnErr, length, take, drop};
+ghost use Rattle.std.specs.Prelude.{◌≡◌, ◌≤◌, ◌<◌, ◌+◌, ◌*◌, ◌++◌, IfOk, IsTrue, OnOk, OnErr, length, take, drop};
 ghost use Rattle.vsw_base.specs.Shape as shape;
 ghost use Rattle.vsw_base.specs.Shape.{encaps, inner, is_stack};
 ghost use Rattle.vsw_change.specs.Push.{pushed, AreEncaps};
 ghost use Rattle.vsw_frame.specs.Bytes as bytes;
-ghost use Rattle.vsw_frame.specs.Bytes.{AreLike, IsEdit, answer, levels_changed, outgoing, total_over};
+ghost use Rattle.vsw_frame.specs.Bytes.{AreLike, IsEdit, answer, levels_changed, outgoing, outgoing_size, total_over};
 ghost use Rattle.vsw_frame.specs.Frame.{parts};
 ghost use Rattle.vsw_frame.specs.Levels.{levels_of, Stand};
 ghost use Rattle.vsw_transpose.specs.Apply.{apply};
@@ -93,6 +93,7 @@ fn rewrite_to(frame: &Frame<'_>, edited: &Stack, kept: u8, out: &mut [u8]) -> Re
     requires edit { IsEdit (parts frame.now).stack edited.now kept }
     requires room { 65700 ≤ length out.old }
     ensures answer { result ≡ answer (parts frame.now) edited.now kept }
+    ensures size { IfOk result (λ len. len ≡ outgoing_size (parts frame.now) edited.now kept) }
     ensures written { OnOk result (out.new ≡ outgoing (parts frame.now) edited.now kept ++ drop (length (outgoing (parts frame.now) edited.now kept)) out.old) }
     ensures unchanged { OnErr result (out.new ≡ out.old) }
 {
@@ -120,6 +121,7 @@ pub fn rewrite(frame: &Frame<'_>, by: &Transposition, out: &mut [u8]) -> Result<
     requires fits { IsTrue (fits by.now (parts frame.now).stack) }
     requires room { 65700 ≤ length out.old }
     ensures answer { result ≡ answer (parts frame.now) (apply by.now (parts frame.now).stack) (kept by.now) }
+    ensures size { IfOk result (λ len. len ≡ outgoing_size (parts frame.now) (apply by.now (parts frame.now).stack) (kept by.now)) }
     ensures written { OnOk result (out.new ≡ outgoing (parts frame.now) (apply by.now (parts frame.now).stack) (kept by.now) ++ drop (length (outgoing (parts frame.now) (apply by.now (parts frame.now).stack) (kept by.now))) out.old) }
     ensures unchanged { OnErr result (out.new ≡ out.old) }
 {

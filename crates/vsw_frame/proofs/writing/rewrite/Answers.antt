@@ -1,9 +1,9 @@
 use Rattle.std.proofs.Common.{◌≡◌, ◌∙◌, ℕ, List, ◌++◌, drop, length, ap, subst}
-use Rattle.std.specs.Prelude.{OnOk}
+use Rattle.std.specs.Prelude.{IfOk, OnOk}
 use Rattle.vsw_base.specs.declared.header.Header.{Header}
 use Rattle.vsw_base.specs.Frame.{Parts}
 use Rattle.vsw_transpose.specs.Apply.{apply}
-use Rattle.vsw_frame.specs.Bytes.{answer, outgoing}
+use Rattle.vsw_frame.specs.Bytes.{answer, outgoing, outgoing_size}
 use Rattle.vsw_frame.specs.Frame.{parts}
 use Rattle.vsw_frame.proofs.writing.rewrite.Goals as goal
 
@@ -23,3 +23,10 @@ returns-clause-written c =
     let made : c.edited-edited.result ≡ apply c.args.by.now p.stack = c.edited-edited.ensures.done ∙ ap (apply c.args.by.now) c.stack-stack.ensures in
     let first = subst (λ (hs : List Header). OnOk c.rewrite_to.result (new ≡ outgoing p hs c.kept.result ++ drop (length (outgoing p hs c.kept.result)) old)) made c.rewrite_to.ensures.written in
     subst (λ (k : ℕ). OnOk c.rewrite_to.result (new ≡ outgoing p (apply c.args.by.now p.stack) k ++ drop (length (outgoing p (apply c.args.by.now p.stack) k)) old)) c.kept.ensures.value first
+
+pub returns-clause-size : goal.returns-clause-size
+returns-clause-size c =
+    let p : Parts = parts c.args.frame.now in
+    let made : c.edited-edited.result ≡ apply c.args.by.now p.stack = c.edited-edited.ensures.done ∙ ap (apply c.args.by.now) c.stack-stack.ensures in
+    let first = subst (λ (hs : List Header). IfOk c.rewrite_to.result (λ (len : ℕ). len ≡ outgoing_size p hs c.kept.result)) made c.rewrite_to.ensures.size in
+    subst (λ (k : ℕ). IfOk c.rewrite_to.result (λ (len : ℕ). len ≡ outgoing_size p (apply c.args.by.now p.stack) k)) c.kept.ensures.value first

@@ -4,7 +4,7 @@ use Rattle.vsw_base.specs.Shape.{encaps, inner}
 use Rattle.vsw_frame.specs.Bytes.{outgoing}
 use Rattle.vsw_frame.specs.Frame.{parts}
 use Rattle.vsw_frame.specs.Levels.{Stand, level_fields, levels_of, more_levels}
-use Rattle.vsw_frame.proofs.Edits.{Computes, long_answer, short_answer, room_fits, outgoing_is}
+use Rattle.vsw_frame.proofs.Edits.{Computes, long_answer, short_answer, size_is, room_fits, outgoing_is}
 use Rattle.vsw_frame.proofs.writing.rewrite_to.Goals as goal
 
 pub returns-then-total-gt-TOTAL_MAX-clause-answer : goal.returns-then-total-gt-TOTAL_MAX-clause-answer
@@ -48,3 +48,16 @@ returns-clause-answer c =
     let short : n ≤ 65600 = stand.short in
     let len : 50 * c.from.result + n ≡ length (outgoing p c.args.edited.now c.args.kept) = omega (arith, short, c.from.ensures, c.encaps-2.ensures.few, ap length bytes, length-take (50 * c.from.result + n) c.args.out.now) in
     short_answer p c.args.edited.now c.args.kept (level_fields ls.first) rest from c.encaps-2.result c.outer_total-total.result (50 * c.from.result + n) known c.if-total-gt-TOTAL_MAX.false len
+
+pub returns-clause-size : goal.returns-clause-size
+returns-clause-size c =
+    let p : Parts = parts c.args.frame.now in
+    let ls = c.levels_without-levels.result in
+    let rest : List Level = more_levels ls.second ++ more_levels ls.third in
+    let known : Computes p c.args.edited.now c.args.kept (level_fields ls.first) rest c.encaps.result c.encaps-2.result c.outer_total-total.result = record {
+      of_stack = c.encaps.ensures.count ∙ ap encaps c.stack-stack.ensures;
+      of_edited = c.encaps-2.ensures.count;
+      levels = c.levels_without-levels.ensures.levels ∙ ap (drop (c.encaps.result - c.args.kept)) c.all_levels.ensures.levels;
+      total_is = c.outer_total-total.ensures;
+    } in
+    omega (arith, c.from.ensures, size_is p c.args.edited.now c.args.kept (level_fields ls.first) rest c.encaps.result c.encaps-2.result c.outer_total-total.result known)

@@ -1,5 +1,5 @@
--- When a packet gets longer than an IPv4 header can tell.
-use Rattle.std.specs.Prelude.{ℕ, zero, suc, ◌-◌, List, Bool, nat_lt}
+-- How long a packet gets, and when that is more than an IPv4 header can tell.
+use Rattle.std.specs.Prelude.{ℕ, zero, suc, ◌+◌, ◌-◌, ◌*◌, List, Bool, nat_lt}
 use Rattle.vsw_base.specs.declared.flow.Crossing.{Crossing}
 use Rattle.vsw_base.specs.declared.header.Header.{Header}
 use Rattle.vsw_base.specs.declared.packet.Sizes.{Sizes}
@@ -18,3 +18,8 @@ outer_total x edited kept = total_over (pushes edited kept) (size_without x.size
 
 abbrev pub is_long : Crossing → List Header → ℕ → Bool
 is_long x edited kept = nat_lt 65535 (outer_total x edited kept)
+
+-- the bytes of what leaves with this edited stack, told by the frame's sizes: those without the dropped encapsulations, and 50 for each that
+-- is pushed
+abbrev pub outgoing_size : Crossing → List Header → ℕ → ℕ
+outgoing_size x edited kept = size_without x.sizes (encaps x.id.stack - kept) + 50 * pushes edited kept

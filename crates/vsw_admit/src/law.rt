@@ -1,8 +1,10 @@
-//! What holds of long packets.
+//! What a crossing's sizes tell.
 
-ghost use Rattle.vsw_admit.specs.Law.{IsLongAlike};
+ghost use Rattle.vsw_admit.specs.Law.{IsLongAlike, IsSized};
 
-/// A packet is long exactly where its outgoing bytes can't be written.
+/// A packet is long exactly where its outgoing bytes can't be written, and what leaves has as many bytes
+/// as the sizes tell.
 pub fn laws()
-    ensures { IsLongAlike }
+    ensures long { IsLongAlike }
+    ensures sized { IsSized }
 {}

@@ -1,2 +1,3 @@
+pub mod Fates
 pub mod Passes
 pub mod Numbers

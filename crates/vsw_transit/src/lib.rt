@@ -1,8 +1,10 @@
 //! One frame's way through its port: over the layers, and out with the bytes that its edited headers give.
 #![tactic(auto)]
 
+mod law;
 mod passing;
 mod room;
 
+pub use law::laws;
 pub use passing::{Outcome, transit};
 pub use room::Room;

@@ -4,8 +4,9 @@ ghost use Rattle.std.specs.Prelude.{◌≡◌, ◌≤◌, ◌<◌, ◌+◌, ◌-
 ghost use Rattle.vsw_base.specs.declared.fate.Fate.TheVariants.{Pass, Drop};
 ghost use Rattle.vsw_base.specs.declared.fate.Verdict.TheVariants as verdict;
 ghost use Rattle.vsw_crossing.specs.Walk.{walk_of};
-ghost use Rattle.vsw_frame.specs.Bytes.{outer_total, outgoing};
+ghost use Rattle.vsw_frame.specs.Bytes.{outer_total, outgoing, outgoing_size};
 ghost use Rattle.vsw_frame.specs.Frame.{parts};
+ghost use Rattle.vsw_transit.specs.Fate.{fate_at};
 ghost use Rattle.vsw_transit.specs.Transit.{AreAtMost, IsOfFrame, MayBeShort, bytes_in, is_short, len_of, met, told};
 ghost use Rattle.vsw_transpose.specs.Apply.{apply};
 ghost use Rattle.vsw_transpose.specs.Fits.{fits, kept};
@@ -32,6 +33,7 @@ fn leave(frame: &Frame<'_>, by: &Transposition, out: &mut [u8]) -> Fate
     requires short { nat_lt 65535 (outer_total (parts frame.now) (apply by.now (parts frame.now).stack) (kept by.now)) ≡ false }
     requires room { length out.old ≡ 65700 }
     ensures fate { result ≡ Pass (length (outgoing (parts frame.now) (apply by.now (parts frame.now).stack) (kept by.now))) }
+    ensures size { result ≡ Pass (outgoing_size (parts frame.now) (apply by.now (parts frame.now).stack) (kept by.now)) }
     ensures bytes { bytes_in result out.new ≡ outgoing (parts frame.now) (apply by.now (parts frame.now).stack) (kept by.now) }
     ensures len { len_of result ≤ 65700 }
 {
@@ -70,6 +72,7 @@ fn pass(
     requires kept { kept walked.now.by ≡ (walk_of policy.old.layers crossing.now).kept }
     requires room { length out.old ≡ 65700 }
     ensures exact { told result.fate result.entry out.new policy.new.layers ≡ met (is_short result.fate) policy.old.layers crossing.now (parts frame.now) }
+    ensures fate { is_short result.fate ≡ false → result.fate ≡ fate_at policy.old.layers crossing.now }
     ensures memory { MayBeShort (is_short result.fate) policy.old.layers crossing.now }
     ensures len { len_of result.fate ≤ 65700 }
 {
@@ -83,8 +86,9 @@ fn pass(
         Err(stop) => dropped(stop.cause()),
     }
 }
+
 /// A frame crosses the layers of its port. Where it passes, its outgoing bytes stand at the front of the
-/// room. A drop changes nothing; `memory` tells when it may be for want of memory.
+/// room, as many as its sizes tell. A drop changes nothing; `memory` tells when it may be for want of memory.
 pub fn transit(
     policy: &mut Policy,
     crossing: &Crossing,
@@ -94,6 +98,7 @@ pub fn transit(
     requires numbers { AreAtMost (2 ^ 32 - 2) policy.old.layers }
     requires of { IsOfFrame crossing.now (parts frame.now) }
     ensures exact { told result.fate result.entry room.new policy.new.layers ≡ met (is_short result.fate) policy.old.layers crossing.now (parts frame.now) }
+    ensures fate { is_short result.fate ≡ false → result.fate ≡ fate_at policy.old.layers crossing.now }
     ensures memory { MayBeShort (is_short result.fate) policy.old.layers crossing.now }
     ensures len { len_of result.fate ≤ 65700 }
     ensures numbers { (n : ℕ) → AreAtMost n policy.old.layers → AreAtMost (n + 1) policy.new.layers }

@@ -1,5 +1,5 @@
-use Rattle.vsw_admit.proofs.Alike.{long_alike}
+use Rattle.vsw_admit.proofs.Alike.{long_alike, sized}
 use Rattle.vsw_admit.proofs.law.laws.Goals as goal
 
 pub returns : goal.returns
-returns c = long_alike
+returns c = record { long = long_alike; sized = sized }

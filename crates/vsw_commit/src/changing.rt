@@ -12,6 +12,7 @@ fn change(policy: &mut Policy, wanted: &Wanted)
     requires can { CanDo wanted.now policy.old.layers }
     requires room { HasRoom wanted.now policy.old }
     ensures done { policy.new.layers ≡ done wanted.now policy.old.layers }
+    ensures controllers { policy.new.controllers ≡ policy.old.controllers }
     ensures rooms { (ws : List Wanted) → AreApart (wanted.now ∷ ws) → AllRoom ws policy.old → AllRoom ws policy.new }
 {
     match wanted {
@@ -31,7 +32,8 @@ pub fn change_all(policy: &mut Policy, changes: &[Wanted])
     requires can { CanAll changes.now policy.old.layers }
     requires room { AllRoom changes.now policy.old }
     requires apart { AreApart changes.now }
-    ensures { policy.new.layers ≡ all_done changes.now policy.old.layers }
+    ensures done { policy.new.layers ≡ all_done changes.now policy.old.layers }
+    ensures controllers { policy.new.controllers ≡ policy.old.controllers }
 {
     let [wanted, rest @ ..] = changes else {
         return;

@@ -30,6 +30,7 @@ pub fn commit(
     requires kept { walked.now.verdict ≡ Pass → fit.kept walked.now.by ≡ (walk_of policy.old.layers crossing.now).kept }
     ensures exact { is_memory result ≡ false → told walked.now.verdict (apply walked.now.by crossing.now.id.stack) (fit.kept walked.now.by) result policy.new.layers ≡ cross_of policy.old.layers crossing.now }
     ensures memory { is_memory result ≡ true → makes (made_by policy.old.layers crossing.now) ≡ true }
+    ensures controllers { policy.new.controllers ≡ policy.old.controllers }
     ensures unchanged { OnErr result (policy.new.layers ≡ policy.old.layers) }
 {
     let Verdict::Pass = walked.verdict else {

@@ -15,6 +15,7 @@ fn reserve(policy: &mut Policy, change: &Wanted) -> Result<(), NoMemory>
     ensures room { OnOk result (HasRoom change.now policy.new) }
     ensures rooms { (k : ℕ) → room_at policy.old k ≤ room_at policy.new k }
     ensures layers { policy.new.layers ≡ policy.old.layers }
+    ensures controllers { policy.new.controllers ≡ policy.old.controllers }
     ensures makes { OnErr result (is_make change.now ≡ true) }
 {
     match change {
@@ -29,6 +30,7 @@ pub fn reserve_all(policy: &mut Policy, changes: &[Wanted]) -> Result<(), NoMemo
     ensures room { OnOk result (AllRoom changes.now policy.new) }
     ensures rooms { (k : ℕ) → room_at policy.old k ≤ room_at policy.new k }
     ensures layers { policy.new.layers ≡ policy.old.layers }
+    ensures controllers { policy.new.controllers ≡ policy.old.controllers }
     ensures makes { OnErr result (makes changes.now ≡ true) }
 {
     let [change, rest @ ..] = changes else {

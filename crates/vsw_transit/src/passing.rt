@@ -74,6 +74,7 @@ fn pass(
     ensures exact { told result.fate result.entry out.new policy.new.layers ≡ met (is_short result.fate) policy.old.layers crossing.now (parts frame.now) }
     ensures fate { is_short result.fate ≡ false → result.fate ≡ fate_at policy.old.layers crossing.now }
     ensures memory { MayBeShort (is_short result.fate) policy.old.layers crossing.now }
+    ensures controllers { policy.new.controllers ≡ policy.old.controllers }
     ensures len { len_of result.fate ≤ 65700 }
 {
     // It tells the proof that the packet's headers are those of a frame.
@@ -100,6 +101,7 @@ pub fn transit(
     ensures exact { told result.fate result.entry room.new policy.new.layers ≡ met (is_short result.fate) policy.old.layers crossing.now (parts frame.now) }
     ensures fate { is_short result.fate ≡ false → result.fate ≡ fate_at policy.old.layers crossing.now }
     ensures memory { MayBeShort (is_short result.fate) policy.old.layers crossing.now }
+    ensures controllers { policy.new.controllers ≡ policy.old.controllers }
     ensures len { len_of result.fate ≤ 65700 }
     ensures numbers { (n : ℕ) → AreAtMost n policy.old.layers → AreAtMost (n + 1) policy.new.layers }
 {

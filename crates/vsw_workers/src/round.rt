@@ -1,0 +1,63 @@
+//! One round: all jobs of all actors, each actor in a thread of its own.
+
+ghost use Rattle.std.specs.Prelude.{◌≡◌, ℕ, List, ◌<◌, length, slice_index_or};
+ghost use Rattle.vsw_workers.specs.Rounds.{Finishes, AllFinish};
+
+use crate::{Forwarder, Gate};
+use std::alloc::Global;
+use std::sync::Wait;
+use std::thread;
+use std::thread::Threads;
+
+/// Does every job of every actor, each actor in a thread of its own. Where the system refuses a thread,
+/// its actors are run by another, one after the other: so a gate that waits for another actor gives up.
+pub fn run_round<R: Threads + Wait + Sync, F: Forwarder + Send, G: Gate + Sync>(
+    rt: &R,
+    alloc: Global,
+    actors: &mut [F],
+    gate: &G,
+)
+    ensures { AllFinish F.what F.done F.todo actors.old actors.new }
+{
+    run_each(rt, alloc, actors, gate);
+}
+
+/// The same, told by places.
+fn run_each<R: Threads + Wait + Sync, F: Forwarder + Send, G: Gate + Sync>(
+    rt: &R,
+    alloc: Global,
+    actors: &mut [F],
+    gate: &G,
+)
+    ensures { (i : ℕ) (d : F) → i < length actors.old → Finishes F.what F.done F.todo (slice_index_or actors.old i d) (slice_index_or actors.new i d) }
+{
+    let threads = actors.len();
+    if threads == 0 {
+        return;
+    }
+    thread::for_each_mut(
+        rt,
+        actors,
+        threads,
+        &|place, actor| run_actor(rt, alloc, place, actor, gate),
+    );
+}
+
+/// Does all jobs of the actor at `place`. A place of 2^32 or more, which no memory has room for, would be
+/// told modulo 2^32.
+fn run_actor<R: Wait, F: Forwarder, G: Gate>(
+    rt: &R,
+    alloc: Global,
+    place: usize,
+    actor: &mut F,
+    gate: &G,
+)
+    ensures { Finishes F.what F.done F.todo actor.old actor.new }
+{
+    let number = (place % 0x1_0000_0000) as u32;
+    for job in 0..actor.left() {
+        gate.enter(number, job);
+        actor.job(rt, alloc);
+        gate.leave(number, job);
+    }
+}

@@ -1,0 +1,194 @@
+#!/usr/bin/env python3
+"""Makes the captures of the guide's examples (docs/GUIDE.md), the same bytes each time.
+
+    examples/make_traces.py
+
+The machine behind port 1 is 10.0.0.5, the one behind port 2 is 10.0.0.6. They ask a name server, fetch a page and log in
+elsewhere, as a virtual machine does; every checksum is right. `tcpdump -nn -r` shows each capture.
+"""
+import os
+import struct
+import sys
+
+HERE = os.path.dirname(os.path.abspath(__file__))
+sys.path.insert(0, os.path.join(os.path.dirname(HERE), "tools"))
+
+from packets import ether, ipv4, tcp, udp, vxlan, write_capture  # noqa: E402
+
+ONE, TWO = ("02:00:00:00:00:01", "10.0.0.5"), ("02:00:00:00:00:02", "10.0.0.6")
+GATEWAY = "02:00:00:00:00:99"
+NAMES, NEAR_NAMES = "9.9.9.9", "10.0.0.53"
+WEB, LOGIN, STRANGER = "10.0.0.80", "10.0.0.22", "198.51.100.7"
+SYN, ACK, FIN, PSH = 0x02, 0x10, 0x01, 0x08
+PAGE_PORT = 49_210
+QUERY_PORT = 53_124
+MILLISECOND, SECOND = 1_000, 1_000_000
+HTTP, SSH = 80, 22
+
+
+def query(number=0x1A2B):
+    """A DNS query for the address of example.com (RFC 1035, section 4)."""
+    return struct.pack(">6H", number, 0x0100, 1, 0, 0, 0) + b"\x07example\x03com\0" + struct.pack(">2H", 1, 1)
+
+
+def answer(number=0x1A2B):
+    """Its answer: 93.184.215.14, for an hour."""
+    record = struct.pack(">3HIH", 0xC00C, 1, 1, 3_600, 4) + bytes([93, 184, 215, 14])
+    return struct.pack(">6H", number, 0x8180, 1, 1, 0, 0) + query()[12:] + record
+
+
+def going(machine, packet):
+    """From the machine to its gateway."""
+    return ether(GATEWAY, machine[0], 0x0800, packet)
+
+
+def coming(machine, packet):
+    """To the machine from its gateway."""
+    return ether(machine[0], GATEWAY, 0x0800, packet)
+
+
+def ask(server, machine=ONE, port=QUERY_PORT, text=None):
+    payload = query() if text is None else text
+    return going(machine, ipv4(machine[1], server, 17, udp(machine[1], server, port, 53, payload)))
+
+
+def told(server, machine=ONE, address=None, port=QUERY_PORT):
+    """The answer of the name server, to this address of the machine."""
+    address = address or machine[1]
+    return coming(machine, ipv4(server, address, 17, udp(server, address, 53, port, answer())))
+
+
+def segment_out(server, dst_port, flags, seq, ack, payload=b"", machine=ONE, src_port=PAGE_PORT):
+    src = machine[1]
+    return going(machine, ipv4(src, server, 6, tcp(src, server, src_port, dst_port, flags, seq, ack, payload)))
+
+
+def segment_in(server, src_port, flags, seq, ack, payload=b"", machine=ONE, address=None, dst_port=PAGE_PORT):
+    dst = address or machine[1]
+    return coming(machine, ipv4(server, dst, 6, tcp(server, dst, src_port, dst_port, flags, seq, ack, payload)))
+
+
+def connect(server, dst_port, machine=ONE, src_port=PAGE_PORT):
+    return segment_out(server, dst_port, SYN, 1_000, 0, machine=machine, src_port=src_port)
+
+
+def who_has(machine, address):
+    """An ARP request to all (RFC 826)."""
+    ends = bytes(int(part) for part in machine[1].split(".")), bytes(int(part) for part in address.split("."))
+    mac = bytes.fromhex(machine[0].replace(":", ""))
+    return ether("ff:ff:ff:ff:ff:ff", machine[0], 0x0806, struct.pack(">HHBBH", 1, 0x0800, 6, 4, 1) + mac + ends[0] + bytes(6) + ends[1])
+
+
+def tunnelled(vni, frame):
+    """In VXLAN from the far end of the tunnel, 172.16.0.2, to the near one."""
+    datagram = udp("172.16.0.2", "172.16.0.1", 60_000, 4_789, vxlan(vni, frame), has_checksum=False)
+    return ether("02:00:00:00:0a:01", "02:00:00:00:0a:02", 0x0800, ipv4("172.16.0.2", "172.16.0.1", 17, datagram))
+
+
+def addresses():
+    return [
+        ask(NAMES),
+        told(NAMES),
+        who_has(ONE, WEB),
+        connect(WEB, HTTP),
+        connect(LOGIN, SSH),
+        connect(STRANGER, HTTP),
+        segment_in(STRANGER, 40_022, SYN, 7_000, 0, dst_port=SSH),
+    ]
+
+
+def two_controllers():
+    service = "10.0.0.100"
+    return [
+        connect(service, HTTP),
+        connect(service, HTTP, machine=TWO),
+        connect(WEB, HTTP),
+        connect(WEB, HTTP, machine=TWO),
+        connect(LOGIN, SSH),
+        segment_in(WEB, HTTP, SYN | ACK, 5_000, 1_001),
+    ]
+
+
+def translation():
+    outside = "192.0.2.7"
+    page = b"GET / HTTP/1.1\r\nHost: example.com\r\n\r\n"
+    reply = b"HTTP/1.1 200 OK\r\nContent-Length: 2\r\n\r\nhi"
+    site = "93.184.215.14"
+    after_page, after_reply = 1_001 + len(page), 5_001 + len(reply)
+    return [
+        ask(NAMES),
+        told(NAMES, address=outside),
+        connect(site, HTTP),
+        segment_in(site, HTTP, SYN | ACK, 5_000, 1_001, address=outside),
+        segment_out(site, HTTP, ACK, 1_001, 5_001),
+        segment_out(site, HTTP, PSH | ACK, 1_001, 5_001, page),
+        segment_in(site, HTTP, PSH | ACK, 5_001, after_page, reply, address=outside),
+        segment_in(site, HTTP, FIN | ACK, after_reply, after_page, address=outside),
+        segment_out(site, HTTP, FIN | ACK, after_page, after_reply + 1),
+        segment_in(site, HTTP, ACK, after_reply + 1, after_page + 1, address=outside),
+        segment_in(STRANGER, 40_022, SYN, 7_000, 0, address=outside, dst_port=SSH),
+        ask(NAMES),
+    ]
+
+
+def tunnel():
+    server = "10.0.1.53"
+    return [
+        ask(server),
+        tunnelled(5_001, told(server)),
+        tunnelled(5_002, told(server)),
+        told(server),
+        ask(NAMES),
+    ]
+
+
+def groups():
+    return [
+        ask(NEAR_NAMES),
+        connect(WEB, HTTP),
+        connect(WEB, SSH),
+        connect(LOGIN, HTTP),
+        ask("10.0.7.53"),
+        ask(NAMES),
+        connect(STRANGER, HTTP),
+        ask(STRANGER),
+    ]
+
+
+def drops():
+    return [
+        ask(NEAR_NAMES),
+        ask(NEAR_NAMES, port=QUERY_PORT + 1),
+        ask("10.0.0.54"),
+        ask("10.0.0.55"),
+        ask(NEAR_NAMES),
+        ask(NEAR_NAMES, text=query() + bytes(65_500 - 28 - len(query()))),
+    ]
+
+
+TRACES = {
+    "1-addresses": addresses,
+    "2-two-controllers": two_controllers,
+    "3-translation": translation,
+    "4-vxlan": tunnel,
+    "5-groups": groups,
+    "6-drops": drops,
+    "7-bad-policies": lambda: [ask(NAMES)],
+}
+
+# The moment of a packet, where it isn't its number of hundredths of a second.
+LATE = {("3-translation", 11): 100 * SECOND}
+
+
+def main():
+    for name, frames in TRACES.items():
+        records = []
+        for number, frame in enumerate(frames()):
+            moment = LATE.get((name, number), number * 10 * MILLISECOND)
+            records.append((moment, frame, len(frame)))
+        os.makedirs(os.path.join(HERE, name), exist_ok=True)
+        with open(os.path.join(HERE, name, "trace.pcap"), "wb") as file:
+            file.write(write_capture(records))
+
+
+main()

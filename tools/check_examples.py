@@ -1,0 +1,108 @@
+#!/usr/bin/env python3
+"""Checks the examples of docs/GUIDE.md, and the copies of their files that the gate runs.
+
+    tools/check_examples.py [--copy]
+
+Makes each capture anew and compares it; works each report out by the rules once more (tools/plain_switch.py); runs `./vsw`
+over each example and compares what it puts, complains and ends with; compares the files that the crates `vsw` and
+`vsw_examples` run in the gate. `--copy` writes these files first.
+"""
+import os
+import shutil
+import subprocess
+import sys
+
+import plain_switch
+
+ROOT = os.path.dirname(os.path.dirname(os.path.abspath(__file__)))
+EXAMPLES = os.path.join(ROOT, "examples")
+FOLDERS = sorted(name for name in os.listdir(EXAMPLES) if name[0].isdigit())
+BAD = FOLDERS[-1]
+STATUSES = {"refused": 5, "limit": 6}
+
+
+def read(*path):
+    with open(os.path.join(EXAMPLES, *path), "rb") as file:
+        return file.read()
+
+
+def policies(folder):
+    return sorted(name for name in os.listdir(os.path.join(EXAMPLES, folder)) if name.endswith(".json"))
+
+
+def runs():
+    """The runs in the gate's order: folder, policy, what is put, what is complained."""
+    for folder in FOLDERS:
+        for policy in policies(folder):
+            said = policy.replace(".json", ".said")
+            if folder == BAD:
+                yield folder, policy, b"", read(folder, said)
+            else:
+                yield folder, policy, read(folder, "report.txt"), b""
+
+
+def wanted():
+    """Each file of the crates, by its path, with the bytes that it should have."""
+    files = {("vsw", "stdout"): read("first", "report.txt"), ("vsw_examples", "data", "commands.jsonl"): b""}
+    for name in ("policy.json", "commands.jsonl", "trace.pcap"):
+        files["vsw", "data", name] = read("first", name)
+    files["vsw_examples", "stdout"] = b"".join(put + said for _, _, put, said in runs())
+    for folder, policy, _, _ in runs():
+        for name in (policy, "trace.pcap"):
+            files["vsw_examples", "data", folder, name] = read(folder, name)
+    return {os.path.join(ROOT, "crates", *path): data for path, data in files.items()}
+
+
+def copy():
+    shutil.rmtree(os.path.join(ROOT, "crates", "vsw_examples", "data"), ignore_errors=True)
+    for path, data in wanted().items():
+        os.makedirs(os.path.dirname(path), exist_ok=True)
+        with open(path, "wb") as file:
+            file.write(data)
+
+
+def compare(what, is_well):
+    print(("ok      " if is_well else "DIFFERS ") + what)
+    return is_well
+
+
+def check_copies():
+    for path, data in wanted().items():
+        with open(path, "rb") as file:
+            yield compare(os.path.relpath(path, ROOT), file.read() == data)
+
+
+def check_captures():
+    before = {folder: read(folder, "trace.pcap") for folder in FOLDERS}
+    subprocess.run([os.path.join(EXAMPLES, "make_traces.py")], check=True)
+    for folder in FOLDERS:
+        yield compare(f"capture of {folder}", read(folder, "trace.pcap") == before[folder])
+
+
+def check_reports():
+    for folder, policy, put, _ in runs():
+        if folder != BAD:
+            report = plain_switch.report(read(folder, policy), read(folder, "trace.pcap"))
+            yield compare(f"report of {folder} by the rules", report.encode() == put)
+
+
+def check_runs():
+    for folder, policy, put, said in [("first", "policy.json", read("first", "report.txt"), b""), *runs()]:
+        files = [os.path.join(EXAMPLES, folder, name) for name in (policy, "commands.jsonl", "trace.pcap")]
+        ran = subprocess.run([os.path.join(ROOT, "vsw"), "forward", *files], capture_output=True)
+        status = STATUSES[said.split()[1].decode()] if said else 0
+        is_well = (ran.stdout, ran.stderr, ran.returncode) == (put, said, status)
+        yield compare(f"run of {folder}/{policy}", is_well)
+
+
+def main():
+    if sys.argv[1:] not in ([], ["--copy"]):
+        sys.exit(__doc__)
+    if sys.argv[1:]:
+        copy()
+    results = [*check_copies(), *check_captures(), *check_reports(), *check_runs()]
+    print(f"{sum(results)} of {len(results)} as they should be")
+    sys.exit(0 if all(results) else 1)
+
+
+main()

@@ -1,0 +1,339 @@
+"""The switch's rules once more, in plain Python, to check what the examples expect.
+
+Written from docs/MODEL.md and docs/FORMATS.md alone, apart from the switch's code and definitions. It takes good policies
+and traces, no commands and no fragments, and computes checksums anew where the switch updates them: frames need right ones.
+"""
+import ipaddress
+import json
+import struct
+
+from packets import VXLAN_PORT, mac_bytes, ones_sum, pseudo, read_capture
+
+ROUND = 1_024
+SET_FIELDS = ["dst_mac", "src_mac", "src_ip", "dst_ip", "src_port", "dst_port"]
+MIRROR = {"src_ip": "dst_ip", "dst_ip": "src_ip", "src_port": "dst_port", "dst_port": "src_port",
+          "src_mac": "dst_mac", "dst_mac": "src_mac"}
+
+
+def address(text):
+    return int(ipaddress.IPv4Address(text))
+
+
+def mac(text):
+    return int.from_bytes(mac_bytes(text), "big")
+
+
+class Packet:
+    """A frame as its encapsulations, outermost first, and the fields of its innermost headers."""
+
+    def __init__(self, data):
+        self.encaps, self.control, self.sizes = [], None, []
+        while True:
+            self.sizes.append(len(data))
+            fields, rest = self.headers(data)
+            is_vxlan = len(self.encaps) < 2 and fields.get("proto") == 17 and fields["dst_port"] == VXLAN_PORT
+            if not (is_vxlan and len(rest) >= 8 and rest[0] & 8):
+                break
+            self.encaps.append({**fields, "vni": int.from_bytes(rest[4:7], "big")})
+            data = rest[8:]
+        self.fields, self.data, self.kept, self.pushed = fields, data, len(self.encaps), []
+
+    def headers(self, data):
+        """The fields of an Ethernet frame, with IPv4 and ports where it has them, and its UDP payload."""
+        fields = {"dst_mac": int.from_bytes(data[:6], "big"), "src_mac": int.from_bytes(data[6:12], "big")}
+        fields["kind"] = struct.unpack(">H", data[12:14])[0]
+        if fields["kind"] != 0x0800:
+            return fields, b""
+        start = 14 + (data[14] & 15) * 4
+        end = 14 + struct.unpack(">H", data[16:18])[0]
+        fields.update(proto=data[23], part=0, src_ip=int.from_bytes(data[26:30], "big"), dst_ip=int.from_bytes(data[30:34], "big"))
+        if fields["proto"] not in (6, 17):
+            return fields, b""
+        fields["src_port"], fields["dst_port"] = struct.unpack(">HH", data[start:start + 4])
+        if fields["proto"] == 6:
+            flags = data[start + 13]
+            syn = ("SynAck" if flags & 0x10 else "Syn") if flags & 0x02 else None
+            self.control = "Rst" if flags & 0x04 else "Fin" if flags & 0x01 else syn
+        return fields, data[start + 8:end]
+
+    def stack(self):
+        """The encapsulations and innermost fields as the layers see them."""
+        return self.pushed + self.encaps[len(self.encaps) - self.kept:], self.fields
+
+
+# Conditions, rules, choice
+
+def holds(condition, encaps, fields):
+    field = condition["field"]
+    if field == "vni" or field.startswith("outer_"):
+        value = encaps[0].get(field.removeprefix("outer_")) if encaps else None
+    else:
+        value = fields.get(field)
+    return value is not None and any(lies(item, field, value) for item in condition["any"])
+
+
+def number(field, text):
+    return address(text) if field.endswith("_ip") else mac(text) if field.endswith("_mac") else text
+
+
+def lies(item, field, value):
+    if isinstance(item, list):
+        return number(field, item[0]) <= value <= number(field, item[1])
+    if field.endswith("_ip"):
+        return ipaddress.IPv4Address(value) in ipaddress.ip_network(item, strict=False)
+    return number(field, item) == value
+
+
+def matches(rule, encaps, fields):
+    edit = rule["action"] if isinstance(rule["action"], dict) else {"decap": False, "encap": None}
+    if edit["decap"] and not encaps or edit["encap"] and not edit["decap"] and len(encaps) == 2:
+        return False
+    if rule["stateful"] and "src_ip" not in fields:
+        return False
+    return all(holds(condition, encaps, fields) for condition in rule["when"])
+
+
+def choose(layer, way, encaps, fields):
+    """The chosen (group, rule), or None."""
+    chosen = None
+    for group in layer["groups"]:
+        if group["dir"] != way or not all(holds(condition, encaps, fields) for condition in group["when"]):
+            continue
+        fit = [rule for rule in group["rules"] if matches(rule, encaps, fields)]
+        if fit:
+            pick = min(fit, key=lambda rule: rule["priority"])
+            chosen = group, pick
+            if pick["last"]:
+                break
+    return chosen
+
+
+# Pairs
+
+def key(encaps, fields):
+    return (tuple(encap["vni"] for encap in encaps), fields.get("src_ip", 0), fields.get("dst_ip", 0), fields.get("proto", 0),
+            fields.get("part", 0), fields.get("src_port", 0), fields.get("dst_port", 0))
+
+
+def mirror(key):
+    vnis, src, dst, proto, part, src_port, dst_port = key
+    return vnis, dst, src, proto, part, dst_port, src_port
+
+
+def opened(fields, control, way):
+    """The state of a new pair."""
+    if fields.get("proto") != 6 or "src_port" not in fields:
+        return "Plain"
+    return {"Rst": "Closed", "Fin": ("Half", way), "SynAck": "Open", "Syn": "Opening", None: "Open"}[control]
+
+
+def moved(state, control, way, pair_way):
+    """The state after a packet, None where it re-opens the pair."""
+    if state == "Plain":
+        return state
+    if state == "Closed":
+        return None if control == "Syn" else state
+    if control == "Rst":
+        return "Closed"
+    if control == "Fin":
+        return state if state == ("Half", way) else "Closed" if isinstance(state, tuple) else ("Half", way)
+    if state == "Opening" and control == "SynAck" and way != pair_way:
+        return "Open"
+    return state
+
+
+def found(layer, way, wanted):
+    for pair in layer["held"]:
+        if (way, wanted) in ((pair["way"], pair["forward"]), (other(pair["way"]), pair["reverse"])):
+            return pair
+    return None
+
+
+def other(way):
+    return {"out": "in", "in": "out"}[way]
+
+
+def life(layer, state):
+    return layer["linger" if state == "Closed" else "idle"] * 1_000_000
+
+
+# Edits
+
+def written(values, fields):
+    return {name: value for name, value in values.items() if name in fields}
+
+
+def edit(packet, action):
+    """Does a rule's action to the packet."""
+    if action["decap"]:
+        if packet.pushed:
+            packet.pushed = packet.pushed[1:]
+        else:
+            packet.kept -= 1
+    values = {name: number(name, text) for name, text in action["set"].items()}
+    packet.fields = {**packet.fields, **written(values, packet.fields)}
+    if action["encap"]:
+        encap = action["encap"]
+        packet.pushed = [{name: number(name, value) for name, value in encap.items()}] + packet.pushed
+
+
+NOTHING = {"decap": False, "set": {}, "encap": None}
+
+
+def flow_sum(fields):
+    total = fields["kind"] + fields.get("proto", 0) + fields.get("src_port", 0) + fields.get("dst_port", 0)
+    for name, words in (("dst_mac", 3), ("src_mac", 3), ("src_ip", 2), ("dst_ip", 2)):
+        total += sum(fields.get(name, 0) >> 16 * place & 0xFFFF for place in range(words))
+    return total
+
+
+def sent(packet):
+    """The outgoing bytes. Kept encapsulations aren't edited here: the examples have none."""
+    fields, data = packet.fields, bytearray(packet.data)
+    assert packet.kept == 0 or fields == Packet(bytes(data)).fields
+    data[:12] = fields["dst_mac"].to_bytes(6, "big") + fields["src_mac"].to_bytes(6, "big")
+    if "src_ip" in fields:
+        start = 14 + (data[14] & 15) * 4
+        end = 14 + struct.unpack(">H", data[16:18])[0]
+        data[26:34] = fields["src_ip"].to_bytes(4, "big") + fields["dst_ip"].to_bytes(4, "big")
+        data[24:26] = b"\0\0"
+        data[24:26] = ones_sum(bytes(data[14:start])).to_bytes(2, "big")
+        if "src_port" in fields:
+            data[start:start + 4] = struct.pack(">HH", fields["src_port"], fields["dst_port"])
+            proto = fields["proto"]
+            at = start + (16 if proto == 6 else 6)
+            if proto == 6 or data[at:at + 2] != b"\0\0":
+                data[at:at + 2] = b"\0\0"
+                front = pseudo(fields["src_ip"], fields["dst_ip"], proto, end - start)
+                value = ones_sum(front + bytes(data[start:end]))
+                data[at:at + 2] = (value or (0xFFFF if proto == 17 else 0)).to_bytes(2, "big")
+    data = bytes(data)
+    for encap in reversed(packet.pushed):
+        inner = len(data)
+        port = 49_152 + flow_sum(fields) % 16_384
+        front = struct.pack(">BBHHHBB", 0x45, 0, inner + 36, 0, 0x4000, 64, 17)
+        ends = encap["src_ip"].to_bytes(4, "big") + encap["dst_ip"].to_bytes(4, "big")
+        data = (encap["dst_mac"].to_bytes(6, "big") + encap["src_mac"].to_bytes(6, "big") + b"\x08\0" + front
+                + struct.pack(">H", ones_sum(front + b"\0\0" + ends)) + ends
+                + struct.pack(">4H", port, VXLAN_PORT, inner + 16, 0) + struct.pack(">II", 0x0800_0000, encap["vni"] << 8) + data)
+    return data
+
+
+# A packet, a run
+
+def visit(layer, way, packet, moment):
+    """What one layer makes of a packet: its drop, or None and what it wants as a list of functions that do it."""
+    encaps, fields = packet.stack()
+    now = key(encaps, fields)
+    pair, wants, leaving = found(layer, way, now), [], None
+    if pair is not None:
+        state = moved(pair["state"], packet.control, way, pair["way"])
+        if state is not None:
+            is_late = moment > pair["last"] + life(layer, state) // 4
+            if state != pair["state"] or is_late:
+                wants.append((layer, None, pair, {"state": state, **({"last": moment} if is_late else {})}))
+            values = pair["set"] if way == pair["way"] else pair["back"]
+            packet.fields = {**fields, **written(values, fields)}
+            return None, wants
+        leaving = pair
+    chosen = choose(layer, way, encaps, fields)
+    name = f"{layer['controller']}/{layer['layer']}"
+    if chosen is None:
+        if layer["default_" + way] == "drop":
+            return f"drop default {name} {way}", []
+    else:
+        group, rule = chosen
+        if rule["action"] == "drop":
+            return f"drop rule {name}/{group['group']}/{rule['rule']}", []
+        edit(packet, rule["action"] if isinstance(rule["action"], dict) else NOTHING)
+        if rule["stateful"]:
+            values = {field: packet.fields[field] for field in SET_FIELDS
+                      if isinstance(rule["action"], dict) and field in rule["action"]["set"] and field in fields}
+            back = {MIRROR[field]: fields[field] for field in values}
+            new = {"way": way, "forward": now, "set": values, "reverse": mirror(key(*packet.stack())), "back": back,
+                   "state": opened(fields, packet.control, way), "last": moment}
+            return None, [(layer, leaving, None, new)]
+    return None, [(layer, leaving, None, None)] if leaving else []
+
+
+def refusal(packet, way, wants):
+    """Why a packet that passed its walk is dropped after all, or None."""
+    length = packet.sizes[len(packet.encaps) - packet.kept]
+    if packet.pushed and length + 36 + 50 * (len(packet.pushed) - 1) > 65_535:
+        return "drop long"
+    for layer, leaving, pair, new in wants:
+        if pair is not None or new is None:
+            continue
+        stay = [held for held in layer["held"] if held is not leaving]
+        name = f"{layer['controller']}/{layer['layer']}"
+        if len(stay) >= layer["pairs"]:
+            return f"drop full {name}"
+        holder = found({**layer, "held": stay}, other(way), new["reverse"])
+        if holder is not None:
+            return f"drop taken {name} {holder['number']}"
+    return None
+
+
+def do(layer, leaving, pair, new):
+    if leaving is not None:
+        layer["held"].remove(leaving)
+    if pair is not None:
+        pair.update(new)
+    elif new is not None:
+        layer["held"].append({**new, "number": layer["next"]})
+        layer["next"] += 1
+
+
+def cross(port, way, packet, moment):
+    """A packet's fate, and whether it changed its port."""
+    wants = []
+    for layer in port["layers"] if way == "out" else reversed(port["layers"]):
+        drop, wanted = visit(layer, way, packet, moment)
+        if drop is not None:
+            return drop, False
+        wants += wanted
+    drop = refusal(packet, way, wants)
+    if drop is not None:
+        return drop, False
+    for want in wants:
+        do(*want)
+    data = sent(packet)
+    return f"pass {len(data)} {data.hex()}", bool(wants)
+
+
+def opened_ports(policy):
+    places = {controller: place for place, controller in enumerate(policy["controllers"])}
+    for port in policy["ports"]:
+        port["layers"].sort(key=lambda layer: (layer["order"], places[layer["controller"]], layer["layer"]))
+        port["count"] = 0
+        for layer in port["layers"]:
+            layer.update(held=[], next=0)
+    return policy["ports"]
+
+
+def report(policy_text, trace):
+    """The report of a run over this policy and trace, without commands."""
+    ports = opened_ports(json.loads(policy_text))
+    macs = {mac(port["mac"]): port for port in ports}
+    lines, records = ["vsw report 1"], read_capture(trace)
+    for first in range(0, max(len(records), 1), ROUND):
+        told, loose, begun = {port["port"]: [] for port in ports}, [], [port["count"] for port in ports]
+        for place, (moment, data, original) in enumerate(records[first:first + ROUND], first):
+            if len(data) < original:
+                loose.append(f"{place} snapped")
+                continue
+            packet = Packet(data)
+            outermost = (packet.encaps or [packet.fields])[0]["src_mac"]
+            way = "out" if outermost in macs else "in"
+            port = macs.get(outermost) or macs.get(packet.fields["dst_mac"])
+            if port is None:
+                loose.append(f"{place} noport")
+                continue
+            fate, is_entry = cross(port, way, packet, moment)
+            told[port["port"]].append(f"w0 {place} {'+' if is_entry else '@'}{port['count']} {fate}")
+            port["count"] += is_entry
+        lines.append(f"round {first}")
+        for port, before in zip(ports, begun):
+            lines += [f"port {port['port']} {before} {port['count']}", *told[port["port"]]]
+        lines += ["loose", *loose]
+    return "".join(line + "\n" for line in lines)

@@ -68,7 +68,7 @@ each_crossed P Out es h = h
 each_crossed P In es h = each_reverse P es h
 
 -- who holds a probe is among the pairs
-held_there : (q : Probe) (ps : List Pair) (p : Pair) → holder q ps ≡ Some p → is_some (numbered p.number ps) ≡ true
+pub held_there : (q : Probe) (ps : List Pair) (p : Pair) → holder q ps ≡ Some p → is_some (numbered p.number ps) ≡ true
 held_there q [] p e = absurd (true≢false (sym (ap is_some e)))
 held_there q (r ∷ ps) p e = by (p.number == r.number) (holds q r) refl refl (held_there q ps p)
   where

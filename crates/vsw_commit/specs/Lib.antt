@@ -1,2 +1,3 @@
 pub mod Cross
 pub mod Can
+pub mod Law

@@ -3,6 +3,8 @@
 
 mod changing;
 mod committing;
+mod law;
 mod room;
 
 pub use committing::commit;
+pub use law::laws;

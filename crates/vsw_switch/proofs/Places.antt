@@ -1,5 +1,5 @@
 -- The port at a place: what is changed there, and what holds of all.
-use Rattle.std.proofs.Common.{◌≡◌, zero, suc, ◌<◌, ◌≤◌, ◌+◌, ℕ, List, [], ◌∷◌, map, length, get_or, refl, ap, sym, subst, ◌∙◌, arith}
+use Rattle.std.proofs.Common.{◌≡◌, zero, suc, ◌<◌, ◌+◌, ℕ, List, [], ◌∷◌, map, length, get_or, refl, ap, sym, subst, ◌∙◌, arith}
 use Rattle.std.specs.List.{slice_set}
 use Rattle.vsw_policy.specs.Sound.{Each}
 use Rattle.vsw_switch.specs.Switch.{PortNow, AtPlace, changed_at}

@@ -12,7 +12,7 @@ use Rattle.vsw_switch.specs.Switch.{MakesPair, PortNow, begun, aim_of, ports_aft
 use Rattle.vsw_transit.specs.Transit.{AreAtMost}
 
 abbrev pub live_seen : Live → PortNow
-live_seen l = record { number = l.port.number; mac = l.port.mac; layers = l.port.policy.layers; before = l.before; count = l.count; told = l.told }
+live_seen l = record { number = l.port.number; mac = l.port.mac; controllers = l.port.policy.controllers; layers = l.port.policy.layers; before = l.before; count = l.count; told = l.told }
 
 -- a port that met no more packets than so many
 pub record IsAtMost (n : ℕ) (p : PortNow) : Type 0 where

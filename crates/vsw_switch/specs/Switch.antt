@@ -17,10 +17,11 @@ use Rattle.vsw_report.specs.declared.round.PortRound.{PortRound}
 use Rattle.vsw_report.specs.declared.round.Round.{Round}
 use Rattle.vsw_transit.specs.Transit.{Passage, met}
 
--- a port: its layers, its count of entries at the round's begin and now, and the lines of the round so far
+-- a port: its controllers and layers, its count of entries at the round's begin and now, and the lines of the round so far
 pub record PortNow : Type 0 where
   pub number : ℕ
   pub mac : ℕ
+  pub controllers : List ℕ
   pub layers : List LayerSeen
   pub before : ℕ
   pub count : ℕ
@@ -35,7 +36,7 @@ pub record SwitchNow : Type 0 where
 
 -- at first a port has the layers that the policy file gives it, and no entry
 abbrev pub port_at_first : PortSeen → PortNow
-port_at_first p = record { number = p.number; mac = p.mac; layers = p.layers; before = 0; count = 0; told = [] }
+port_at_first p = record { number = p.number; mac = p.mac; controllers = p.controllers; layers = p.layers; before = 0; count = 0; told = [] }
 
 abbrev pub switch_of : PolicyFile → SwitchNow
 switch_of f = record { ports = map port_at_first (ports_of f); first = 0; next = 0; loose = [] }
@@ -61,7 +62,7 @@ abbrev pub line_of : ℕ → ℕ → Passage → PacketLine
 line_of n count m = record { worker = 0; packet = n; entry = m.entry; count = count; fate = m.fate; bytes = m.bytes }
 
 abbrev pub with_passage : ℕ → PortNow → Passage → PortNow
-with_passage n p m = record { number = p.number; mac = p.mac; layers = m.layers; before = p.before; count = if m.entry then p.count + 1 else p.count; told = p.told ++ line_of n p.count m ∷ [] }
+with_passage n p m = record { number = p.number; mac = p.mac; controllers = p.controllers; layers = m.layers; before = p.before; count = if m.entry then p.count + 1 else p.count; told = p.told ++ line_of n p.count m ∷ [] }
 
 -- a port that met a packet, for which memory was wanting or not
 abbrev pub with_packet : Bool → Crossing → Parts → PortNow → PortNow
@@ -115,7 +116,7 @@ round_of s = record { first = s.first; ports = map port_round s.ports; loose = s
 
 -- the next round begins
 abbrev pub begun : PortNow → PortNow
-begun p = record { number = p.number; mac = p.mac; layers = p.layers; before = p.count; count = p.count; told = [] }
+begun p = record { number = p.number; mac = p.mac; controllers = p.controllers; layers = p.layers; before = p.count; count = p.count; told = [] }
 
 abbrev pub next_round : SwitchNow → SwitchNow
 next_round s = record { ports = map begun s.ports; first = s.next; next = s.next; loose = [] }

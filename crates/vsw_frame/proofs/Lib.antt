@@ -13,3 +13,4 @@ pub mod Edits
 pub mod Fitting
 pub mod Carried
 pub mod Sizes
+pub mod Differing

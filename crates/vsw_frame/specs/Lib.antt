@@ -6,3 +6,4 @@ pub mod Bytes
 pub mod Layout
 pub mod Levels
 pub mod Read
+pub mod Differs

@@ -1,13 +1,12 @@
 //! A walk is judged.
 
-ghost use Rattle.std.specs.Prelude.{◌≡◌, None, IsTrue, map};
+ghost use Rattle.std.specs.Prelude.{◌≡◌, None, map};
 ghost use Rattle.vsw_admit.specs.Admit.{refusal, stop_of};
 ghost use Rattle.vsw_admit.specs.Told.{AllThere, AllHold, LeftThere};
+ghost use Rattle.vsw_admit.specs.Walked.{IsWalk};
 ghost use Rattle.vsw_base.specs.declared.fate.Verdict.TheVariants.{Pass};
 ghost use Rattle.vsw_crossing.specs.Walk.{walk_of};
 ghost use Rattle.vsw_layer.specs.Layer.{seen};
-ghost use Rattle.vsw_transpose.specs.Apply.{apply};
-ghost use Rattle.vsw_transpose.specs.Fits as fit;
 
 use crate::length::is_long;
 use crate::stop::Stop;
@@ -46,11 +45,7 @@ pub fn judge(
     walked: &Walked,
     scratch: &Scratch,
 ) -> Option<Stop>
-    requires verdict { walked.now.verdict ≡ (walk_of policy.now.layers crossing.now).verdict }
-    requires changes { scratch.now.changes ≡ (walk_of policy.now.layers crossing.now).changes }
-    requires fits { walked.now.verdict ≡ Pass → IsTrue (fit.fits walked.now.by crossing.now.id.stack) }
-    requires stack { walked.now.verdict ≡ Pass → apply walked.now.by crossing.now.id.stack ≡ (walk_of policy.now.layers crossing.now).stack }
-    requires kept { walked.now.verdict ≡ Pass → fit.kept walked.now.by ≡ (walk_of policy.now.layers crossing.now).kept }
+    requires walk { IsWalk policy.now.layers crossing.now walked.now scratch.now }
     ensures exact { result ≡ stop_of policy.now.layers crossing.now (walk_of policy.now.layers crossing.now) }
     ensures hold { result ≡ None → walked.now.verdict ≡ Pass → AllHold policy.now.layers None scratch.now.changes }
 {

@@ -1,9 +1,8 @@
 //! A walk is carried out.
 
-ghost use Rattle.std.specs.Prelude.{◌≡◌, ◌<◌, ◌-◌, ◌^◌, true, false, IsTrue, OnErr};
-ghost use Rattle.vsw_base.specs.declared.fate.Verdict.TheVariants.{Pass};
+ghost use Rattle.std.specs.Prelude.{◌≡◌, ◌<◌, ◌-◌, ◌^◌, true, false, OnErr};
+ghost use Rattle.vsw_admit.specs.Walked.{IsWalk};
 ghost use Rattle.vsw_commit.specs.Cross.{cross_of, is_memory, made_by, makes, told};
-ghost use Rattle.vsw_crossing.specs.Walk.{walk_of};
 ghost use Rattle.vsw_policy.specs.Sound.{Each};
 ghost use Rattle.vsw_transpose.specs.Apply.{apply};
 ghost use Rattle.vsw_transpose.specs.Fits as fit;
@@ -23,11 +22,7 @@ pub fn commit(
     scratch: &Scratch,
 ) -> Result<bool, Stop>
     requires numbers { Each (λ l. l.next_pair < 2 ^ 32 - 1) policy.old.layers }
-    requires verdict { walked.now.verdict ≡ (walk_of policy.old.layers crossing.now).verdict }
-    requires changes { scratch.now.changes ≡ (walk_of policy.old.layers crossing.now).changes }
-    requires fits { walked.now.verdict ≡ Pass → IsTrue (fit.fits walked.now.by crossing.now.id.stack) }
-    requires stack { walked.now.verdict ≡ Pass → apply walked.now.by crossing.now.id.stack ≡ (walk_of policy.old.layers crossing.now).stack }
-    requires kept { walked.now.verdict ≡ Pass → fit.kept walked.now.by ≡ (walk_of policy.old.layers crossing.now).kept }
+    requires walk { IsWalk policy.old.layers crossing.now walked.now scratch.now }
     ensures exact { is_memory result ≡ false → told walked.now.verdict (apply walked.now.by crossing.now.id.stack) (fit.kept walked.now.by) result policy.new.layers ≡ cross_of policy.old.layers crossing.now }
     ensures memory { is_memory result ≡ true → makes (made_by policy.old.layers crossing.now) ≡ true }
     ensures controllers { policy.new.controllers ≡ policy.old.controllers }

@@ -1,9 +1,9 @@
 //! A frame crosses the layers of its port.
 
 ghost use Rattle.std.specs.Prelude.{◌≡◌, ◌≤◌, ◌<◌, ◌+◌, ◌-◌, ◌^◌, ℕ, false, length, nat_lt, IsTrue};
+ghost use Rattle.vsw_admit.specs.Walked.{IsWalk};
 ghost use Rattle.vsw_base.specs.declared.fate.Fate.TheVariants.{Pass, Drop};
 ghost use Rattle.vsw_base.specs.declared.fate.Verdict.TheVariants as verdict;
-ghost use Rattle.vsw_crossing.specs.Walk.{walk_of};
 ghost use Rattle.vsw_frame.specs.Bytes.{outer_total, outgoing, outgoing_size};
 ghost use Rattle.vsw_frame.specs.Frame.{parts};
 ghost use Rattle.vsw_transit.specs.Fate.{fate_at};
@@ -65,11 +65,7 @@ fn pass(
     requires numbers { AreAtMost (2 ^ 32 - 2) policy.old.layers }
     requires of { IsOfFrame crossing.now (parts frame.now) }
     requires passes { walked.now.verdict ≡ verdict.Pass }
-    requires verdict { walked.now.verdict ≡ (walk_of policy.old.layers crossing.now).verdict }
-    requires changes { scratch.now.changes ≡ (walk_of policy.old.layers crossing.now).changes }
-    requires fits { IsTrue (fits walked.now.by crossing.now.id.stack) }
-    requires stack { apply walked.now.by crossing.now.id.stack ≡ (walk_of policy.old.layers crossing.now).stack }
-    requires kept { kept walked.now.by ≡ (walk_of policy.old.layers crossing.now).kept }
+    requires walk { IsWalk policy.old.layers crossing.now walked.now scratch.now }
     requires room { length out.old ≡ 65700 }
     ensures exact { told result.fate result.entry out.new policy.new.layers ≡ met (is_short result.fate) policy.old.layers crossing.now (parts frame.now) }
     ensures fate { is_short result.fate ≡ false → result.fate ≡ fate_at policy.old.layers crossing.now }

@@ -14,10 +14,10 @@ pub leave-requires-clause-short : goal.leave-requires-clause-short
 leave-requires-clause-short c =
     let stack = c.requires.of.stack in
     let by = c.args.walked.now.by in
-    let hs = ap (apply by) (sym stack) ∙ c.requires.stack in
+    let hs = ap (apply by) (sym stack) ∙ c.requires.walk.stack c.requires.passes in
     let told = cross_told c.args.walked.now.verdict (apply by c.args.crossing.now.id.stack) (apply by c.args.frame.now.stack) (kept by) c.in-Ok.entry c.commit.new.policy.layers (ap (apply by) stack) in
     short c.args.policy.now.layers c.commit.new.policy.layers c.args.crossing.now (parts c.args.frame.now) c.args.walked.now.verdict (apply by c.args.frame.now.stack) (kept by) c.in-Ok.entry
-    c.requires.passes c.requires.verdict (ap is_stack (sym c.headers.ensures.all) ∙ c.headers.ensures.shape) stack c.requires.of.sizes hs c.requires.kept (told ∙ c.in-Ok.ensures.exact refl)
+    c.requires.passes c.requires.walk.verdict (ap is_stack (sym c.headers.ensures.all) ∙ c.headers.ensures.shape) stack c.requires.of.sizes hs (c.requires.walk.kept c.requires.passes) (told ∙ c.in-Ok.ensures.exact refl)
 
 pub returns-in-Ok-clause-exact : goal.returns-in-Ok-clause-exact
 returns-in-Ok-clause-exact c =

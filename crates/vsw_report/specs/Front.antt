@@ -1,8 +1,8 @@
--- The front of a packet's line.
+-- The front of a line.
 use Rattle.std.specs.Prelude.{ℕ, List, ◌++◌, codes, decimal}
-use Rattle.vsw_report.specs.Print.{mark_text}
-use Rattle.vsw_report.specs.declared.round.PacketLine.{PacketLine}
+use Rattle.vsw_report.specs.Print.{by_text, mark_text}
+use Rattle.vsw_report.specs.declared.told.ToldLine.{ToldLine}
 
--- its worker, its number and its count
-unfoldable pub front_text : PacketLine → List ℕ
-front_text l = codes "w" ++ decimal l.worker ++ codes " " ++ decimal l.packet ++ mark_text l.entry ++ decimal l.count ++ codes " "
+-- who brought it, its number and its count
+unfoldable pub front_text : ToldLine → List ℕ
+front_text l = by_text l.by ++ codes " " ++ decimal l.item ++ mark_text l.entry ++ decimal l.count ++ codes " "

@@ -11,12 +11,19 @@ use Rattle.vsw_base.specs.declared.fate.Cause.{Cause}
 use Rattle.vsw_base.specs.declared.fate.Cause.TheVariants.{Rule, Default, Long, Full, Taken, Memory}
 use Rattle.vsw_base.specs.declared.fate.Fate.{Fate}
 use Rattle.vsw_base.specs.declared.fate.Fate.TheVariants.{Pass, Drop}
+use Rattle.vsw_policy.specs.Refusals.{refusal_number, refusal_name}
+use Rattle.vsw_policy.specs.declared.refusal.Reply.{Reply}
+use Rattle.vsw_policy.specs.declared.refusal.Reply.TheVariants as reply
 use Rattle.vsw_report.specs.declared.round.Round.{Round}
 use Rattle.vsw_report.specs.declared.round.PortRound.{PortRound}
-use Rattle.vsw_report.specs.declared.round.PacketLine.{PacketLine}
 use Rattle.vsw_report.specs.declared.round.Loose.{Loose}
 use Rattle.vsw_report.specs.declared.round.LooseCause.{LooseCause}
 use Rattle.vsw_report.specs.declared.round.LooseCause.TheVariants.{Snapped, Malformed, NoPort}
+use Rattle.vsw_report.specs.declared.told.By.{By}
+use Rattle.vsw_report.specs.declared.told.By.TheVariants.{Worker, Controller}
+use Rattle.vsw_report.specs.declared.told.ToldLine.{ToldLine}
+use Rattle.vsw_report.specs.declared.told.What.{What}
+use Rattle.vsw_report.specs.declared.told.What.TheVariants as what
 
 -- the first line of every report
 abbrev pub head_line : List ℕ
@@ -49,9 +56,24 @@ abbrev pub mark_text : Bool → List ℕ
 mark_text true = codes " +"
 mark_text false = codes " @"
 
--- a packet's line: its worker, its number, its count and its fate
-abbrev pub line_text : PacketLine → List ℕ
-line_text l = codes "w" ++ decimal l.worker ++ codes " " ++ decimal l.packet ++ mark_text l.entry ++ decimal l.count ++ codes " " ++ fate_text l.fate l.bytes ++ codes "\n"
+-- ok, or a refusal with its number and its name
+abbrev pub reply_text : Reply → List ℕ
+reply_text reply.Ok = codes "ok"
+reply_text (reply.Refused why) = codes "refused " ++ decimal (refusal_number why) ++ codes " " ++ refusal_name why
+
+-- what became of a packet, or of a command
+abbrev pub what_text : What → List ℕ
+what_text (what.Fate fate bytes) = fate_text fate bytes
+what_text (what.Reply r) = reply_text r
+
+-- a worker or a controller, by its number
+abbrev pub by_text : By → List ℕ
+by_text (Worker n) = codes "w" ++ decimal n
+by_text (Controller n) = codes "c" ++ decimal n
+
+-- a line: who brought it, the number of the packet or of the command's line, its count, and what became of it
+abbrev pub line_text : ToldLine → List ℕ
+line_text l = by_text l.by ++ codes " " ++ decimal l.item ++ mark_text l.entry ++ decimal l.count ++ codes " " ++ what_text l.what ++ codes "\n"
 
 -- the end of a malformed packet's line
 unfoldable pub fault_text : BadFrame → List ℕ
@@ -76,6 +98,10 @@ port_text p = port_line p ++ flat_map line_text p.told
 -- a round: its first packet, its ports, and its loose packets
 abbrev pub round_text : Round → List ℕ
 round_text r = codes "round " ++ decimal r.first ++ codes "\n" ++ flat_map port_text r.ports ++ codes "loose\n" ++ flat_map loose_text r.loose
+
+-- the report of these rounds
+abbrev pub report_text : List Round → List ℕ
+report_text rounds = head_line ++ flat_map round_text rounds
 
 -- all of a text was appended, or nothing where there was no memory
 abbrev pub Appended : List ℕ → List ℕ → List ℕ → Result ⊤ NoMemory → Type 0

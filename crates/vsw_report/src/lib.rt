@@ -4,6 +4,8 @@
 mod line;
 mod print;
 mod round;
+mod told;
 
 pub use print::{HEAD_LINE, print_round};
-pub use round::{Loose, LooseCause, PacketLine, PortRound, Round};
+pub use round::{Loose, LooseCause, PortRound, Round};
+pub use told::{By, ToldLine, What};

@@ -2,14 +2,16 @@
 
 ghost use Rattle.std.specs.Prelude.{◌≡◌, ◌≤◌, ◌+◌, ◌++◌, ◌∷◌, [], OnOk, decimal, codes, length, drop};
 ghost use Rattle.hex.specs.Hex.{encode_lower};
-ghost use Rattle.vsw_report.specs.Print.{layer_text, dir_text, cause_text, fate_text, mark_text, line_text, loose_text, fault_text};
+ghost use Rattle.vsw_report.specs.Print.{by_text, layer_text, dir_text, cause_text, fate_text, reply_text, what_text, mark_text, line_text, loose_text, fault_text};
 ghost use Rattle.vsw_report.specs.Front.{front_text};
 
-use crate::round::{Loose, LooseCause, PacketLine};
+use crate::round::{Loose, LooseCause};
+use crate::told::{By, ToldLine, What};
 use itoa::write_digits;
 use std::alloc::AllocError;
 use vsw_base::{BadFrame, Cause, Dir, Fate};
 use vsw_hex::append_hex;
+use vsw_policy::Reply;
 
 /// Appends bytes.
 pub fn word(out: &mut Vec<u8>, bytes: &[u8]) -> Result<(), AllocError>
@@ -121,12 +123,31 @@ fn mark(entry: bool) -> &'static [u8]
     if entry { b" +" } else { b" @" }
 }
 
+/// Writes who brought it, so that it ends at `end`, and answers where it begins.
+#[inline(always)]
+fn by_before(room: &mut [u8], end: usize, by: By) -> usize
+    requires { (11 ≤ end) × (end ≤ length room.old) }
+    ensures start { result ≤ end }
+    ensures written { drop result room.new ≡ by_text by ++ drop end room.old }
+{
+    match by {
+        By::Worker(n) => {
+            let at = number_before(room, end, n);
+            before(room, at, b"w")
+        }
+        By::Controller(n) => {
+            let at = number_before(room, end, u32::from(n));
+            before(room, at, b"c")
+        }
+    }
+}
+
 /// Room for a line's front, which has 51 bytes at most.
 const FRONT_LEN: usize = 64;
 
-/// Writes a line's front that ends at `end`, up to its fate, and answers where it begins.
+/// Writes a line's front that ends at `end`, up to what became of it, and answers where it begins.
 #[tactic(auto, unfolding(crate::specs::Front::front_text))]
-fn front_before(room: &mut [u8], end: usize, line: &PacketLine) -> usize
+fn front_before(room: &mut [u8], end: usize, line: &ToldLine) -> usize
     requires { (40 ≤ end) × (end ≤ length room.old) }
     ensures start { result ≤ end }
     ensures written { drop result room.new ≡ front_text line.now ++ drop end room.old }
@@ -134,14 +155,13 @@ fn front_before(room: &mut [u8], end: usize, line: &PacketLine) -> usize
     let at = before(room, end, b" ");
     let at = number_before(room, at, line.count);
     let at = before(room, at, mark(line.entry));
-    let at = number_before(room, at, line.packet);
+    let at = number_before(room, at, line.item);
     let at = before(room, at, b" ");
-    let at = number_before(room, at, line.worker);
-    before(room, at, b"w")
+    by_before(room, at, line.by)
 }
 
 /// Appends a line's front, with the length of a pass.
-fn pass_front(out: &mut Vec<u8>, line: &PacketLine, len: u32) -> Result<(), AllocError>
+fn pass_front(out: &mut Vec<u8>, line: &ToldLine, len: u32) -> Result<(), AllocError>
     ensures { OnOk result (out.new.items ≡ out.old.items ++ front_text line.now ++ codes "pass " ++ decimal len ++ codes " ") }
 {
     let mut room = [0u8; FRONT_LEN];
@@ -153,7 +173,7 @@ fn pass_front(out: &mut Vec<u8>, line: &PacketLine, len: u32) -> Result<(), Allo
 }
 
 /// Appends a line's front, up to the cause of a drop.
-fn drop_front(out: &mut Vec<u8>, line: &PacketLine) -> Result<(), AllocError>
+fn drop_front(out: &mut Vec<u8>, line: &ToldLine) -> Result<(), AllocError>
     ensures { OnOk result (out.new.items ≡ out.old.items ++ front_text line.now ++ codes "drop ") }
 {
     let mut room = [0u8; FRONT_LEN];
@@ -162,14 +182,38 @@ fn drop_front(out: &mut Vec<u8>, line: &PacketLine) -> Result<(), AllocError>
     word(out, &room[at..])
 }
 
-/// Appends a line but for its line feed.
-fn body(out: &mut Vec<u8>, line: &PacketLine) -> Result<(), AllocError>
-    ensures { OnOk result (out.new.items ≡ out.old.items ++ front_text line.now ++ fate_text line.now.fate line.now.bytes) }
+/// Appends a line's front, up to the reply.
+fn reply_front(out: &mut Vec<u8>, line: &ToldLine) -> Result<(), AllocError>
+    ensures { OnOk result (out.new.items ≡ out.old.items ++ front_text line.now) }
 {
-    match &line.fate {
+    let mut room = [0u8; FRONT_LEN];
+    let at = front_before(&mut room, FRONT_LEN, line);
+    word(out, &room[at..])
+}
+
+/// Appends the reply to a command.
+fn reply(out: &mut Vec<u8>, reply: Reply) -> Result<(), AllocError>
+    ensures { OnOk result (out.new.items ≡ out.old.items ++ reply_text reply) }
+{
+    match reply {
+        Reply::Ok => word(out, b"ok"),
+        Reply::Refused(why) => {
+            word(out, b"refused ")?;
+            number(out, u32::from(why.number()))?;
+            word(out, b" ")?;
+            word(out, why.name().as_bytes())
+        }
+    }
+}
+
+/// Appends a packet's line but for its line feed.
+fn packet(out: &mut Vec<u8>, line: &ToldLine, fate: &Fate, bytes: &[u8]) -> Result<(), AllocError>
+    ensures { OnOk result (out.new.items ≡ out.old.items ++ front_text line.now ++ fate_text fate.now bytes.now) }
+{
+    match fate {
         Fate::Pass { len } => {
             pass_front(out, line, *len)?;
-            append_hex(out, line.bytes.as_slice())
+            append_hex(out, bytes)
         }
         Fate::Drop(why) => {
             drop_front(out, line)?;
@@ -178,9 +222,22 @@ fn body(out: &mut Vec<u8>, line: &PacketLine) -> Result<(), AllocError>
     }
 }
 
-/// Appends a packet's line.
+/// Appends a line but for its line feed.
+fn body(out: &mut Vec<u8>, line: &ToldLine) -> Result<(), AllocError>
+    ensures { OnOk result (out.new.items ≡ out.old.items ++ front_text line.now ++ what_text line.now.what) }
+{
+    match &line.what {
+        What::Fate { fate, bytes } => packet(out, line, fate, bytes.as_slice()),
+        What::Reply(answer) => {
+            reply_front(out, line)?;
+            reply(out, *answer)
+        }
+    }
+}
+
+/// Appends a line of a port.
 #[tactic(auto, unfolding(crate::specs::Front::front_text))]
-pub fn packet_line(out: &mut Vec<u8>, line: &PacketLine) -> Result<(), AllocError>
+pub fn told_line(out: &mut Vec<u8>, line: &ToldLine) -> Result<(), AllocError>
     ensures { OnOk result (out.new.items ≡ out.old.items ++ line_text line.now) }
 {
     body(out, line)?;

@@ -4,19 +4,20 @@ ghost use Rattle.std.specs.Prelude.{◌≡◌, ◌++◌, [], OnOk, decimal, code
 ghost use Rattle.std.specs.List.{flat_map};
 ghost use Rattle.vsw_report.specs.Print.{Appended, head_line, line_text, loose_text, port_text, port_line, round_text};
 
-use crate::line::{loose_line, number, packet_line, word};
-use crate::round::{Loose, PacketLine, PortRound, Round};
+use crate::line::{loose_line, number, told_line, word};
+use crate::round::{Loose, PortRound, Round};
+use crate::told::ToldLine;
 use std::alloc::AllocError;
 use vsw_base::NoMemory;
 
 /// The first line of every report, with the number of its format.
 pub const HEAD_LINE: &[u8] = b"vsw report 1\n";
 
-fn packet_lines(out: &mut Vec<u8>, lines: &[PacketLine]) -> Result<(), AllocError>
+fn told_lines(out: &mut Vec<u8>, lines: &[ToldLine]) -> Result<(), AllocError>
     ensures { OnOk result (out.new.items ≡ out.old.items ++ flat_map line_text lines.now) }
 {
     for line in lines {
-        packet_line(out, line)?;
+        told_line(out, line)?;
     }
     Ok(())
 }
@@ -47,7 +48,7 @@ fn port_part(out: &mut Vec<u8>, port: &PortRound) -> Result<(), AllocError>
     ensures { OnOk result (out.new.items ≡ out.old.items ++ port_text port.now) }
 {
     counts(out, port)?;
-    packet_lines(out, port.told.as_slice())
+    told_lines(out, port.told.as_slice())
 }
 
 fn port_parts(out: &mut Vec<u8>, ports: &[PortRound]) -> Result<(), AllocError>

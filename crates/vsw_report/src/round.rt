@@ -1,6 +1,7 @@
 //! What a report tells, round by round.
 
-use vsw_base::{BadFrame, Fate, Items};
+use crate::told::ToldLine;
+use vsw_base::{BadFrame, Items};
 
 /// A round: the packets from `first` up to the next round's.
 #[derive(Drop)]
@@ -19,24 +20,10 @@ pub struct PortRound {
     pub port: u16,
     /// How many entries the port's history had before the round.
     pub before: u32,
-    /// And how many after it.
+    /// Entries after the round.
     pub after: u32,
-    /// By count, and at each count the reads first, by worker, each worker's in order.
-    pub told: Items<PacketLine>,
-}
-
-/// What became of a packet at a port.
-#[derive(Drop)]
-pub struct PacketLine {
-    pub worker: u32,
-    /// Its number in the trace, from 0.
-    pub packet: u32,
-    /// Whether it is the entry of this count; else it was read at the count.
-    pub entry: bool,
-    pub count: u32,
-    pub fate: Fate,
-    /// The outgoing bytes of a pass, none for a drop.
-    pub bytes: Items<u8>,
+    /// By count; at each count the reads first, by workers and then by controllers, each caller's in its order.
+    pub told: Items<ToldLine>,
 }
 
 /// A packet that reached no port.

@@ -1,0 +1,4 @@
+pub mod Law
+pub mod Proper
+pub mod Reading
+pub mod Words

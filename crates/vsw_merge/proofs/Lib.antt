@@ -1,0 +1,5 @@
+pub mod Fronts
+pub mod Behind
+pub mod Counts
+pub mod InOrder
+pub mod OneCaller

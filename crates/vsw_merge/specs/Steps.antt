@@ -1,0 +1,37 @@
+-- The merge, step by step: what goes over at a count stands at the front of each caller's lines.
+use Rattle.std.specs.Prelude.{ℕ, zero, suc, ◌+◌, Bool, false, List, [], ◌∷◌, ◌++◌, map, take, drop, if◌then◌else◌}
+use Rattle.std.specs.List.{flat_map}
+use Rattle.vsw_merge.specs.Order.{is_entry, is_read}
+use Rattle.vsw_report.specs.declared.told.ToldLine.{ToldLine}
+
+abbrev pub begins : (ToldLine → Bool) → List ToldLine → Bool
+begins p [] = false
+begins p (l ∷ ls) = p l
+
+-- the reads at a count at the front, and what follows them
+abbrev pub first_reads : ℕ → List ToldLine → List ToldLine
+first_reads n [] = []
+first_reads n (l ∷ ls) = if is_read n l then l ∷ first_reads n ls else []
+
+abbrev pub past_reads : ℕ → List ToldLine → List ToldLine
+past_reads n [] = []
+past_reads n (l ∷ ls) = if is_read n l then past_reads n ls else l ∷ ls
+
+-- the entry of a count at the front, and what follows it
+abbrev pub first_entry : ℕ → List ToldLine → List ToldLine
+first_entry n ls = if begins (is_entry n) ls then take 1 ls else []
+
+abbrev pub past_entry : ℕ → List ToldLine → List ToldLine
+past_entry n ls = if begins (is_entry n) ls then drop 1 ls else ls
+
+-- the callers' lines behind a count
+abbrev pub past : ℕ → List (List ToldLine) → List (List ToldLine)
+past n callers = map (past_entry n) (map (past_reads n) callers)
+
+-- the lines that go over at each count from n on, of which there are so many and one
+abbrev pub merged : List (List ToldLine) → List (List ToldLine) → ℕ → ℕ → List ToldLine
+merged workers controllers n zero = flat_map (first_reads n) workers ++ flat_map (first_reads n) controllers
+merged workers controllers n (suc more) =
+    flat_map (first_reads n) workers ++ flat_map (first_reads n) controllers
+    ++ flat_map (first_entry n) (map (past_reads n) workers) ++ flat_map (first_entry n) (map (past_reads n) controllers)
+    ++ merged (past n workers) (past n controllers) (n + 1) more

@@ -4,14 +4,14 @@ ghost use Rattle.std.specs.Prelude.{◌≡◌, ◌≤◌, ◌+◌, ◌^◌, ℕ,
 ghost use Rattle.std.specs.List.{list_any};
 ghost use Rattle.vsw_pcap.specs.Reader.{Stands};
 ghost use Rattle.vsw_pcap.specs.declared.capture.Record.{Record};
-ghost use Rattle.vsw_rounds.specs.Rounds.{is_short_port};
+ghost use Rattle.vsw_rounds.specs.Rounds.{is_short_port, tells_short};
 ghost use Rattle.vsw_rounds.specs.Round.{ReadsPackets, ReadsRound};
-ghost use Rattle.vsw_transit.specs.Transit as transit;
 
 use std::alloc::Global;
 use vsw_base::{Cause, Fate, NoMemory};
 use vsw_pcap::{BadTrace, Next, Reader};
-use vsw_report::{PacketLine, PortRound, Round};
+use vsw_policy::{Refusal, Reply};
+use vsw_report::{PortRound, Round, ToldLine, What};
 use vsw_switch::Switch;
 
 /// Packets of a whole round.
@@ -37,18 +37,22 @@ pub struct RoundRead {
     /// Its packets.
     pub count: u32,
     pub stop: Stop,
-    /// Whether one of them was dropped for want of memory.
+    /// Whether memory was wanting for one of them, or for a command.
     pub short: bool,
 }
 
-fn is_short(line: &PacketLine) -> bool
-    ensures { result ≡ transit.is_short line.now.fate }
+/// Whether memory was wanting for this packet or command.
+fn is_short(line: &ToldLine) -> bool
+    ensures { result ≡ tells_short line.now.what }
 {
-    matches!(line.fate, Fate::Drop(Cause::Memory))
+    match &line.what {
+        What::Fate { fate, .. } => matches!(fate, Fate::Drop(Cause::Memory)),
+        What::Reply(reply) => matches!(reply, Reply::Refused(Refusal::Memory)),
+    }
 }
 
-fn has_short(lines: &[PacketLine]) -> bool
-    ensures { result ≡ list_any (λ line. transit.is_short line.fate) lines.now }
+fn has_short(lines: &[ToldLine]) -> bool
+    ensures { result ≡ list_any (λ line. tells_short line.what) lines.now }
 {
     match lines {
         [] => false,
@@ -56,7 +60,7 @@ fn has_short(lines: &[PacketLine]) -> bool
     }
 }
 
-/// Whether a packet of these ports was dropped for want of memory.
+/// Whether memory was wanting for a packet or a command at one of these ports.
 fn have_short(ports: &[PortRound]) -> bool
     ensures { result ≡ list_any is_short_port ports.now }
 {

@@ -12,9 +12,11 @@ use Rattle.vsw_ports.specs.Ports.{PortSeen, ports_of}
 use Rattle.vsw_report.specs.declared.round.Loose.{Loose}
 use Rattle.vsw_report.specs.declared.round.LooseCause.{LooseCause}
 use Rattle.vsw_report.specs.declared.round.LooseCause.TheVariants.{Snapped, Malformed, NoPort}
-use Rattle.vsw_report.specs.declared.round.PacketLine.{PacketLine}
 use Rattle.vsw_report.specs.declared.round.PortRound.{PortRound}
 use Rattle.vsw_report.specs.declared.round.Round.{Round}
+use Rattle.vsw_report.specs.declared.told.By.TheVariants.{Worker}
+use Rattle.vsw_report.specs.declared.told.ToldLine.{ToldLine}
+use Rattle.vsw_report.specs.declared.told.What.TheVariants as what
 use Rattle.vsw_transit.specs.Transit.{Passage, met}
 
 -- a port: its controllers and layers, its count of entries at the round's begin and now, and the lines of the round so far
@@ -25,7 +27,7 @@ pub record PortNow : Type 0 where
   pub layers : List LayerSeen
   pub before : ℕ
   pub count : ℕ
-  pub told : List PacketLine
+  pub told : List ToldLine
 
 -- the ports, the numbers of the round's first packet and of the next one, and the loose packets of the round so far
 pub record SwitchNow : Type 0 where
@@ -58,8 +60,8 @@ abbrev pub crossing_of : ℕ → Place → ℕ → Parts → Crossing
 crossing_of n place moment p = record { caller = 0; packet = n; id = record { dir = place.dir; stack = p.stack }; control = p.control; moment = moment; sizes = sizes_of p.levels }
 
 -- a packet's line: an entry, or a read at the count of entries that stands
-abbrev pub line_of : ℕ → ℕ → Passage → PacketLine
-line_of n count m = record { worker = 0; packet = n; entry = m.entry; count = count; fate = m.fate; bytes = m.bytes }
+abbrev pub line_of : ℕ → ℕ → Passage → ToldLine
+line_of n count m = record { by = Worker 0; item = n; entry = m.entry; count = count; what = what.Fate m.fate m.bytes }
 
 abbrev pub with_passage : ℕ → PortNow → Passage → PortNow
 with_passage n p m = record { number = p.number; mac = p.mac; controllers = p.controllers; layers = m.layers; before = p.before; count = if m.entry then p.count + 1 else p.count; told = p.told ++ line_of n p.count m ∷ [] }

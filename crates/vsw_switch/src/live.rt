@@ -11,7 +11,7 @@ use std::mem::replace;
 use vsw_base::{Crossing, Fate, Items, NoMemory};
 use vsw_frame::Frame;
 use vsw_ports::Port;
-use vsw_report::{PacketLine, PortRound};
+use vsw_report::{By, PortRound, ToldLine, What};
 use vsw_transit::{Room, transit};
 
 /// A port, with what is told of it in this round.
@@ -22,7 +22,7 @@ pub(crate) struct Live {
     pub before: u32,
     /// Entries of its history.
     pub count: u32,
-    pub told: Items<PacketLine>,
+    pub told: Items<ToldLine>,
 }
 
 /// Adds to a list.
@@ -74,13 +74,15 @@ impl Live {
         let bytes = taken(alloc, outcome.fate, room)?;
         push(
             &mut self.told,
-            PacketLine {
-                worker: 0,
-                packet: crossing.packet,
+            ToldLine {
+                by: By::Worker(0),
+                item: crossing.packet,
                 entry: outcome.entry,
                 count,
-                fate: outcome.fate,
-                bytes,
+                what: What::Fate {
+                    fate: outcome.fate,
+                    bytes,
+                },
             },
         )
     }

@@ -1,5 +1,5 @@
-//! Tests of the program's words, files and endings, and of a report's text, kept apart from `vsw_app` and
-//! `vsw_report`: with tests of their own they would be proved once more.
+//! Tests of the program's words, files and endings, kept apart from `vsw_app`: with tests of its own it would
+//! be proved once more.
 #![tactic(auto)]
 
 #[cfg(test)]
@@ -8,7 +8,5 @@ mod ending_tests;
 mod policy_tests;
 #[cfg(test)]
 mod report_tests;
-#[cfg(test)]
-mod round_tests;
 #[cfg(test)]
 mod running;

@@ -1,0 +1,58 @@
+//! Lines and rounds for tests.
+
+ghost use Rattle.std.specs.Prelude.{◌≡◌, false};
+
+use std::alloc::{AllocError, Global};
+use vsw_base::{Cause, Fate, Items};
+use vsw_policy::Reply;
+use vsw_report::{By, Loose, PortRound, Round, ToldLine, What};
+
+/// A packet that was dropped.
+pub fn dropped(alloc: Global, by: By, item: u32, entry: bool, count: u32, why: Cause) -> ToldLine
+    ensures entry { result.entry ≡ entry }
+    ensures count { result.count ≡ count }
+{
+    ToldLine {
+        by,
+        item,
+        entry,
+        count,
+        what: What::Fate {
+            fate: Fate::Drop(why),
+            bytes: Items::new(alloc),
+        },
+    }
+}
+
+/// A command.
+pub fn replied(by: By, item: u32, entry: bool, count: u32, reply: Reply) -> ToldLine
+    ensures entry { result.entry ≡ entry }
+    ensures count { result.count ≡ count }
+{
+    ToldLine {
+        by,
+        item,
+        entry,
+        count,
+        what: What::Reply(reply),
+    }
+}
+
+/// A round of one port with these lines.
+pub fn round_of(
+    alloc: Global,
+    told: Items<ToldLine>,
+    loose: Items<Loose>,
+) -> Result<Round, AllocError> {
+    let port = PortRound {
+        port: 9,
+        before: 0,
+        after: 2,
+        told,
+    };
+    Ok(Round {
+        first: 3,
+        ports: Items::of(Vec::from_array(alloc, [port])?),
+        loose,
+    })
+}

@@ -1,0 +1,4 @@
+pub mod Counted
+pub mod Leveled
+pub mod Fields
+pub mod Decoded

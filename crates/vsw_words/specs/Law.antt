@@ -1,0 +1,21 @@
+-- Laws of the words.
+use Rattle.std.specs.Prelude.{◌≡◌, true}
+use Rattle.vsw_base.specs.declared.flow.Ufid.{Ufid}
+use Rattle.vsw_base.specs.Fits.{AreFit}
+use Rattle.vsw_base.specs.Shape.{is_stack}
+use Rattle.vsw_words.specs.Key.{key_words}
+use Rattle.vsw_words.specs.Id.{id_of}
+
+-- an identity: its headers are those of a stack, and its numbers lie in the ranges of their fields
+pub record IsId (id : Ufid) : Type 0 where
+  pub stack : is_stack id.stack ≡ true
+  pub fit : AreFit id.stack
+
+-- an identity is read back from its words
+abbrev pub Decodes : Type 0
+Decodes = (id : Ufid) → IsId id → id_of (key_words id.dir id.stack) ≡ id
+
+-- identities with the same words are the same. What becomes of a packet and what it changes depends, beside its control, its moment and
+-- its sizes, on its identity alone, so packets with the same words, control, moment and sizes have the same fate everywhere.
+abbrev pub TellsApart : Type 0
+TellsApart = (a b : Ufid) → IsId a → IsId b → key_words a.dir a.stack ≡ key_words b.dir b.stack → a ≡ b

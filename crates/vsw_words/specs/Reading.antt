@@ -1,0 +1,102 @@
+-- A body read back from its words.
+use Rattle.std.specs.Prelude.{◌≡◌, ℕ, ◌+◌, ◌*◌, ◌/◌, ◌%◌, ◌^◌, ◌<◌, ◌==◌, ◌&&◌, List, [], ◌∷◌, Bool, true, false, Option, Some, None, nat_le, nat_lt, zero, suc, drop, get_or, if◌then◌else◌}
+use Rattle.vsw_base.specs.declared.header.Header.TheVariants.{Ether, Ip, Vxlan}
+use Rattle.vsw_base.specs.declared.packet.Dir.TheVariants.{Out, In}
+use Rattle.vsw_base.specs.declared.fate.Verdict.{Verdict}
+use Rattle.vsw_base.specs.declared.fate.Verdict.TheVariants.{Pass, Rule, Default}
+use Rattle.vsw_base.specs.Fits.{IsFit}
+use Rattle.vsw_transpose.specs.declared.act.Change.TheVariants as of
+use Rattle.vsw_transpose.specs.declared.act.Act.{Act}
+use Rattle.vsw_transpose.specs.declared.act.Act.TheVariants.{Push, Pop, Modify, Ignore}
+use Rattle.vsw_transpose.specs.Form.{is_form}
+use Rattle.vsw_words.specs.Row.{act_words, IsBare}
+
+-- a field that may be absent is below a bound
+abbrev pub IsBelow : ℕ → Option ℕ → Type 0
+IsBelow bound None = Unit {0}
+IsBelow bound (Some n) = n < bound
+
+-- the numbers of an act lie in the ranges of their fields
+abbrev pub IsActFit : Act → Type 0
+IsActFit (Push h) = IsFit h
+IsActFit (Modify (of.Ether dst src)) = IsBelow (2 ^ 48) dst × IsBelow (2 ^ 48) src
+IsActFit (Modify (of.Ip src dst)) = IsBelow (2 ^ 32) src × IsBelow (2 ^ 32) dst
+IsActFit (Modify (of.Ports src dst)) = IsBelow (2 ^ 16) src × IsBelow (2 ^ 16) dst
+IsActFit x = Unit {0}
+
+abbrev pub AreActsFit : List Act → Type 0
+AreActsFit [] = Unit {0}
+AreActsFit (x ∷ xs) = IsActFit x × AreActsFit xs
+
+-- and so do those of a verdict
+abbrev pub IsVerdictFit : Verdict → Type 0
+IsVerdictFit Pass = Unit {0}
+IsVerdictFit (Rule controller layer group rule) = (controller < 2 ^ 16) × (layer < 2 ^ 16) × (group < 2 ^ 16) × (rule < 2 ^ 16)
+IsVerdictFit (Default controller layer dir) = (controller < 2 ^ 16) × (layer < 2 ^ 16)
+
+-- what a row may say is done with packets: acts of the form of a transposition, none for a drop, and numbers in their ranges
+pub record IsBody (verdict : Verdict) (by : List Act) : Type 0 where
+  pub form : is_form by ≡ true
+  pub bare : IsBare verdict by
+  pub acts : AreActsFit by
+  pub numbers : IsVerdictFit verdict
+
+abbrev pub are_zero : List ℕ → Bool
+are_zero [] = true
+are_zero (word ∷ words) = (word == 0) && are_zero words
+
+-- a field, if it is there
+abbrev pub field : Bool → ℕ → Option ℕ
+field false n = None
+field true n = Some n
+
+abbrev pub has_first : ℕ → Bool
+has_first head = head / 16 % 2 == 1
+
+abbrev pub has_second : ℕ → Bool
+has_second head = head / 32 % 2 == 1
+
+-- the act that three words of an act are of; of others it is some act or none
+abbrev pub act_by : ℕ → ℕ → ℕ → Option Act
+act_by head first second =
+    if head % 16 == 1 then Some (Push (Ether (first % 2 ^ 48) (second % 2 ^ 48) (head / 65536 % 65536)))
+    else if head % 16 == 2 then Some (Push (Ip (first % 2 ^ 32) (second % 2 ^ 32) (head / 65536 % 256) false))
+    else if head % 16 == 3 then Some (Push (Vxlan (head / 65536 % 16777216)))
+    else if head % 16 == 4 then Some Pop
+    else if head % 16 == 5 then Some (Modify (of.Ether (field (has_first head) (first % 2 ^ 48)) (field (has_second head) (second % 2 ^ 48))))
+    else if head % 16 == 6 then Some (Modify (of.Ip (field (has_first head) (first % 2 ^ 32)) (field (has_second head) (second % 2 ^ 32))))
+    else if head % 16 == 7 then Some (Modify (of.Ports (field (has_first head) (first % 2 ^ 16)) (field (has_second head) (second % 2 ^ 16))))
+    else if head % 16 == 8 then Some Ignore
+    else None
+
+-- the words are the act's
+abbrev pub is_of : Act → ℕ → ℕ → ℕ → Bool
+is_of act head first second = (get_or (act_words act) 0 0 == head) && (get_or (act_words act) 1 0 == first) && (get_or (act_words act) 2 0 == second)
+
+abbrev pub if_of : Option Act → ℕ → ℕ → ℕ → Option Act
+if_of None head first second = None
+if_of (Some act) head first second = if is_of act head first second then Some act else None
+
+-- the act of three words, if they are an act's
+unfoldable pub read_act : ℕ → ℕ → ℕ → Option Act
+read_act head first second = if_of (act_by head first second) head first second
+
+abbrev pub with_act : Option Act → Option (List Act) → Option (List Act)
+with_act None acts = None
+with_act (Some act) None = None
+with_act (Some act) (Some acts) = Some (act ∷ acts)
+
+-- so many acts, with 0 behind them
+abbrev pub read_acts : ℕ → List ℕ → Option (List Act)
+read_acts zero words = if are_zero words then Some [] else None
+read_acts (suc n) (head ∷ first ∷ second ∷ words) = with_act (read_act head first second) (read_acts n words)
+read_acts (suc n) words = None
+
+-- the verdict of its word and the word of who drops
+abbrev pub verdict_of : ℕ → ℕ → Option Verdict
+verdict_of word dropper =
+    if word == 0 then Some Pass
+    else if word == 1 then Some (Rule (dropper % 65536) (dropper / 2 ^ 16 % 65536) (dropper / 2 ^ 32 % 65536) (dropper / 2 ^ 48 % 65536))
+    else if (word == 2) && nat_lt dropper (2 ^ 32) then Some (Default (dropper % 65536) (dropper / 2 ^ 16 % 65536) Out)
+    else if (word == 3) && nat_lt dropper (2 ^ 32) then Some (Default (dropper % 65536) (dropper / 2 ^ 16 % 65536) In)
+    else None

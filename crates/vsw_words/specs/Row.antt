@@ -1,0 +1,86 @@
+-- The 73 words of a row: sixteen of an identity, then 57 of what is done with its packets, the body. docs/FORMATS.md has them as a table.
+use Rattle.std.specs.Prelude.{◌≡◌, ℕ, ◌+◌, ◌*◌, ◌-◌, ◌^◌, ◌<◌, ◌==◌, List, [], ◌∷◌, ◌++◌, Bool, true, false, Option, Some, None, min, length, replicate, get_or, if◌then◌else◌}
+use Rattle.vsw_base.specs.declared.header.Header.{Header}
+use Rattle.vsw_base.specs.declared.header.Header.TheVariants.{Ether, Ip, Vxlan, Ports}
+use Rattle.vsw_base.specs.declared.packet.Dir.{Dir}
+use Rattle.vsw_base.specs.declared.packet.Dir.TheVariants.{Out, In}
+use Rattle.vsw_base.specs.declared.fate.Verdict.{Verdict}
+use Rattle.vsw_base.specs.declared.fate.Verdict.TheVariants.{Pass, Rule, Default}
+use Rattle.vsw_base.specs.declared.flow.Ufid.{Ufid}
+use Rattle.vsw_transpose.specs.declared.act.Change.{Change}
+use Rattle.vsw_transpose.specs.declared.act.Change.TheVariants as of
+use Rattle.vsw_transpose.specs.declared.act.Act.{Act}
+use Rattle.vsw_transpose.specs.declared.act.Act.TheVariants.{Push, Pop, Modify, Ignore}
+use Rattle.vsw_transpose.specs.Form.{is_form}
+use Rattle.vsw_words.specs.Key.{joined, bit, key_words}
+
+-- the verdict's word: pass, drop by a rule, drop by the default for outbound and for inbound packets
+abbrev pub verdict_word : Verdict → ℕ
+verdict_word Pass = 0
+verdict_word (Rule controller layer group rule) = 1
+verdict_word (Default controller layer Out) = 2
+verdict_word (Default controller layer In) = 3
+
+abbrev pub four_bounds : List ℕ
+four_bounds = 2 ^ 16 ∷ 2 ^ 16 ∷ 2 ^ 16 ∷ 2 ^ 16 ∷ []
+
+-- who drops: controller, layer, group and rule, sixteen bits each, the controller lowest; a default has no group and no rule
+abbrev pub dropper_word : Verdict → ℕ
+dropper_word Pass = 0
+dropper_word (Rule controller layer group rule) = joined four_bounds (controller ∷ layer ∷ group ∷ rule ∷ [])
+dropper_word (Default controller layer dir) = joined four_bounds (controller ∷ layer ∷ 0 ∷ 0 ∷ [])
+
+-- an act's first word: its kind in bits 0 to 3, whether its first and second field are there in bits 4 and 5, and more from bit 16 on
+abbrev pub act_head : ℕ → Bool → Bool → ℕ → ℕ
+act_head kind first second more = kind + 16 * bit first + 32 * bit second + 65536 * more
+
+abbrev pub is_there : {A : Type 0} → Option A → Bool
+is_there None = false
+is_there (Some x) = true
+
+-- a field that isn't there is 0
+abbrev pub or_zero : Option ℕ → ℕ
+or_zero None = 0
+or_zero (Some n) = n
+
+-- the three words of an act: its first word and its two fields. No transposition pushes ports.
+abbrev pub act_words : Act → List ℕ
+act_words (Push (Ether dst src kind)) = act_head 1 true true kind ∷ dst ∷ src ∷ []
+act_words (Push (Ip src dst proto part)) = act_head 2 true true proto ∷ src ∷ dst ∷ []
+act_words (Push (Vxlan vni)) = act_head 3 false false vni ∷ 0 ∷ 0 ∷ []
+act_words (Push (Ports proto src dst)) = 0 ∷ 0 ∷ 0 ∷ []
+act_words Pop = act_head 4 false false 0 ∷ 0 ∷ 0 ∷ []
+act_words (Modify (of.Ether dst src)) = act_head 5 (is_there dst) (is_there src) 0 ∷ or_zero dst ∷ or_zero src ∷ []
+act_words (Modify (of.Ip src dst)) = act_head 6 (is_there src) (is_there dst) 0 ∷ or_zero src ∷ or_zero dst ∷ []
+act_words (Modify (of.Ports src dst)) = act_head 7 (is_there src) (is_there dst) 0 ∷ or_zero src ∷ or_zero dst ∷ []
+act_words Ignore = act_head 8 false false 0 ∷ 0 ∷ 0 ∷ []
+
+abbrev pub acts_words : List Act → List ℕ
+acts_words [] = []
+acts_words (x ∷ xs) = act_words x ++ acts_words xs
+
+-- so many words: the given ones, and 0 behind them
+abbrev pub filled : ℕ → List ℕ → List ℕ
+filled n words = words ++ replicate (n - length words) 0
+
+-- what stands behind the count of acts: the acts of a pass, or who drops
+abbrev pub last_words : Verdict → List Act → List ℕ
+last_words Pass by = filled 54 (acts_words by)
+last_words verdict by = filled 54 (dropper_word verdict ∷ [])
+
+-- the words of a body: verdict, until, the number of acts, and 54 more
+unfoldable pub body_words : Verdict → List Act → ℕ → List ℕ
+body_words verdict by until = verdict_word verdict ∷ until ∷ length by ∷ last_words verdict by
+
+-- the words of a row
+unfoldable pub row_words : Ufid → Verdict → List Act → ℕ → List ℕ
+row_words id verdict by until = key_words id.dir id.stack ++ body_words verdict by until
+
+-- a drop does nothing to the headers
+abbrev pub IsBare : Verdict → List Act → Type 0
+IsBare Pass by = Unit {0}
+IsBare verdict by = by ≡ []
+
+-- the number of words, from the first on, beyond which a row is 0, as its first nineteen tell it
+abbrev pub in_use : List ℕ → ℕ
+in_use words = if get_or words 16 0 == 0 then 19 + 3 * min (get_or words 18 0) 18 else 20

@@ -1,10 +1,12 @@
 -- A body read back from its words.
 use Rattle.std.specs.Prelude.{◌≡◌, ℕ, ◌+◌, ◌*◌, ◌/◌, ◌%◌, ◌^◌, ◌<◌, ◌==◌, ◌&&◌, List, [], ◌∷◌, Bool, true, false, Option, Some, None, nat_le, nat_lt, zero, suc, drop, get_or, if◌then◌else◌}
+use Rattle.vsw_base.specs.declared.header.Header.{Header}
 use Rattle.vsw_base.specs.declared.header.Header.TheVariants.{Ether, Ip, Vxlan}
 use Rattle.vsw_base.specs.declared.packet.Dir.TheVariants.{Out, In}
 use Rattle.vsw_base.specs.declared.fate.Verdict.{Verdict}
 use Rattle.vsw_base.specs.declared.fate.Verdict.TheVariants.{Pass, Rule, Default}
 use Rattle.vsw_base.specs.Fits.{IsFit}
+use Rattle.vsw_transpose.specs.declared.act.Change.{Change}
 use Rattle.vsw_transpose.specs.declared.act.Change.TheVariants as of
 use Rattle.vsw_transpose.specs.declared.act.Act.{Act}
 use Rattle.vsw_transpose.specs.declared.act.Act.TheVariants.{Push, Pop, Modify, Ignore}
@@ -23,6 +25,15 @@ IsActFit (Modify (of.Ether dst src)) = IsBelow (2 ^ 48) dst × IsBelow (2 ^ 48) 
 IsActFit (Modify (of.Ip src dst)) = IsBelow (2 ^ 32) src × IsBelow (2 ^ 32) dst
 IsActFit (Modify (of.Ports src dst)) = IsBelow (2 ^ 16) src × IsBelow (2 ^ 16) dst
 IsActFit x = Unit {0}
+
+-- what the types of an act's fields say; that a network is below 2^24 is of the form of a transposition
+abbrev pub IsRanged : Act → Type 0
+IsRanged (Push (Vxlan vni)) = Unit {0}
+IsRanged x = IsActFit x
+
+abbrev pub AreRanged : List Act → Type 0
+AreRanged [] = Unit {0}
+AreRanged (x ∷ xs) = IsRanged x × AreRanged xs
 
 abbrev pub AreActsFit : List Act → Type 0
 AreActsFit [] = Unit {0}
@@ -56,16 +67,43 @@ has_first head = head / 16 % 2 == 1
 abbrev pub has_second : ℕ → Bool
 has_second head = head / 32 % 2 == 1
 
+abbrev pub mac : ℕ → ℕ
+mac word = word % 2 ^ 48
+
+abbrev pub ip4 : ℕ → ℕ
+ip4 word = word % 2 ^ 32
+
+abbrev pub port : ℕ → ℕ
+port word = word % 65536
+
+abbrev pub ether_by : ℕ → ℕ → ℕ → Header
+ether_by head first second = Ether (mac first) (mac second) (head / 65536 % 65536)
+
+abbrev pub ip_by : ℕ → ℕ → ℕ → Header
+ip_by head first second = Ip (ip4 first) (ip4 second) (head / 65536 % 256) false
+
+abbrev pub vxlan_by : ℕ → Header
+vxlan_by head = Vxlan (head / 65536 % 16777216)
+
+abbrev pub ether_change : ℕ → ℕ → ℕ → Change
+ether_change head first second = of.Ether (field (has_first head) (mac first)) (field (has_second head) (mac second))
+
+abbrev pub ip_change : ℕ → ℕ → ℕ → Change
+ip_change head first second = of.Ip (field (has_first head) (ip4 first)) (field (has_second head) (ip4 second))
+
+abbrev pub ports_change : ℕ → ℕ → ℕ → Change
+ports_change head first second = of.Ports (field (has_first head) (port first)) (field (has_second head) (port second))
+
 -- the act that three words of an act are of; of others it is some act or none
 abbrev pub act_by : ℕ → ℕ → ℕ → Option Act
 act_by head first second =
-    if head % 16 == 1 then Some (Push (Ether (first % 2 ^ 48) (second % 2 ^ 48) (head / 65536 % 65536)))
-    else if head % 16 == 2 then Some (Push (Ip (first % 2 ^ 32) (second % 2 ^ 32) (head / 65536 % 256) false))
-    else if head % 16 == 3 then Some (Push (Vxlan (head / 65536 % 16777216)))
+    if head % 16 == 1 then Some (Push (ether_by head first second))
+    else if head % 16 == 2 then Some (Push (ip_by head first second))
+    else if head % 16 == 3 then Some (Push (vxlan_by head))
     else if head % 16 == 4 then Some Pop
-    else if head % 16 == 5 then Some (Modify (of.Ether (field (has_first head) (first % 2 ^ 48)) (field (has_second head) (second % 2 ^ 48))))
-    else if head % 16 == 6 then Some (Modify (of.Ip (field (has_first head) (first % 2 ^ 32)) (field (has_second head) (second % 2 ^ 32))))
-    else if head % 16 == 7 then Some (Modify (of.Ports (field (has_first head) (first % 2 ^ 16)) (field (has_second head) (second % 2 ^ 16))))
+    else if head % 16 == 5 then Some (Modify (ether_change head first second))
+    else if head % 16 == 6 then Some (Modify (ip_change head first second))
+    else if head % 16 == 7 then Some (Modify (ports_change head first second))
     else if head % 16 == 8 then Some Ignore
     else None
 

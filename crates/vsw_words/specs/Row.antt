@@ -1,5 +1,5 @@
 -- The 73 words of a row: sixteen of an identity, then 57 of what is done with its packets, the body. docs/FORMATS.md has them as a table.
-use Rattle.std.specs.Prelude.{◌≡◌, ℕ, ◌+◌, ◌*◌, ◌-◌, ◌^◌, ◌<◌, ◌==◌, List, [], ◌∷◌, ◌++◌, Bool, true, false, Option, Some, None, min, length, replicate, get_or, if◌then◌else◌}
+use Rattle.std.specs.Prelude.{◌≡◌, ℕ, ◌+◌, ◌*◌, ◌-◌, ◌^◌, ◌<◌, ◌==◌, List, [], ◌∷◌, ◌++◌, Bool, true, false, Option, Some, None, is_some, min, length, replicate, get_or, if◌then◌else◌}
 use Rattle.vsw_base.specs.declared.header.Header.{Header}
 use Rattle.vsw_base.specs.declared.header.Header.TheVariants.{Ether, Ip, Vxlan, Ports}
 use Rattle.vsw_base.specs.declared.packet.Dir.{Dir}
@@ -34,10 +34,6 @@ dropper_word (Default controller layer dir) = joined four_bounds (controller ∷
 abbrev pub act_head : ℕ → Bool → Bool → ℕ → ℕ
 act_head kind first second more = kind + 16 * bit first + 32 * bit second + 65536 * more
 
-abbrev pub is_there : {A : Type 0} → Option A → Bool
-is_there None = false
-is_there (Some x) = true
-
 -- a field that isn't there is 0
 abbrev pub or_zero : Option ℕ → ℕ
 or_zero None = 0
@@ -50,9 +46,9 @@ act_words (Push (Ip src dst proto part)) = act_head 2 true true proto ∷ src �
 act_words (Push (Vxlan vni)) = act_head 3 false false vni ∷ 0 ∷ 0 ∷ []
 act_words (Push (Ports proto src dst)) = 0 ∷ 0 ∷ 0 ∷ []
 act_words Pop = act_head 4 false false 0 ∷ 0 ∷ 0 ∷ []
-act_words (Modify (of.Ether dst src)) = act_head 5 (is_there dst) (is_there src) 0 ∷ or_zero dst ∷ or_zero src ∷ []
-act_words (Modify (of.Ip src dst)) = act_head 6 (is_there src) (is_there dst) 0 ∷ or_zero src ∷ or_zero dst ∷ []
-act_words (Modify (of.Ports src dst)) = act_head 7 (is_there src) (is_there dst) 0 ∷ or_zero src ∷ or_zero dst ∷ []
+act_words (Modify (of.Ether dst src)) = act_head 5 (is_some dst) (is_some src) 0 ∷ or_zero dst ∷ or_zero src ∷ []
+act_words (Modify (of.Ip src dst)) = act_head 6 (is_some src) (is_some dst) 0 ∷ or_zero src ∷ or_zero dst ∷ []
+act_words (Modify (of.Ports src dst)) = act_head 7 (is_some src) (is_some dst) 0 ∷ or_zero src ∷ or_zero dst ∷ []
 act_words Ignore = act_head 8 false false 0 ∷ 0 ∷ 0 ∷ []
 
 abbrev pub acts_words : List Act → List ℕ

@@ -10,7 +10,7 @@ abbrev pub mixed : ℕ → ℕ → ℕ
 mixed sum word = folded (bit_xor sum word * 11400714819323198485 % 2 ^ 64)
 
 -- the words go into the sum, the first one first
-unfoldable pub hash : ℕ → List ℕ → ℕ
+abbrev pub hash : ℕ → List ℕ → ℕ
 hash sum [] = sum
 hash sum (word ∷ words) = hash (mixed sum word) words
 

@@ -1,8 +1,13 @@
 //! Rows of the table of unified flows as 64-bit words: sixteen of a flow's identity, then 57 of what is done with its packets.
 #![tactic(auto)]
 
+mod act;
 mod key;
 mod law;
+mod row;
+mod slots;
 
 pub use key::key_words;
 pub use law::laws;
+pub use row::{Body, row_of};
+pub use slots::slot_of;

@@ -1,0 +1,286 @@
+//! The words of an act.
+
+ghost use Rattle.std.specs.Prelude.{◌≡◌, ◌<◌, ◌^◌};
+ghost use Rattle.vsw_base.specs.Fits.{IsFit};
+ghost use Rattle.vsw_words.specs.Reading as reading;
+ghost use Rattle.vsw_words.specs.Reading.{IsBelow, IsActFit, IsRanged};
+ghost use Rattle.vsw_words.specs.Row as spec;
+ghost use Rattle.vsw_transpose.specs.declared.act.Act.TheVariants.{Push, Modify};
+
+use vsw_base::{Header, Ip4, Mac};
+use vsw_transpose::{Act, Change};
+
+/// The three words of an act: its first word, and its two fields.
+#[inline(always)]
+pub(crate) fn act_words(act: &Act) -> [u64; 3]
+    ensures words { result ≡ spec.act_words act.now }
+    ensures ranges { IsRanged act.now }
+{
+    match act {
+        Act::Push(header) => pushed(header),
+        Act::Pop => [head(4, false, false, 0), 0, 0],
+        Act::Modify(change) => modified(change),
+        Act::Ignore => [head(8, false, false, 0), 0, 0],
+    }
+}
+
+/// An act's first word: its kind, whether its fields are there, and more.
+#[inline(always)]
+fn head(kind: u64, first: bool, second: bool, more: u64) -> u64
+    requires kind { kind < 16 }
+    requires more { more < 2 ^ 32 }
+    ensures { result ≡ spec.act_head kind first second more }
+{
+    kind + 16 * u64::from(first) + 32 * u64::from(second) + 0x1_0000 * more
+}
+
+fn pushed(header: &Header) -> [u64; 3]
+    ensures words { result ≡ spec.act_words (Push header.now) }
+    ensures ranges { IsRanged (Push header.now) }
+{
+    match header {
+        Header::Ether { dst, src, kind } => {
+            [
+                head(1, true, true, u64::from(*kind)),
+                dst.number(),
+                src.number(),
+            ]
+        }
+        Header::Ip {
+            src,
+            dst,
+            proto,
+            ..
+        } => {
+            let (src, dst) = (u64::from(src.number()), u64::from(dst.number()));
+            [head(2, true, true, u64::from(*proto)), src, dst]
+        }
+        Header::Vxlan { vni } => [head(3, false, false, u64::from(*vni)), 0, 0],
+        Header::Ports { proto, src, dst } => {
+            let _ranges = (*proto, *src, *dst);
+            [0, 0, 0]
+        }
+    }
+}
+
+fn modified(change: &Change) -> [u64; 3]
+    ensures words { result ≡ spec.act_words (Modify change.now) }
+    ensures ranges { IsRanged (Modify change.now) }
+{
+    match change {
+        Change::Ether { dst, src } => {
+            [
+                head(5, dst.is_some(), src.is_some(), 0),
+                mac_word(dst),
+                mac_word(src),
+            ]
+        }
+        Change::Ip { src, dst } => {
+            [
+                head(6, src.is_some(), dst.is_some(), 0),
+                ip_word(src),
+                ip_word(dst),
+            ]
+        }
+        Change::Ports { src, dst } => {
+            [
+                head(7, src.is_some(), dst.is_some(), 0),
+                port_word(src),
+                port_word(dst),
+            ]
+        }
+    }
+}
+
+fn mac_word(mac: &Option<Mac>) -> u64
+    ensures value { result ≡ spec.or_zero mac.now }
+    ensures below { IsBelow (2 ^ 48) mac.now }
+{
+    match mac {
+        None => 0,
+        Some(mac) => mac.number(),
+    }
+}
+
+fn ip_word(address: &Option<Ip4>) -> u64
+    ensures value { result ≡ spec.or_zero address.now }
+    ensures below { IsBelow (2 ^ 32) address.now }
+{
+    match address {
+        None => 0,
+        Some(address) => u64::from(address.number()),
+    }
+}
+
+fn port_word(port: &Option<u16>) -> u64
+    ensures value { result ≡ spec.or_zero port.now }
+    ensures below { IsBelow (2 ^ 16) port.now }
+{
+    match port {
+        None => 0,
+        Some(port) => u64::from(*port),
+    }
+}
+
+/// The act that three words are of, if they are an act's.
+#[inline(always)]
+#[tactic(auto, unfolding(crate::specs::Reading::read_act))]
+pub(crate) fn read_act(head: u64, first: u64, second: u64) -> Option<Act>
+    ensures { result ≡ reading.read_act head first second }
+{
+    match act_by(head, first, second) {
+        None => None,
+        Some(act) => {
+            if is_of(&act, head, first, second) {
+                Some(act)
+            } else {
+                None
+            }
+        }
+    }
+}
+
+/// Whether the words are the act's.
+#[inline(always)]
+fn is_of(act: &Act, head: u64, first: u64, second: u64) -> bool
+    ensures { result ≡ reading.is_of act.now head first second }
+{
+    let words = act_words(act);
+    words[0] == head && words[1] == first && words[2] == second
+}
+
+/// Some act, or none: of words that are an act's this act.
+fn act_by(head: u64, first: u64, second: u64) -> Option<Act>
+    ensures { result ≡ reading.act_by head first second }
+{
+    let kind = head % 16;
+    if kind == 1 {
+        Some(Act::Push(ether_by(head, first, second)))
+    } else if kind == 2 {
+        Some(Act::Push(ip_by(head, first, second)))
+    } else if kind == 3 {
+        Some(Act::Push(vxlan_by(head)))
+    } else if kind == 4 {
+        Some(Act::Pop)
+    } else if kind == 5 {
+        Some(Act::Modify(ether_change(head, first, second)))
+    } else if kind == 6 {
+        Some(Act::Modify(ip_change(head, first, second)))
+    } else if kind == 7 {
+        Some(Act::Modify(ports_change(head, first, second)))
+    } else if kind == 8 {
+        Some(Act::Ignore)
+    } else {
+        None
+    }
+}
+
+fn ether_by(head: u64, first: u64, second: u64) -> Header
+    ensures { result ≡ reading.ether_by head first second }
+{
+    Header::Ether {
+        dst: mac(first),
+        src: mac(second),
+        kind: (head / 0x1_0000 % 0x1_0000) as u16,
+    }
+}
+
+fn ip_by(head: u64, first: u64, second: u64) -> Header
+    ensures { result ≡ reading.ip_by head first second }
+{
+    Header::Ip {
+        src: ip4(first),
+        dst: ip4(second),
+        proto: (head / 0x1_0000 % 256) as u8,
+        part: false,
+    }
+}
+
+fn vxlan_by(head: u64) -> Header
+    ensures { result ≡ reading.vxlan_by head }
+{
+    Header::Vxlan {
+        vni: (head / 0x1_0000 % 0x100_0000) as u32,
+    }
+}
+
+fn ether_change(head: u64, first: u64, second: u64) -> Change
+    ensures { result ≡ reading.ether_change head first second }
+{
+    Change::Ether {
+        dst: if has_first(head) {
+            Some(mac(first))
+        } else {
+            None
+        },
+        src: if has_second(head) {
+            Some(mac(second))
+        } else {
+            None
+        },
+    }
+}
+
+fn ip_change(head: u64, first: u64, second: u64) -> Change
+    ensures { result ≡ reading.ip_change head first second }
+{
+    Change::Ip {
+        src: if has_first(head) {
+            Some(ip4(first))
+        } else {
+            None
+        },
+        dst: if has_second(head) {
+            Some(ip4(second))
+        } else {
+            None
+        },
+    }
+}
+
+fn ports_change(head: u64, first: u64, second: u64) -> Change
+    ensures { result ≡ reading.ports_change head first second }
+{
+    Change::Ports {
+        src: if has_first(head) {
+            Some(port(first))
+        } else {
+            None
+        },
+        dst: if has_second(head) {
+            Some(port(second))
+        } else {
+            None
+        },
+    }
+}
+
+fn has_first(head: u64) -> bool
+    ensures { result ≡ reading.has_first head }
+{
+    head / 16 % 2 == 1
+}
+
+fn has_second(head: u64) -> bool
+    ensures { result ≡ reading.has_second head }
+{
+    head / 32 % 2 == 1
+}
+
+fn mac(word: u64) -> Mac
+    ensures { result ≡ reading.mac word }
+{
+    Mac::of(word % 0x1_0000_0000_0000)
+}
+
+fn ip4(word: u64) -> Ip4
+    ensures { result ≡ reading.ip4 word }
+{
+    Ip4::of((word % 0x1_0000_0000) as u32)
+}
+
+fn port(word: u64) -> u16
+    ensures { result ≡ reading.port word }
+{
+    (word % 0x1_0000) as u16
+}

@@ -1,0 +1,154 @@
+//! The words of a row, and its body read back from them.
+
+ghost use Rattle.std.specs.Prelude.{◌≡◌, ◌+◌, ◌*◌, ◌<◌, ◌≤◌, ◌^◌, IsTrue, List, [], ◌∷◌, length};
+ghost use Rattle.vsw_base.specs.Fits.{AreFit};
+ghost use Rattle.vsw_words.specs.Reading.{IsBody, IsVerdictFit, AreRanged};
+ghost use Rattle.vsw_words.specs.Row as spec;
+ghost use Rattle.vsw_words.specs.Key.{joined};
+ghost use Rattle.vsw_words.specs.Row.{IsBare, acts_words, filled, four_bounds};
+
+use crate::act::act_words;
+use crate::key::key_words;
+use vsw_base::{Dir, Moment, Ufid, Verdict};
+use vsw_transpose::{Act, Transposition};
+
+/// What a row says of the packets of a flow.
+#[derive(Drop)]
+pub struct Body {
+    pub verdict: Verdict,
+    pub by: Transposition,
+    pub until: Moment,
+}
+
+/// Writes the row of an identity: its words, the verdict, what is done to the headers, and until when that holds.
+pub fn row_of(id: &Ufid, verdict: &Verdict, by: &Transposition, until: Moment, out: &mut [u64; 73])
+    requires { IsBare verdict.now by.now }
+    ensures words { out.new ≡ spec.row_words id.now verdict.now by.now until }
+    ensures body { IsBody verdict.now by.now }
+    ensures fit { AreFit id.now.stack }
+{
+    write_row(id, verdict, by.acts(), until, out);
+}
+
+fn write_row(id: &Ufid, verdict: &Verdict, by: &[Act], until: Moment, out: &mut [u64])
+    requires bare { IsBare verdict.now by.now }
+    requires few { length by.now ≤ 18 }
+    requires room { length out.old ≡ 73 }
+    ensures words { out.new ≡ spec.row_words id.now verdict.now by.now until }
+    ensures ranges { AreRanged by.now }
+    ensures numbers { IsVerdictFit verdict.now }
+    ensures fit { AreFit id.now.stack }
+{
+    let mut key = [0; 16];
+    key_words(id, &mut key);
+    out[..16].copy_from_slice(&key);
+    write_body(verdict, by, until, &mut out[16..]);
+}
+
+fn write_body(verdict: &Verdict, by: &[Act], until: Moment, out: &mut [u64])
+    requires few { length by.now ≤ 18 }
+    requires room { length out.old ≡ 57 }
+    ensures words { out.new ≡ spec.body_words verdict.now by.now until }
+    ensures ranges { AreRanged by.now }
+    ensures numbers { IsVerdictFit verdict.now }
+{
+    out[..3].copy_from_slice(&[verdict_word(verdict), until.micros(), by.len() as u64]);
+    write_last(verdict, by, &mut out[3..]);
+}
+
+/// Writes what stands behind the number of acts.
+fn write_last(verdict: &Verdict, by: &[Act], out: &mut [u64])
+    requires few { length by.now ≤ 18 }
+    requires room { length out.old ≡ 54 }
+    ensures words { out.new ≡ spec.last_words verdict.now by.now }
+    ensures ranges { AreRanged by.now }
+{
+    match verdict {
+        Verdict::Pass => write_acts(by, out),
+        _ => {
+            note_ranges(by);
+            out.fill(0);
+            out[0] = dropper_word(verdict);
+        }
+    }
+}
+
+/// Writes the words of the acts, and 0 behind them.
+fn write_acts(acts: &[Act], out: &mut [u64])
+    requires room { 3 * length acts.now ≤ length out.old }
+    ensures words { out.new ≡ filled (length out.old) (acts_words acts.now) }
+    ensures ranges { AreRanged acts.now }
+{
+    match acts.split_first() {
+        None => out.fill(0),
+        Some((first, rest)) => {
+            out[..3].copy_from_slice(&act_words(first));
+            write_acts(rest, &mut out[3..]);
+        }
+    }
+}
+
+/// Says that the numbers of acts lie in the ranges of their types.
+fn note_ranges(acts: &[Act])
+    ensures { AreRanged acts.now }
+{
+    if let Some((first, rest)) = acts.split_first() {
+        let _ = act_words(first);
+        note_ranges(rest);
+    }
+}
+
+fn verdict_word(verdict: &Verdict) -> u64
+    ensures word { result ≡ spec.verdict_word verdict.now }
+    ensures numbers { IsVerdictFit verdict.now }
+{
+    match verdict {
+        Verdict::Pass => 0,
+        Verdict::Rule {
+            controller,
+            layer,
+            group,
+            rule,
+        } => {
+            let _numbers = (*controller, *layer, *group, *rule);
+            1
+        }
+        Verdict::Default {
+            controller,
+            layer,
+            dir,
+        } => {
+            let _numbers = (*controller, *layer);
+            match dir {
+                Dir::Out => 2,
+                Dir::In => 3,
+            }
+        }
+    }
+}
+
+fn dropper_word(verdict: &Verdict) -> u64
+    ensures { result ≡ spec.dropper_word verdict.now }
+{
+    match *verdict {
+        Verdict::Pass => 0,
+        Verdict::Rule {
+            controller,
+            layer,
+            group,
+            rule,
+        } => four(controller, layer, group, rule),
+        Verdict::Default {
+            controller,
+            layer,
+            ..
+        } => four(controller, layer, 0, 0),
+    }
+}
+
+fn four(first: u16, second: u16, third: u16, fourth: u16) -> u64
+    ensures { result ≡ joined four_bounds (first ∷ second ∷ third ∷ fourth ∷ []) }
+{
+    let high = u64::from(fourth) * 0x1_0000 + u64::from(third);
+    (high * 0x1_0000 + u64::from(second)) * 0x1_0000 + u64::from(first)
+}

@@ -3,3 +3,5 @@ pub mod Leveled
 pub mod Fields
 pub mod Decoded
 pub mod Written
+pub mod Acts
+pub mod Passes

@@ -53,6 +53,22 @@ last_of : (a b : Bool) → (a && b) ≡ true → b ≡ true
 last_of true b t = t
 last_of false b t = grind arith
 
+-- the pushes of a transposition are of whole encapsulations
+pub form_chain : (xs : List Act) → is_form xs ≡ true → chain 0 (pushed xs) ≡ true
+form_chain xs t = sym (chained (pushed xs)) ∙ last_of (nat_le (length xs) 18 && are_ordered xs && (pops xs % 3 == 0)) (are_encaps (pushed xs)) t
+
 -- the acts of a transposition have their numbers in their ranges
 pub acts_fit : (xs : List Act) → is_form xs ≡ true → AreRanged xs → AreActsFit xs
-acts_fit xs t r = chain_fits 0 xs (sym (chained (pushed xs)) ∙ last_of (nat_le (length xs) 18 && are_ordered xs && (pops xs % 3 == 0)) (are_encaps (pushed xs)) t) r
+acts_fit xs t r = chain_fits 0 xs (form_chain xs t) r
+
+first_of : (a b : Bool) → (a && b) ≡ true → a ≡ true
+first_of true b t = refl
+first_of false b t = grind arith
+
+-- a transposition has at most eighteen acts
+pub form_short : (xs : List Act) → is_form xs ≡ true → length xs ≤ 18
+form_short xs t =
+    let a : (nat_le (length xs) 18 && are_ordered xs && (pops xs % 3 == 0)) ≡ true = first_of _ (are_encaps (pushed xs)) t in
+    let b : (nat_le (length xs) 18 && are_ordered xs) ≡ true = first_of _ (pops xs % 3 == 0) a in
+    let c : nat_le (length xs) 18 ≡ true = first_of _ (are_ordered xs) b in
+    grind (arith, common_steps)

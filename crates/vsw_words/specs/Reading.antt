@@ -1,5 +1,5 @@
 -- A body read back from its words.
-use Rattle.std.specs.Prelude.{◌≡◌, ℕ, ◌+◌, ◌*◌, ◌/◌, ◌%◌, ◌^◌, ◌<◌, ◌==◌, ◌&&◌, List, [], ◌∷◌, Bool, true, false, Option, Some, None, nat_le, nat_lt, zero, suc, drop, get_or, if◌then◌else◌}
+use Rattle.std.specs.Prelude.{◌≡◌, ℕ, ◌+◌, ◌*◌, ◌/◌, ◌%◌, ◌^◌, ◌<◌, ◌==◌, ◌&&◌, List, [], ◌∷◌, Bool, true, false, Option, Some, None, nat_le, nat_lt, zero, suc, drop, length, get_or, if◌then◌else◌}
 use Rattle.vsw_base.specs.declared.header.Header.{Header}
 use Rattle.vsw_base.specs.declared.header.Header.TheVariants.{Ether, Ip, Vxlan}
 use Rattle.vsw_base.specs.declared.packet.Dir.TheVariants.{Out, In}
@@ -11,7 +11,7 @@ use Rattle.vsw_transpose.specs.declared.act.Change.TheVariants as of
 use Rattle.vsw_transpose.specs.declared.act.Act.{Act}
 use Rattle.vsw_transpose.specs.declared.act.Act.TheVariants.{Push, Pop, Modify, Ignore}
 use Rattle.vsw_transpose.specs.Form.{is_form}
-use Rattle.vsw_words.specs.Row.{act_words, IsBare}
+use Rattle.vsw_words.specs.Row.{act_words, dropper_word, last_words, body_words, IsBare}
 
 -- a field that may be absent is below a bound
 abbrev pub IsBelow : ℕ → Option ℕ → Type 0
@@ -138,3 +138,30 @@ verdict_of word dropper =
     else if (word == 2) && nat_lt dropper (2 ^ 32) then Some (Default (dropper % 65536) (dropper / 2 ^ 16 % 65536) Out)
     else if (word == 3) && nat_lt dropper (2 ^ 32) then Some (Default (dropper % 65536) (dropper / 2 ^ 16 % 65536) In)
     else None
+
+-- the word of who drops is the verdict's, if it drops
+abbrev pub IsDropper : Verdict → ℕ → Type 0
+IsDropper Pass dropper = Unit {0}
+IsDropper verdict dropper = dropper ≡ dropper_word verdict
+
+-- the number of acts and what stands behind it are those of a body
+pub record IsLast (verdict : Verdict) (count : ℕ) (last : List ℕ) (by : List Act) : Type 0 where
+  pub acts : count ≡ length by
+  pub are : last ≡ last_words verdict by
+  pub form : is_form by ≡ true
+  pub bare : IsBare verdict by
+
+-- the words are those of a body
+pub record IsTold (words : List ℕ) (verdict : Verdict) (by : List Act) (until : ℕ) : Type 0 where
+  pub are : words ≡ body_words verdict by until
+  pub form : is_form by ≡ true
+  pub bare : IsBare verdict by
+
+-- what a reader added to a list
+abbrev pub added : List Act → List Act → List Act
+added old new = drop (length old) new
+
+-- what it answered, with what it added
+abbrev pub if_read : Bool → List Act → Option (List Act)
+if_read true acts = Some acts
+if_read false acts = None

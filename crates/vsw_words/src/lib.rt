@@ -4,10 +4,12 @@
 mod act;
 mod key;
 mod law;
+mod reading;
 mod row;
 mod slots;
 
 pub use key::key_words;
 pub use law::laws;
+pub use reading::body_of;
 pub use row::{Body, row_of};
 pub use slots::slot_of;

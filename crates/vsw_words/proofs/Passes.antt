@@ -1,0 +1,155 @@
+-- Bodies read back from their words.
+use Rattle.std.proofs.Common.{◌≡◌, ℕ, ◌+◌, ◌-◌, ◌*◌, ◌/◌, ◌%◌, ◌^◌, ◌<◌, ◌≤◌, ◌==◌, ◌&&◌, List, [], ◌∷◌, ◌++◌, refl, sym, ◌∙◌, ap, subst, arith, length, true, false, Bool, Option, Some, None, Result, Ok, Err, zero, suc, if◌then◌else◌, get_or, drop, nat_lt}
+use Rattle.std.specs.Prelude.{replicate}
+use Rattle.std.proofs.lemmas.Grind.{common_steps}
+use Rattle.vsw_transpose.specs.declared.act.Act.{Act}
+use Rattle.vsw_base.specs.declared.packet.Dir.{Dir}
+use Rattle.vsw_base.specs.declared.packet.Dir.TheVariants.{Out, In}
+use Rattle.vsw_base.specs.declared.fate.Verdict.{Verdict}
+use Rattle.vsw_base.specs.declared.fate.Verdict.TheVariants.{Pass, Rule, Default}
+use Rattle.vsw_transpose.specs.Form.{is_form}
+use Rattle.vsw_words.specs.Key.{joined}
+use Rattle.vsw_words.specs.Row.{acts_words, filled, verdict_word, dropper_word, last_words, body_words, four_bounds, IsBare}
+use Rattle.vsw_words.specs.Reading.{added, if_read, are_zero, read_acts, verdict_of, IsBody, IsVerdictFit, IsDropper, IsLast, IsTold}
+use Rattle.vsw_words.proofs.Written.{form_short}
+use Rattle.vsw_words.proofs.Acts.{acts_told, acts_back, form_good, zeros_are, zeros_back}
+
+of_made : {E : Type 0} (t : Bool) (acts made : List Act) (e : E) → ◌≡◌ {A = Result (List Act) E} (if t then Ok acts else Err e) (Ok made) → made ≡ acts
+of_made true acts made e h = grind (arith, common_steps)
+of_made false acts made e h = absurd (grind (arith, common_steps))
+
+-- what was read into an empty list is what a transposition was made of
+pub pass_told : {E : Type 0} (t form : Bool) (old new acts made : List Act) (e : E) (r : Result (List Act) E) (o : Option (List Act)) → old ≡ [] → t ≡ true → if_read t (added old new) ≡ o → acts ≡ new
+    → r ≡ (if form then Ok acts else Err e) → r ≡ Ok made → o ≡ Some made
+pass_told t form old new acts made e r o empty done is same by ok =
+    let made_is : made ≡ acts = of_made form acts made e (sym by ∙ ok) in
+    sym is ∙ rw (done, empty, made_is, same) refl
+
+pub last_pass_told : (v : Verdict) (count : ℕ) (last : List ℕ) (by : List Act) → v ≡ Pass → length last ≡ 54 → read_acts count last ≡ Some by → is_form by ≡ true → IsLast v count last by
+last_pass_told v count last by is long read form =
+    let told = acts_told count last by read in
+    let are : last ≡ last_words Pass by = told.1 ∙ ap (λ (n : ℕ). filled n (acts_words by)) long in
+    let whole : IsLast Pass count last by = record { acts = told.0; are = are; form = form; bare = tt } in
+    subst (λ w. IsLast w count last by) (sym is) whole
+
+pub last_pass_read : (v : Verdict) (count : ℕ) (last : List ℕ) (xs : List Act) → v ≡ Pass → IsBody v xs → count ≡ length xs → last ≡ last_words v xs → (read_acts count last ≡ Some xs) × (is_form xs ≡ true) × (count ≤ 18)
+last_pass_read v count last xs is body acts are =
+    let short : length xs ≤ 18 = form_short xs body.form in
+    let words : last ≡ filled 54 (acts_words xs) = are ∙ ap (λ (w : Verdict). last_words w xs) is in
+    let back : read_acts (length xs) (filled 54 (acts_words xs)) ≡ Some xs = acts_back xs 54 (form_good xs body.form body.acts) (omega (arith, short)) in
+    (rw (acts, words) back, body.form, omega (arith, short, acts))
+
+-- the verdict drops
+abbrev pub IsDrop : Verdict → Type 0
+IsDrop Pass = ⊥
+IsDrop v = Unit {0}
+
+head_zero : (w : ℕ) (last : List ℕ) → length last ≡ 54 → are_zero (drop 1 last) ≡ true → get_or last 0 0 ≡ w → last ≡ w ∷ replicate 53 0
+head_zero w [] long none is = absurd (omega (arith, long))
+head_zero w (x ∷ xs) long none is =
+    let n : length xs ≡ 53 = omega (arith, long) in
+    let e : xs ≡ replicate 53 0 = zeros_are xs none ∙ ap (λ (n : ℕ). replicate n 0) n in
+    rw (is, e) refl
+
+bare_last : (v : Verdict) (last : List ℕ) → IsDrop v → last ≡ dropper_word v ∷ replicate 53 0 → IsLast v 0 last []
+bare_last Pass last d e = absurd d
+bare_last (Rule c l g r) last d e = record { acts = refl; are = e; form = refl; bare = refl }
+bare_last (Default c l dir) last d e = record { acts = refl; are = e; form = refl; bare = refl }
+
+dropper_is : (v : Verdict) (n : ℕ) → IsDrop v → IsDropper v n → n ≡ dropper_word v
+dropper_is Pass n d e = absurd d
+dropper_is (Rule c l g r) n d e = e
+dropper_is (Default c l dir) n d e = e
+
+both_true : (a b : Bool) → (a && b) ≡ true → (a ≡ true) × (b ≡ true)
+both_true true b t = (refl, t)
+both_true false b t = absurd (grind (arith, common_steps))
+
+zero_of : (n : ℕ) → (n == 0) ≡ true → n ≡ 0
+zero_of n t = grind (arith, common_steps)
+
+pub last_drop_told : (v : Verdict) (count : ℕ) (last : List ℕ) (by : List Act) (t : Bool) → IsDrop v → length last ≡ 54 → t ≡ ((count == 0) && are_zero (drop 1 last)) → by ≡ [] → t ≡ true → IsDropper v (get_or last 0 0) → IsLast v count last by
+last_drop_told v count last by t drops long is bare done dropper =
+    let both = both_true (count == 0) (are_zero (drop 1 last)) (sym is ∙ done) in
+    let none : count ≡ 0 = zero_of count both.0 in
+    rw (none, bare) (bare_last v last drops (head_zero (dropper_word v) last long both.1 (dropper_is v (get_or last 0 0) drops dropper)))
+
+drop_words : (v : Verdict) (xs : List Act) → IsDrop v → IsBare v xs → (xs ≡ []) × (last_words v xs ≡ dropper_word v ∷ replicate 53 0)
+drop_words Pass xs d b = absurd d
+drop_words (Rule c l g r) xs d b = (b, refl)
+drop_words (Default c l dir) xs d b = (b, refl)
+
+pub last_drop_back : (v : Verdict) (count : ℕ) (last : List ℕ) (by xs : List Act) (t : Bool) → IsDrop v → t ≡ ((count == 0) && are_zero (drop 1 last)) → by ≡ [] → IsBody v xs → count ≡ length xs → last ≡ last_words v xs → (t ≡ true) × (by ≡ xs)
+last_drop_back v count last by xs t drops is bare body acts are =
+    let k = drop_words v xs drops body.bare in
+    let none : count ≡ 0 = acts ∙ ap (λ (l : List Act). length l) k.0 in
+    let words : last ≡ dropper_word v ∷ replicate 53 0 = are ∙ k.1 in
+    (is ∙ rw (none, words) refl, bare ∙ sym k.0)
+
+pub drop_rule : (v : Verdict) (c l g r : ℕ) → v ≡ Rule c l g r → IsDrop v
+drop_rule v c l g r e = subst IsDrop (sym e) tt
+
+pub drop_default : (v : Verdict) (c l : ℕ) (dir : Dir) → v ≡ Default c l dir → IsDrop v
+drop_default v c l dir e = subst IsDrop (sym e) tt
+
+parts : (word until count : ℕ) (last : List ℕ) (v : Verdict) (by : List Act) (u : ℕ) → word ∷ until ∷ count ∷ last ≡ body_words v by u → (word ≡ verdict_word v) × (until ≡ u) × (count ≡ length by) × (last ≡ last_words v by)
+unfolding body_words
+parts word until count last v by u e = (ap (λ (l : List ℕ). get_or l 0 0) e, ap (λ (l : List ℕ). get_or l 1 0) e, ap (λ (l : List ℕ). get_or l 2 0) e, ap (drop 3) e)
+
+-- where words of a body stand, the word of who drops does
+dropper_of : (v : Verdict) (by : List Act) → IsDropper v (get_or (last_words v by) 0 0)
+dropper_of Pass by = tt
+dropper_of (Rule c l g r) by = refl
+dropper_of (Default c l dir) by = refl
+
+-- a verdict is read back from its word and the word of who drops
+verdict_back : (v : Verdict) (n : ℕ) → IsVerdictFit v → IsDropper v n → verdict_of (verdict_word v) n ≡ Some v
+verdict_back Pass n fit e = refl
+verdict_back (Rule c l g r) n fit e =
+    let a : n % 65536 ≡ c = omega (arith, e, fit.0) in
+    let b : n / 2 ^ 16 % 65536 ≡ l = omega (arith, e, fit.0, fit.1) in
+    let d : n / 2 ^ 32 % 65536 ≡ g = omega (arith, e, fit.0, fit.1, fit.2) in
+    let f : n / 2 ^ 48 % 65536 ≡ r = omega (arith, e, fit.0, fit.1, fit.2, fit.3) in
+    rw (a, b, d, f) refl
+verdict_back (Default c l Out) n fit e =
+    let a : n % 65536 ≡ c = omega (arith, e, fit.0) in
+    let b : n / 2 ^ 16 % 65536 ≡ l = omega (arith, e, fit.0, fit.1) in
+    let k : nat_lt n (2 ^ 32) ≡ true = grind (arith, common_steps, e, fit.0, fit.1) in
+    rw (k, a, b) refl
+verdict_back (Default c l In) n fit e =
+    let a : n % 65536 ≡ c = omega (arith, e, fit.0) in
+    let b : n / 2 ^ 16 % 65536 ≡ l = omega (arith, e, fit.0, fit.1) in
+    let k : nat_lt n (2 ^ 32) ≡ true = grind (arith, common_steps, e, fit.0, fit.1) in
+    rw (k, a, b) refl
+
+-- the words of a body tell its verdict
+told_verdict : (word until count first : ℕ) (last : List ℕ) (v : Verdict) (by : List Act) (u : ℕ) → first ≡ get_or last 0 0 → IsBody v by → word ∷ until ∷ count ∷ last ≡ body_words v by u → verdict_of word first ≡ Some v
+told_verdict word until count first last v by u f body e =
+    let p = parts word until count last v by u e in
+    let dropper : IsDropper v first = subst (IsDropper v) (sym (f ∙ ap (λ (l : List ℕ). get_or l 0 0) p.3)) (dropper_of v by) in
+    rw p.0 (verdict_back v first body.numbers dropper)
+
+pub none_back : (word until count first : ℕ) (last : List ℕ) (o : Option Verdict) → first ≡ get_or last 0 0 → o ≡ verdict_of word first → o ≡ None → (v : Verdict) (by : List Act) (u : ℕ) → IsBody v by → word ∷ until ∷ count ∷ last ≡ body_words v by u → ⊥
+none_back word until count first last o f is none v by u body e = no_some v (sym none ∙ is ∙ told_verdict word until count first last v by u f body e) where
+  no_some : (v : Verdict) → ◌≡◌ {A = Option Verdict} None (Some v) → ⊥
+  no_some v h = grind (arith, common_steps)
+
+some_is : (v w : Verdict) → ◌≡◌ {A = Option Verdict} (Some v) (Some w) → v ≡ w
+some_is v w h = grind (arith, common_steps)
+
+pub some_told : (word until count first micros : ℕ) (last : List ℕ) (w : Verdict) (by : List Act) → first ≡ get_or last 0 0 → micros ≡ until → (word ≡ verdict_word w) × IsDropper w first → (IsDropper w (get_or last 0 0) → IsLast w count last by) → IsTold (word ∷ until ∷ count ∷ last) w by micros
+unfolding body_words
+some_told word until count first micros last w by f m is told =
+    let whole : IsLast w count last by = told (subst (IsDropper w) f is.1) in
+    let words : word ∷ until ∷ count ∷ last ≡ body_words w by micros = rw (is.0, m, whole.acts, sym whole.are) refl in
+    record { are = words; form = whole.form; bare = whole.bare }
+
+pub some_back : (word until count first micros : ℕ) (last : List ℕ) (o : Option Verdict) (w : Verdict) (by : List Act) (t : Bool) → first ≡ get_or last 0 0 → micros ≡ until → o ≡ verdict_of word first → o ≡ Some w
+    → ((xs : List Act) → IsBody w xs → count ≡ length xs → last ≡ last_words w xs → (t ≡ true) × (by ≡ xs))
+    → (v : Verdict) (xs : List Act) (u : ℕ) → IsBody v xs → word ∷ until ∷ count ∷ last ≡ body_words v xs u → (t ≡ true) × (w ≡ v) × (by ≡ xs) × (micros ≡ u)
+some_back word until count first micros last o w by t f m is some back v xs u body e =
+    let p = parts word until count last v xs u e in
+    let same : w ≡ v = some_is w v (sym some ∙ is ∙ told_verdict word until count first last v xs u f body e) in
+    let own : IsBody w xs = subst (λ (z : Verdict). IsBody z xs) (sym same) body in
+    let b = back xs own p.2 (p.3 ∙ ap (λ (z : Verdict). last_words z xs) (sym same)) in
+    (b.0, same, b.1, m ∙ p.1)

@@ -5,3 +5,4 @@ pub mod Decoded
 pub mod Written
 pub mod Acts
 pub mod Passes
+pub mod Used

@@ -1,10 +1,13 @@
 -- Laws of the words.
-use Rattle.std.specs.Prelude.{◌≡◌, true}
+use Rattle.std.specs.Prelude.{◌≡◌, ℕ, ◌-◌, ◌≤◌, List, true, length, drop, replicate}
+use Rattle.vsw_base.specs.declared.fate.Verdict.{Verdict}
 use Rattle.vsw_base.specs.declared.flow.Ufid.{Ufid}
 use Rattle.vsw_base.specs.Fits.{AreFit}
 use Rattle.vsw_base.specs.Shape.{is_stack}
 use Rattle.vsw_words.specs.Key.{key_words}
 use Rattle.vsw_words.specs.Id.{id_of}
+use Rattle.vsw_words.specs.Row.{row_words, in_use}
+use Rattle.vsw_transpose.specs.declared.act.Act.{Act}
 
 -- an identity: its headers are those of a stack, and its numbers lie in the ranges of their fields
 pub record IsId (id : Ufid) : Type 0 where
@@ -19,3 +22,8 @@ Decodes = (id : Ufid) → IsId id → id_of (key_words id.dir id.stack) ≡ id
 -- its sizes, on its identity alone, so packets with the same words, control, moment and sizes have the same fate everywhere.
 abbrev pub TellsApart : Type 0
 TellsApart = (a b : Ufid) → IsId a → IsId b → key_words a.dir a.stack ≡ key_words b.dir b.stack → a ≡ b
+
+-- a row is 0 beyond its words in use
+abbrev pub EndsInZero : Type 0
+EndsInZero = (id : Ufid) (verdict : Verdict) (by : List Act) (until : ℕ) → length by ≤ 18
+    → drop (in_use (row_words id verdict by until)) (row_words id verdict by until) ≡ replicate (73 - in_use (row_words id verdict by until)) 0

@@ -11,5 +11,5 @@ mod slots;
 pub use key::key_words;
 pub use law::laws;
 pub use reading::body_of;
-pub use row::{Body, row_of};
+pub use row::{Body, row_of, words_in_use};
 pub use slots::slot_of;

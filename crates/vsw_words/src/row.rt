@@ -30,6 +30,21 @@ pub fn row_of(id: &Ufid, verdict: &Verdict, by: &Transposition, until: Moment, o
     write_row(id, verdict, by.acts(), until, out);
 }
 
+/// The number of words, from the first on, beyond which a row is 0, told by its first nineteen. Of words
+/// that aren't a row's it is some number from 19 to 73.
+pub fn words_in_use(front: &[u64]) -> usize
+    requires { 19 ≤ length front.now }
+    ensures value { result ≡ spec.in_use front.now }
+    ensures few { result ≤ 73 }
+    ensures front { 19 ≤ result }
+{
+    if front[16] == 0 {
+        19 + 3 * front[18].min(18) as usize
+    } else {
+        20
+    }
+}
+
 fn write_row(id: &Ufid, verdict: &Verdict, by: &[Act], until: Moment, out: &mut [u64])
     requires bare { IsBare verdict.now by.now }
     requires few { length by.now ≤ 18 }

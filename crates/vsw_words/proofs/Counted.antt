@@ -1,7 +1,6 @@
 -- The number of headers tells the encapsulations.
-use Rattle.std.proofs.Common.{◌≡◌, ℕ, ◌+◌, ◌*◌, ◌^◌, ◌<◌, ◌≤◌, List, [], ◌∷◌, refl, arith, length, true, Bool, nat_le, if◌then◌else◌}
+use Rattle.std.proofs.Common.{◌≡◌, ℕ, List, refl, length, true, nat_le, if◌then◌else◌}
 use Rattle.vsw_base.specs.declared.header.Header.{Header}
-use Rattle.vsw_base.specs.declared.header.Header.TheVariants.{Ether, Ip, Vxlan, Ports}
 use Rattle.vsw_base.specs.Shape.{is_stack, is_plain, encaps}
 use Rattle.vsw_base.proofs.Stacks.{plain_cases, stack_cases, encapped}
 

@@ -1,18 +1,16 @@
 -- An identity from its words.
-use Rattle.std.proofs.Common.{◌≡◌, ℕ, ◌+◌, ◌*◌, ◌/◌, ◌%◌, ◌^◌, ◌<◌, ◌≤◌, ◌==◌, List, [], ◌∷◌, ◌++◌, refl, sym, ◌∙◌, ap, arith, length, true, false, Bool, take, drop, get_or, length-append}
+use Rattle.std.proofs.Common.{◌≡◌, ℕ, ◌<◌, List, ◌∷◌, ◌++◌, refl, sym, ◌∙◌, ap, arith, length, true, take, drop, get_or, length-append}
 use Rattle.std.specs.Prelude.{replicate}
 use Rattle.std.proofs.lemmas.List.{length-take-le, length-replicate}
 use Rattle.std.proofs.Math.Seq.{take-append_seam, drop-append_seam}
-use Rattle.std.proofs.lemmas.Grind.{common_steps}
 use Rattle.vsw_base.specs.declared.header.Header.{Header}
-use Rattle.vsw_base.specs.declared.header.Header.TheVariants.{Ether, Ip, Vxlan, Ports}
 use Rattle.vsw_base.specs.declared.packet.Dir.{Dir}
 use Rattle.vsw_base.specs.declared.packet.Dir.TheVariants.{Out, In}
 use Rattle.vsw_base.specs.declared.flow.Ufid.{Ufid}
 use Rattle.vsw_base.specs.Shape.{is_stack, is_plain, encaps, inner}
 use Rattle.vsw_base.specs.Fits.{AreFit}
 use Rattle.vsw_base.proofs.Stacks.{plain_cases, stack_cases, encapped}
-use Rattle.vsw_words.specs.Key.{key_words, head_word, joined, head_bounds, vni_bounds, bit, side, padded, vnis, macs, addresses, inner_fields}
+use Rattle.vsw_words.specs.Key.{key_words, joined, head_bounds, vni_bounds, side, padded, vnis, macs, addresses, inner_fields}
 use Rattle.vsw_words.specs.Id.{split, dir_of, stack_from, id_of}
 use Rattle.vsw_words.specs.Law.{IsId}
 use Rattle.vsw_words.proofs.Fields.{Below, split_joined, high_is, low_is, bit_is, bit_small}

@@ -1,5 +1,5 @@
 -- Bodies read back from their words.
-use Rattle.std.proofs.Common.{◌≡◌, ℕ, ◌+◌, ◌-◌, ◌*◌, ◌/◌, ◌%◌, ◌^◌, ◌<◌, ◌≤◌, ◌==◌, ◌&&◌, List, [], ◌∷◌, ◌++◌, refl, sym, ◌∙◌, ap, subst, arith, length, true, false, Bool, Option, Some, None, Result, Ok, Err, zero, suc, if◌then◌else◌, get_or, drop, nat_lt}
+use Rattle.std.proofs.Common.{◌≡◌, ℕ, ◌/◌, ◌%◌, ◌^◌, ◌≤◌, ◌==◌, ◌&&◌, List, [], ◌∷◌, refl, sym, ◌∙◌, ap, subst, arith, length, true, false, Bool, Option, Some, None, Result, Ok, Err, if◌then◌else◌, get_or, drop, nat_lt}
 use Rattle.std.specs.Prelude.{replicate}
 use Rattle.std.proofs.lemmas.Grind.{common_steps}
 use Rattle.vsw_transpose.specs.declared.act.Act.{Act}
@@ -8,11 +8,10 @@ use Rattle.vsw_base.specs.declared.packet.Dir.TheVariants.{Out, In}
 use Rattle.vsw_base.specs.declared.fate.Verdict.{Verdict}
 use Rattle.vsw_base.specs.declared.fate.Verdict.TheVariants.{Pass, Rule, Default}
 use Rattle.vsw_transpose.specs.Form.{is_form}
-use Rattle.vsw_words.specs.Key.{joined}
-use Rattle.vsw_words.specs.Row.{acts_words, filled, verdict_word, dropper_word, last_words, body_words, four_bounds, IsBare}
+use Rattle.vsw_words.specs.Row.{acts_words, filled, verdict_word, dropper_word, last_words, body_words, IsBare}
 use Rattle.vsw_words.specs.Reading.{added, if_read, are_zero, read_acts, verdict_of, IsBody, IsVerdictFit, IsDropper, IsLast, IsTold}
 use Rattle.vsw_words.proofs.Written.{form_short}
-use Rattle.vsw_words.proofs.Acts.{acts_told, acts_back, form_good, zeros_are, zeros_back}
+use Rattle.vsw_words.proofs.Acts.{acts_told, acts_back, form_good, zeros_are}
 
 of_made : {E : Type 0} (t : Bool) (acts made : List Act) (e : E) → ◌≡◌ {A = Result (List Act) E} (if t then Ok acts else Err e) (Ok made) → made ≡ acts
 of_made true acts made e h = grind (arith, common_steps)

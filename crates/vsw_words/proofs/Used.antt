@@ -1,9 +1,8 @@
 -- A row is 0 beyond its words in use.
-use Rattle.std.proofs.Common.{◌≡◌, ℕ, ◌+◌, ◌-◌, ◌*◌, ◌^◌, ◌<◌, ◌≤◌, ◌==◌, List, [], ◌∷◌, ◌++◌, refl, sym, ◌∙◌, ap, subst, arith, length, length-append, drop, get_or}
-use Rattle.std.specs.Prelude.{replicate, min}
+use Rattle.std.proofs.Common.{◌≡◌, ℕ, ◌+◌, ◌-◌, ◌*◌, ◌≤◌, List, [], ◌∷◌, ◌++◌, refl, sym, ◌∙◌, ap, arith, length, length-append, drop, get_or}
+use Rattle.std.specs.Prelude.{replicate}
 use Rattle.std.proofs.Math.Seq.{drop-append-add, drop-append_seam}
 use Rattle.std.proofs.lemmas.List.{get_or-append-add, length-replicate}
-use Rattle.std.proofs.lemmas.Grind.{common_steps}
 use Rattle.vsw_base.specs.declared.header.Header.{Header}
 use Rattle.vsw_base.specs.declared.header.Header.TheVariants.{Ether, Ip, Vxlan, Ports}
 use Rattle.vsw_base.specs.declared.packet.Dir.{Dir}
@@ -15,7 +14,7 @@ use Rattle.vsw_transpose.specs.declared.act.Change.TheVariants as of
 use Rattle.vsw_transpose.specs.declared.act.Act.{Act}
 use Rattle.vsw_transpose.specs.declared.act.Act.TheVariants.{Push, Pop, Modify, Ignore}
 use Rattle.vsw_words.specs.Key.{key_words, padded, macs, addresses}
-use Rattle.vsw_words.specs.Row.{act_words, acts_words, verdict_word, dropper_word, last_words, body_words, row_words, in_use}
+use Rattle.vsw_words.specs.Row.{act_words, acts_words, last_words, body_words, row_words, in_use}
 use Rattle.vsw_words.proofs.Decoded.{padded_length}
 
 act_length : (x : Act) → length (act_words x) ≡ 3

@@ -1,15 +1,12 @@
 -- Rows written part by part.
-use Rattle.std.proofs.Common.{◌≡◌, ℕ, ◌+◌, ◌-◌, ◌%◌, ◌^◌, ◌<◌, ◌≤◌, ◌==◌, ◌&&◌, List, [], ◌∷◌, ◌++◌, refl, sym, ◌∙◌, ap, arith, length, true, false, Bool, not, nat_lt, nat_le, take, drop, length-append, zero, suc}
+use Rattle.std.proofs.Common.{◌≡◌, ℕ, ◌-◌, ◌%◌, ◌≤◌, ◌==◌, ◌&&◌, List, [], ◌∷◌, ◌++◌, refl, sym, ◌∙◌, ap, arith, length, true, false, Bool, nat_le, take, drop, length-append, zero, suc}
 use Rattle.std.proofs.Math.Seq.{take-append_seam, drop-append_seam}
 use Rattle.std.proofs.lemmas.List.{append-nil, drop_all}
 use Rattle.std.proofs.lemmas.Grind.{common_steps}
 use borrow.Rule.Slice.PartMut.{put_mid}
-use Rattle.vsw_base.specs.declared.header.Header.{Header}
-use Rattle.vsw_base.specs.declared.header.Header.TheVariants.{Ether, Ip, Vxlan, Ports}
+use Rattle.vsw_base.specs.declared.header.Header.TheVariants.{Ether, Ip, Vxlan}
 use Rattle.vsw_base.specs.declared.fate.Verdict.{Verdict}
 use Rattle.vsw_base.specs.declared.flow.Ufid.{Ufid}
-use Rattle.vsw_transpose.specs.declared.act.Change.{Change}
-use Rattle.vsw_transpose.specs.declared.act.Change.TheVariants as of
 use Rattle.vsw_transpose.specs.declared.act.Act.{Act}
 use Rattle.vsw_transpose.specs.declared.act.Act.TheVariants.{Push, Pop, Modify, Ignore}
 use Rattle.vsw_transpose.specs.Chain.{chain}
@@ -17,7 +14,7 @@ use Rattle.vsw_transpose.specs.Form.{is_form, pushed, are_encaps, are_ordered, p
 use Rattle.vsw_transpose.proofs.Encaps.{chained}
 use Rattle.vsw_words.specs.Key.{key_words}
 use Rattle.vsw_words.specs.Row.{body_words, row_words, verdict_word, last_words}
-use Rattle.vsw_words.specs.Reading.{IsRanged, AreRanged, IsActFit, AreActsFit}
+use Rattle.vsw_words.specs.Reading.{AreRanged, AreActsFit}
 
 -- a front of k words is written over an old list, and then the rest
 pub both_written : (k : ℕ) (old first last : List ℕ) → length first ≡ k → put_mid k (length (first ++ drop k old) - k) (first ++ drop k old) last ≡ first ++ last

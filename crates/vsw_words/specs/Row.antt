@@ -1,17 +1,13 @@
 -- The 73 words of a row: sixteen of an identity, then 57 of what is done with its packets, the body. docs/FORMATS.md has them as a table.
-use Rattle.std.specs.Prelude.{◌≡◌, ℕ, ◌+◌, ◌*◌, ◌-◌, ◌^◌, ◌<◌, ◌==◌, List, [], ◌∷◌, ◌++◌, Bool, true, false, Option, Some, None, is_some, min, length, replicate, get_or, if◌then◌else◌}
-use Rattle.vsw_base.specs.declared.header.Header.{Header}
+use Rattle.std.specs.Prelude.{◌≡◌, ℕ, ◌+◌, ◌*◌, ◌-◌, ◌^◌, ◌==◌, List, [], ◌∷◌, ◌++◌, Bool, true, false, Option, Some, None, is_some, min, length, replicate, get_or, if◌then◌else◌}
 use Rattle.vsw_base.specs.declared.header.Header.TheVariants.{Ether, Ip, Vxlan, Ports}
-use Rattle.vsw_base.specs.declared.packet.Dir.{Dir}
 use Rattle.vsw_base.specs.declared.packet.Dir.TheVariants.{Out, In}
 use Rattle.vsw_base.specs.declared.fate.Verdict.{Verdict}
 use Rattle.vsw_base.specs.declared.fate.Verdict.TheVariants.{Pass, Rule, Default}
 use Rattle.vsw_base.specs.declared.flow.Ufid.{Ufid}
-use Rattle.vsw_transpose.specs.declared.act.Change.{Change}
 use Rattle.vsw_transpose.specs.declared.act.Change.TheVariants as of
 use Rattle.vsw_transpose.specs.declared.act.Act.{Act}
 use Rattle.vsw_transpose.specs.declared.act.Act.TheVariants.{Push, Pop, Modify, Ignore}
-use Rattle.vsw_transpose.specs.Form.{is_form}
 use Rattle.vsw_words.specs.Key.{joined, bit, key_words}
 
 -- the verdict's word: pass, drop by a rule, drop by the default for outbound and for inbound packets

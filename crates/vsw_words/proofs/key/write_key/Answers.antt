@@ -1,4 +1,3 @@
-use Rattle.std.proofs.Common.{◌≡◌}
 use Rattle.vsw_words.proofs.Leveled.{words_are, fit_are}
 use Rattle.vsw_words.proofs.key.write_key.Goals as goal
 

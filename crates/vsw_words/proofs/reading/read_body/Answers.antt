@@ -1,4 +1,3 @@
-use Rattle.std.proofs.Common.{◌≡◌}
 use Rattle.vsw_words.proofs.Passes.{none_back, some_told, some_back}
 use Rattle.vsw_words.proofs.reading.read_body.Goals as goal
 

@@ -1,5 +1,4 @@
-use Rattle.std.proofs.Common.{◌≡◌}
-use Rattle.vsw_words.proofs.Passes.{last_pass_told, last_pass_read, last_drop_told, last_drop_back, drop_rule, drop_default}
+use Rattle.vsw_words.proofs.Passes.{last_pass_told, last_pass_read, last_drop_told, drop_rule, drop_default}
 use Rattle.vsw_words.proofs.reading.read_last.Goals as goal
 
 pub returns-in-Pass-clause-told : goal.returns-in-Pass-clause-told

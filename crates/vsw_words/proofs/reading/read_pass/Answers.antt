@@ -1,5 +1,3 @@
-use Rattle.std.proofs.Common.{◌≡◌}
-use Rattle.vsw_words.proofs.Acts.{acts_told}
 use Rattle.vsw_words.proofs.Passes.{pass_told}
 use Rattle.vsw_words.proofs.reading.read_pass.Goals as goal
 

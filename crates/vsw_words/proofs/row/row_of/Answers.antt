@@ -1,6 +1,6 @@
 use Rattle.std.proofs.Common.{◌≡◌, subst, true}
 use Rattle.vsw_transpose.specs.Form.{is_form}
-use Rattle.vsw_words.specs.Reading.{IsBody, AreRanged}
+use Rattle.vsw_words.specs.Reading.{AreRanged}
 use Rattle.vsw_words.proofs.Written.{acts_fit}
 use Rattle.vsw_words.proofs.row.row_of.Goals as goal
 

@@ -1,4 +1,3 @@
-use Rattle.std.proofs.Common.{◌≡◌}
 use Rattle.vsw_words.proofs.Written.{row_is}
 use Rattle.vsw_words.proofs.row.write_row.Goals as goal
 

@@ -1,0 +1,4 @@
+pub mod Exists
+pub mod PortRounds
+pub mod Reports
+pub mod Wholes

@@ -1,0 +1,115 @@
+-- What is to be done in each round of a run, and who has to do it.
+use Rattle.std.specs.Prelude.{ℕ, ◌+◌, ◌-◌, ◌*◌, ◌/◌, ◌%◌, ◌==◌, ◌&&◌, not, List, [], ◌∷◌, ◌++◌, map, filter, take, drop, nat_lt, if◌then◌else◌, Result, Ok, Err}
+use Rattle.std.specs.List.{flat_map}
+use Rattle.vsw_base.specs.declared.flow.Crossing.{Crossing}
+use Rattle.vsw_base.specs.declared.flow.Place.{Place}
+use Rattle.vsw_base.specs.Frame.{Parts, sizes_of}
+use Rattle.vsw_commandline.specs.declared.line.Line.{Line}
+use Rattle.vsw_flowid.specs.Sum.{flow_sum_of}
+use Rattle.vsw_pcap.specs.declared.capture.Record.{Record}
+use Rattle.vsw_policyfile.specs.declared.file.PolicyFile.{PolicyFile}
+use Rattle.vsw_ports.specs.Ports.{ports_of}
+use Rattle.vsw_report.specs.declared.round.Loose.{Loose}
+use Rattle.vsw_report.specs.declared.round.LooseCause.{LooseCause}
+use Rattle.vsw_switch.specs.Switch.{aim_of, loose_after}
+use Rattle.vsw_policy.specs.Layers.{place_of}
+use Rattle.vsw_history.specs.Calls.{Job, Carry, Ask, job_doer}
+use Rattle.vsw_history.specs.Order.{ascending, counted, numbered}
+
+-- what a run is given beside its trace: the number of workers, the policy, and the commands
+pub record Setting : Type 0 where
+  pub workers : ℕ
+  pub policy : PolicyFile
+  pub commands : List Line
+
+-- the multiples of 1,024 below a number of records
+abbrev pub multiples_below : ℕ → List ℕ
+multiples_below total = map (λ i. 1024 * i) (counted 0 ((total + 1023) / 1024))
+
+-- a trace of this many records is cut at 0, at each packet that a command names, and at each multiple of 1,024 below their number
+abbrev pub cuts : List Line → ℕ → List ℕ
+cuts commands total = ascending (0 ∷ map (λ l. l.at) commands ++ multiples_below total)
+
+-- the cuts at which a record begins
+abbrev pub cuts_within : List Line → ℕ → List ℕ
+cuts_within commands total = filter (λ n. nat_lt n total) (cuts commands total)
+
+-- the packets from one cut up to the next, with their numbers
+abbrev pub packets_between : List Record → ℕ → ℕ → List (ℕ × Record)
+packets_between records first next = take (next - first) (drop first (numbered 0 records))
+
+-- the addresses of the ports
+abbrev pub macs_of : PolicyFile → List ℕ
+macs_of policy = map (λ p. p.mac) (ports_of policy)
+
+-- the loose packets among these, in packet order, each with its cause
+abbrev pub loose_among : List ℕ → List (ℕ × Record) → List Loose
+loose_among macs packets = flat_map (λ p. loose_after p.0 (aim_of macs p.1)) packets
+
+-- packet n as this worker brings it to a port
+abbrev pub crossing_by : ℕ → ℕ → Place → ℕ → Parts → Crossing
+crossing_by worker n place moment p = record { caller = worker; packet = n; id = record { dir = place.dir; stack = p.stack }; control = p.control; moment = moment; sizes = sizes_of p.levels }
+
+-- the worker that the flow sum of a frame gives
+abbrev pub worker_of : ℕ → Parts → ℕ
+worker_of workers p = flow_sum_of p.stack % workers
+
+-- a packet is a job at the port to which it goes, and at no other
+abbrev pub aimed_at : ℕ → ℕ → ℕ → ℕ → Result (Place × Parts) LooseCause → List Job
+aimed_at workers port n moment (Err why) = []
+aimed_at workers port n moment (Ok a) = if a.0.port == port then Carry (crossing_by (worker_of workers a.1) n a.0 moment a.1) a.1 ∷ [] else []
+
+-- the packets among these that go to the port at this place, in packet order
+abbrev pub packet_jobs : ℕ → List ℕ → ℕ → List (ℕ × Record) → List Job
+packet_jobs workers macs port packets = flat_map (λ p. aimed_at workers port p.0 p.1.moment (aim_of macs p.1)) packets
+
+-- the commands of the round that begins with this packet, for the port of this number, in file order: those before its packets, and those beside them
+abbrev pub before_jobs : List Line → ℕ → ℕ → List Job
+before_jobs commands first port = map Ask (filter (λ l. (l.at == first) && (l.port == port) && not l.during) commands)
+
+abbrev pub during_jobs : List Line → ℕ → ℕ → List Job
+during_jobs commands first port = map Ask (filter (λ l. (l.at == first) && (l.port == port) && l.during) commands)
+
+-- what is to be done at a port in a round: first the "before" commands, then the "during" commands and the packets beside each other. One worker
+-- does all of it in this order
+pub record Jobs : Type 0 where
+  pub first : List Job
+  pub later : List Job
+
+-- the jobs of the port of this number at this place, in the round of the packets from one cut up to the next
+abbrev pub jobs_of : Setting → List Record → ℕ → ℕ → ℕ → ℕ → Jobs
+jobs_of s records first next place number = record { first = before_jobs s.commands first number; later = during_jobs s.commands first number ++ packet_jobs s.workers (macs_of s.policy) place (packets_between records first next) }
+
+-- ---- the same over all ports
+
+-- a job, with the place of its port
+abbrev pub Placed : Type 0
+Placed = ℕ × Job
+
+-- the jobs of the port at a place among these
+abbrev pub at_place : ℕ → List Placed → List Job
+at_place i js = map (λ t. t.1) (filter (λ t. t.0 == i) js)
+
+-- the jobs of one caller among these, in its order
+abbrev pub deal : List ℕ → ℕ → List Placed → List Placed
+deal cs k js = filter (λ t. job_doer cs t.1 == k) js
+
+-- a packet that isn't loose, with its worker and its port
+abbrev pub placed_packet : ℕ → ℕ → ℕ → Result (Place × Parts) LooseCause → List Placed
+placed_packet workers n moment (Err why) = []
+placed_packet workers n moment (Ok a) = (a.0.port, Carry (crossing_by (worker_of workers a.1) n a.0 moment a.1) a.1) ∷ []
+
+abbrev pub placed_packets : ℕ → List ℕ → List (ℕ × Record) → List Placed
+placed_packets workers macs packets = flat_map (λ p. placed_packet workers p.0 p.1.moment (aim_of macs p.1)) packets
+
+-- the "during" commands of the round that begins with this packet, in file order, with the places of their ports among these numbers
+abbrev pub placed_lines : List ℕ → List Line → ℕ → List Placed
+placed_lines numbers commands first = map (λ l. (place_of l.port numbers, Ask l)) (filter (λ l. (l.at == first) && l.during) commands)
+
+-- the numbers of the ports
+abbrev pub numbers_of : PolicyFile → List ℕ
+numbers_of policy = map (λ p. p.number) (ports_of policy)
+
+-- all that is done beside each other in a round: the "during" commands, and the packets
+abbrev pub placed_jobs : Setting → List Record → ℕ → ℕ → List Placed
+placed_jobs s records first next = placed_lines (numbers_of s.policy) s.commands first ++ placed_packets s.workers (macs_of s.policy) (packets_between records first next)

@@ -1,0 +1,14 @@
+pub mod IsRun
+pub mod Trace
+pub mod Files
+pub mod Words
+pub mod Complaint
+pub mod Rounds
+pub mod Jobs
+pub mod Told
+pub mod Print
+pub mod Agree
+pub mod Alone
+pub mod Exist
+pub mod Sample
+pub mod ToldSample

@@ -1,0 +1,47 @@
+//! How a run ends.
+
+use vsw_commandfile::CommandsFault;
+use vsw_pcap::BadTrace;
+use vsw_policyfile::PolicyFault;
+
+/// How a run ended, with what the complaint names.
+#[derive(Drop)]
+pub enum Ending {
+    /// All files were read to their ends, and the whole report was put. No want of memory stands in it.
+    Done,
+    /// The words aren't of the grammar.
+    Usage,
+    /// A file couldn't be opened or read.
+    ReadFault,
+    /// The report couldn't be put.
+    WriteFault,
+    /// The policy is refused, or over a limit.
+    Policy(PolicyFault),
+    /// The commands are refused, or over a limit.
+    Commands(CommandsFault),
+    /// The trace is refused.
+    Trace(BadTrace),
+    /// The trace has more records than it may have.
+    Records,
+    /// There was no memory: for the run itself, or for a packet or a command of the report.
+    Memory,
+}
+
+/// The exit status of a run. The program ends with the number.
+#[derive(Clone, Copy, Debug, PartialEq, Eq)]
+pub enum Status {
+    /// 0.
+    Done,
+    /// 2.
+    Usage,
+    /// 3.
+    ReadFault,
+    /// 4.
+    WriteFault,
+    /// 5.
+    Refused,
+    /// 6.
+    Limit,
+    /// 9.
+    Memory,
+}

@@ -1,0 +1,13 @@
+//! What a report promises: the rounds of a run, their lines and text, and how a run ends. The definitions stand in specs/; the code is
+//! the types that they speak of.
+#![tactic(auto)]
+
+mod ending;
+mod law;
+mod round;
+mod told;
+
+pub use ending::{Ending, Status};
+pub use law::{rounds_exist, samples};
+pub use round::{PortRound, Round};
+pub use told::{By, ToldLine, What};

@@ -1,0 +1,9 @@
+pub mod Callers
+pub mod Endings
+pub mod Isolated
+pub mod Ones
+pub mod Reports
+pub mod Runs
+pub mod Telling
+pub mod Values
+pub mod Wants

@@ -1,0 +1,5 @@
+use Rattle.vsw_history_law.proofs.Isolated.{replies_alone, others_apart}
+use Rattle.vsw_history_law.proofs.law.controller_laws.Goals as goal
+
+pub returns : goal.returns
+returns c = record { replies = replies_alone; layers = others_apart }

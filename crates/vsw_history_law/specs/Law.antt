@@ -1,0 +1,159 @@
+-- What holds of histories and reports.
+use Rattle.std.specs.Prelude.{◌≡◌, ◌≢◌, ◌<◌, ◌≤◌, ◌⊎◌, ℕ, ◌==◌, List, [], ◌∷◌, ◌++◌, length, map, filter, Some, true, false, codes, if◌then◌else◌}
+use Rattle.std.specs.List.{slice_get, list_any}
+use Rattle.vsw_promise.specs.declared.ending.Status.{Status}
+use Rattle.vsw_promise.specs.declared.ending.Status.TheVariants as status
+use Rattle.vsw_host.specs.Outside.{Inputs, Outside, Rose}
+use Rattle.vsw_layer.specs.Layer.{LayerSeen}
+use Rattle.vsw_pcap.specs.declared.capture.Record.{Record}
+use Rattle.vsw_policy.specs.declared.command.Command.{Command}
+use Rattle.vsw_policy.specs.declared.refusal.Reply.{Reply}
+use Rattle.vsw_policy.specs.Layers.{is_of}
+use Rattle.vsw_policy.specs.Obey.{obey}
+use Rattle.vsw_policy.specs.Sound.{Each, AreInOrder, is_listed}
+use Rattle.vsw_ports.specs.Ports.{PortSeen, ports_of}
+use Rattle.vsw_history.specs.declared.event.Event.{Event}
+use Rattle.vsw_history.specs.declared.event.Event.TheVariants as event
+use Rattle.vsw_promise.specs.declared.round.PortRound.{PortRound}
+use Rattle.vsw_promise.specs.declared.round.Round.{Round}
+use Rattle.vsw_promise.specs.declared.told.ToldLine.{ToldLine}
+use Rattle.vsw_history.specs.Calls.{Job, Call, job_of, job_item, job_doer, jobs_by, calls_of, Legal, HasBytes}
+use Rattle.vsw_promise.specs.IsRun.{IsRun}
+use Rattle.vsw_promise.specs.Words.{Request, request_in}
+use Rattle.vsw_promise.specs.Alone.{rounds_alone}
+use Rattle.vsw_promise.specs.Trace.{Trace, TellsAll, are_short}
+use Rattle.vsw_promise.specs.Jobs.{Setting, Jobs, jobs_of}
+use Rattle.vsw_history.specs.Order.{StandsOnce}
+use Rattle.vsw_promise.specs.Rounds.{opening_of, IsPortRound, AreRounds, end_before}
+use Rattle.vsw_promise.specs.Told.{callers, line_doer, line_of}
+use Rattle.vsw_history.specs.History.{Opening, after, reply_in, left_by, AllRight}
+
+-- ---- calls and lines
+
+-- the lines of a caller
+abbrev pub lines_by : List ℕ → ℕ → List ToldLine → List ToldLine
+lines_by cs k lines = filter (λ l. line_doer cs l == k) lines
+
+-- a caller's lines are of its jobs: each job has one, and they stand in its order
+abbrev pub HasLines : List ℕ → List Job → List ToldLine → ℕ → Type 0
+HasLines cs jobs lines k = map (λ l. l.item) (lines_by cs k lines) ≡ map job_item (jobs_by cs k jobs)
+
+-- this is so of each caller of a round
+abbrev pub OneLineEach : Type 0
+OneLineEach = (workers : ℕ) (p : PortSeen) (h : List Event) (jobs : Jobs) (r : PortRound) (k : ℕ) → IsPortRound workers p h jobs r → StandsOnce k (callers p.controllers) → HasLines p.controllers (jobs.first ++ jobs.later) r.told k
+
+-- the lines of a caller are those of its calls: each has its number, its count, whether it is the entry of it, and what became of it
+abbrev pub LinesAreCalls : Type 0
+LinesAreCalls = (workers : ℕ) (p : PortSeen) (h : List Event) (jobs : Jobs) (r : PortRound) (k : ℕ) (i : IsPortRound workers p h jobs r) → StandsOnce k (callers p.controllers)
+    → lines_by p.controllers k r.told ≡ map line_of (calls_of p.controllers k (i.first ++ i.later))
+
+-- and no line is another's
+abbrev pub NoOtherLines : Type 0
+NoOtherLines = (workers : ℕ) (p : PortSeen) (h : List Event) (jobs : Jobs) (r : PortRound) → IsPortRound workers p h jobs r
+    → Each (λ l. list_any (λ j. job_doer p.controllers j == line_doer p.controllers l) (jobs.first ++ jobs.later) ≡ true) r.told
+
+-- ---- whole runs
+
+-- all that is to be done at a port in the rounds that begin at these cuts
+abbrev pub all_jobs : Setting → List Record → List ℕ → ℕ → ℕ → List Job
+all_jobs s records [] place number = []
+all_jobs s records (cut ∷ cuts) place number = (jobs_of s records cut (end_before cuts (length records)) place number).first ++ (jobs_of s records cut (end_before cuts (length records)) place number).later ++ all_jobs s records cuts place number
+
+-- a port's history and calls in a whole run are legal, each call shows its bytes, and each job is one call
+pub record IsLegalPort (s : Setting) (records : List Record) (cuts : List ℕ) (place : ℕ) (p : PortSeen) (h : List Event) : Type 0 where
+  pub calls : List Call
+  pub legal : Legal (opening_of p) h calls
+  pub bytes : Each (HasBytes (opening_of p) h) calls
+  pub jobs : map (λ c. job_of c.deed) calls ≡ all_jobs s records cuts place p.number
+
+abbrev pub RunsLegally : Type 0
+RunsLegally = (s : Setting) (records : List Record) (cuts : List ℕ) (rounds : List Round) (run : AreRounds s records cuts rounds) (place : ℕ) (p : PortSeen) (h : List Event)
+    → slice_get (ports_of s.policy) place ≡ Some p → slice_get run.histories place ≡ Some h → IsLegalPort s records cuts place p h
+
+-- the controllers of all commands are the policy's
+abbrev pub AreAsked : Setting → Type 0
+AreAsked s = Each (λ l. is_listed s.policy.controllers l.controller ≡ true) s.commands
+
+-- a run as the program starts it: 1 to 16 workers, and commands of the policy's controllers
+pub record AreServed (s : Setting) : Type 0 where
+  pub least : 0 < s.workers
+  pub most : s.workers ≤ 16
+  pub asked : AreAsked s
+
+-- the rounds of one worker, in whose lines no want of memory stands, are those worked out
+abbrev pub OneValue : Type 0
+OneValue = (s : Setting) (records : List Record) (cuts : List ℕ) (rounds : List Round) → s.workers ≡ 1 → AreAsked s → AreRounds s records cuts rounds → are_short rounds ≡ false → rounds ≡ rounds_alone s records cuts
+
+-- so what is put of a trace that ends cleanly is one text of the three files
+abbrev pub OneText : Type 0
+OneText = (s : Setting) (t : Trace) (text other : List ℕ) → s.workers ≡ 1 → AreAsked s → TellsAll s t false text → TellsAll s t false other → text ≡ other
+
+-- ---- one run
+
+-- two hosts hold the same files, and tell them
+pub record AreAlike (one two : Outside) : Type 0 where
+  pub files : Inputs
+  pub others : Inputs
+  pub told : one.inputs ≡ Some files
+  pub told_too : two.inputs ≡ Some others
+  pub same : files.files ≡ others.files
+
+-- the host counted no fault of reading or putting
+pub record HasNoFault (old new : Outside) : Type 0 where
+  pub read : ¬ (Rose old.input_faults new.input_faults)
+  pub put : ¬ (Rose old.put_faults new.put_faults)
+
+-- two runs of the same words over the same files end with one status, whatever the number of workers, unless a host counts a fault or memory is wanting
+abbrev pub OneStatus : Type 0
+OneStatus = (words : List (List ℕ)) (old new other last : Outside) (s t : Status) → AreAlike old other → HasNoFault old new → HasNoFault other last
+    → IsRun words old new s → IsRun words other last t → s ≢ status.Memory → t ≢ status.Memory → s ≡ t
+
+-- want of memory stands in a text: a packet was dropped for it, or a command refused
+abbrev pub TellsWant : List ℕ → Type 0
+TellsWant text = (front : List ℕ) × (back : List ℕ) × ((text ≡ front ++ (codes " drop memory\n" ++ back)) ⊎ (text ≡ front ++ (codes " refused 10 Memory\n" ++ back)))
+
+-- nothing was put before, and no want of memory stands in what was put since, which the host tells
+pub record PutsPlenty (old new : Outside) : Type 0 where
+  pub before : old.put ≡ Some []
+  pub text : List ℕ
+  pub now : new.put ≡ Some text
+  pub plenty : ¬ (TellsWant text)
+
+-- with one worker they also put the same, unless want of memory stands in it
+abbrev pub OneRun : Type 0
+OneRun = (words : List (List ℕ)) (old new other last : Outside) (s t : Status) → AreAlike old other → HasNoFault old new → HasNoFault other last
+    → IsRun words old new s → IsRun words other last t → s ≢ status.Memory → t ≢ status.Memory
+    → ((q : Request) → request_in words ≡ Some q → q.workers ≡ 1) → PutsPlenty old new → PutsPlenty other last → (new.put ≡ last.put) × (s ≡ t)
+
+-- ---- controllers
+
+-- a layer without its pairs
+abbrev pub bare : LayerSeen → LayerSeen
+bare l = record { controller = l.controller; spec = l.spec; groups = l.groups; pairs = []; next_pair = 0 }
+
+-- the layers of a controller, without their pairs
+abbrev pub own_bare : ℕ → List LayerSeen → List LayerSeen
+own_bare c ls = map bare (filter (is_of c) ls)
+
+-- the commands of a controller in a history, with their replies
+abbrev pub orders_of : ℕ → List Event → List (Command × Reply)
+orders_of c [] = []
+orders_of c (event.Command controller line command reply ∷ es) = if controller == c then (command, reply) ∷ orders_of c es else orders_of c es
+orders_of c (event.Crossing x fate ∷ es) = orders_of c es
+
+-- the replies to these commands of a controller, one after the other, where no one else does anything
+abbrev pub answers_alone : List ℕ → List LayerSeen → ℕ → List Command → List Reply
+answers_alone cs ls c [] = []
+answers_alone cs ls c (m ∷ ms) = reply_in (obey cs ls c m) ∷ answers_alone cs (left_by ls (obey cs ls c m)) c ms
+
+-- each controller has the replies that its own commands alone would have
+abbrev pub RepliesAlone : Type 0
+RepliesAlone = (o : Opening) (h : List Event) (c : ℕ) → AreInOrder o.controllers o.layers → AllRight o h → map (λ t. t.1) (orders_of c h) ≡ answers_alone o.controllers o.layers c (map (λ t. t.0) (orders_of c h))
+
+-- the entry is no command of this controller
+abbrev pub IsOthers : ℕ → Event → Type 0
+IsOthers c e = orders_of c (e ∷ []) ≡ []
+
+-- an entry of others changes none of its layers, groups and rules
+abbrev pub OthersApart : Type 0
+OthersApart = (cs : List ℕ) (ls : List LayerSeen) (c : ℕ) (e : Event) → IsOthers c e → own_bare c (after cs ls e) ≡ own_bare c ls

@@ -1,0 +1,25 @@
+//! What holds of rounds, their lines, and runs.
+
+ghost use Rattle.vsw_history_law.specs.Law.{LinesAreCalls, NoOtherLines, OneLineEach, OneRun, OneStatus, OneText, OneValue, OthersApart, RepliesAlone, RunsLegally};
+
+/// The calls of a run are legal at each port, each job is one call, and each line is its call's.
+pub fn report_laws()
+    ensures legal { RunsLegally }
+    ensures calls { LinesAreCalls }
+    ensures lines { OneLineEach }
+    ensures no_other { NoOtherLines }
+{}
+
+/// The status of a run is one value. With one worker so is its report, where memory suffices.
+pub fn value_laws()
+    ensures rounds { OneValue }
+    ensures text { OneText }
+    ensures status { OneStatus }
+    ensures run { OneRun }
+{}
+
+/// Controllers don't notice each other.
+pub fn controller_laws()
+    ensures replies { RepliesAlone }
+    ensures layers { OthersApart }
+{}

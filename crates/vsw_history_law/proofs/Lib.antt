@@ -1,7 +1,9 @@
 pub mod Callers
+pub mod Covers
 pub mod Endings
 pub mod Isolated
 pub mod Ones
+pub mod Replies
 pub mod Reports
 pub mod Runs
 pub mod Telling

@@ -1,12 +1,16 @@
 -- The lines of a round and the calls of a run.
 use Rattle.std.proofs.Common.{◌≡◌, ℕ, zero, suc, ◌+◌, ◌-◌, ◌==◌, ◌&&◌, ◌||◌, not, Bool, true, false, if◌then◌else◌, List, [], ◌∷◌, ◌++◌, length, map, filter, take, Some, slice_get, refl, ap, sym, ◌∙◌, subst, arith, append_assoc, eq-eqb}
 use Rattle.std.specs.List.{flat_map, list_any}
+use Rattle.std.specs.Prelude.{option_to_list}
 use Rattle.vsw_pcap.specs.declared.capture.Record.{Record}
 use Rattle.vsw_policy.specs.Sound.{Each}
 use Rattle.vsw_ports.specs.Ports.{PortSeen, ports_of}
 use Rattle.vsw_history.specs.declared.event.Event.{Event}
 use Rattle.vsw_promise.specs.declared.round.PortRound.{PortRound}
 use Rattle.vsw_promise.specs.declared.round.Round.{Round}
+use Rattle.vsw_promise.specs.declared.told.ToldLine.{ToldLine}
+use Rattle.vsw_promise.specs.Agree.{lines_at}
+use Rattle.vsw_history.specs.Order.{StandsOnce}
 use Rattle.vsw_history.specs.Calls.{Deed, Carried, Asked, Job, Call, job_of, job_item, job_doer, jobs_by, doer, calls_of, InOrder, AreShares, HasBytes, entries_naming}
 use Rattle.vsw_history.specs.History.{Opening, AllRight}
 use Rattle.vsw_promise.specs.Jobs.{Setting, Jobs, jobs_of}
@@ -14,7 +18,7 @@ use Rattle.vsw_promise.specs.Rounds.{opening_of, IsPortRound, ArePortRounds, Are
 use Rattle.vsw_promise.specs.Told.{callers, line_of, line_doer, reads_at, entry_at, reads_by_caller, in_told_order}
 use Rattle.vsw_history_law.specs.Law.{lines_by, LinesAreCalls, OneLineEach, NoOtherLines, all_jobs, RunsLegally}
 use Rattle.vsw_history.proofs.Fronts.{append_end, prefix_self}
-use Rattle.vsw_history.proofs.Calls.{each_append, shares_join, legal_of}
+use Rattle.vsw_history.proofs.Calls.{calls_append, each_append, shares_join, legal_of}
 use Rattle.vsw_promise.proofs.PortRounds.{take_length, take_whole}
 use Rattle.vsw_history_law.proofs.Telling.{read_off}
 
@@ -153,20 +157,35 @@ shares_none : (o : Opening) (h : List Event) → AreShares o h h []
 shares_none o h k = record { begins = prefix_self h; each = tt; in_order = omega arith; entries = sym (append_end (entries_naming o.controllers k h)) }
 
 -- a port's calls from one count of entries to another
-pub record Spans (s : Setting) (records : List Record) (cuts : List ℕ) (place : ℕ) (p : PortSeen) (h : List Event) (low high : ℕ) : Type 0 where
+pub record Spans (s : Setting) (records : List Record) (cuts : List ℕ) (rounds : List Round) (place : ℕ) (p : PortSeen) (h : List Event) (low high : ℕ) : Type 0 where
   pub calls : List Call
   pub shares : AreShares (opening_of p) (take low h) (take high h) calls
   pub bytes : Each (HasBytes (opening_of p) h) calls
   pub jobs : map (λ c. job_of c.deed) calls ≡ all_jobs s records cuts place p.number
+  pub lines : (k : ℕ) → StandsOnce k (callers p.controllers) → lines_by p.controllers k (lines_at place rounds) ≡ map line_of (calls_of p.controllers k calls)
 
-spans_none : (s : Setting) (records : List Record) (place : ℕ) (p : PortSeen) (h : List Event) (low high : ℕ) → low ≡ high → Spans s records [] place p h low high
-spans_none s records place p h low high e = subst (λ n. Spans s records [] place p h low n) e (record { calls = []; shares = shares_none (opening_of p) (take low h); bytes = tt; jobs = refl })
+spans_none : (s : Setting) (records : List Record) (place : ℕ) (p : PortSeen) (h : List Event) (low high : ℕ) → low ≡ high → Spans s records [] [] place p h low high
+spans_none s records place p h low high e = subst (λ n. Spans s records [] [] place p h low n) e (record { calls = []; shares = shares_none (opening_of p) (take low h); bytes = tt; jobs = refl; lines = λ k once. refl })
 
 some_same : (a b : ℕ) → Some a ≡ Some b → a ≡ b
 some_same a b e = cc e
 
+lines_append : (ns : List ℕ) (k : ℕ) (xs ys : List ToldLine) → lines_by ns k (xs ++ ys) ≡ lines_by ns k xs ++ lines_by ns k ys
+lines_append ns k [] ys = refl
+lines_append ns k (x ∷ xs) ys = by (line_doer ns x == k) (lines_append ns k xs ys)
+  where
+    by : (b : Bool) → lines_by ns k (xs ++ ys) ≡ lines_by ns k xs ++ lines_by ns k ys → (if b then x ∷ lines_by ns k (xs ++ ys) else lines_by ns k (xs ++ ys)) ≡ (if b then x ∷ lines_by ns k xs else lines_by ns k xs) ++ lines_by ns k ys
+    by true ih = ap (λ w. x ∷ w) ih
+    by false ih = ih
+
+-- the lines of a port over rounds are those of the first and of the others
+lines_more : (ns : List ℕ) (k i : ℕ) (r : Round) (rs : List Round) (q : PortRound) → slice_get r.ports i ≡ Some q → lines_by ns k (lines_at i (r ∷ rs)) ≡ lines_by ns k q.told ++ lines_by ns k (lines_at i rs)
+lines_more ns k i r rs q e =
+    ap (λ o. lines_by ns k (flat_map (λ p. p.told) (option_to_list o) ++ lines_at i rs)) e
+    ∙ (ap (λ w. lines_by ns k (w ++ lines_at i rs)) (append_end q.told) ∙ lines_append ns k q.told (lines_at i rs))
+
 spans_of : (s : Setting) (records : List Record) (hs : List (List Event)) (i : ℕ) (p : PortSeen) (h : List Event) → slice_get (ports_of s.policy) i ≡ Some p → slice_get hs i ≡ Some h
-    → (cuts : List ℕ) (rounds : List Round) (counts last : List ℕ) (low high : ℕ) → AreRoundsAt s records hs cuts rounds → AreChained counts rounds last → slice_get counts i ≡ Some low → slice_get last i ≡ Some high → Spans s records cuts i p h low high
+    → (cuts : List ℕ) (rounds : List Round) (counts last : List ℕ) (low high : ℕ) → AreRoundsAt s records hs cuts rounds → AreChained counts rounds last → slice_get counts i ≡ Some low → slice_get last i ≡ Some high → Spans s records cuts rounds i p h low high
 spans_of s records hs i p h e f [] [] counts last low high a c l m = spans_none s records i p h low high (some_same low high (sym l ∙ (ap (λ w. slice_get w i) (sym c) ∙ m)))
 spans_of s records hs i p h e f (cut ∷ cuts) (r ∷ rs) counts last low high a c l m =
     let here = port_at s records cut (end_before cuts (length records)) 0 i (ports_of s.policy) hs r.ports p h a.0.ports e f in
@@ -179,6 +198,11 @@ spans_of s records hs i p h e f (cut ∷ cuts) (r ∷ rs) counts last low high a
       shares = shares_join (opening_of p) (take low h) (take round.after h) (take high h) (is.first ++ is.later) rest.calls (subst (λ n. AreShares (opening_of p) (take n h) (take round.after h) (is.first ++ is.later)) begins is.shares) rest.shares;
       bytes = each_append (HasBytes (opening_of p) h) (is.first ++ is.later) rest.calls is.bytes rest.bytes;
       jobs = map_append (λ c. job_of c.deed) (is.first ++ is.later) rest.calls ∙ (ap (λ w. w ++ map (λ c. job_of c.deed) rest.calls) (round_jobs s.workers p h jobs round is) ∙ ap (λ w. (jobs.first ++ jobs.later) ++ w) rest.jobs);
+      lines = λ k once. lines_more p.controllers k i r rs round here.1
+          ∙ (ap (λ w. w ++ lines_by p.controllers k (lines_at i rs)) (lines_are_calls s.workers p h jobs round k is once)
+          ∙ (ap (λ w. map line_of (calls_of p.controllers k (is.first ++ is.later)) ++ w) (rest.lines k once)
+          ∙ (sym (map_append line_of (calls_of p.controllers k (is.first ++ is.later)) (calls_of p.controllers k rest.calls))
+          ∙ ap (map line_of) (sym (calls_append p.controllers k (is.first ++ is.later) rest.calls)))));
     }
 spans_of s records hs i p h e f [] (r ∷ rs) counts last low high a c l m = absurd a
 spans_of s records hs i p h e f (cut ∷ cuts) [] counts last low high a c l m = absurd a
@@ -200,4 +224,5 @@ runs_legally s records cuts rounds run i p h e f =
       legal = legal_of (opening_of p) h spans.calls (right_at (ports_of s.policy) run.histories i p h run.right e f) (subst (λ w. AreShares (opening_of p) [] w spans.calls) (take_whole h) spans.shares);
       bytes = spans.bytes;
       jobs = spans.jobs;
+      lines = spans.lines;
     }

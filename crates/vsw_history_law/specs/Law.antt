@@ -1,6 +1,6 @@
 -- What holds of histories and reports.
-use Rattle.std.specs.Prelude.{◌≡◌, ◌≢◌, ◌<◌, ◌≤◌, ◌⊎◌, ℕ, ◌==◌, List, [], ◌∷◌, ◌++◌, length, map, filter, Some, true, false, codes, if◌then◌else◌}
-use Rattle.std.specs.List.{slice_get, list_any}
+use Rattle.std.specs.Prelude.{◌≡◌, ◌≢◌, ◌<◌, ◌≤◌, ◌⊎◌, ℕ, ◌==◌, List, [], ◌∷◌, ◌++◌, length, map, filter, Some, Bool, true, false, codes, if◌then◌else◌}
+use Rattle.std.specs.List.{slice_get, list_any, flat_map}
 use Rattle.vsw_promise.specs.declared.ending.Status.{Status}
 use Rattle.vsw_promise.specs.declared.ending.Status.TheVariants as status
 use Rattle.vsw_host.specs.Outside.{Inputs, Outside, Rose}
@@ -16,10 +16,15 @@ use Rattle.vsw_history.specs.declared.event.Event.{Event}
 use Rattle.vsw_history.specs.declared.event.Event.TheVariants as event
 use Rattle.vsw_promise.specs.declared.round.PortRound.{PortRound}
 use Rattle.vsw_promise.specs.declared.round.Round.{Round}
+use Rattle.vsw_promise.specs.declared.told.By.{By}
+use Rattle.vsw_promise.specs.declared.told.By.TheVariants.{Worker, Controller}
 use Rattle.vsw_promise.specs.declared.told.ToldLine.{ToldLine}
-use Rattle.vsw_history.specs.Calls.{Job, Call, job_of, job_item, job_doer, jobs_by, calls_of, Legal, HasBytes}
+use Rattle.vsw_promise.specs.declared.told.What.{What}
+use Rattle.vsw_promise.specs.declared.told.What.TheVariants as what
+use Rattle.vsw_history.specs.Calls.{Job, Carry, Ask, Call, job_of, job_item, job_doer, jobs_by, calls_of, Legal, HasBytes}
 use Rattle.vsw_promise.specs.IsRun.{IsRun}
 use Rattle.vsw_promise.specs.Words.{Request, request_in}
+use Rattle.vsw_promise.specs.Agree.{lines_at}
 use Rattle.vsw_promise.specs.Alone.{rounds_alone}
 use Rattle.vsw_promise.specs.Trace.{Trace, TellsAll, are_short}
 use Rattle.vsw_promise.specs.Jobs.{Setting, Jobs, jobs_of}
@@ -59,16 +64,17 @@ abbrev pub all_jobs : Setting → List Record → List ℕ → ℕ → ℕ → L
 all_jobs s records [] place number = []
 all_jobs s records (cut ∷ cuts) place number = (jobs_of s records cut (end_before cuts (length records)) place number).first ++ (jobs_of s records cut (end_before cuts (length records)) place number).later ++ all_jobs s records cuts place number
 
--- a port's history and calls in a whole run are legal, each call shows its bytes, and each job is one call
-pub record IsLegalPort (s : Setting) (records : List Record) (cuts : List ℕ) (place : ℕ) (p : PortSeen) (h : List Event) : Type 0 where
+-- a port's history and calls in a whole run are legal, each call shows its bytes, each job is one call, and the lines of a caller are those of its calls
+pub record IsLegalPort (s : Setting) (records : List Record) (cuts : List ℕ) (rounds : List Round) (place : ℕ) (p : PortSeen) (h : List Event) : Type 0 where
   pub calls : List Call
   pub legal : Legal (opening_of p) h calls
   pub bytes : Each (HasBytes (opening_of p) h) calls
   pub jobs : map (λ c. job_of c.deed) calls ≡ all_jobs s records cuts place p.number
+  pub lines : (k : ℕ) → StandsOnce k (callers p.controllers) → lines_by p.controllers k (lines_at place rounds) ≡ map line_of (calls_of p.controllers k calls)
 
 abbrev pub RunsLegally : Type 0
 RunsLegally = (s : Setting) (records : List Record) (cuts : List ℕ) (rounds : List Round) (run : AreRounds s records cuts rounds) (place : ℕ) (p : PortSeen) (h : List Event)
-    → slice_get (ports_of s.policy) place ≡ Some p → slice_get run.histories place ≡ Some h → IsLegalPort s records cuts place p h
+    → slice_get (ports_of s.policy) place ≡ Some p → slice_get run.histories place ≡ Some h → IsLegalPort s records cuts rounds place p h
 
 -- the controllers of all commands are the policy's
 abbrev pub AreAsked : Setting → Type 0
@@ -149,6 +155,31 @@ answers_alone cs ls c (m ∷ ms) = reply_in (obey cs ls c m) ∷ answers_alone c
 -- each controller has the replies that its own commands alone would have
 abbrev pub RepliesAlone : Type 0
 RepliesAlone = (o : Opening) (h : List Event) (c : ℕ) → AreInOrder o.controllers o.layers → AllRight o h → map (λ t. t.1) (orders_of c h) ≡ answers_alone o.controllers o.layers c (map (λ t. t.0) (orders_of c h))
+
+-- the replies that these lines tell to a controller, and the commands that it has to ask
+abbrev pub is_told : ℕ → By → Bool
+is_told c (Worker n) = false
+is_told c (Controller n) = n == c
+
+abbrev pub reply_among : What → List Reply
+reply_among (what.Fate fate bytes) = []
+reply_among (what.Reply reply) = reply ∷ []
+
+abbrev pub reply_by : ℕ → ToldLine → List Reply
+reply_by c l = if is_told c l.by then reply_among l.what else []
+
+abbrev pub replies_told : ℕ → List ToldLine → List Reply
+replies_told c lines = flat_map (reply_by c) lines
+
+abbrev pub asked_by : ℕ → Job → List Command
+asked_by c (Carry x p) = []
+asked_by c (Ask l) = if l.controller == c then l.command ∷ [] else []
+
+-- in a run that tells of no want of memory the lines of a port tell each controller the replies that its own commands alone would have, one after the other
+abbrev pub RunsRepliesAlone : Type 0
+RunsRepliesAlone = (s : Setting) (records : List Record) (cuts : List ℕ) (rounds : List Round) → AreServed s → AreRounds s records cuts rounds → are_short rounds ≡ false → (place : ℕ) (p : PortSeen) (c : ℕ)
+    → slice_get (ports_of s.policy) place ≡ Some p → is_listed p.controllers c ≡ true
+    → replies_told c (lines_at place rounds) ≡ answers_alone p.controllers p.layers c (flat_map (asked_by c) (all_jobs s records cuts place p.number))
 
 -- the entry is no command of this controller
 abbrev pub IsOthers : ℕ → Event → Type 0

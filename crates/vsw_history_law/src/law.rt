@@ -1,6 +1,14 @@
 //! What holds of rounds, their lines, and runs.
 
-ghost use Rattle.vsw_history_law.specs.Law.{LinesAreCalls, NoOtherLines, OneLineEach, OneRun, OneStatus, OneText, OneValue, OthersApart, RepliesAlone, RunsLegally};
+ghost use Rattle.vsw_history_law.specs.Cover.{CommandsAreCovered, PacketsAreCovered, RoundsAreSmall};
+ghost use Rattle.vsw_history_law.specs.Law.{LinesAreCalls, NoOtherLines, OneLineEach, OneRun, OneStatus, OneText, OneValue, OthersApart, RepliesAlone, RunsLegally, RunsRepliesAlone};
+
+/// Each packet of a trace is in one round, and at each command's packet one round begins. No round has more than 1,024 packets.
+pub fn cover_laws()
+    ensures packets { PacketsAreCovered }
+    ensures commands { CommandsAreCovered }
+    ensures few { RoundsAreSmall }
+{}
 
 /// The calls of a run are legal at each port, each job is one call, and each line is its call's.
 pub fn report_laws()
@@ -22,4 +30,5 @@ pub fn value_laws()
 pub fn controller_laws()
     ensures replies { RepliesAlone }
     ensures layers { OthersApart }
+    ensures told { RunsRepliesAlone }
 {}

@@ -3,4 +3,4 @@
 
 mod law;
 
-pub use law::{controller_laws, report_laws, value_laws};
+pub use law::{controller_laws, cover_laws, report_laws, value_laws};

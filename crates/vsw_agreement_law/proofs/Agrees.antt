@@ -16,10 +16,10 @@ use Rattle.vsw_switch.specs.Switch.{aim_of}
 use Rattle.vsw_history.specs.declared.event.Event.{Event}
 use Rattle.vsw_history.specs.Calls.{Job, Carry, Ask, Deed, Carried, Asked, Call, job_of, job_doer, doer, calls_of, InOrder}
 use Rattle.vsw_history.specs.Order.{numbered, StandsOnce}
-use Rattle.vsw_promise.specs.declared.round.PortRound.{PortRound}
-use Rattle.vsw_promise.specs.declared.told.ToldLine.{ToldLine}
-use Rattle.vsw_promise.specs.declared.told.What.{What}
-use Rattle.vsw_promise.specs.declared.told.What.TheVariants as what
+use Rattle.vsw_report.specs.declared.round.PortRound.{PortRound}
+use Rattle.vsw_report.specs.declared.told.ToldLine.{ToldLine}
+use Rattle.vsw_report.specs.declared.told.What.{What}
+use Rattle.vsw_report.specs.declared.told.What.TheVariants as what
 use Rattle.vsw_promise.specs.Agree.{is_packet, fates_in}
 use Rattle.vsw_promise.specs.Jobs.{Setting, Jobs, jobs_of, aimed_at, packet_jobs, crossing_by, worker_of, macs_of, packets_between, during_jobs, before_jobs}
 use Rattle.vsw_promise.specs.Rounds.{IsPortRound}

@@ -16,8 +16,8 @@ use Rattle.vsw_ports.specs.Ports.{PortSeen, port_of, ports_of}
 use Rattle.vsw_report.specs.declared.round.LooseCause.{LooseCause}
 use Rattle.vsw_switch.specs.Switch.{aim_of}
 use Rattle.vsw_history.specs.declared.event.Event.{Event}
-use Rattle.vsw_promise.specs.declared.round.PortRound.{PortRound}
-use Rattle.vsw_promise.specs.declared.round.Round.{Round}
+use Rattle.vsw_report.specs.declared.round.PortRound.{PortRound}
+use Rattle.vsw_report.specs.declared.round.Round.{Round}
 use Rattle.vsw_promise.specs.Alone.{deed_at, rounds_alone}
 use Rattle.vsw_history.specs.Calls.{Job, Carry, Ask, Deed, Carried, Asked, Call, job_of, doer, named, event_of, entries_of, entries_naming, calls_of, InOrder, AreShares, Legal}
 use Rattle.vsw_history.specs.History.{Opening, replay, AllRight}
@@ -37,7 +37,7 @@ use Rattle.vsw_history_law.proofs.Telling.{told_calls}
 use Rattle.vsw_promise.specs.Agree.{IsPlainRule, ArePlain, IsPlainSetting, with_workers, fates_in, is_packet, lines_at}
 use Rattle.vsw_agreement_law.specs.Plain.{IsPlainEvent, IsCarry, IsAsk, layers_by, what_became, fates_from, FatesAre}
 use Rattle.vsw_history_law.specs.Law.{AreServed}
-use Rattle.vsw_promise.specs.declared.told.ToldLine.{ToldLine}
+use Rattle.vsw_report.specs.declared.told.ToldLine.{ToldLine}
 use Rattle.vsw_promise.proofs.Exists.{always_rounds}
 use Rattle.vsw_agreement_law.specs.Law.{AgreesAlone, FatesOfRun}
 use Rattle.vsw_agreement_law.proofs.Agrees.{picked, picked_append, round_tells}

@@ -26,9 +26,10 @@ use Rattle.vsw_policy.specs.Sound.{Each}
 use Rattle.vsw_ports.specs.Ports.{PortSeen, ports_of}
 use Rattle.vsw_history.specs.declared.event.Event.{Event}
 use Rattle.vsw_history.specs.Calls.{Job, Carry, Ask, Call}
-use Rattle.vsw_history.specs.History.{Opening, replay, fate_by, fate_at, reply_in}
-use Rattle.vsw_promise.specs.declared.round.PortRound.{PortRound}
-use Rattle.vsw_promise.specs.declared.told.What.TheVariants as what
+use Rattle.vsw_history.specs.History.{Opening, replay, reply_in}
+use Rattle.vsw_commit.specs.Fate.{fate_by, fate_at}
+use Rattle.vsw_report.specs.declared.round.PortRound.{PortRound}
+use Rattle.vsw_report.specs.declared.told.What.TheVariants as what
 use Rattle.vsw_promise.specs.Alone.{deed_at, call_at, next_history, calls_from, history_from, all_of, port_round_from, port_rounds_from, histories_from, rounds_from, rounds_alone, shown}
 use Rattle.vsw_promise.specs.Jobs.{Setting, jobs_of}
 use Rattle.vsw_promise.specs.Rounds.{opening_of, end_before}

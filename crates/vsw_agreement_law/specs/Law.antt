@@ -4,7 +4,7 @@ use Rattle.std.specs.List.{slice_get}
 use Rattle.vsw_pcap.specs.declared.capture.Record.{Record}
 use Rattle.vsw_ports.specs.Ports.{PortSeen, ports_of}
 use Rattle.vsw_history.specs.declared.event.Event.{Event}
-use Rattle.vsw_promise.specs.declared.round.Round.{Round}
+use Rattle.vsw_report.specs.declared.round.Round.{Round}
 use Rattle.vsw_promise.specs.Agree.{IsPlainSetting, AgreeOnPackets, with_workers}
 use Rattle.vsw_promise.specs.Alone.{rounds_alone}
 use Rattle.vsw_promise.specs.Jobs.{Setting}

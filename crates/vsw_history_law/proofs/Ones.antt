@@ -8,7 +8,7 @@ use Rattle.vsw_base.specs.Frame.{Parts}
 use Rattle.vsw_layer.specs.Layer.{LayerSeen}
 use Rattle.vsw_policy.specs.Sound.{Each}
 use Rattle.vsw_history.specs.declared.event.Event.{Event}
-use Rattle.vsw_promise.specs.declared.told.What.TheVariants as what
+use Rattle.vsw_report.specs.declared.told.What.TheVariants as what
 use Rattle.vsw_history.specs.History.{Opening, after, after_all, replay, IsRight, AreRight, AllRight}
 use Rattle.vsw_history.specs.Calls.{Deed, Carried, Asked, Call, job_of, entries_of, event_of, next_count, Reads, Wants, Shows, ShowsAt, HasBytes, IsCall, Entry, Read, Short, InOrder}
 use Rattle.vsw_history.specs.Next.{IsDone, Enters, Reading, Wanting, IsNext}

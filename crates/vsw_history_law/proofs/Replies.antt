@@ -24,12 +24,12 @@ use Rattle.vsw_history.specs.declared.event.Event.TheVariants as event
 use Rattle.vsw_history.specs.Calls.{Job, Carry, Ask, Deed, Carried, Asked, Call, job_of, job_doer, jobs_by, doer, controller_at, calls_of, named, entries_naming, entries_of, event_of, Reads, Wants, IsCall, Entry, Read, Short}
 use Rattle.vsw_history.specs.History.{Opening, replay, AllRight}
 use Rattle.vsw_history.specs.Order.{StandsOnce}
-use Rattle.vsw_promise.specs.declared.round.PortRound.{PortRound}
-use Rattle.vsw_promise.specs.declared.round.Round.{Round}
-use Rattle.vsw_promise.specs.declared.told.By.{By}
-use Rattle.vsw_promise.specs.declared.told.By.TheVariants.{Worker, Controller}
-use Rattle.vsw_promise.specs.declared.told.ToldLine.{ToldLine}
-use Rattle.vsw_promise.specs.declared.told.What.TheVariants as what
+use Rattle.vsw_report.specs.declared.round.PortRound.{PortRound}
+use Rattle.vsw_report.specs.declared.round.Round.{Round}
+use Rattle.vsw_report.specs.declared.told.By.{By}
+use Rattle.vsw_report.specs.declared.told.By.TheVariants.{Worker, Controller}
+use Rattle.vsw_report.specs.declared.told.ToldLine.{ToldLine}
+use Rattle.vsw_report.specs.declared.told.What.TheVariants as what
 use Rattle.vsw_promise.specs.Agree.{lines_at}
 use Rattle.vsw_promise.specs.Jobs.{Setting, jobs_of, aimed_at, packet_jobs, before_jobs, during_jobs, crossing_by, worker_of, macs_of, packets_between}
 use Rattle.vsw_promise.specs.Rounds.{opening_of, end_before, AreHistories}

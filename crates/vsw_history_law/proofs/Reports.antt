@@ -6,9 +6,9 @@ use Rattle.vsw_pcap.specs.declared.capture.Record.{Record}
 use Rattle.vsw_policy.specs.Sound.{Each}
 use Rattle.vsw_ports.specs.Ports.{PortSeen, ports_of}
 use Rattle.vsw_history.specs.declared.event.Event.{Event}
-use Rattle.vsw_promise.specs.declared.round.PortRound.{PortRound}
-use Rattle.vsw_promise.specs.declared.round.Round.{Round}
-use Rattle.vsw_promise.specs.declared.told.ToldLine.{ToldLine}
+use Rattle.vsw_report.specs.declared.round.PortRound.{PortRound}
+use Rattle.vsw_report.specs.declared.round.Round.{Round}
+use Rattle.vsw_report.specs.declared.told.ToldLine.{ToldLine}
 use Rattle.vsw_promise.specs.Agree.{lines_at}
 use Rattle.vsw_history.specs.Order.{StandsOnce}
 use Rattle.vsw_history.specs.Calls.{Deed, Carried, Asked, Job, Call, job_of, job_item, job_doer, jobs_by, doer, calls_of, InOrder, AreShares, HasBytes, entries_naming}

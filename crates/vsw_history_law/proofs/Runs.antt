@@ -17,13 +17,13 @@ use Rattle.vsw_promise.specs.declared.ending.Ending.{Ending}
 use Rattle.vsw_promise.specs.declared.ending.Ending.TheVariants as ending
 use Rattle.vsw_promise.specs.declared.ending.Status.{Status}
 use Rattle.vsw_promise.specs.declared.ending.Status.TheVariants as status
-use Rattle.vsw_promise.specs.declared.round.Round.{Round}
+use Rattle.vsw_report.specs.declared.round.Round.{Round}
 use Rattle.vsw_promise.specs.Complaint.{status_of}
 use Rattle.vsw_pcap.specs.Capture.{IsCapture}
 use Rattle.vsw_promise.specs.Files.{InTurn, HasBadPolicy, HasBadCommands, Reaches}
 use Rattle.vsw_promise.specs.IsRun.{IsRun, TraceRead, Runs, RunsBy, EndsByTrace}
 use Rattle.vsw_promise.specs.Jobs.{Setting, cuts, cuts_within}
-use Rattle.vsw_promise.specs.Print.{report_text}
+use Rattle.vsw_report.specs.Print.{report_text}
 use Rattle.vsw_promise.specs.Rounds.{AreRounds}
 use Rattle.vsw_promise.specs.Trace.{All as Whole, Trace, Tells}
 use Rattle.vsw_promise.specs.Words.{Request, request_in}

@@ -14,15 +14,15 @@ use Rattle.vsw_ports.specs.Ports.{PortSeen, port_of, ports_of}
 use Rattle.vsw_report.specs.declared.round.LooseCause.{LooseCause}
 use Rattle.vsw_switch.specs.Switch.{aim_of}
 use Rattle.vsw_history.specs.declared.event.Event.{Event}
-use Rattle.vsw_promise.specs.declared.round.PortRound.{PortRound}
-use Rattle.vsw_promise.specs.declared.round.Round.{Round}
+use Rattle.vsw_report.specs.declared.round.PortRound.{PortRound}
+use Rattle.vsw_report.specs.declared.round.Round.{Round}
 use Rattle.vsw_history.specs.Calls.{Job, Carry, Ask, Call, job_of, job_doer, doer, calls_of, InOrder, IsCall, HasBytes, ShowsAt, entries_of, IsOneOrder}
 use Rattle.vsw_history.specs.History.{Opening, replay, after, AreRight, AllRight}
 use Rattle.vsw_layer.specs.Layer.{LayerSeen}
 use Rattle.vsw_promise.specs.Jobs.{Setting, Jobs, cuts, jobs_of, aimed_at, packet_jobs, worker_of, loose_among, macs_of, packets_between, crossing_by}
 use Rattle.vsw_history.specs.Order.{StandsOnce}
 use Rattle.vsw_pcap.proofs.Unique.{captures_are_unique}
-use Rattle.vsw_promise.specs.Print.{report_text}
+use Rattle.vsw_report.specs.Print.{report_text}
 use Rattle.vsw_promise.specs.Rounds.{opening_of, IsPortRound, ArePortRounds, AreRoundsAt, AreChained, AreHistories, end_before}
 use Rattle.vsw_promise.specs.Told.{callers, line_of, what_of, in_told_order, lines_of}
 use Rattle.vsw_promise.specs.Trace.{tells_short, is_short_port, is_short_round}

@@ -14,13 +14,13 @@ use Rattle.vsw_policy.specs.Sound.{Each, AreInOrder, is_listed}
 use Rattle.vsw_ports.specs.Ports.{PortSeen, ports_of}
 use Rattle.vsw_history.specs.declared.event.Event.{Event}
 use Rattle.vsw_history.specs.declared.event.Event.TheVariants as event
-use Rattle.vsw_promise.specs.declared.round.PortRound.{PortRound}
-use Rattle.vsw_promise.specs.declared.round.Round.{Round}
-use Rattle.vsw_promise.specs.declared.told.By.{By}
-use Rattle.vsw_promise.specs.declared.told.By.TheVariants.{Worker, Controller}
-use Rattle.vsw_promise.specs.declared.told.ToldLine.{ToldLine}
-use Rattle.vsw_promise.specs.declared.told.What.{What}
-use Rattle.vsw_promise.specs.declared.told.What.TheVariants as what
+use Rattle.vsw_report.specs.declared.round.PortRound.{PortRound}
+use Rattle.vsw_report.specs.declared.round.Round.{Round}
+use Rattle.vsw_report.specs.declared.told.By.{By}
+use Rattle.vsw_report.specs.declared.told.By.TheVariants.{Worker, Controller}
+use Rattle.vsw_report.specs.declared.told.ToldLine.{ToldLine}
+use Rattle.vsw_report.specs.declared.told.What.{What}
+use Rattle.vsw_report.specs.declared.told.What.TheVariants as what
 use Rattle.vsw_history.specs.Calls.{Job, Carry, Ask, Call, job_of, job_item, job_doer, jobs_by, calls_of, Legal, HasBytes}
 use Rattle.vsw_promise.specs.IsRun.{IsRun}
 use Rattle.vsw_promise.specs.Words.{Request, request_in}

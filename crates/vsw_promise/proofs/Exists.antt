@@ -10,12 +10,13 @@ use Rattle.vsw_layer.specs.Layer.{LayerSeen}
 use Rattle.vsw_pcap.specs.declared.capture.Record.{Record}
 use Rattle.vsw_ports.specs.Ports.{PortSeen, ports_of}
 use Rattle.vsw_history.specs.declared.event.Event.{Event}
-use Rattle.vsw_promise.specs.declared.round.PortRound.{PortRound}
+use Rattle.vsw_report.specs.declared.round.PortRound.{PortRound}
 use Rattle.vsw_history.specs.Calls.{Job, Carry, Ask, Call, job_of, entries_of, Shows, ShowsAt}
-use Rattle.vsw_history.specs.History.{Opening, replay, fate_at, AllRight}
+use Rattle.vsw_history.specs.History.{Opening, replay, AllRight}
+use Rattle.vsw_commit.specs.Fate.{fate_at}
 use Rattle.vsw_promise.specs.Jobs.{Setting, Jobs, jobs_of, cuts}
 use Rattle.vsw_history.specs.Next.{IsDone, Enters, Reading, IsNext, Goes}
-use Rattle.vsw_promise.specs.Print.{report_text}
+use Rattle.vsw_report.specs.Print.{report_text}
 use Rattle.vsw_promise.specs.Rounds.{opening_of, IsPortRound, ArePortRounds, AreRoundsAt, AreChained, AreHistories, end_before}
 use Rattle.vsw_promise.specs.Told.{lines_of}
 use Rattle.vsw_promise.specs.Alone.{shown, deed_at, enters_at, call_at, next_history, calls_from, history_from, port_round_from, all_of, port_rounds_from, histories_from, rounds_from, rounds_alone}

@@ -4,7 +4,7 @@ use mathlib.Core.List.{IsPrefix}
 use Rattle.vsw_policy.specs.Sound.{Each}
 use Rattle.vsw_ports.specs.Ports.{PortSeen}
 use Rattle.vsw_history.specs.declared.event.Event.{Event}
-use Rattle.vsw_promise.specs.declared.round.PortRound.{PortRound}
+use Rattle.vsw_report.specs.declared.round.PortRound.{PortRound}
 use Rattle.vsw_history.specs.Calls.{Call, Job, job_of, doer, next_count, IsCall, InOrder, AreShares, IsOneOrder, entries_of}
 use Rattle.vsw_promise.specs.Jobs.{Jobs}
 use Rattle.vsw_history.specs.Next.{Goes}

@@ -7,11 +7,11 @@ use Rattle.vsw_policy.specs.Sound.{Each}
 use Rattle.vsw_ports.specs.Ports.{ports_of}
 use Rattle.vsw_rule.specs.declared.rule.Group.{Group}
 use Rattle.vsw_rule.specs.declared.rule.Rule.{Rule}
-use Rattle.vsw_promise.specs.declared.round.Round.{Round}
-use Rattle.vsw_promise.specs.declared.told.By.{By}
-use Rattle.vsw_promise.specs.declared.told.By.TheVariants.{Worker, Controller}
-use Rattle.vsw_promise.specs.declared.told.ToldLine.{ToldLine}
-use Rattle.vsw_promise.specs.declared.told.What.{What}
+use Rattle.vsw_report.specs.declared.round.Round.{Round}
+use Rattle.vsw_report.specs.declared.told.By.{By}
+use Rattle.vsw_report.specs.declared.told.By.TheVariants.{Worker, Controller}
+use Rattle.vsw_report.specs.declared.told.ToldLine.{ToldLine}
+use Rattle.vsw_report.specs.declared.told.What.{What}
 use Rattle.vsw_promise.specs.Jobs.{Setting}
 
 -- ---- runs whose packets change nothing

@@ -6,7 +6,6 @@ pub mod Complaint
 pub mod Rounds
 pub mod Jobs
 pub mod Told
-pub mod Print
 pub mod Agree
 pub mod Alone
 pub mod Exist

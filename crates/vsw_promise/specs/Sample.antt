@@ -11,9 +11,9 @@ use Rattle.vsw_rule.specs.declared.rule.Action.{Action}
 use Rattle.vsw_rule.specs.declared.rule.Action.TheVariants.{Allow, Drop}
 use Rattle.vsw_rule.specs.declared.rule.Item.TheVariants.{Prefix}
 use Rattle.vsw_rule.specs.declared.rule.Rule.{Rule}
-use Rattle.vsw_promise.specs.declared.round.Round.{Round}
+use Rattle.vsw_report.specs.declared.round.Round.{Round}
 use Rattle.vsw_promise.specs.Jobs.{Setting, cuts}
-use Rattle.vsw_promise.specs.Print.{report_text}
+use Rattle.vsw_report.specs.Print.{report_text}
 use Rattle.vsw_promise.specs.Rounds.{AreRounds}
 
 -- a trace that ends cleanly after these records has this report

@@ -1,11 +1,11 @@
 -- The lines of a port in a round, and their order.
 use Rattle.std.specs.Prelude.{ℕ, zero, suc, ◌==◌, ◌&&◌, not, List, ◌++◌, map, filter}
 use Rattle.std.specs.List.{flat_map}
-use Rattle.vsw_promise.specs.declared.told.By.{By}
-use Rattle.vsw_promise.specs.declared.told.By.TheVariants.{Worker, Controller}
-use Rattle.vsw_promise.specs.declared.told.What.{What}
-use Rattle.vsw_promise.specs.declared.told.What.TheVariants as what
-use Rattle.vsw_promise.specs.declared.told.ToldLine.{ToldLine}
+use Rattle.vsw_report.specs.declared.told.By.{By}
+use Rattle.vsw_report.specs.declared.told.By.TheVariants.{Worker, Controller}
+use Rattle.vsw_report.specs.declared.told.What.{What}
+use Rattle.vsw_report.specs.declared.told.What.TheVariants as what
+use Rattle.vsw_report.specs.declared.told.ToldLine.{ToldLine}
 use Rattle.vsw_history.specs.Calls.{Deed, Carried, Asked, Call, controller_at, calls_of}
 use Rattle.vsw_history.specs.Order.{ascending, counted}
 

@@ -13,12 +13,12 @@ use Rattle.vsw_policy.specs.declared.refusal.Refusal.TheVariants as refusal
 use Rattle.vsw_policy.specs.declared.refusal.Reply.TheVariants.{Refused}
 use Rattle.vsw_promise.specs.declared.ending.Ending.{Ending}
 use Rattle.vsw_promise.specs.declared.ending.Ending.TheVariants as ending
-use Rattle.vsw_promise.specs.declared.round.PortRound.{PortRound}
-use Rattle.vsw_promise.specs.declared.round.Round.{Round}
-use Rattle.vsw_promise.specs.declared.told.What.{What}
-use Rattle.vsw_promise.specs.declared.told.What.TheVariants as what
+use Rattle.vsw_report.specs.declared.round.PortRound.{PortRound}
+use Rattle.vsw_report.specs.declared.round.Round.{Round}
+use Rattle.vsw_report.specs.declared.told.What.{What}
+use Rattle.vsw_report.specs.declared.told.What.TheVariants as what
 use Rattle.vsw_promise.specs.Jobs.{Setting, cuts, cuts_within}
-use Rattle.vsw_promise.specs.Print.{report_text}
+use Rattle.vsw_report.specs.Print.{report_text}
 use Rattle.vsw_promise.specs.Rounds.{AreRounds}
 
 -- the most records of a trace

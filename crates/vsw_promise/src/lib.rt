@@ -4,10 +4,6 @@
 
 mod ending;
 mod law;
-mod round;
-mod told;
 
 pub use ending::{Ending, Status};
 pub use law::{rounds_exist, samples};
-pub use round::{PortRound, Round};
-pub use told::{By, ToldLine, What};

@@ -1,6 +1,6 @@
 //! How long a packet gets under pushed encapsulations.
 
-ghost use Rattle.std.specs.Prelude.{◌≡◌, ◌≤◌, IsTrue};
+ghost use Rattle.std.specs.Prelude.{◌≡◌, ◌≤◌, ◌+◌, ◌*◌, false, nat_lt, IsTrue};
 ghost use Rattle.vsw_admit.specs.Long as spec;
 ghost use Rattle.vsw_frame.specs.Bytes.{total_over};
 ghost use Rattle.vsw_transpose.specs.Apply.{apply};
@@ -35,6 +35,19 @@ fn total(pushes: u8, len: u32) -> u64
     }
 }
 
+/// So many bytes with as many encapsulations in front, 50 bytes each, which their total length can tell.
+fn grown(pushes: u8, len: u32) -> u32
+    requires few { pushes ≤ 2 }
+    requires short { nat_lt 65535 (total_over pushes len) ≡ false }
+    ensures { result ≡ len + 50 * pushes }
+{
+    match pushes {
+        0 => len,
+        1 => len + 50,
+        _ => len + 100,
+    }
+}
+
 /// Whether an encapsulation is pushed in front of more than it can tell the length of.
 pub fn is_long(crossing: &Crossing, by: &Transposition) -> bool
     requires fits { IsTrue (fit.fits by.now crossing.now.id.stack) }
@@ -44,4 +57,16 @@ pub fn is_long(crossing: &Crossing, by: &Transposition) -> bool
     let pushes = by.apply(&crossing.id.stack).encaps().saturating_sub(kept);
     let drops = crossing.id.stack.encaps().saturating_sub(kept);
     total(pushes, size_without(crossing.sizes, drops)) > MOST
+}
+
+/// Bytes of what leaves, where the packet isn't long.
+pub fn outgoing_size(crossing: &Crossing, by: &Transposition) -> u32
+    requires fits { IsTrue (fit.fits by.now crossing.now.id.stack) }
+    requires short { spec.is_long crossing.now (apply by.now crossing.now.id.stack) (fit.kept by.now) ≡ false }
+    ensures { result ≡ spec.outgoing_size crossing.now (apply by.now crossing.now.id.stack) (fit.kept by.now) }
+{
+    let kept = by.kept();
+    let pushes = by.apply(&crossing.id.stack).encaps().saturating_sub(kept);
+    let drops = crossing.id.stack.encaps().saturating_sub(kept);
+    grown(pushes, size_without(crossing.sizes, drops))
 }

@@ -1,3 +1,4 @@
 pub mod Cross
 pub mod Can
 pub mod Law
+pub mod Fate

@@ -9,6 +9,7 @@ use Rattle.vsw_base.specs.declared.flow.Crossing.{Crossing}
 use Rattle.vsw_base.specs.Frame.{Parts}
 use Rattle.vsw_commandline.specs.declared.line.Line.{Line}
 use Rattle.vsw_commit.specs.Cross.{cross_of, made_by, makes}
+use Rattle.vsw_commit.specs.Fate.{fate_at}
 use Rattle.vsw_crossing.specs.Walk.{walk_of}
 use Rattle.vsw_frame.specs.Bytes.{outgoing}
 use Rattle.vsw_layer.specs.Layer.{LayerSeen}
@@ -19,7 +20,7 @@ use Rattle.vsw_policy.specs.Layers.{place_of}
 use Rattle.vsw_policy.specs.Sound.{Each}
 use Rattle.vsw_history.specs.declared.event.Event.{Event}
 use Rattle.vsw_history.specs.declared.event.Event.TheVariants as event
-use Rattle.vsw_history.specs.History.{Opening, replay, fate_at, AllRight}
+use Rattle.vsw_history.specs.History.{Opening, replay, AllRight}
 
 -- what a caller has to do: carry a packet whose frame has these parts, or ask a line of the commands file
 pub data Job : Type 0 where

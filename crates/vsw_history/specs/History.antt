@@ -1,13 +1,7 @@
 -- The history of a port: the layers after it, and when its entries are right.
-use Rattle.std.specs.Prelude.{◌≡◌, ◌+◌, ◌-◌, ◌*◌, ℕ, List, [], ◌∷◌, true, Result, Ok, Err}
-use Rattle.vsw_admit.specs.Long.{size_without}
-use Rattle.vsw_base.specs.declared.fate.Cause.{Cause}
-use Rattle.vsw_base.specs.declared.fate.Fate.{Fate}
-use Rattle.vsw_base.specs.declared.fate.Fate.TheVariants.{Pass, Drop}
-use Rattle.vsw_base.specs.declared.flow.Crossing.{Crossing}
-use Rattle.vsw_base.specs.Shape.{encaps}
-use Rattle.vsw_commit.specs.Cross.{Passing, cross_of}
-use Rattle.vsw_frame.specs.Bytes.{pushes}
+use Rattle.std.specs.Prelude.{◌≡◌, ℕ, List, [], ◌∷◌, true, Result, Ok, Err}
+use Rattle.vsw_commit.specs.Cross.{cross_of}
+use Rattle.vsw_commit.specs.Fate.{fate_at}
 use Rattle.vsw_layer.specs.Layer.{LayerSeen}
 use Rattle.vsw_policy.specs.declared.refusal.Refusal.{Refusal}
 use Rattle.vsw_policy.specs.declared.refusal.Reply.{Reply}
@@ -30,19 +24,6 @@ reply_in (Err why) = reply.Refused why
 abbrev pub left_by : List LayerSeen → Result (List LayerSeen) Refusal → List LayerSeen
 left_by ls (Ok new) = new
 left_by ls (Err why) = ls
-
--- bytes of a packet that passes: those of its frame without the dropped encapsulations, and 50 for each that is pushed
-abbrev pub length_of : Crossing → Passing → ℕ
-length_of x way = size_without x.sizes (encaps x.id.stack - way.kept) + 50 * pushes way.stack way.kept
-
--- a packet passes with its length, or is dropped for the cause
-abbrev pub fate_by : Crossing → Result Passing Cause → Fate
-fate_by x (Ok way) = Pass (length_of x way)
-fate_by x (Err cause) = Drop cause
-
--- the fate of a packet at these layers, where memory suffices
-abbrev pub fate_at : List LayerSeen → Crossing → Fate
-fate_at ls x = fate_by x (cross_of ls x).fate
 
 -- the layers after an entry
 abbrev pub after : List ℕ → List LayerSeen → Event → List LayerSeen

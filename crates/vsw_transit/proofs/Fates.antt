@@ -22,7 +22,8 @@ use Rattle.vsw_crossing.specs.Walk.{walk_of}
 use Rattle.vsw_frame.specs.Bytes as bytes
 use Rattle.vsw_frame.specs.Bytes.{outgoing, pushes}
 use Rattle.vsw_layer.specs.Layer.{LayerSeen}
-use Rattle.vsw_transit.specs.Fate.{Measures, fate_at, fate_by}
+use Rattle.vsw_commit.specs.Fate.{fate_at, fate_by}
+use Rattle.vsw_transit.specs.Fate.{Measures}
 use Rattle.vsw_transit.specs.Transit.{fate_of, is_short}
 
 after_measured : (x : Crossing) (p : Parts) (v : Verdict) (o : Option Stop) (hs : List Header) (kept : ℕ) → length (outgoing p hs kept) ≡ outgoing_size x hs kept

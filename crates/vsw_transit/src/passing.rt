@@ -6,7 +6,6 @@ ghost use Rattle.vsw_base.specs.declared.fate.Fate.TheVariants.{Pass, Drop};
 ghost use Rattle.vsw_base.specs.declared.fate.Verdict.TheVariants as verdict;
 ghost use Rattle.vsw_frame.specs.Bytes.{outer_total, outgoing, outgoing_size};
 ghost use Rattle.vsw_frame.specs.Frame.{parts};
-ghost use Rattle.vsw_transit.specs.Fate.{fate_at};
 ghost use Rattle.vsw_transit.specs.Transit.{AreAtMost, IsOfFrame, MayBeShort, bytes_in, is_short, len_of, met, told};
 ghost use Rattle.vsw_transpose.specs.Apply.{apply};
 ghost use Rattle.vsw_transpose.specs.Fits.{fits, kept};

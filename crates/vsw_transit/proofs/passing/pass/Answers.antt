@@ -2,7 +2,7 @@ use Rattle.std.proofs.Common.{◌≡◌, ap, sym, ◌∙◌, false, refl}
 use Rattle.vsw_base.specs.declared.fate.Fate.TheVariants.{Drop}
 use Rattle.vsw_base.specs.Shape.{is_stack}
 use Rattle.vsw_frame.specs.Frame.{parts}
-use Rattle.vsw_transit.specs.Fate.{fate_at}
+use Rattle.vsw_commit.specs.Fate.{fate_at}
 use Rattle.vsw_transit.specs.Transit.{is_short, met, told}
 use Rattle.vsw_transpose.specs.Apply.{apply}
 use Rattle.vsw_transpose.specs.Fits.{kept}

@@ -1,0 +1,9 @@
+use Rattle.std.proofs.Common.{subst, sym}
+use Rattle.vsw_port.specs.Core.{IsHeld, opening_of}
+use Rattle.vsw_port.proofs.Held.{held_crossed}
+use Rattle.vsw_port.proofs.owner.Core.slow.Goals as goal
+
+pub invariant_of-self : goal.invariant_of-self
+invariant_of-self c =
+    subst (λ h. IsHeld (opening_of c.self.inside.began.value) h c.cross-outcome.new.policy) (sym c.enter_crossing.ensures.items)
+    (held_crossed (opening_of c.self.inside.began.value) c.self.inside.journal.items c.self.inside.policy c.cross-outcome.new.policy c.args.crossing.now c.cross-outcome.result.fate c.cross-outcome.result.entry c.self.invariant c.cross-outcome.ensures.controllers c.cross-outcome.ensures.exact)

@@ -1,0 +1,47 @@
+-- What a core makes of a packet, whatever its frame's bytes.
+use Rattle.std.specs.Prelude.{◌≡◌, List, Bool, true, false}
+use Rattle.vsw_base.specs.declared.fate.Cause.TheVariants.{Memory}
+use Rattle.vsw_base.specs.declared.fate.Fate.{Fate}
+use Rattle.vsw_base.specs.declared.fate.Fate.TheVariants.{Pass, Drop}
+use Rattle.vsw_base.specs.declared.flow.Crossing.{Crossing}
+use Rattle.vsw_commit.specs.Cross.{cross_of, made_by, makes}
+use Rattle.vsw_commit.specs.Fate.{fate_at}
+use Rattle.vsw_crossing.specs.Walk.{walk_of}
+use Rattle.vsw_layer.specs.Layer.{LayerSeen}
+use Rattle.vsw_transpose.specs.declared.act.Act.{Act}
+use Rattle.vsw_transpose.specs.Apply.{apply}
+use Rattle.vsw_transpose.specs.Fits.{fits, kept}
+
+-- what became of a packet and of the layers, and whether it is an entry of the history, since it changed them
+pub record Crossed : Type 0 where
+  pub fate : Fate
+  pub layers : List LayerSeen
+  pub entry : Bool
+
+-- there was no memory for a pair: the packet is dropped, and nothing is changed
+abbrev pub uncrossed : List LayerSeen → Crossed
+uncrossed ls = record { fate = Drop Memory; layers = ls; entry = false }
+
+-- a packet at these layers, for which memory was wanting or not
+abbrev pub crossed : Bool → List LayerSeen → Crossing → Crossed
+crossed true ls x = uncrossed ls
+crossed false ls x = record { fate = fate_at ls x; layers = (cross_of ls x).layers; entry = (cross_of ls x).changed }
+
+-- memory may be wanting only where a pair is to be made
+abbrev pub MayBeShort : Bool → List LayerSeen → Crossing → Type 0
+MayBeShort true ls x = makes (made_by ls x) ≡ true
+MayBeShort false ls x = Unit {0}
+
+abbrev pub is_short : Fate → Bool
+is_short (Drop Memory) = true
+is_short fate = false
+
+-- these acts edit a packet that passes as its walk over these layers does, and keep as many of its encapsulations
+pub record Edits (ls : List LayerSeen) (x : Crossing) (acts : List Act) : Type 0 where
+  pub fits : fits acts x.id.stack ≡ true
+  pub stack : apply acts x.id.stack ≡ (walk_of ls x).stack
+  pub kept : kept acts ≡ (walk_of ls x).kept
+
+abbrev pub EditsPass : List LayerSeen → Crossing → List Act → Fate → Type 0
+EditsPass ls x acts (Pass len) = Edits ls x acts
+EditsPass ls x acts (Drop cause) = Unit {0}

@@ -1,0 +1,80 @@
+//! A copy of a command, since the commands file only lends it and the journal keeps it.
+
+ghost use Rattle.std.specs.Prelude.{◌≡◌, IfOk};
+
+use std::alloc::Global;
+use vsw_base::NoMemory;
+use vsw_layer::{copy_conditions, copy_rules};
+use vsw_policy::Command;
+use vsw_rule::Rule;
+
+fn copy_rule(alloc: Global, rule: &Rule) -> Result<Rule, NoMemory>
+    ensures { IfOk result (λ copy. copy ≡ rule.now) }
+{
+    let when = copy_conditions(alloc, rule.when.as_slice())?;
+    Ok(Rule {
+        number: rule.number,
+        priority: rule.priority,
+        when,
+        action: rule.action,
+        stateful: rule.stateful,
+        last: rule.last,
+    })
+}
+
+/// The same command, with lists of its own.
+pub fn copy_command(alloc: Global, command: &Command) -> Result<Command, NoMemory>
+    ensures { IfOk result (λ copy. copy ≡ command.now) }
+{
+    match command {
+        Command::AddLayer { spec } => Ok(Command::AddLayer { spec: *spec }),
+        Command::RemoveLayer { layer } => Ok(Command::RemoveLayer { layer: *layer }),
+        Command::AddGroup {
+            layer,
+            group,
+            dir,
+            when,
+        } => Ok(Command::AddGroup {
+            layer: *layer,
+            group: *group,
+            dir: *dir,
+            when: copy_conditions(alloc, when.as_slice())?,
+        }),
+        Command::RemoveGroup { layer, group } => Ok(Command::RemoveGroup {
+            layer: *layer,
+            group: *group,
+        }),
+        Command::PutRules {
+            layer,
+            group,
+            rules,
+        } => Ok(Command::PutRules {
+            layer: *layer,
+            group: *group,
+            rules: copy_rules(alloc, rules.as_slice())?,
+        }),
+        Command::AddRule { layer, group, rule } => Ok(Command::AddRule {
+            layer: *layer,
+            group: *group,
+            rule: copy_rule(alloc, rule)?,
+        }),
+        Command::RemoveRule {
+            layer,
+            group,
+            number,
+        } => Ok(Command::RemoveRule {
+            layer: *layer,
+            group: *group,
+            number: *number,
+        }),
+        Command::SetDefault { layer, dir, allow } => Ok(Command::SetDefault {
+            layer: *layer,
+            dir: *dir,
+            allow: *allow,
+        }),
+        Command::Sweep { layer, now } => Ok(Command::Sweep {
+            layer: *layer,
+            now: *now,
+        }),
+    }
+}

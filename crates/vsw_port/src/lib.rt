@@ -1,0 +1,10 @@
+//! A port's layers and their history under one owner. Every packet and every command of the port goes
+//! through it.
+#![tactic(auto)]
+
+mod copies;
+mod crossing;
+mod owner;
+
+pub use crossing::Outcome;
+pub use owner::Core;

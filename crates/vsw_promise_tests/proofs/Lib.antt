@@ -1,0 +1,4 @@
+pub mod Answered
+pub mod Lives
+pub mod Obeyed
+pub mod Passed

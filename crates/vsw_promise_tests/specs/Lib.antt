@@ -1,0 +1,4 @@
+pub mod Commands
+pub mod Life
+pub mod OnePacket
+pub mod Replies

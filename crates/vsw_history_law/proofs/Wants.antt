@@ -6,7 +6,7 @@ use Rattle.vsw_base.specs.declared.fate.Cause.TheVariants as cause
 use Rattle.vsw_base.specs.declared.fate.Fate.TheVariants.{Pass, Drop}
 use Rattle.vsw_policy.specs.declared.refusal.Refusal.TheVariants as refusal
 use Rattle.vsw_policy.specs.declared.refusal.Reply.TheVariants as reply
-use Rattle.vsw_report.specs.Print.{head_line, mark_text, loose_text}
+use Rattle.vsw_report.specs.Print.{head_line, mark_text, loose_text, port_line}
 use Rattle.vsw_report.specs.declared.round.PortRound.{PortRound}
 use Rattle.vsw_report.specs.declared.round.Round.{Round}
 use Rattle.vsw_report.specs.declared.told.ToldLine.{ToldLine}
@@ -84,7 +84,7 @@ line_wants l (what.Reply (reply.Refused refusal.ManyRules)) e = absurd (cc e)
 -- ---- a report
 
 port_wants : (p : PortRound) → is_short_port p ≡ true → TellsWant (port_text p)
-port_wants p e = in_front (codes "port " ++ decimal p.port ++ codes " " ++ decimal p.before ++ codes " " ++ decimal p.after ++ codes "\n") (flat_map line_text p.told) (among line_text (λ l. tells_short l.what) p.told (λ l. line_wants l l.what) e)
+port_wants p e = in_front (port_line p) (flat_map line_text p.told) (among line_text (λ l. tells_short l.what) p.told (λ l. line_wants l l.what) e)
 
 round_wants : (r : Round) → is_short_round r ≡ true → TellsWant (round_text r)
 round_wants r e =

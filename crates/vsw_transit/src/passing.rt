@@ -4,6 +4,7 @@ ghost use Rattle.std.specs.Prelude.{◌≡◌, ◌≤◌, ◌<◌, ◌+◌, ◌-
 ghost use Rattle.vsw_admit.specs.Walked.{IsWalk};
 ghost use Rattle.vsw_base.specs.declared.fate.Fate.TheVariants.{Pass, Drop};
 ghost use Rattle.vsw_base.specs.declared.fate.Verdict.TheVariants as verdict;
+ghost use Rattle.vsw_commit.specs.Fate.{fate_at};
 ghost use Rattle.vsw_frame.specs.Bytes.{outer_total, outgoing, outgoing_size};
 ghost use Rattle.vsw_frame.specs.Frame.{parts};
 ghost use Rattle.vsw_transit.specs.Transit.{AreAtMost, IsOfFrame, MayBeShort, bytes_in, is_short, len_of, met, told};

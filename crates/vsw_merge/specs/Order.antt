@@ -17,7 +17,7 @@ reads_at n lines = filter (is_read n) lines
 abbrev pub entry_at : ℕ → List ToldLine → List ToldLine
 entry_at n lines = filter (is_entry n) lines
 
--- at each count from n on, of which there are so many and one, the reads by callers and then the entry; there is none at the last
+-- at each count from n to n + more the reads by callers, and then the entry; the last count has none
 abbrev pub in_order : List (List ToldLine) → ℕ → ℕ → List ToldLine
 in_order callers n zero = flat_map (reads_at n) callers
 in_order callers n (suc more) = flat_map (reads_at n) callers ++ (flat_map (entry_at n) callers ++ in_order callers (n + 1) more)

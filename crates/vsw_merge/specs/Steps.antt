@@ -28,10 +28,15 @@ past_entry n ls = if begins (is_entry n) ls then drop 1 ls else ls
 abbrev pub past : ℕ → List (List ToldLine) → List (List ToldLine)
 past n callers = map (past_entry n) (map (past_reads n) callers)
 
--- the lines that go over at each count from n on, of which there are so many and one
+-- what goes over at a count: the reads of workers and of controllers, and then the entry
+abbrev pub reads_of_all : ℕ → List (List ToldLine) → List (List ToldLine) → List ToldLine
+reads_of_all n workers controllers = flat_map (first_reads n) workers ++ flat_map (first_reads n) controllers
+
+abbrev pub lines_of_all : ℕ → List (List ToldLine) → List (List ToldLine) → List ToldLine
+lines_of_all n workers controllers =
+    reads_of_all n workers controllers ++ flat_map (first_entry n) (map (past_reads n) workers) ++ flat_map (first_entry n) (map (past_reads n) controllers)
+
+-- the lines that go over at each count from n to n + more; at the last one reads alone
 abbrev pub merged : List (List ToldLine) → List (List ToldLine) → ℕ → ℕ → List ToldLine
-merged workers controllers n zero = flat_map (first_reads n) workers ++ flat_map (first_reads n) controllers
-merged workers controllers n (suc more) =
-    flat_map (first_reads n) workers ++ flat_map (first_reads n) controllers
-    ++ flat_map (first_entry n) (map (past_reads n) workers) ++ flat_map (first_entry n) (map (past_reads n) controllers)
-    ++ merged (past n workers) (past n controllers) (n + 1) more
+merged workers controllers n zero = reads_of_all n workers controllers
+merged workers controllers n (suc more) = lines_of_all n workers controllers ++ merged (past n workers) (past n controllers) (n + 1) more

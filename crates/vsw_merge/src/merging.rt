@@ -3,7 +3,7 @@
 ghost use Rattle.std.specs.Prelude.{◌≡◌, ◌≤◌, ◌-◌, ◌++◌, OnOk, IfOk, map};
 ghost use Rattle.std.specs.List.{flat_map};
 ghost use Rattle.vsw_merge.specs.Order.{AllInCounts, emptied, in_order};
-ghost use Rattle.vsw_merge.specs.Steps.{first_entry, first_reads, merged, past_entry, past_reads};
+ghost use Rattle.vsw_merge.specs.Steps.{first_entry, first_reads, lines_of_all, merged, past, past_entry, past_reads, reads_of_all};
 
 use crate::lines::Caller;
 use std::alloc::Global;
@@ -34,6 +34,39 @@ fn move_entry(callers: &mut [Caller], count: u32, out: &mut Items<ToldLine>) -> 
     Ok(())
 }
 
+/// Moves the reads at a count, those of workers first.
+fn move_reads_of_all(
+    workers: &mut [Caller],
+    controllers: &mut [Caller],
+    count: u32,
+    out: &mut Items<ToldLine>,
+) -> Result<(), NoMemory>
+    ensures told { OnOk result (out.new ≡ out.old ++ reads_of_all count workers.old controllers.old) }
+    ensures workers { OnOk result (workers.new ≡ map (past_reads count) workers.old) }
+    ensures controllers { OnOk result (controllers.new ≡ map (past_reads count) controllers.old) }
+{
+    move_reads(workers, count, out)?;
+    move_reads(controllers, count, out)?;
+    Ok(())
+}
+
+/// Moves the lines of a count: the reads, and then the entry.
+fn move_count(
+    workers: &mut [Caller],
+    controllers: &mut [Caller],
+    count: u32,
+    out: &mut Items<ToldLine>,
+) -> Result<(), NoMemory>
+    ensures told { OnOk result (out.new ≡ out.old ++ lines_of_all count workers.old controllers.old) }
+    ensures workers { OnOk result (workers.new ≡ past count workers.old) }
+    ensures controllers { OnOk result (controllers.new ≡ past count controllers.old) }
+{
+    move_reads_of_all(workers, controllers, count, out)?;
+    move_entry(workers, count, out)?;
+    move_entry(controllers, count, out)?;
+    Ok(())
+}
+
 /// Moves the lines at the counts from `before` up to `after`, with the reads at `after`.
 fn move_all(
     workers: &mut [Caller],
@@ -49,17 +82,13 @@ fn move_all(
     ensures workers { OnOk result (workers.new ≡ emptied workers.old) }
     ensures controllers { OnOk result (controllers.new ≡ emptied controllers.old) }
 {
-    let mut count = before;
-    loop {
-        move_reads(workers, count, out)?;
-        move_reads(controllers, count, out)?;
-        if count == after {
-            return Ok(());
-        }
-        move_entry(workers, count, out)?;
-        move_entry(controllers, count, out)?;
-        count += 1;
+    let mut next = before;
+    while next < after {
+        move_count(workers, controllers, next, out)?;
+        next += 1;
     }
+    move_reads_of_all(workers, controllers, next, out)?;
+    Ok(())
 }
 
 /// The lines of a port in a round in the order of the report: at each count the reads, those of workers and

@@ -78,6 +78,12 @@ held_crossed o h p q x fate entry held names e = by entry refl
     by true is = held_crossing o h p q x fate entry held names e is
     by false is = subst (λ g. IsHeld o g q) (sym (append-nil h)) (held_still o h p q x fate entry held names e is)
 
+-- the layers before and after it are those of the history
+pub crossed_held : (o : Opening) (h g : List Event) (p q : PolicySeen) (x : Crossing) (fate : Fate) (entry : Bool) → IsHeld o h p → IsHeld o g q → record { fate = fate; layers = q.layers; entry = entry } ≡ crossed (is_short fate) p.layers x
+    → record { fate = fate; layers = replay o g; entry = entry } ≡ crossed (is_short fate) (replay o h) x
+crossed_held o h g p q x fate entry before after e =
+    subst (λ (ls : List LayerSeen). record { fate = fate; layers = ls; entry = entry } ≡ crossed (is_short fate) (replay o h) x) after.layers (subst (λ (ls : List LayerSeen). record { fate = fate; layers = q.layers; entry = entry } ≡ crossed (is_short fate) ls x) before.layers e)
+
 memory_is : (fate : Fate) → is_short fate ≡ true → fate ≡ Drop Memory
 memory_is (Drop Memory) e = refl
 memory_is (Pass len) e = absurd (true≢false (sym e))

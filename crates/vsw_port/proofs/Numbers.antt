@@ -100,7 +100,6 @@ pub crossed_grows : (n : ℕ) (ls : List LayerSeen) (x : Crossing) → AreAtMost
 crossed_grows n ls x h =
     at_last n 0 (all_done (made_by ls x) ls) (all_grow n (made_by ls x) ls (made_apart (walk_of ls x).verdict (stop_of ls x (walk_of ls x)) (walk_of ls x).changes (walk_apart ls x)) (at_first n 0 (made_by ls x) ls h))
 
-
 -- the bound may be greater
 pub more_at_most : (m n : ℕ) (ls : List LayerSeen) → m ≤ n → AreAtMost m ls → AreAtMost n ls
 more_at_most m n [] e h = tt

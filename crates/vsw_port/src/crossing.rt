@@ -33,12 +33,7 @@ fn dropped(cause: Cause) -> Outcome
 }
 
 /// A packet that its walk lets pass is committed.
-fn pass(
-    policy: &mut Policy,
-    crossing: &Crossing,
-    walked: &Walked,
-    scratch: &Scratch,
-) -> Outcome
+fn pass(policy: &mut Policy, crossing: &Crossing, walked: &Walked, scratch: &Scratch) -> Outcome
     requires numbers { Each (λ l. l.next_pair < 2 ^ 32 - 1) policy.old.layers }
     requires passes { walked.now.verdict ≡ verdict.Pass }
     requires walk { IsWalk policy.old.layers crossing.now walked.now scratch.now }

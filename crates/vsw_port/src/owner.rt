@@ -10,7 +10,7 @@ ghost use Rattle.vsw_policy.specs.Obey.{is_memory, rules_given};
 ghost use Rattle.vsw_policy.specs.Refusals.{reply_of};
 ghost use Rattle.vsw_policy.specs.Sound.{Each, IsGoodRule, is_listed};
 ghost use Rattle.vsw_port.specs.Core.{AreAtMost, CoreSeen, IsHeld, entered, layers_of, opening_of};
-ghost use Rattle.vsw_port.specs.Crossed.{EditsPass};
+ghost use Rattle.vsw_port.specs.Crossed.{EditsPass, MayBeShort, crossed, is_short};
 
 use crate::copies::copy_command;
 use crate::crossing::{Outcome, cross};
@@ -70,6 +70,14 @@ impl Core {
         &self.journal
     }
 
+    /// How many entries there are.
+    pub fn count(&self) -> u32
+        requires { length self.now.journal < 2 ^ 32 }
+        ensures { result ≡ length self.now.journal }
+    {
+        self.journal.len() as u32
+    }
+
     /// The layers as they stand, with the controllers that they belong to.
     pub fn policy(&self) -> &Policy
         ensures { IsHeld self.now.opening self.now.journal result.now }
@@ -97,6 +105,8 @@ impl Core {
         requires room { 1 ≤ self.old.room }
         requires few { length self.old.journal < 2 ^ 32 - 1 }
         ensures done { (p : Parts) (bytes : List ℕ) → IsDone self.old.opening self.old.journal (Carried crossing.now p result.fate bytes) result.entry }
+        ensures exact { record { fate = result.fate; layers = layers_of self.new; entry = result.entry } ≡ crossed (is_short result.fate) (layers_of self.old) crossing.now }
+        ensures memory { MayBeShort (is_short result.fate) (layers_of self.old) crossing.now }
         ensures edits { EditsPass (layers_of self.old) crossing.now by.new result.fate }
         ensures journal { self.new.journal ≡ self.old.journal ++ entered result.entry (event.Crossing crossing.now result.fate) }
         ensures opening { self.new.opening ≡ self.old.opening }

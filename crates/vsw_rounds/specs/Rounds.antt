@@ -10,7 +10,7 @@ use Rattle.vsw_report.specs.declared.told.What.{What}
 use Rattle.vsw_report.specs.declared.told.What.TheVariants as what
 use Rattle.vsw_report.specs.Print.{head_line, round_text}
 use Rattle.vsw_switch.specs.Switch.{SwitchNow, ForwardsAll, next_round, round_of}
-use Rattle.vsw_transit.specs.Transit.{is_short}
+use Rattle.vsw_port.specs.Crossed.{is_short}
 
 -- packets of a whole round
 abbrev pub round_size : ℕ

@@ -5,6 +5,8 @@ use Rattle.std.proofs.lemmas.List.{length-map}
 use Rattle.vsw_goodfile.specs.Good.{AreGoodPorts, IsGoodPolicy}
 use Rattle.vsw_layerfile.specs.declared.file.LayerFile.{LayerFile}
 use Rattle.vsw_policy.proofs.Keeps.{each-placed}
+use Rattle.vsw_policy.specs.Sound.{Each}
+use Rattle.vsw_port.specs.Core.{AreAtMost}
 use Rattle.vsw_policyfile.specs.declared.file.PolicyFile.{PolicyFile}
 use Rattle.vsw_policyfile.specs.declared.file.PortFile.{PortFile}
 use Rattle.vsw_ports.specs.declared.port.Port.{Port}
@@ -14,7 +16,6 @@ use Rattle.vsw_switch.specs.declared.live.Live.{Live}
 use Rattle.vsw_switch.specs.Seen.{AllAtMost, begun_to, live_seen}
 use Rattle.vsw_switch.specs.Switch.{PortNow, begun, changed_at, port_at_first, port_round}
 use Rattle.vsw_switch.proofs.Places.{set-seen}
-use Rattle.vsw_transit.specs.Transit.{AreAtMost}
 
 begun_next : (n : ℕ) (ps : List PortNow) → n < length ps → changed_at n begun (begun_to n ps) ≡ begun_to (suc n) ps
 begun_next zero [] h = absurd (omega (arith, h))
@@ -59,7 +60,7 @@ begun_all (suc n) (p ∷ ps) h = ap (λ qs. begun p ∷ qs) (begun_all n ps (ome
 begun_most : (m n : ℕ) (ps : List PortNow) → AllAtMost m ps → AllAtMost m (begun_to n ps)
 begun_most m zero ps h = h
 begun_most m (suc n) [] h = tt
-begun_most m (suc n) (p ∷ ps) h = (record { numbers = h.0.numbers; count = h.0.count }, begun_most m n ps h.1)
+begun_most m (suc n) (p ∷ ps) h = (h.0, begun_most m n ps h.1)
 
 begun_macs : (n : ℕ) (ps : List PortNow) → map (λ p. p.mac) (begun_to n ps) ≡ map (λ p. p.mac) ps
 begun_macs zero ps = refl
@@ -78,9 +79,17 @@ layers_first : (cs : List ℕ) (ls : List LayerFile) → AreAtMost 0 (in_order c
 layers_first cs [] = tt
 layers_first cs (l ∷ ls) = each-placed (λ m. m.next_pair ≤ 0) cs (whole l) (in_order cs (map whole ls)) (layers_first cs ls) (omega arith)
 
+all_fresh : (cs : List ℕ) (ps : List PortFile) → Each (λ p. AreAtMost 0 p.layers) (map (port_of cs) ps)
+all_fresh cs [] = tt
+all_fresh cs (p ∷ ps) = (layers_first cs p.layers, all_fresh cs ps)
+
+-- the layers that a policy gives have made no pair
+pub made_fresh : (f : PolicyFile) (made : List Port) → map port_seen made ≡ ports_of f → Each (λ p. AreAtMost 0 p.layers) (map port_seen made)
+made_fresh f made e = subst (Each (λ p. AreAtMost 0 p.layers)) (sym e) (all_fresh f.controllers f.ports)
+
 pub first_most : (cs : List ℕ) (ps : List PortFile) → AllAtMost 0 (map port_at_first (map (port_of cs) ps))
 first_most cs [] = tt
-first_most cs (p ∷ ps) = (record { numbers = layers_first cs p.layers; count = omega arith }, first_most cs ps)
+first_most cs (p ∷ ps) = (omega arith, first_most cs ps)
 
 pub first_macs : (ports : List Port) → map (λ p. p.mac) (map port_at_first (map port_seen ports)) ≡ map (λ p. p.mac) ports
 first_macs [] = refl

@@ -1,10 +1,9 @@
 -- The port at a place: what is changed there, and what holds of all.
-use Rattle.std.proofs.Common.{◌≡◌, zero, suc, ◌<◌, ◌+◌, ℕ, List, [], ◌∷◌, map, length, get_or, refl, ap, sym, subst, ◌∙◌, arith}
+use Rattle.std.proofs.Common.{◌≡◌, zero, suc, ◌<◌, ◌≤◌, ◌+◌, ℕ, List, [], ◌∷◌, map, length, get_or, refl, ap, sym, subst, ◌∙◌, arith}
 use Rattle.std.specs.List.{slice_set}
 use Rattle.vsw_policy.specs.Sound.{Each}
 use Rattle.vsw_switch.specs.Switch.{PortNow, AtPlace, changed_at}
 use Rattle.vsw_switch.specs.Seen.{AllAtMost, IsAtMost}
-use Rattle.vsw_transit.proofs.Numbers.{stays_below}
 
 pub set-seen : {A B : Type 0} (s : A → B) (f : B → B) (xs : List A) (i : ℕ) (x y : A) → i < length xs → x ≡ get_or xs i x → s y ≡ f (s x) → map s (slice_set xs i y) ≡ changed_at i f (map s xs)
 set-seen s f [] i x y lt here e = absurd (omega arith)
@@ -23,11 +22,15 @@ each-is s P (z ∷ zs) (suc i) x lt here h = each-is s P zs i x (omega arith) he
 
 -- what a port has met at most, it has met at most later
 pub later : (n : ℕ) (p : PortNow) → IsAtMost n p → IsAtMost (n + 1) p
-later n p h = record { numbers = stays_below n p.layers h.numbers; count = omega (arith, h.count) }
+later n p h = omega (arith, h)
 
 pub all_later : (n : ℕ) (ps : List PortNow) → AllAtMost n ps → AllAtMost (n + 1) ps
 all_later n [] h = tt
 all_later n (p ∷ ps) h = (later n p h.0, all_later n ps h.1)
+
+pub all_more : (m n : ℕ) (ps : List PortNow) → m ≤ n → AllAtMost m ps → AllAtMost n ps
+all_more m n [] e h = tt
+all_more m n (p ∷ ps) e h = (omega (arith, h.0, e), all_more m n ps e h.1)
 
 pub set-at-most : {A : Type 0} (s : A → PortNow) (n : ℕ) (xs : List A) (i : ℕ) (y : A) → AllAtMost n (map s xs) → IsAtMost (n + 1) (s y) → AllAtMost (n + 1) (map s (slice_set xs i y))
 set-at-most s n [] i y h k = tt

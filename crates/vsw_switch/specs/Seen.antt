@@ -1,5 +1,5 @@
 -- What the values of the code show, and what is known of them.
-use Rattle.std.specs.Prelude.{◌≡◌, ◌≤◌, ℕ, zero, suc, List, [], ◌∷◌, Bool, true, Option, Some, None, Result, Ok, Err}
+use Rattle.std.specs.Prelude.{◌≡◌, ◌≤◌, ℕ, zero, suc, List, [], ◌∷◌, length, Bool, true, Option, Some, None, Result, Ok, Err}
 use Rattle.vsw_base.specs.declared.flow.Crossing.{Crossing}
 use Rattle.vsw_base.specs.declared.flow.Place.{Place}
 use Rattle.vsw_base.specs.Frame.{Parts}
@@ -9,15 +9,14 @@ use Rattle.vsw_switch.specs.declared.live.Live.{Live}
 use Rattle.vsw_report.specs.declared.round.LooseCause.{LooseCause}
 use Rattle.vsw_pcap.specs.declared.capture.Record.{Record}
 use Rattle.vsw_switch.specs.Switch.{MakesPair, PortNow, begun, aim_of, ports_after, with_packet}
-use Rattle.vsw_transit.specs.Transit.{AreAtMost}
+use Rattle.vsw_port.specs.Core.{layers_of}
 
 abbrev pub live_seen : Live → PortNow
-live_seen l = record { number = l.port.number; mac = l.port.mac; controllers = l.port.policy.controllers; layers = l.port.policy.layers; before = l.before; count = l.count; told = l.told }
+live_seen l = record { number = l.number; mac = l.mac; controllers = l.core.opening.controllers; layers = layers_of l.core; before = l.before; count = length l.core.journal; told = l.told }
 
--- a port that met no more packets than so many
-pub record IsAtMost (n : ℕ) (p : PortNow) : Type 0 where
-  pub numbers : AreAtMost n p.layers
-  pub count : p.count ≤ n
+-- a port with no more entries than so many
+abbrev pub IsAtMost : ℕ → PortNow → Type 0
+IsAtMost n p = p.count ≤ n
 
 -- a port before and after a packet
 pub record Meets (p : PortNow) (x : Crossing) (parts : Parts) (q : PortNow) : Type 0 where

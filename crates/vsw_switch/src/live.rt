@@ -3,13 +3,16 @@
 ghost use Rattle.std.specs.Prelude.{◌≡◌, ◌≤◌, ◌<◌, ◌+◌, ◌-◌, ◌^◌, ◌++◌, ◌∷◌, [], ℕ, OnOk, IfOk};
 ghost use Rattle.vsw_frame.specs.Frame.{parts};
 ghost use Rattle.vsw_switch.specs.Seen.{IsAtMost, Meets, live_seen};
-ghost use Rattle.vsw_switch.specs.Switch.{begun, port_round};
+ghost use Rattle.vsw_port.specs.Core.{AreAtMost};
+ghost use Rattle.vsw_ports.specs.Ports.{port_seen};
+ghost use Rattle.vsw_switch.specs.Switch.{begun, port_at_first, port_round};
 ghost use Rattle.vsw_transit.specs.Transit.{IsOfFrame, bytes_in, len_of};
 
 use std::alloc::Global;
 use std::mem::replace;
-use vsw_base::{Crossing, Fate, Items, NoMemory};
+use vsw_base::{Crossing, Fate, Items, Mac, NoMemory};
 use vsw_frame::Frame;
+use vsw_port::Core;
 use vsw_ports::Port;
 use vsw_report::{By, PortRound, ToldLine, What};
 use vsw_transit::{Room, transit};
@@ -17,11 +20,11 @@ use vsw_transit::{Room, transit};
 /// A port, with what is told of it in this round.
 #[derive(Drop)]
 pub(crate) struct Live {
-    pub port: Port,
+    pub number: u16,
+    pub mac: Mac,
+    pub core: Core,
     /// Entries of its history when the round began.
     pub before: u32,
-    /// Entries of its history.
-    pub count: u32,
     pub told: Items<ToldLine>,
 }
 
@@ -51,6 +54,21 @@ fn taken(alloc: Global, fate: Fate, room: &Room) -> Result<Items<u8>, NoMemory>
 }
 
 impl Live {
+    /// A port whose layers have made no pair yet, and of which nothing is told.
+    pub(crate) fn open(alloc: Global, port: Port) -> Result<Live, NoMemory>
+        requires fresh { AreAtMost 0 port.policy.layers }
+        ensures { IfOk result (λ live. live_seen live ≡ port_at_first (port_seen port)) }
+    {
+        let core = Core::open(alloc, port.policy)?;
+        Ok(Live {
+            number: port.number,
+            mac: port.mac,
+            core,
+            before: 0,
+            told: Items::new(alloc),
+        })
+    }
+
     /// The port meets a packet, and tells what became of it.
     pub(crate) fn meet(
         &mut self,
@@ -64,13 +82,11 @@ impl Live {
         requires of { IsOfFrame crossing.now (parts frame.now) }
         ensures meets { OnOk result (Meets (live_seen self.old) crossing.now (parts frame.now) (live_seen self.new)) }
         ensures few { IsAtMost (crossing.now.packet + 1) (live_seen self.new) }
-        ensures mac { self.new.port.mac ≡ self.old.port.mac }
+        ensures mac { self.new.mac ≡ self.old.mac }
     {
-        let count = self.count;
-        let outcome = transit(&mut self.port.policy, crossing, frame, room);
-        if outcome.entry {
-            self.count += 1;
-        }
+        self.core.reserve(1)?;
+        let count = self.core.count();
+        let outcome = transit(&mut self.core, crossing, frame, room);
         let bytes = taken(alloc, outcome.fate, room)?;
         push(
             &mut self.told,
@@ -89,14 +105,15 @@ impl Live {
 
     /// The round of this port ends, and the next begins.
     pub(crate) fn close(&mut self, alloc: Global) -> PortRound
+        requires few { IsAtMost (2 ^ 32 - 1) (live_seen self.old) }
         ensures round { result ≡ port_round (live_seen self.old) }
         ensures begun { live_seen self.new ≡ begun (live_seen self.old) }
     {
-        let before = replace(&mut self.before, self.count);
+        let after = self.core.count();
         PortRound {
-            port: self.port.number,
-            before,
-            after: self.count,
+            port: self.number,
+            before: replace(&mut self.before, after),
+            after,
             told: replace(&mut self.told, Items::new(alloc)),
         }
     }

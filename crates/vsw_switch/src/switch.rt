@@ -1,9 +1,11 @@
 //! A switch.
 
-ghost use Rattle.std.specs.Prelude.{◌≡◌, ◌≤◌, ◌<◌, ◌+◌, ◌^◌, ◌++◌, [], ℕ, Some, length, map, OnOk, IfOk, Ok};
+ghost use Rattle.std.specs.Prelude.{◌≡◌, ◌≤◌, ◌<◌, ◌+◌, ◌-◌, ◌^◌, ◌++◌, [], ℕ, Some, length, map, OnOk, IfOk, Ok};
 ghost use Rattle.vsw_flowid.specs.Port.{choose};
 ghost use Rattle.vsw_frame.specs.Frame.{parts};
 ghost use Rattle.vsw_goodfile.specs.Good.{IsGoodPolicy};
+ghost use Rattle.vsw_policy.specs.Sound.{Each};
+ghost use Rattle.vsw_port.specs.Core.{AreAtMost};
 ghost use Rattle.vsw_ports.specs.Ports.{port_seen, ports_of};
 ghost use Rattle.vsw_switch.specs.Seen.{AllAtMost, Arrives, Crosses, live_seen};
 ghost use Rattle.vsw_switch.specs.Switch.{Forwards, MakesPair, begun, next_round, port_at_first, port_round, ports_after, round_of, switch_of};
@@ -112,6 +114,7 @@ fn close_all(
     ports: &mut Vec<Live>,
     rounds: &mut Items<PortRound>,
 ) -> Result<(), NoMemory>
+    requires few { AllAtMost (2 ^ 32 - 1) (map live_seen ports.old.items) }
     ensures rounds { OnOk result (rounds.new ≡ rounds.old ++ map port_round (map live_seen ports.old.items)) }
     ensures begun { OnOk result (map live_seen ports.new.items ≡ map begun (map live_seen ports.old.items)) }
     ensures few { (n : ℕ) → AllAtMost n (map live_seen ports.old.items) → AllAtMost n (map live_seen ports.new.items) }
@@ -125,17 +128,12 @@ fn close_all(
 
 /// Adds ports, of which nothing is told yet.
 fn open_all(made: Items<Port>, alloc: Global) -> Result<Vec<Live>, NoMemory>
+    requires fresh { Each (λ p. AreAtMost 0 p.layers) (map port_seen made) }
     ensures { IfOk result (λ ports. map live_seen ports.items ≡ map port_at_first (map port_seen made)) }
 {
     let mut ports = Vec::new(alloc);
     for port in made.into_vec() {
-        let live = Live {
-            port,
-            before: 0,
-            count: 0,
-            told: Items::new(alloc),
-        };
-        if ports.push(live).is_err() {
+        if ports.push(Live::open(alloc, port)?).is_err() {
             return Err(NoMemory);
         }
     }

@@ -1,3 +1,2 @@
 pub mod Fates
 pub mod Passes
-pub mod Numbers

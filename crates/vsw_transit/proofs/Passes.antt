@@ -1,109 +1,135 @@
--- What a walk and a commit tell is the passage of the frame.
-use Rattle.std.proofs.Common.{◌≡◌, ◌==◌, ℕ, Bool, true, false, not, List, [], length, nat_lt, Option, None, Some, Result, Ok, Err, refl, sym, ap, ◌∙◌, true≢false}
+-- What a core and the writing of a frame tell is the passage of the frame.
+use Rattle.std.proofs.Common.{◌≡◌, ◌≤◌, ◌+◌, ◌*◌, ℕ, Bool, true, false, true≢false, List, [], length, nat_lt, take, Option, None, Some, Result, Ok, Err, refl, sym, ap, subst, ◌∙◌, arith}
 use Rattle.std.specs.Prelude.{if◌then◌else◌}
 use Rattle.vsw_admit.specs.declared.stop.Stop.{Stop}
-use Rattle.vsw_admit.specs.declared.stop.Stop.TheVariants.{Long, Full, Taken, Memory}
-use Rattle.vsw_admit.specs.Admit.{cause_of, on_pass, refusal, stop_of}
+use Rattle.vsw_admit.specs.declared.stop.Stop.TheVariants.{Long}
+use Rattle.vsw_admit.specs.Admit.{on_pass, refusal, stop_of}
+use Rattle.vsw_admit.specs.Long as sizes
 use Rattle.vsw_admit.specs.Long.{is_long}
-use Rattle.vsw_admit.proofs.Alike.{long_alike}
+use Rattle.vsw_admit.proofs.Alike.{long_alike, size_told}
 use Rattle.vsw_base.specs.declared.fate.Cause.{Cause}
-use Rattle.vsw_base.specs.declared.fate.Cause.TheVariants as cause
 use Rattle.vsw_base.specs.declared.fate.Fate.{Fate}
 use Rattle.vsw_base.specs.declared.fate.Fate.TheVariants.{Pass, Drop}
 use Rattle.vsw_base.specs.declared.fate.Verdict.{Verdict}
 use Rattle.vsw_base.specs.declared.fate.Verdict.TheVariants as verdict
 use Rattle.vsw_base.specs.declared.flow.Crossing.{Crossing}
 use Rattle.vsw_base.specs.declared.header.Header.{Header}
-use Rattle.vsw_base.specs.declared.packet.Dir.{Dir}
 use Rattle.vsw_base.specs.Frame.{Parts, sizes_of}
-use Rattle.vsw_base.specs.Shape.{is_stack}
-use Rattle.vsw_commit.specs.Cross as cross
-use Rattle.vsw_commit.specs.Cross.{Crossed, Passing, all_done, cross_of, fate_after, is_memory, made_after}
-use Rattle.vsw_crossing.specs.declared.scratch.Wanted.{Wanted}
+use Rattle.vsw_base.specs.Shape.{encaps, is_stack}
+use Rattle.vsw_base.proofs.Stacks.{in_front}
+use Rattle.vsw_commit.specs.Cross.{Passing, cross_of, fate_after}
+use Rattle.vsw_commit.specs.Fate.{fate_at, fate_by}
 use Rattle.vsw_crossing.specs.Walk.{Walk, walk_of}
-use Rattle.vsw_frame.specs.Bytes as bytes
-use Rattle.vsw_frame.specs.Bytes.{outgoing}
+use Rattle.vsw_frame.specs.Bytes.{outer_total, outgoing, outgoing_size, pushes}
+use Rattle.vsw_history.specs.Calls.{Shows}
 use Rattle.vsw_layer.specs.Layer.{LayerSeen}
-use Rattle.vsw_transit.specs.Transit.{Passage, bytes_in, bytes_of, fate_of, is_short, met, passage_of, told}
+use Rattle.vsw_port.specs.Crossed.{Crossed, Edits, EditsPass, crossed, is_short}
+use Rattle.vsw_transit.specs.Transit.{CanLeave, HasLeft, Leaves, bytes_in, bytes_of, fate_of, len_of, met, passage_of, told}
+use Rattle.vsw_transpose.specs.declared.act.Act.{Act}
+use Rattle.vsw_transpose.specs.Apply.{apply}
+use Rattle.vsw_transpose.specs.Fits.{fits, kept}
 
-crossed_is : (ls : List LayerSeen) (x : Crossing) (p : Parts) (c : Crossed) → c ≡ cross_of ls x → passage_of ls x p ≡ record { fate = fate_of p c.fate; bytes = bytes_of p c.fate; layers = c.layers; entry = c.changed }
-unfolding passage_of
-crossed_is ls x p c e = ap (λ d. record { fate = fate_of p d.fate; bytes = bytes_of p d.fate; layers = d.layers; entry = d.changed }) (sym e)
+abbrev is_pass : Fate → Bool
+is_pass (Pass len) = true
+is_pass (Drop cause) = false
 
--- a frame that wasn't stopped
-pub passes : (ls new : List LayerSeen) (x : Crossing) (p : Parts) (v : Verdict) (hs : List Header) (kept : ℕ) (entry : Bool) (fate : Fate) (out : List ℕ) → v ≡ verdict.Pass
-    → fate ≡ Pass (length (outgoing p hs kept)) → bytes_in fate out ≡ outgoing p hs kept → cross.told v hs kept (Ok entry) new ≡ cross_of ls x
-    → told fate entry out new ≡ met (is_short fate) ls x p
-passes ls new x p v hs kept entry fate out e f b c =
-    let all : Passage = record { fate = Pass (length (outgoing p hs kept)); bytes = outgoing p hs kept; layers = new; entry = entry } in
-    let whole : passage_of ls x p ≡ all = crossed_is ls x p (cross.told verdict.Pass hs kept (Ok entry) new) (sym (ap (λ w. cross.told w hs kept (Ok entry) new) e) ∙ c) in
-    let left : told fate entry out new ≡ all =
-    ap (λ g. record { fate = g; bytes = bytes_in fate out; layers = new; entry = entry }) f ∙ ap (λ bs. record { fate = Pass (length (outgoing p hs kept)); bytes = bs; layers = new; entry = entry }) b in
-    left ∙ sym whole ∙ ap (λ s. met s ls x p) (sym (ap is_short f))
+-- a packet that passes has a verdict that passes, and is stopped by nothing
+record Free (v : Verdict) (o : Option Stop) (x : Crossing) (hs : List Header) (left n : ℕ) : Type 0 where
+  passes : v ≡ verdict.Pass
+  free : o ≡ None
+  size : n ≡ sizes.outgoing_size x hs left
 
--- a frame that was stopped
-pub stops : (ls new : List LayerSeen) (x : Crossing) (p : Parts) (v : Verdict) (hs : List Header) (kept : ℕ) (s : Stop) (out : List ℕ) → v ≡ verdict.Pass → new ≡ ls
-    → (is_memory (Err s) ≡ false → cross.told v hs kept (Err s) new ≡ cross_of ls x) → told (Drop (cause_of s)) false out new ≡ met (is_short (Drop (cause_of s))) ls x p
-stops ls new x p v hs kept Memory out e same c = ap (λ m. told (Drop (cause_of Memory)) false out m) same
-stops ls new x p v hs kept Long out e same c = sym (crossed_is ls x p (cross.told verdict.Pass hs kept (Err Long) new) (sym (ap (λ w. cross.told w hs kept (Err Long) new) e) ∙ c refl))
-stops ls new x p v hs kept (Full controller layer) out e same c =
-    sym (crossed_is ls x p (cross.told verdict.Pass hs kept (Err (Full controller layer)) new) (sym (ap (λ w. cross.told w hs kept (Err (Full controller layer)) new) e) ∙ c refl))
-stops ls new x p v hs kept (Taken controller layer pair) out e same c =
-    sym (crossed_is ls x p (cross.told verdict.Pass hs kept (Err (Taken controller layer pair)) new) (sym (ap (λ w. cross.told w hs kept (Err (Taken controller layer pair)) new) e) ∙ c refl))
+free_of : (v : Verdict) (o : Option Stop) (x : Crossing) (hs : List Header) (left n : ℕ) → Pass n ≡ fate_by x (fate_after v o hs left) → Free v o x hs left n
+free_of verdict.Pass None x hs left n e = record { passes = refl; free = refl; size = ap len_of e }
+free_of verdict.Pass (Some stop) x hs left n e = absurd (true≢false (ap is_pass e))
+free_of (verdict.Rule controller layer group rule) o x hs left n e = absurd (true≢false (ap is_pass e))
+free_of (verdict.Default controller layer dir) o x hs left n e = absurd (true≢false (ap is_pass e))
 
--- a frame that its walk drops
-passage_by : Parts → List LayerSeen → Verdict → Option Stop → List Header → ℕ → List Wanted → Passage
-passage_by p ls v o hs kept ws = record {
-  fate = fate_of p (fate_after v o hs kept);
-  bytes = bytes_of p (fate_after v o hs kept);
-  layers = all_done (made_after v o ws) ls;
-  entry = not (length (made_after v o ws) == 0);
-}
+abbrev is_none : Option Stop → Bool
+is_none None = true
+is_none (Some stop) = false
 
-by_walk : (ls : List LayerSeen) (x : Crossing) (p : Parts) → passage_of ls x p ≡ passage_by p ls (walk_of ls x).verdict (stop_of ls x (walk_of ls x)) (walk_of ls x).stack (walk_of ls x).kept (walk_of ls x).changes
-unfolding passage_of passage_by
-by_walk ls x p = refl
-
-dropped : (ls : List LayerSeen) (x : Crossing) (p : Parts) (v : Verdict) (c : Cause) (out : List ℕ) → (walk_of ls x).verdict ≡ v
-    → passage_by p ls v (stop_of ls x (walk_of ls x)) (walk_of ls x).stack (walk_of ls x).kept (walk_of ls x).changes ≡ record { fate = Drop c; bytes = []; layers = ls; entry = false }
-    → passage_of ls x p ≡ told (Drop c) false out ls
-dropped ls x p v c out e f = by_walk ls x p ∙ ap (λ w. passage_by p ls w (stop_of ls x (walk_of ls x)) (walk_of ls x).stack (walk_of ls x).kept (walk_of ls x).changes) e ∙ f
-
-pub by_rule : (ls : List LayerSeen) (x : Crossing) (p : Parts) (controller layer group rule : ℕ) (out : List ℕ) → (walk_of ls x).verdict ≡ verdict.Rule controller layer group rule
-    → told (Drop (cause.Rule controller layer group rule)) false out ls ≡ met false ls x p
-unfolding passage_by
-by_rule ls x p controller layer group rule out e = sym (dropped ls x p (verdict.Rule controller layer group rule) (cause.Rule controller layer group rule) out e refl)
-
-pub by_default : (ls : List LayerSeen) (x : Crossing) (p : Parts) (controller layer : ℕ) (d : Dir) (out : List ℕ) → (walk_of ls x).verdict ≡ verdict.Default controller layer d
-    → told (Drop (cause.Default controller layer d)) false out ls ≡ met false ls x p
-unfolding passage_by
-by_default ls x p controller layer d out e = sym (dropped ls x p (verdict.Default controller layer d) (cause.Default controller layer d) out e refl)
-
--- a frame that passed isn't long
-abbrev is_pass : Result Passing Cause → Bool
-is_pass (Ok passing) = true
-is_pass (Err c) = false
-
-not_long : (ls : List LayerSeen) (x : Crossing) (w : Walk) (hs : List Header) (kept : ℕ) → w.verdict ≡ verdict.Pass → Ok (record { stack = hs; kept = kept }) ≡ fate_after w.verdict (stop_of ls x w) w.stack w.kept → is_long x w.stack w.kept ≡ false
-not_long ls x w hs kept e f = by (is_long x w.stack w.kept) refl
+-- nor is it long
+not_long : (ls : List LayerSeen) (x : Crossing) (w : Walk) → w.verdict ≡ verdict.Pass → stop_of ls x w ≡ None → is_long x w.stack w.kept ≡ false
+not_long ls x w e f = by (is_long x w.stack w.kept) refl
   where
-    passed : Ok (record { stack = hs; kept = kept }) ≡ fate_after verdict.Pass (on_pass verdict.Pass (if is_long x w.stack w.kept then Some Long else refusal ls None w.changes)) w.stack w.kept
-    passed = f ∙ ap (λ v. fate_after v (on_pass v (if is_long x w.stack w.kept then Some Long else refusal ls None w.changes)) w.stack w.kept) e
+    passed : on_pass verdict.Pass (if is_long x w.stack w.kept then Some Long else refusal ls None w.changes) ≡ None
+    passed = ap (λ v. on_pass v (if is_long x w.stack w.kept then Some Long else refusal ls None w.changes)) (sym e) ∙ f
 
     by : (b : Bool) → is_long x w.stack w.kept ≡ b → is_long x w.stack w.kept ≡ false
-    by true g =
-        let wrong : Ok (record { stack = hs; kept = kept }) ≡ Err cause.Long = passed ∙ ap (λ b. fate_after verdict.Pass (on_pass verdict.Pass (if b then Some Long else refusal ls None w.changes)) w.stack w.kept) g in
-        absurd (true≢false (ap is_pass wrong))
+    by true g = absurd (true≢false (sym (ap is_none (ap (λ b. on_pass verdict.Pass (if b then Some Long else refusal ls None w.changes)) (sym g) ∙ passed))))
     by false g = g
 
-pub short : (ls new : List LayerSeen) (x : Crossing) (p : Parts) (v : Verdict) (hs : List Header) (kept : ℕ) (entry : Bool) → v ≡ verdict.Pass → v ≡ (walk_of ls x).verdict → is_stack x.id.stack ≡ true → x.id.stack ≡ p.stack → x.sizes ≡ sizes_of p.levels
-    → hs ≡ (walk_of ls x).stack → kept ≡ (walk_of ls x).kept → cross.told v hs kept (Ok entry) new ≡ cross_of ls x → nat_lt 65535 (bytes.outer_total p hs kept) ≡ false
-short ls new x p v hs kept entry e walked shape stack sizes edited keeps c =
-    let passed : Ok (record { stack = hs; kept = kept }) ≡ fate_after (walk_of ls x).verdict (stop_of ls x (walk_of ls x)) (walk_of ls x).stack (walk_of ls x).kept =
-    sym (ap (λ w. fate_after w None hs kept) e) ∙ ap (λ d. d.fate) c in
-    let long : is_long x hs kept ≡ false = rw (edited, keeps) (not_long ls x (walk_of ls x) hs kept (sym walked ∙ e) passed) in
-    ap (nat_lt 65535) (sym (long_alike p x hs kept (sym (ap is_stack stack) ∙ shape) stack sizes)) ∙ long
+-- the fate that a core tells of a packet for which memory sufficed
+told_fate : (ls new : List LayerSeen) (x : Crossing) (n : ℕ) (entry : Bool) → record { fate = Pass n; layers = new; entry = entry } ≡ crossed false ls x → Pass n ≡ fate_at ls x
+told_fate ls new x n entry e = ap (λ (c : Crossed). c.fate) e
 
--- the stack of a packet is that of its frame
-pub cross_told : (v : Verdict) (hs ks : List Header) (kept : ℕ) (entry : Bool) (new : List LayerSeen) → hs ≡ ks → cross.told v ks kept (Ok entry) new ≡ cross.told v hs kept (Ok entry) new
-cross_told v hs ks kept entry new e = ap (λ s. cross.told v s kept (Ok entry) new) (sym e)
+free_at : (ls new : List LayerSeen) (x : Crossing) (n : ℕ) (entry : Bool) → record { fate = Pass n; layers = new; entry = entry } ≡ crossed false ls x → Free (walk_of ls x).verdict (stop_of ls x (walk_of ls x)) x (walk_of ls x).stack (walk_of ls x).kept n
+free_at ls new x n entry e = free_of (walk_of ls x).verdict (stop_of ls x (walk_of ls x)) x (walk_of ls x).stack (walk_of ls x).kept n (told_fate ls new x n entry e)
+
+-- these acts make of the frame's headers what the walk makes of the packet's
+edited_same : (ls : List LayerSeen) (x : Crossing) (p : Parts) (acts : List Act) → Edits ls x acts → x.id.stack ≡ p.stack → apply acts p.stack ≡ (walk_of ls x).stack
+edited_same ls x p acts d e = ap (apply acts) (sym e) ∙ d.stack
+
+pub can_leave : (ls new : List LayerSeen) (x : Crossing) (p : Parts) (acts : List Act) (fate : Fate) (entry : Bool) → record { fate = fate; layers = new; entry = entry } ≡ crossed (is_short fate) ls x → EditsPass ls x acts fate
+    → is_stack x.id.stack ≡ true → x.id.stack ≡ p.stack → x.sizes ≡ sizes_of p.levels → CanLeave p acts fate
+can_leave ls new x p acts (Drop cause) entry e d shape stack size = tt
+can_leave ls new x p acts (Pass n) entry e d shape stack size =
+    let f = free_at ls new x n entry e in
+    let long : is_long x (walk_of ls x).stack (walk_of ls x).kept ≡ false = not_long ls x (walk_of ls x) f.passes f.free in
+    let alike = long_alike p x (walk_of ls x).stack (walk_of ls x).kept (ap is_stack (sym stack) ∙ shape) stack size in
+    let here : outer_total p (apply acts p.stack) (kept acts) ≡ outer_total p (walk_of ls x).stack (walk_of ls x).kept = rw (edited_same ls x p acts d stack, d.kept) refl in
+    (ap (fits acts) (sym stack) ∙ d.fits, ap (nat_lt 65535) here ∙ (ap (nat_lt 65535) (sym alike) ∙ long))
+
+-- what stands in the room after a frame passed: its bytes, as many as the fate tells
+record Written (ls : List LayerSeen) (x : Crossing) (p : Parts) (n : ℕ) (out : List ℕ) : Type 0 where
+  bytes : take n out ≡ outgoing p (walk_of ls x).stack (walk_of ls x).kept
+  length_is : n ≡ length (outgoing p (walk_of ls x).stack (walk_of ls x).kept)
+  room : n ≤ 65700
+
+written : (ls new : List LayerSeen) (x : Crossing) (p : Parts) (acts : List Act) (n : ℕ) (entry : Bool) (out : List ℕ) → record { fate = Pass n; layers = new; entry = entry } ≡ crossed false ls x → Edits ls x acts
+    → is_stack x.id.stack ≡ true → x.id.stack ≡ p.stack → x.sizes ≡ sizes_of p.levels → HasLeft p acts out → Written ls x p n out
+written ls new x p acts n entry out e d shape stack size left =
+    let hs : List Header = (walk_of ls x).stack in
+    let k : ℕ = (walk_of ls x).kept in
+    let same : apply acts p.stack ≡ hs = edited_same ls x p acts d stack in
+    let told = size_told x p k (omega (arith, (in_front x.id.stack shape).0, ap encaps stack)) stack size in
+    let many : n ≡ outgoing_size p hs k = (free_at ls new x n entry e).size ∙ ap (λ (m : ℕ). m + 50 * pushes hs k) told in
+    let front : take (outgoing_size p hs k) out ≡ outgoing p hs k = subst (λ (gs : List Header). take (outgoing_size p gs k) out ≡ outgoing p gs k) same (subst (λ (m : ℕ). take (outgoing_size p (apply acts p.stack) m) out ≡ outgoing p (apply acts p.stack) m) d.kept left.bytes) in
+    let size_is : length (outgoing p hs k) ≡ outgoing_size p hs k = subst (λ (gs : List Header). length (outgoing p gs k) ≡ outgoing_size p gs k) same (subst (λ (m : ℕ). length (outgoing p (apply acts p.stack) m) ≡ outgoing_size p (apply acts p.stack) m) d.kept left.size) in
+    let small : outgoing_size p hs k ≤ 65700 = subst (λ (gs : List Header). outgoing_size p gs k ≤ 65700) same (subst (λ (m : ℕ). outgoing_size p (apply acts p.stack) m ≤ 65700) d.kept left.room) in
+    record { bytes = ap (λ m. take m out) many ∙ front; length_is = many ∙ sym size_is; room = omega (arith, many, small) }
+
+pub shows : (ls new : List LayerSeen) (x : Crossing) (p : Parts) (acts : List Act) (fate : Fate) (entry : Bool) (out : List ℕ) → record { fate = fate; layers = new; entry = entry } ≡ crossed (is_short fate) ls x → EditsPass ls x acts fate
+    → is_stack x.id.stack ≡ true → x.id.stack ≡ p.stack → x.sizes ≡ sizes_of p.levels → Leaves p acts fate out → Shows ls x p fate (bytes_in fate out)
+shows ls new x p acts (Drop cause) entry out e d shape stack size left = refl
+shows ls new x p acts (Pass n) entry out e d shape stack size left = (written ls new x p acts n entry out e d shape stack size left).bytes
+
+pub short_enough : (ls new : List LayerSeen) (x : Crossing) (p : Parts) (acts : List Act) (fate : Fate) (entry : Bool) (out : List ℕ) → record { fate = fate; layers = new; entry = entry } ≡ crossed (is_short fate) ls x → EditsPass ls x acts fate
+    → is_stack x.id.stack ≡ true → x.id.stack ≡ p.stack → x.sizes ≡ sizes_of p.levels → Leaves p acts fate out → len_of fate ≤ 65700
+short_enough ls new x p acts (Drop cause) entry out e d shape stack size left = omega arith
+short_enough ls new x p acts (Pass n) entry out e d shape stack size left = (written ls new x p acts n entry out e d shape stack size left).room
+
+drop_is : (x : Crossing) (p : Parts) (cause : Cause) (r : Result Passing Cause) → Drop cause ≡ fate_by x r → (fate_of p r ≡ Drop cause) × (bytes_of p r ≡ [])
+drop_is x p cause (Ok passing) e = absurd (true≢false (sym (ap is_pass e)))
+drop_is x p cause (Err why) e = (sym e, refl)
+
+-- a frame that was told of by its packet
+pub passage : (ls new : List LayerSeen) (x : Crossing) (p : Parts) (acts : List Act) (fate : Fate) (entry : Bool) (out : List ℕ) → record { fate = fate; layers = new; entry = entry } ≡ crossed (is_short fate) ls x → EditsPass ls x acts fate
+    → is_stack x.id.stack ≡ true → x.id.stack ≡ p.stack → x.sizes ≡ sizes_of p.levels → Leaves p acts fate out → told fate entry out new ≡ met (is_short fate) ls x p
+unfolding passage_of
+passage ls new x p acts (Pass n) entry out e d shape stack size left =
+    let f = free_at ls new x n entry e in
+    let w = written ls new x p acts n entry out e d shape stack size left in
+    let ends : fate_after verdict.Pass None (walk_of ls x).stack (walk_of ls x).kept ≡ (cross_of ls x).fate =
+    ap (λ v. fate_after v None (walk_of ls x).stack (walk_of ls x).kept) (sym f.passes) ∙ ap (λ o. fate_after (walk_of ls x).verdict o (walk_of ls x).stack (walk_of ls x).kept) (sym f.free) in
+    let fate_is : Pass n ≡ fate_of p (cross_of ls x).fate = ap Pass w.length_is ∙ ap (fate_of p) ends in
+    let bytes_are : take n out ≡ bytes_of p (cross_of ls x).fate = w.bytes ∙ ap (bytes_of p) ends in
+    λ i. record { fate = fate_is i; bytes = bytes_are i; layers = (e i).layers; entry = (e i).entry }
+passage ls new x p acts (Drop cause) entry out e d shape stack size left = by (is_short (Drop cause)) e
+  where
+    by : (b : Bool) → record { fate = Drop cause; layers = new; entry = entry } ≡ crossed b ls x → told (Drop cause) entry out new ≡ met b ls x p
+    by true g = ap (λ (c : Crossed). record { fate = c.fate; bytes = []; layers = c.layers; entry = c.entry }) g
+    by false g =
+        let drops = drop_is x p cause (cross_of ls x).fate (ap (λ (c : Crossed). c.fate) g) in
+        λ i. record { fate = sym drops.0 i; bytes = sym drops.1 i; layers = (g i).layers; entry = (g i).entry }

@@ -1,15 +1,17 @@
 -- What becomes of a frame at its port: how its packet crosses the layers, and the bytes with which it leaves.
-use Rattle.std.specs.Prelude.{◌≡◌, ◌≤◌, ℕ, List, [], length, take, Bool, true, false, Result, Ok, Err}
+use Rattle.std.specs.Prelude.{◌≡◌, ◌≤◌, ℕ, List, [], length, nat_lt, take, Bool, true, false, Result, Ok, Err}
 use Rattle.vsw_base.specs.declared.fate.Cause.{Cause}
 use Rattle.vsw_base.specs.declared.fate.Cause.TheVariants.{Memory}
 use Rattle.vsw_base.specs.declared.fate.Fate.{Fate}
 use Rattle.vsw_base.specs.declared.fate.Fate.TheVariants.{Pass, Drop}
 use Rattle.vsw_base.specs.declared.flow.Crossing.{Crossing}
 use Rattle.vsw_base.specs.Frame.{Parts, sizes_of}
-use Rattle.vsw_commit.specs.Cross.{Passing, cross_of, made_by, makes}
-use Rattle.vsw_frame.specs.Bytes.{outgoing}
+use Rattle.vsw_commit.specs.Cross.{Passing, cross_of}
+use Rattle.vsw_frame.specs.Bytes.{outer_total, outgoing, outgoing_size}
 use Rattle.vsw_layer.specs.Layer.{LayerSeen}
-use Rattle.vsw_policy.specs.Sound.{Each}
+use Rattle.vsw_transpose.specs.declared.act.Act.{Act}
+use Rattle.vsw_transpose.specs.Apply.{apply}
+use Rattle.vsw_transpose.specs.Fits.{fits, kept}
 
 -- the packet is the frame's
 pub record IsOfFrame (x : Crossing) (p : Parts) : Type 0 where
@@ -50,15 +52,6 @@ abbrev pub met : Bool → List LayerSeen → Crossing → Parts → Passage
 met true ls x p = unmet ls
 met false ls x p = passage_of ls x p
 
--- memory may be wanting only where a pair is to be made
-abbrev pub MayBeShort : Bool → List LayerSeen → Crossing → Type 0
-MayBeShort true ls x = makes (made_by ls x) ≡ true
-MayBeShort false ls x = Unit {0}
-
-abbrev pub is_short : Fate → Bool
-is_short (Drop Memory) = true
-is_short fate = false
-
 -- the outcome that a fate tells, with the bytes at the front of `out` where it is a pass
 abbrev pub bytes_in : Fate → List ℕ → List ℕ
 bytes_in (Pass len) out = take len out
@@ -72,6 +65,17 @@ abbrev pub len_of : Fate → ℕ
 len_of (Pass len) = len
 len_of (Drop cause) = 0
 
--- the next pair of each layer has at most this number
-abbrev pub AreAtMost : ℕ → List LayerSeen → Type 0
-AreAtMost n ls = Each (λ l. l.next_pair ≤ n) ls
+-- a frame that passes can be written as these acts edit it
+abbrev pub CanLeave : Parts → List Act → Fate → Type 0
+CanLeave p acts (Pass len) = (fits acts p.stack ≡ true) × (nat_lt 65535 (outer_total p (apply acts p.stack) (kept acts)) ≡ false)
+CanLeave p acts (Drop cause) = Unit {0}
+
+-- its outgoing bytes stand at the front of a room, as many as the frame's sizes tell
+pub record HasLeft (p : Parts) (acts : List Act) (out : List ℕ) : Type 0 where
+  pub bytes : take (outgoing_size p (apply acts p.stack) (kept acts)) out ≡ outgoing p (apply acts p.stack) (kept acts)
+  pub size : length (outgoing p (apply acts p.stack) (kept acts)) ≡ outgoing_size p (apply acts p.stack) (kept acts)
+  pub room : outgoing_size p (apply acts p.stack) (kept acts) ≤ 65700
+
+abbrev pub Leaves : Parts → List Act → Fate → List ℕ → Type 0
+Leaves p acts (Pass len) out = HasLeft p acts out
+Leaves p acts (Drop cause) out = Unit {0}

@@ -1,8 +1,18 @@
-use Rattle.std.proofs.Common.{◌<◌, ◌+◌, length, map, length-set, ◌∙◌, arith}
+use Rattle.std.proofs.Common.{◌<◌, ◌+◌, ◌-◌, ◌^◌, length, map, length-set, ◌∙◌, arith}
 use Rattle.std.proofs.lemmas.List.{length-map}
-use Rattle.vsw_switch.specs.Seen.{live_seen}
+use Rattle.vsw_switch.specs.Seen.{IsAtMost, live_seen}
 use Rattle.vsw_switch.proofs.Begun.{begun_all, ports_next, rounds_next, still_macs, still_most}
+use Rattle.vsw_switch.proofs.Places.{each-is}
 use Rattle.vsw_switch.proofs.switch.close_all.Goals as goal
+
+pub close-requires : goal.close-requires
+close-requires c =
+    let xs = c.args.ports.now.items in
+    let place : c.loop-place.place < length (map live_seen xs) = omega (arith, length-map xs live_seen, c.loop-place-test.true, c.loop-place.auto.place-end, c.len-place-end.ensures) in
+    record {
+      few = each-is live_seen (IsAtMost (2 ^ 32 - 1)) c.loop-place.ports.items c.loop-place.place c.index_mut.result.now (omega (arith, place, length-map xs live_seen, c.loop-place.invariant.count)) c.index_mut.ensures.value
+          (still_most c.loop-place.place xs c.loop-place.ports.items c.loop-place.invariant.ports (2 ^ 32 - 1) c.requires.few);
+    }
 
 pub returns-in_err-push-clause-few : goal.returns-in_err-push-clause-few
 returns-in_err-push-clause-few c =

@@ -1,6 +1,9 @@
 use Rattle.std.proofs.Common.{◌∙◌, ap, map, length, arith}
-use Rattle.vsw_switch.proofs.Begun.{is_first}
+use Rattle.vsw_switch.proofs.Begun.{is_first, made_fresh}
 use Rattle.vsw_switch.proofs.switch.Switch.open.Goals as goal
+
+pub open_all-requires : goal.open_all-requires
+open_all-requires c = record { fresh = made_fresh c.args.file.now c.in_ok-made.made c.in_ok-made.ensures }
 
 pub invariant_of-result : goal.invariant_of-result
 invariant_of-result c =

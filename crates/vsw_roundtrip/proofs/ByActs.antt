@@ -1,27 +1,20 @@
 -- The frames that are read, and the transpositions that fit them.
-use Rattle.std.proofs.Common.{◌≡◌, ℕ, zero, suc, ◌-◌, ◌^◌, ◌<◌, ◌==◌, ◌&&◌, ◌||◌, not, List, [], ◌∷◌, ◌++◌, Bool, true, false, cond, if◌then◌else◌, take, drop, Option, Some, None, Result, Ok, refl, sym, ◌∙◌, ap, subst, arith, inl, inr}
-use Rattle.std.proofs.lemmas.Grind.{common_steps}
-use Rattle.byteorder.specs.Endian.{big_number}
-use Rattle.byteorder.specs.Numbers.{big_from-lt}
+use Rattle.std.proofs.Common.{◌≡◌, ℕ, zero, suc, ◌-◌, ◌==◌, ◌&&◌, ◌||◌, not, List, [], ◌∷◌, ◌++◌, Bool, true, false, cond, if◌then◌else◌, Option, Some, None, Result, Ok, refl, sym, ◌∙◌, ap, subst, arith, inl, inr}
 use Rattle.vsw_base.specs.declared.fault.BadFrame.{BadFrame}
 use Rattle.vsw_base.specs.declared.header.Header.{Header}
 use Rattle.vsw_base.specs.declared.header.Header.TheVariants.{Ip, Vxlan, Ports}
-use Rattle.vsw_base.specs.Ethernet.{EtherFields}
-use Rattle.vsw_base.specs.Ipv4.{IpFields, ip_header, ip_total}
-use Rattle.vsw_base.specs.Udp.{UdpFields, udp_length}
+use Rattle.vsw_base.specs.Ipv4.{IpFields}
 use Rattle.vsw_base.specs.Shape.{ipv4_kind, is_packet, is_plain, is_stack}
-use Rattle.vsw_base.specs.Vxlan.{vni_of}
 use Rattle.vsw_base.specs.Frame as frame
 use Rattle.vsw_base.specs.Frame.{Opened, End, Parts, encap_parts, frame_in, look_in, opened_of, plain_parts, ports, within, ◌>>=◌}
 use Rattle.vsw_sum.specs.Sum.{AreBytes}
 use Rattle.vsw_frame.specs.Seen.{is_within}
 use Rattle.vsw_frame.proofs.Cases.{read_in}
 use Rattle.vsw_frame.proofs.Fitting.{fits_edit}
-use Rattle.vsw_frame.proofs.Tiles.{ether_rest, ip_payload, udp_payload}
 use Rattle.vsw_frame.proofs.Within.{encap_within, looked, looked_in, plain_within, within_stack}
 use Rattle.vsw_roundtrip.specs.RoundTrip.{IsByActs}
-use Rattle.vsw_roundtrip.proofs.Inverted.{EndBy, IsEncap, OpenedBy, bound, encap_by, end_by, opened_by}
-use Rattle.vsw_sum.proofs.Bytes.{bytes_dropped, bytes_taken}
+use Rattle.vsw_roundtrip.proofs.Fitted.{apply_fit, encap_bytes, frame_fit, vni_fits}
+use Rattle.vsw_roundtrip.proofs.Inverted.{EndBy, OpenedBy, bound, encap_by, end_by, opened_by}
 use Rattle.vsw_roundtrip.proofs.TripKept.{inner_bytes}
 
 -- a frame without encapsulation has a plain stack
@@ -65,18 +58,6 @@ plain_by bytes o (inr x) =
     let P : Opened → Type 0 = λ o. is_plain (o.front ++ ports o.end) ≡ true in
     subst P (sym x.3.is) (kind_true (x.0.kind == ipv4_kind) (is_packet (frame.ip_header x.1 ∷ ports x.2)) false x.3.kind (end_plain x.1 x.2 (end_by x.1 x.2 x.3.ends)))
 
-vni_number : (bytes : List ℕ) (v : ℕ) → vni_of bytes ≡ Some v → big_number 3 (drop 4 bytes) ≡ v
-vni_number bytes v h = grind (arith, common_steps)
-
-vni_fits : (bytes : List ℕ) (v : ℕ) → AreBytes bytes → vni_of bytes ≡ Some v → v < 2 ^ 24
-vni_fits bytes v are h = let l : big_number 3 (drop 4 bytes) < 256 ^ 3 = big_from-lt 0 3 (drop 4 bytes) (bytes_dropped 4 bytes are) in omega (arith, l, vni_number bytes v h)
-
-payload_bytes : (bytes : List ℕ) (o : Opened) (v : ℕ) (inside : List ℕ) (e : EtherFields) (i : IpFields) (u : UdpFields) → IsEncap bytes o v inside e i u → AreBytes bytes → AreBytes u.payload
-payload_bytes bytes o v inside e i u h are =
-    let rest : AreBytes e.rest = subst AreBytes (sym (ether_rest bytes e h.ether)) (bytes_dropped 14 bytes are) in
-    let payload : AreBytes i.payload = subst AreBytes (sym (ip_payload e.rest i h.ip)) (bytes_dropped (ip_header e.rest) (take (ip_total e.rest) e.rest) (bytes_taken (ip_total e.rest) e.rest rest)) in
-    subst AreBytes (sym (udp_payload i.payload u h.udp)) (bytes_dropped 8 (take (udp_length i.payload) i.payload) (bytes_taken (udp_length i.payload) i.payload payload))
-
 -- an encapsulation's headers in front of a stack
 encap_stack : (n : ℕ) (bytes : List ℕ) (o : Opened) (v : ℕ) (inside : List ℕ) (hs : List Header) → AreBytes bytes → opened_of bytes ≡ Ok o → within o.end ≡ Some (v, inside) → is_within n hs ≡ true → is_within (suc n) (o.front ++ Vxlan v ∷ hs) ≡ true
 encap_stack n bytes o v inside hs are h w t =
@@ -84,7 +65,7 @@ encap_stack n bytes o v inside hs are h w t =
     let u = b.2 in
     let plain : is_plain (o.front ++ Ports 17 u.src u.dst ∷ []) ≡ true = ap (λ (end : End). is_plain (o.front ++ ports end)) (sym (ap (λ (o : Opened). o.end) b.3.is)) ∙ plain_by bytes o (opened_by bytes o h) in
     let less : suc n - 1 ≡ n = omega arith in
-    encap_within (suc n) o.front u.src u.dst v hs (omega arith) plain (vni_fits u.payload v (payload_bytes bytes o v inside b.0 b.1 u b.3 are) b.3.vni) (ap (λ (m : ℕ). is_within m hs) less ∙ t)
+    encap_within (suc n) o.front u.src u.dst v hs (omega arith) plain (vni_fits u.payload v (encap_bytes bytes o v inside b.0 b.1 u b.3 are) b.3.vni) (ap (λ (m : ℕ). is_within m hs) less ∙ t)
 
 abbrev ok_parts : Parts → Result Parts BadFrame
 ok_parts p = Ok p
@@ -122,4 +103,4 @@ frame_within (suc n) bytes p are h = more_within n (frame_in n) bytes p (λ b q 
 pub by_acts : IsByActs
 by_acts bytes p acts n are h form fit numbers room =
     let stack : is_stack p.stack ≡ true = within_stack p.stack (frame_within 2 bytes p are (read_in bytes p h).1) in
-    record { read = h; edit = fits_edit acts p.stack form stack fit; fits = numbers; room = room }
+    record { read = h; edit = fits_edit acts p.stack form stack fit; fits = apply_fit acts p.stack numbers (frame_fit bytes p are h); room = room }

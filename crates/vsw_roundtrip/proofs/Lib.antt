@@ -20,5 +20,6 @@ pub mod SumsFrame
 pub mod SumsLevels
 pub mod SumsTrip
 pub mod Deeper
+pub mod Fitted
 pub mod ByActs
 pub mod Written

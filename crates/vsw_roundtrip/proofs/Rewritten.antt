@@ -69,7 +69,7 @@ ip_at bytes l v h t u = grind (arith, common_steps)
 pub ip_version : (bytes : List ℕ) (i : IpFields) → ip_of bytes ≡ Ok i → slice_index bytes 0 / 16 ≡ 4
 ip_version bytes i h = grind (arith, common_steps)
 
-ip_proto : (bytes : List ℕ) (i : IpFields) → ip_of bytes ≡ Ok i → slice_index bytes 9 ≡ i.proto
+pub ip_proto : (bytes : List ℕ) (i : IpFields) → ip_of bytes ≡ Ok i → slice_index bytes 9 ≡ i.proto
 ip_proto bytes i h = grind (arith, common_steps)
 
 ip_part : (bytes : List ℕ) (i : IpFields) → ip_of bytes ≡ Ok i → is_part bytes ≡ i.part

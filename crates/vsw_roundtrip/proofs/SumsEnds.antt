@@ -27,10 +27,10 @@ use Rattle.vsw_sum.proofs.Bytes.{bytes_dropped, bytes_taken}
 use Rattle.vsw_frame.proofs.Tiles.{ip_payload}
 use Rattle.vsw_base.proofs.Readings.{udp_src, udp_dst}
 
-ip_src : (bytes : List ℕ) (i : IpFields) → ip_of bytes ≡ Ok i → big_number 4 (drop 12 bytes) ≡ i.src
+pub ip_src : (bytes : List ℕ) (i : IpFields) → ip_of bytes ≡ Ok i → big_number 4 (drop 12 bytes) ≡ i.src
 ip_src bytes i h = grind (arith, common_steps)
 
-ip_dst : (bytes : List ℕ) (i : IpFields) → ip_of bytes ≡ Ok i → big_number 4 (drop 16 bytes) ≡ i.dst
+pub ip_dst : (bytes : List ℕ) (i : IpFields) → ip_of bytes ≡ Ok i → big_number 4 (drop 16 bytes) ≡ i.dst
 ip_dst bytes i h = grind (arith, common_steps)
 
 abbrev ok_tcp : TcpFields → Result TcpFields BadFrame
@@ -44,20 +44,20 @@ passed false false x t h = cc
 tcp_fields : (bytes : List ℕ) (t : TcpFields) → tcp_of bytes ≡ Ok t → record { src = big_number 2 bytes; dst = big_number 2 (drop 2 bytes); control = control_of (slice_index bytes 13); payload = drop (tcp_header bytes) bytes } ≡ t
 tcp_fields bytes t h = passed (nat_lt (length bytes) 20) (nat_lt (tcp_header bytes) 20 || nat_lt (length bytes) (tcp_header bytes)) (record { src = big_number 2 bytes; dst = big_number 2 (drop 2 bytes); control = control_of (slice_index bytes 13); payload = drop (tcp_header bytes) bytes }) t h
 
-tcp_src : (bytes : List ℕ) (t : TcpFields) → tcp_of bytes ≡ Ok t → big_number 2 bytes ≡ t.src
+pub tcp_src : (bytes : List ℕ) (t : TcpFields) → tcp_of bytes ≡ Ok t → big_number 2 bytes ≡ t.src
 tcp_src bytes t h = ap (λ (f : TcpFields). f.src) (tcp_fields bytes t h)
 
-tcp_dst : (bytes : List ℕ) (t : TcpFields) → tcp_of bytes ≡ Ok t → big_number 2 (drop 2 bytes) ≡ t.dst
+pub tcp_dst : (bytes : List ℕ) (t : TcpFields) → tcp_of bytes ≡ Ok t → big_number 2 (drop 2 bytes) ≡ t.dst
 tcp_dst bytes t h = ap (λ (f : TcpFields). f.dst) (tcp_fields bytes t h)
 
-two_fits : (bytes : List ℕ) (n : ℕ) → AreBytes bytes → big_number 2 bytes ≡ n → n < 2 ^ 16
+pub two_fits : (bytes : List ℕ) (n : ℕ) → AreBytes bytes → big_number 2 bytes ≡ n → n < 2 ^ 16
 two_fits bytes n h e = let l : big_number 2 bytes < 256 ^ 2 = big_from-lt 0 2 bytes h in omega (arith, l, e)
 
-four_fits : (bytes : List ℕ) (n : ℕ) → AreBytes bytes → big_number 4 bytes ≡ n → n < 2 ^ 32
+pub four_fits : (bytes : List ℕ) (n : ℕ) → AreBytes bytes → big_number 4 bytes ≡ n → n < 2 ^ 32
 four_fits bytes n h e = let l : big_number 4 bytes < 256 ^ 4 = big_from-lt 0 4 bytes h in omega (arith, l, e)
 
 -- a payload's bytes, and how many they may be
-payload_bytes : (bytes : List ℕ) (i : IpFields) → ip_of bytes ≡ Ok i → AreBytes bytes → AreBytes i.payload
+pub payload_bytes : (bytes : List ℕ) (i : IpFields) → ip_of bytes ≡ Ok i → AreBytes bytes → AreBytes i.payload
 payload_bytes bytes i h are = subst AreBytes (sym (ip_payload bytes i h)) (bytes_dropped (ip_header bytes) (take (ip_total bytes) bytes) (bytes_taken (ip_total bytes) bytes are))
 
 payload_short : (bytes : List ℕ) (i : IpFields) → ip_of bytes ≡ Ok i → AreBytes bytes → length i.payload < 65536

@@ -1,14 +1,17 @@
 -- What is read of the bytes that are written.
-use Rattle.std.specs.Prelude.{◌≡◌, ◌≢◌, ℕ, ◌*◌, ◌==◌, ◌&&◌, Bool, true, false, List, [], ◌∷◌, ◌++◌, take, drop, nat_lt, Ok}
+use Rattle.std.specs.Prelude.{◌≡◌, ◌≢◌, ℕ, ◌*◌, ◌<◌, ◌^◌, ◌==◌, ◌&&◌, Bool, true, false, List, [], ◌∷◌, ◌++◌, take, drop, nat_lt, Option, Some, None, Ok}
 use Rattle.std.specs.Option.{is_some}
 use Rattle.vsw_base.specs.declared.header.Header.{Header}
 use Rattle.vsw_base.specs.declared.header.Header.TheVariants.{Ether, Ip, Vxlan, Ports}
-use Rattle.vsw_base.specs.Fits.{AreFit}
+use Rattle.vsw_base.specs.Fits.{AreFit, IsFit}
 use Rattle.vsw_base.specs.Frame.{Level, Parts, frame_of}
 use Rattle.vsw_base.specs.Shape.{encaps, inner}
 use Rattle.vsw_base.specs.Vxlan.{vni_of, vxlan_port}
 use Rattle.vsw_sum.specs.Sum.{AreBytes}
 use Rattle.vsw_transpose.specs.declared.act.Act.{Act}
+use Rattle.vsw_transpose.specs.declared.act.Act.TheVariants.{Push, Pop, Modify, Ignore}
+use Rattle.vsw_transpose.specs.declared.act.Change.{Change}
+use Rattle.vsw_transpose.specs.declared.act.Change.TheVariants as of
 use Rattle.vsw_transpose.specs.Apply.{apply}
 use Rattle.vsw_transpose.specs.Fits.{fits, kept}
 use Rattle.vsw_transpose.specs.Form.{is_form}
@@ -55,9 +58,31 @@ pub record IsRewriting (bytes : List ℕ) (p : Parts) (edited : List Header) (ke
   pub fits : AreFit edited
   pub room : answer p edited kept ≡ Ok n
 
--- what a transposition whose acts fit makes of a frame of bytes is such a rewriting
+-- a field's new value, if there is one, is below this
+abbrev pub IsNewFit : ℕ → Option ℕ → Type 0
+IsNewFit n None = Unit {0}
+IsNewFit n (Some value) = value < n
+
+abbrev pub IsChangeFit : Change → Type 0
+IsChangeFit (of.Ether dst src) = IsNewFit (2 ^ 48) dst × IsNewFit (2 ^ 48) src
+IsChangeFit (of.Ip src dst) = IsNewFit (2 ^ 32) src × IsNewFit (2 ^ 32) dst
+IsChangeFit (of.Ports src dst) = IsNewFit (2 ^ 16) src × IsNewFit (2 ^ 16) dst
+
+-- the numbers that an act writes lie in the ranges of their fields
+abbrev pub IsActFit : Act → Type 0
+IsActFit (Push h) = IsFit h
+IsActFit Pop = Unit {0}
+IsActFit (Modify c) = IsChangeFit c
+IsActFit Ignore = Unit {0}
+
+abbrev pub ActsFit : List Act → Type 0
+ActsFit [] = Unit {0}
+ActsFit (x ∷ xs) = IsActFit x × ActsFit xs
+
+-- what a transposition makes of a frame of bytes that it fits is such a rewriting. Only the numbers that it writes must lie in their
+-- ranges: those that were read do
 abbrev pub IsByActs : Type 0
-IsByActs = (bytes : List ℕ) (p : Parts) (acts : List Act) (n : ℕ) → AreBytes bytes → frame_of bytes ≡ Ok p → is_form acts ≡ true → fits acts p.stack ≡ true → AreFit (apply acts p.stack) → answer p (apply acts p.stack) (kept acts) ≡ Ok n → IsRewriting bytes p (apply acts p.stack) (kept acts) n
+IsByActs = (bytes : List ℕ) (p : Parts) (acts : List Act) (n : ℕ) → AreBytes bytes → frame_of bytes ≡ Ok p → is_form acts ≡ true → fits acts p.stack ≡ true → ActsFit acts → answer p (apply acts p.stack) (kept acts) ≡ Ok n → IsRewriting bytes p (apply acts p.stack) (kept acts) n
 
 -- what was written is read: the edited stack, the same payload and control; a level for each pushed encapsulation, and the
 -- kept ones with their slacks and trailers

@@ -23,3 +23,4 @@ pub mod Deeper
 pub mod Fitted
 pub mod ByActs
 pub mod Written
+pub mod Bounded

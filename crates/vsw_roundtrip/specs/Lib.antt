@@ -1,3 +1,4 @@
 pub mod RoundTrip
+pub mod Numbers
 pub mod Sums
 pub mod Vectors

@@ -5,6 +5,7 @@ mod examples;
 #[cfg(test)]
 mod frames;
 mod law;
+mod numbers;
 #[cfg(test)]
 mod plain_reader;
 #[cfg(test)]
@@ -16,3 +17,4 @@ mod tests;
 
 pub use examples::vectors;
 pub use law::laws;
+pub use numbers::numbers_fit;

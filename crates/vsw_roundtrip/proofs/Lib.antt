@@ -24,3 +24,4 @@ pub mod Fitted
 pub mod ByActs
 pub mod Written
 pub mod Bounded
+pub mod Rewrites

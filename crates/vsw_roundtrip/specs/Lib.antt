@@ -1,4 +1,5 @@
 pub mod RoundTrip
 pub mod Numbers
 pub mod Sums
+pub mod Rewritten
 pub mod Vectors

@@ -10,6 +10,7 @@ mod numbers;
 mod plain_reader;
 #[cfg(test)]
 mod reading_tests;
+mod rewriting;
 #[cfg(test)]
 mod rewriting_tests;
 #[cfg(test)]
@@ -18,3 +19,4 @@ mod tests;
 pub use examples::vectors;
 pub use law::laws;
 pub use numbers::numbers_fit;
+pub use rewriting::rewrite_bytes;

@@ -3,6 +3,7 @@
 ghost use Rattle.std.specs.Prelude.{◌≡◌, ◌≤◌, ◌<◌, length};
 
 use crate::frames::{DELIVERED, OLD, QUERY, REPLY, ROOM, SENT, begins, outer};
+use crate::rewriting::rewrite_bytes;
 use std::process::Abort;
 use vsw_base::{Ip4, Long, Mac};
 use vsw_frame::{read_frame, rewrite};
@@ -93,8 +94,9 @@ fn written(rt: &impl Abort, bytes: &[u8], acts: &[Act], out: &mut [u8]) -> Resul
 fn compare(rt: &impl Abort, bytes: &[u8], acts: &[Act], expected: &[u8], out: &mut [u8])
     requires { 65700 ≤ length out.old }
 {
-    let result = written(rt, bytes, acts, out);
-    assert_eq!(rt; result, Ok(expected.len()));
+    let by = Transposition::of(acts).expect(rt, "the acts are of the form");
+    let len = rewrite_bytes(bytes, &by, out);
+    assert_eq!(rt; len, Some(expected.len()));
     begins(rt, out, expected);
 }
 

@@ -1,0 +1,135 @@
+//! Packets that cross the layers of a policy.
+
+ghost use Rattle.std.specs.Prelude.{◌≡◌, ◌<◌, ◌-◌, ◌^◌, IsTrue, map};
+ghost use Rattle.vsw_layer.specs.Layer.{seen};
+ghost use Rattle.vsw_policy.specs.Sound.{Each};
+
+use crate::packets::packet;
+use crate::rows::Rows;
+use std::alloc::Global;
+use vsw_base::{Control, Crossing, Ufid};
+use vsw_commit::commit;
+use vsw_crossing::{Looked, Scratch, Walked, Wanted, walk};
+use vsw_layer::Layer;
+use vsw_lean::shake;
+use vsw_policy::Policy;
+
+/// Whether each layer has a number for one more pair.
+fn have_numbers(layers: &[Layer]) -> bool
+    ensures { IsTrue result → Each (λ l. l.next_pair < 2 ^ 32 - 1) (map seen layers.now) }
+{
+    match layers {
+        [] => true,
+        [first, rest @ ..] => first.next_pair < u32::MAX && have_numbers(rest),
+    }
+}
+
+/// A policy, and room for walks.
+#[derive(Drop)]
+pub struct Trial {
+    pub policy: Policy,
+    pub scratch: Scratch,
+}
+
+impl Trial {
+    /// Without layers.
+    pub fn new(alloc: Global) -> Option<Trial> {
+        let Ok(policy) = Policy::new(alloc, &[1]) else {
+            return None;
+        };
+        match Scratch::new(alloc) {
+            Ok(scratch) => Some(Trial { policy, scratch }),
+            Err(_) => None,
+        }
+    }
+
+    /// The row of an identity: the walk of a packet of it that has no control.
+    pub fn row(&mut self, id: &Ufid) -> Walked {
+        walk(
+            &self.policy,
+            &packet(id, Control::None, 0),
+            &mut self.scratch,
+        )
+    }
+
+    /// What the packet of the last walk looked for in the layer that it met first.
+    pub fn first_look(&self) -> Option<Looked> {
+        self.scratch.looked().first().copied()
+    }
+
+    /// The packet is walked, and its walk carried out. Whether its changes shake the look, and what kind they
+    /// are, where it passes and there is one change.
+    pub fn meet(&mut self, crossing: &Crossing, look: &Looked) -> Option<(bool, Change)> {
+        if !have_numbers(self.policy.layers()) {
+            return None;
+        }
+        let walked = walk(&self.policy, crossing, &mut self.scratch);
+        let change = only_change(&self.scratch, look)?;
+        let shaken = shake(self.policy.layers(), self.scratch.changes(), &[*look]);
+        match commit(&mut self.policy, crossing, &walked, &self.scratch) {
+            Ok(true) => Some((shaken, change)),
+            _ => None,
+        }
+    }
+}
+
+impl Trial {
+    /// The packet is walked, and its walk carried out. Whether it changed the layers, and whether its changes
+    /// shake a row. None where the rows' looks tell it, and what they lean on doesn't, or the other way round.
+    pub fn cross(&mut self, crossing: &Crossing, rows: &Rows) -> Option<(bool, bool)> {
+        if !have_numbers(self.policy.layers()) {
+            return None;
+        }
+        let walked = walk(&self.policy, crossing, &mut self.scratch);
+        let changes = self.scratch.changes();
+        let shaken = shake(self.policy.layers(), changes, &rows.looks);
+        if rows.leaning.is_shaken(self.policy.layers(), changes) != shaken {
+            return None;
+        }
+        match commit(&mut self.policy, crossing, &walked, &self.scratch) {
+            Ok(changed) => Some((changed, shaken)),
+            Err(_) => Some((false, false)),
+        }
+    }
+}
+
+/// The one change of a crossing.
+#[derive(Clone, Copy, Debug, PartialEq, Eq)]
+pub enum Change {
+    /// A pair is made whose own packets are looked for, or whose replies are, or neither.
+    Front,
+    Back,
+    Beside,
+    /// A pair is touched, at a moment or not.
+    Used,
+    Moved,
+    /// A pair leaves.
+    Left,
+}
+
+fn is_key(probe: &vsw_layerflow::Probe, look: &Looked) -> bool {
+    probe.dir == look.dir && probe.key == look.key
+}
+
+fn only_change(scratch: &Scratch, look: &Looked) -> Option<Change> {
+    match scratch.changes() {
+        [Wanted::Make { pair, .. }] => {
+            if is_key(&pair.front(), look) {
+                Some(Change::Front)
+            } else if is_key(&pair.back(), look) {
+                Some(Change::Back)
+            } else {
+                Some(Change::Beside)
+            }
+        }
+        [Wanted::Touch { last, .. }] => {
+            if last.micros() > 1_000 {
+                Some(Change::Used)
+            } else {
+                Some(Change::Moved)
+            }
+        }
+        [Wanted::Leave { .. }] => Some(Change::Left),
+        _ => None,
+    }
+}

@@ -138,7 +138,7 @@ fn run(alloc: Global, crossings: u32) -> Option<Counts> {
 
 #[test]
 fn rows_that_are_not_shaken_stay_right(rt: HostRuntime) {
-    let counts = run(rt.alloc(), 10_000).expect(&rt, "each row is right");
+    let counts = run(rt.alloc(), 100_000).expect(&rt, "each row is right");
     assert!(rt; counts.shaken > 100);
     assert!(rt; counts.quiet > 100);
 }

@@ -1,0 +1,5 @@
+pub mod Fronts
+pub mod Counts
+pub mod Keeps
+pub mod Sweeps
+pub mod Puts

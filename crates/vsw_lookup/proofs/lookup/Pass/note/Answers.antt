@@ -1,0 +1,10 @@
+use Rattle.std.proofs.Common.{arith}
+use Rattle.vsw_lookup.proofs.Keeps.{tells}
+use Rattle.vsw_lookup.proofs.lookup.Pass.note.Goals as goal
+
+pub split_seat-requires : goal.split_seat-requires
+split_seat-requires g c = (
+  grind (arith, c.requires, c.self.view_is, c.lookup.view_is),
+  omega (arith, c.lookup.invariant.0),
+  tells g.S.Story.who g.S.Story.good c.lookup.inside.table.shared.key.opening.value c.lookup.inside.table.shared.key.rows c.self.inside.seat.id c.self.inside.seat.me.0,
+)

@@ -1,0 +1,289 @@
+//! The lookup, its writer, its passes and their notes.
+ghost use Rattle.std.specs.Prelude.{◌≡◌, ◌+◌, ◌<◌, ◌≤◌, ◌++◌, [], ◌∷◌, ℕ, ◌%◌, ◌*◌, replicate, slice_set, true, false, length, IfOk, Some, Bool, if◌then◌else◌};
+ghost use mathlib.Core.List.{IsPrefix};
+ghost use Rattle.vsw_lookup.specs.Rules.{by_caller, AllBelow, permits_of, first_view, one_more, newcomer, Meets, after_entry, passed, stamp_at, row_at, IsRead, Missed};
+ghost use Rattle.vsw_lookup.specs.Answers.{IfHit, IfMiss};
+
+use crate::look::look_from;
+use crate::put::{put_row, put_stamp};
+use crate::rule;
+use crate::rule::{Kept, Key, More, Tell};
+use crate::steps::{add, grant, lend, part};
+use crate::view::View;
+use atomic_table::{Seat, Table};
+use std::alloc::{AllocError, Global};
+use std::marker::Model;
+use std::snapshot::Snapshot;
+use vsw_base::NoMemory;
+use vsw_machine::Story;
+
+/// What a look found at its last load of the generation word, which counted `count` entries.
+#[derive(Drop, Clone, Copy)]
+pub enum Look {
+    /// A current row with the key.
+    Hit { count: u32 },
+    /// None of the eight rows was seen to be current and to have the key.
+    Miss { generation: u32, count: u32 },
+}
+
+/// The rows of one history. Any thread may `look`, with a pass of its own; only the holder of the writer
+/// stores. A row may be stored while it is read, so what was read counts only after the later load of the
+/// generation word. That load is the moment of the answer.
+#[derive(Drop)]
+pub struct Lookup<S: Story> {
+    rows: u32,
+    table: Table<S::Entry, View<S::Opening, S::Entry>, Key<S::Opening>, Kept<S>, Global>,
+}
+
+impl<S: Story> Model for Lookup<S> {
+    ghost use Rattle.std.specs.Prelude.{◌≡◌, ◌+◌, ◌*◌, ◌≤◌, ℕ};
+    ghost use Rattle.atomic_table.specs.Seated.{TableId};
+
+    ghost Value = { TableId × S.Opening × ℕ };
+
+    ghost view = { λ l. (l.table.shared.table_id, l.table.shared.key.opening.value, l.rows) };
+
+    ghost invariant = { λ l. (l.table.shared.table_id.words ≡ 1 + 74 * l.rows) × (8 ≤ l.rows) × (l.rows ≤ 16384) × (l.rows ≡ l.table.shared.key.rows) × (l.table.shared.table_id.slots ≡ 0) };
+}
+
+/// The right to add to the history and to store rows.
+#[derive(Drop)]
+pub struct Writer<S: Story> {
+    rows: u32,
+    seat: Seat<S::Entry, View<S::Opening, S::Entry>>,
+}
+
+impl<S: Story> Model for Writer<S> {
+    ghost use Rattle.std.specs.Prelude.{◌≡◌, ◌+◌, ◌*◌, ◌≤◌, []};
+    ghost use Rattle.vsw_lookup.specs.Rules.{Held, IsWriter, HasRows};
+
+    ghost Value = { Held S.Opening S.Entry };
+
+    ghost view = { λ w. record { table = w.seat.table_id; view = w.seat.me.0 } };
+
+    ghost invariant = { λ w. IsWriter w.seat.me.0 × (w.seat.me.1 ≡ []) × HasRows w.rows w.seat.me.0.stamps w.seat.me.0.rows × (w.seat.table_id.words ≡ 1 + 74 * w.rows) × (w.rows ≤ 16384) };
+}
+
+/// What one caller has seen of the history, which entries are its own, and how many more it may add.
+#[derive(Drop)]
+pub struct Pass<S: Story> {
+    seat: Seat<S::Entry, View<S::Opening, S::Entry>>,
+}
+
+impl<S: Story> Model for Pass<S> {
+    ghost use Rattle.std.specs.Prelude.{◌≡◌, ◌+◌, ◌≤◌, length, []};
+    ghost use Rattle.vsw_lookup.specs.Rules.{Held, IsPass};
+
+    ghost Value = { Held S.Opening S.Entry };
+
+    ghost view = { λ w. record { table = w.seat.table_id; view = w.seat.me.0 } };
+
+    ghost invariant = { λ w. IsPass w.seat.me.0 × (w.seat.me.1 ≡ []) × (length w.seat.me.0.receipts + w.seat.me.0.permits ≤ 134217728) };
+}
+
+/// What a pass had seen, for another pass to learn.
+#[derive(Drop)]
+pub struct Note<S: Story> {
+    seat: Seat<S::Entry, View<S::Opening, S::Entry>>,
+}
+
+impl<S: Story> Model for Note<S> {
+    ghost use Rattle.std.specs.Prelude.{◌≡◌, [], false};
+    ghost use Rattle.vsw_lookup.specs.Rules.{Held};
+
+    ghost Value = { Held S.Opening S.Entry };
+
+    ghost view = { λ w. record { table = w.seat.table_id; view = w.seat.me.0 } };
+
+    ghost invariant = { λ w. (w.seat.me.0.writes ≡ false) × (w.seat.me.1 ≡ []) };
+}
+
+/// A lookup and its writer.
+#[derive(Drop)]
+pub struct Opened<S: Story> {
+    pub lookup: Lookup<S>,
+    pub writer: Writer<S>,
+}
+
+/// The words of a new table: generation 1, and all stamps and words 0.
+fn first_words(alloc: Global, rows: u32) -> Result<Vec<u64>, AllocError>
+    requires { rows ≤ 16384 }
+    ensures { IfOk result (λ v. v.items ≡ 4294967296 ∷ replicate (74 * rows) 0) }
+{
+    let mut words = Vec::new(alloc);
+    words.push(1 << 32)?;
+    words.resize(74 * rows as usize + 1, 0)?;
+    Ok(words)
+}
+
+impl<S: Story> Lookup<S> {
+    /// A lookup of this many rows, and the right to write it.
+    pub fn open(alloc: Global, rows: u32, opening: &S::Opening) -> Result<Opened<S>, NoMemory>
+        requires { (8 ≤ rows) × (rows ≤ 16384) }
+        ensures { IfOk result (λ o. (o.lookup.1 ≡ opening.now) × (o.lookup.2 ≡ rows) × (o.writer.table ≡ o.lookup.0) × (o.writer.view ≡ first_view opening.now rows)) }
+    {
+        let Ok(words) = first_words(alloc, rows) else {
+            return Err(NoMemory);
+        };
+        let key = Key {
+            opening: Snapshot::of(opening),
+            rows,
+        };
+        match Table::of_words(alloc, words.as_slice(), &key) {
+            Ok((table, seat)) => Ok(Opened {
+                lookup: Lookup { rows, table },
+                writer: Writer { rows, seat },
+            }),
+            Err(_) => Err(NoMemory),
+        }
+    }
+
+    /// Looks for a row with this key among the eight from `slot` on. After a hit `body` is the rest of it, and what it holds after a miss isn't said.
+    pub fn look(&self, pass: &mut Pass<S>, slot: u32, key: &[u64; 16], body: &mut [u64; 57]) -> Look
+        requires { (pass.old.table ≡ self.now.0) × (slot < self.now.2) × (pass.old.view.opening ≡ Some self.now.1) }
+        ensures same { IsRead pass.old.view pass.new.view × (pass.new.table ≡ pass.old.table) }
+        ensures hit { IfHit result (λ n. (length pass.new.view.front ≡ n) × S.good self.now.1 pass.new.view.front (key.now ++ body.new)) }
+        ensures begun { pass.old.view.closed < pass.new.view.closed }
+        ensures miss { IfMiss result (λ g n. (length pass.new.view.front ≡ n) × (pass.new.view.last_generation ≡ g) × ((j : ℕ) → j < 8 → Missed key.now g ((slot + j) % self.now.2) pass.new.view.last)) }
+    {
+        let (found, word) = look_from(
+            &self.table.shared,
+            &mut pass.seat,
+            self.rows as usize,
+            slot as usize,
+            key,
+            body,
+        );
+        let count = (word % (1 << 32)) as u32;
+        if found {
+            Look::Hit { count }
+        } else {
+            Look::Miss {
+                generation: (word / (1 << 32)) as u32,
+                count,
+            }
+        }
+    }
+
+    /// How many entries there are.
+    pub fn now(&self, pass: &mut Pass<S>) -> u32
+        requires { pass.old.table ≡ self.now.0 }
+        ensures same { pass.new ≡ record pass.old { view = record pass.old.view { front = pass.new.view.front; last = []; last_generation = pass.new.view.last_generation; closed = pass.old.view.closed + 1 } } }
+        ensures later { IsPrefix pass.old.view.front pass.new.view.front }
+        ensures count { result ≡ length pass.new.view.front }
+    {
+        (self.table.shared.load::<rule::Look<S>>(&mut pass.seat, 0) % (1 << 32)) as u32
+    }
+}
+
+impl<S: Story> Pass<S> {
+    /// What the pass has seen, to be handed to another.
+    pub fn note(&mut self, lookup: &Lookup<S>) -> Note<S>
+        requires { self.old.table ≡ lookup.now.0 }
+        ensures same { self.new ≡ self.old }
+        ensures note { (result.view.front ≡ self.old.view.front) × (result.table ≡ self.old.table) }
+    {
+        Note {
+            seat: lookup.table.shared.split_seat::<Tell>(&mut self.seat),
+        }
+    }
+
+    /// The pass has seen what the note tells.
+    pub fn learn(&mut self, lookup: &Lookup<S>, note: Note<S>)
+        requires { (self.old.table ≡ lookup.now.0) × (note.table ≡ lookup.now.0) }
+        ensures same { self.new ≡ record self.old { view = record self.old.view { front = self.new.view.front; last = []; last_generation = self.new.view.last_generation; closed = self.old.view.closed + 1 } } }
+        ensures later { IsPrefix self.old.view.front self.new.view.front }
+        ensures told { IsPrefix note.view.front self.new.view.front }
+    {
+        let Note { seat } = note;
+        lookup.table.shared.join_seat::<Tell>(&mut self.seat, seat);
+        lookup.table.shared.load::<rule::Look<S>>(&mut self.seat, 0);
+    }
+}
+
+impl<S: Story> Writer<S> {
+    /// One pass more, which has seen the writer's history.
+    pub fn pass(&mut self, lookup: &Lookup<S>) -> Pass<S>
+        requires { (self.old.table ≡ lookup.now.0) × (self.old.view.passes < 24) }
+        ensures writer { self.new ≡ record self.old { view = one_more self.old.view } }
+        ensures pass { result ≡ record self.old { view = newcomer self.old.view } }
+    {
+        Pass {
+            seat: lookup.table.shared.split_seat::<More>(&mut self.seat),
+        }
+    }
+
+    /// The pass sees the writer's history, and has `more` further permits.
+    pub fn meet(&mut self, lookup: &Lookup<S>, pass: &mut Pass<S>, more: u32)
+        requires table { (self.old.table ≡ lookup.now.0) × (pass.old.table ≡ lookup.now.0) }
+        requires room { length pass.old.view.receipts + pass.old.view.permits + more ≤ 134217728 }
+        requires opens { (self.old.view.opening ≡ Some lookup.now.1) × (pass.old.view.opening ≡ Some lookup.now.1) }
+        ensures writer { self.new ≡ record self.old { view = record self.old.view { kept = slice_set self.old.view.kept pass.old.view.number (pass.old.view.permits + more) } } }
+        ensures pass { pass.new ≡ record pass.old { view = record pass.old.view { front = self.old.view.history; permits = pass.old.view.permits + more } } }
+        ensures tells { Meets S.who lookup.now.1 self.new.view pass.new.view }
+        ensures seen { IsPrefix pass.old.view.front pass.new.view.front }
+    {
+        let shared = &lookup.table.shared;
+        lend(shared, &mut self.seat, &mut pass.seat);
+        grant(shared, &mut self.seat, more);
+        pass.seat = part(shared, &mut self.seat);
+    }
+
+    /// Adds an entry by the pass to the history.
+    pub fn advance(&mut self, lookup: &Lookup<S>, pass: &mut Pass<S>, entry: &S::Entry, bump: bool)
+        requires table { (self.old.table ≡ lookup.now.0) × (pass.old.table ≡ lookup.now.0) }
+        requires entry { (S.who lookup.now.1 entry.now ≡ pass.old.view.number) × (0 < pass.old.view.permits) }
+        requires opens { (self.old.view.opening ≡ Some lookup.now.1) × (pass.old.view.opening ≡ Some lookup.now.1) }
+        requires stays { bump ≡ false → (r : ℕ) → stamp_at self.old.view.stamps r ≡ self.old.view.generation → S.good lookup.now.1 (self.old.view.history ++ entry.now ∷ []) (row_at self.old.view.rows r) }
+        ensures writer { self.new ≡ record self.old { view = after_entry self.old.view pass.old.view entry.now bump } }
+        ensures pass { pass.new ≡ record pass.old { view = passed pass.old.view self.new.view entry.now } }
+        ensures known { IsPrefix pass.old.view.front self.old.view.history }
+        ensures seen { IsPrefix pass.old.view.front pass.new.view.front }
+    {
+        let shared = &lookup.table.shared;
+        lend(shared, &mut self.seat, &mut pass.seat);
+        let word = grant(shared, &mut self.seat, 0);
+        add(shared, &mut self.seat, word, bump, entry);
+        pass.seat = part(shared, &mut self.seat);
+    }
+
+    /// How many rows there are.
+    pub fn rows(&self) -> u32
+        ensures { result ≡ length self.now.view.stamps }
+    {
+        self.rows
+    }
+
+    /// Makes the row's words these, and the row current. Words that the row has already aren't stored.
+    pub fn put(&mut self, lookup: &Lookup<S>, row: u32, words: &[u64; 73])
+        requires table { (self.old.table ≡ lookup.now.0) × (row < lookup.now.2) }
+        requires old { stamp_at self.old.view.stamps row < self.old.view.generation }
+        requires good { S.good lookup.now.1 self.old.view.history words.now }
+        ensures { self.new ≡ record self.old { view = record self.old.view { rows = slice_set self.old.view.rows row words.now; stamps = slice_set self.old.view.stamps row self.old.view.generation } } }
+    {
+        let shared = &lookup.table.shared;
+        put_row(
+            shared,
+            &mut self.seat,
+            self.rows as usize,
+            row as usize,
+            words,
+        );
+        put_stamp(shared, &mut self.seat, self.rows as usize, row as usize);
+    }
+
+    /// Makes the row current, with the words that it has.
+    pub fn stamp(&mut self, lookup: &Lookup<S>, row: u32)
+        requires table { (self.old.table ≡ lookup.now.0) × (row < lookup.now.2) }
+        requires old { stamp_at self.old.view.stamps row < self.old.view.generation }
+        requires good { S.good lookup.now.1 self.old.view.history (row_at self.old.view.rows row) }
+        ensures { self.new ≡ record self.old { view = record self.old.view { stamps = slice_set self.old.view.stamps row self.old.view.generation } } }
+    {
+        put_stamp(
+            &lookup.table.shared,
+            &mut self.seat,
+            self.rows as usize,
+            row as usize,
+        );
+    }
+}

@@ -1,0 +1,11 @@
+//! A generated workload: packets that are drawn from a number, the same at each run.
+#![tactic(auto)]
+
+mod draws;
+mod frame;
+mod policy;
+#[cfg(test)]
+mod tests;
+mod workload;
+
+pub use workload::{Made, Workload};

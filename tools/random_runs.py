@@ -1,0 +1,162 @@
+#!/usr/bin/env python3
+"""Runs the program over random policies and captures, and compares its reports with those of a plain program.
+
+    tools/random_runs.py [RUNS] [SEED]
+
+The plain program is tools/plain_switch.py, written from docs/MODEL.md apart from the switch. Policies have up to four
+layers of three controllers on each of two ports; packets are ARP, UDP, TCP and ICMP, some of them in VXLAN, among few
+addresses and ports, and replies to what passed. Prints how often each fate came, and the seed of a run that differs.
+"""
+import collections
+import json
+import os
+import random
+import subprocess
+import sys
+import tempfile
+
+import plain_switch
+from packets import ether, ipv4, read_report, tcp, udp, vxlan, write_capture
+
+ROOT = os.path.dirname(os.path.dirname(os.path.abspath(__file__)))
+PORT_MACS = ["02:00:00:00:00:01", "02:00:00:00:00:02"]
+GATEWAY, NEAR_END, FAR_END = "02:00:00:00:00:99", "02:00:00:00:0a:01", "02:00:00:00:0a:02"
+MACS = [*PORT_MACS, GATEWAY]
+ADDRESSES = ["10.0.0.5", "10.0.0.6", "10.0.0.9", "9.9.9.9", "192.0.2.7"]
+PORTS = [53, 80, 22, 40_000]
+VALUES = {"src_ip": ADDRESSES, "dst_ip": ADDRESSES, "dst_mac": MACS, "proto": [6, 17], "src_port": PORTS, "dst_port": PORTS,
+          "kind": [0x0800, 0x0806], "vni": [5_001, 5_002], "part": [0, 1]}
+SETS = {"src_ip": ADDRESSES, "dst_ip": ADDRESSES, "src_port": PORTS, "dst_port": PORTS, "dst_mac": MACS, "src_mac": MACS}
+STEPS = [1_000, 100_000, 300_000, 1_200_000]
+
+
+def item(draw, field):
+    if field.endswith("_ip") and draw.random() < 0.4:
+        return f"{draw.choice(ADDRESSES)}/{draw.choice([0, 8, 24, 30, 32])}"
+    ends = sorted(draw.choices(VALUES[field], k=2), key=lambda value: plain_switch.number(field, value))
+    return ends if draw.random() < 0.3 else ends[0]
+
+
+def conditions(draw, chance):
+    fields = draw.choices(list(VALUES), k=draw.randint(1, 2)) if draw.random() < chance else []
+    return [{"field": field, "any": [item(draw, field) for _ in range(draw.randint(0, 2) or 1)]} for field in fields]
+
+
+def action(draw, is_stateful):
+    kind = draw.random()
+    if kind < 0.35:
+        return "allow"
+    if kind < 0.55 and not is_stateful:
+        return "drop"
+    values = {field: draw.choice(choices) for field, choices in SETS.items() if draw.random() < 0.25}
+    encap = {"dst_mac": FAR_END, "src_mac": NEAR_END, "src_ip": "172.16.0.1", "dst_ip": "172.16.0.2", "vni": 5_001}
+    encap = encap if not is_stateful and draw.random() < 0.4 else None
+    return {"decap": False, "set": values, "encap": encap} if values or encap else "allow"
+
+
+def rule(draw, number):
+    is_stateful = draw.random() < 0.4
+    return {"rule": number, "priority": draw.randint(1, 3), "when": conditions(draw, 0.5), "action": action(draw, is_stateful),
+            "stateful": is_stateful, "last": draw.random() < 0.2}
+
+
+def group(draw, number):
+    return {"group": number, "dir": draw.choice(["in", "out"]), "when": conditions(draw, 0.3),
+            "rules": [rule(draw, place + 1) for place in range(draw.randint(1, 5))]}
+
+
+def layer(draw, controller, number):
+    defaults = {f"default_{way}": draw.choice(["allow", "allow", "drop"]) for way in ("out", "in")}
+    return {"controller": controller, "layer": number, "order": draw.randint(1, 3), **defaults, "pairs": draw.choice([0, 1, 2, 100]),
+            "idle": draw.choice([1, 4]), "linger": 1, "groups": [group(draw, place + 1) for place in range(draw.randint(0, 4))]}
+
+
+def outermost(draw):
+    """The layer that inbound packets meet first: it takes each encapsulation away, so that later layers see plain frames."""
+    decap = {"rule": 1, "priority": 1, "when": [], "action": {"decap": True, "set": {}, "encap": None}, "stateful": False, "last": False}
+    bad = {**decap, "action": "drop"}
+    return {"controller": 3, "layer": 1, "order": 9, "default_out": "allow", "default_in": draw.choice(["allow", "drop"]), "pairs": 0,
+            "idle": 1, "linger": 1, "groups": [{"group": 1, "dir": "in", "when": [], "rules": [decap]},
+                                               {"group": 2, "dir": "in", "when": [{"field": "vni", "any": [5_002]}], "rules": [bad]}]}
+
+
+def policy(draw):
+    ports = []
+    for place, mac in enumerate(PORT_MACS):
+        names = {(draw.randint(1, 2), draw.randint(1, 4)) for _ in range(draw.randint(0, 3))}
+        layers = [outermost(draw), *(layer(draw, *name) for name in sorted(names))]
+        draw.shuffle(layers)
+        ports.append({"port": place + 1, "mac": mac, "rows": 64, "layers": layers})
+    return {"version": 1, "controllers": draw.sample([1, 2, 3], 3), "ports": ports}
+
+
+def frame(draw):
+    to, came, (src, dst) = draw.choice(MACS), draw.choice(MACS), draw.choices(ADDRESSES, k=2)
+    ports, payload, kind = draw.choices(PORTS, k=2), draw.randbytes(draw.randint(0, 9)), draw.random()
+    if kind < 0.08:
+        return ether(to, came, 0x0806, bytes(28))
+    if kind < 0.13:
+        made = ipv4(src, dst, 1, payload)
+    elif kind < 0.55:
+        made = ipv4(src, dst, 17, udp(src, dst, *ports, payload, draw.random() < 0.8))
+    else:
+        made = ipv4(src, dst, 6, tcp(src, dst, *ports, draw.choice([0x02, 0x02, 0x12, 0x10, 0x10, 0x11, 0x04]), 1, 2, payload))
+    made = ether(to, came, 0x0800, made)
+    if draw.random() < 0.15:
+        datagram = udp("172.16.0.2", "172.16.0.1", 60_000, 4_789, vxlan(draw.choice([5_001, 5_002]), made), False)
+        return ether(GATEWAY, FAR_END, 0x0800, ipv4("172.16.0.2", "172.16.0.1", 17, datagram))
+    return made
+
+
+def reply(sent):
+    """The frame with source and destination exchanged, None where it has no ports or is VXLAN."""
+    if sent[12:14] != b"\x08\0" or sent[23] not in (6, 17) or sent[36:38] == b"\x12\xb5":
+        return None
+    return sent[6:12] + sent[:6] + sent[12:26] + sent[30:34] + sent[26:30] + sent[36:38] + sent[34:36] + sent[38:]
+
+
+def drawn(seed):
+    """A policy and a capture, and the report of the plain program."""
+    draw = random.Random(seed)
+    text, records, moment = json.dumps(policy(draw)), [], 0
+    often = [frame(draw) for _ in range(8)]
+    for _ in range(40):
+        moment += draw.choice(STEPS)
+        data = draw.choice(often) if draw.random() < 0.6 else frame(draw)
+        records.append((moment, data, len(data)))
+    for _ in range(2):
+        told = read_report(plain_switch.report(text, write_capture(records)))
+        sent = [told[packet].sent() for packet in sorted(told)]
+        for data in filter(None, (reply(data) for data in sent if data and draw.random() < 0.2)):
+            moment += 1_000
+            records.append((moment, data, len(data)))
+    trace = write_capture(records)
+    return text, trace, plain_switch.report(text, trace)
+
+
+def run(folder, text, trace):
+    names = [os.path.join(folder, name) for name in ("policy.json", "commands.jsonl", "trace.pcap")]
+    for name, data in zip(names, (text.encode(), b"", trace)):
+        with open(name, "wb") as file:
+            file.write(data)
+    return subprocess.run([os.path.join(ROOT, "vsw"), "forward", *names], capture_output=True, check=True).stdout.decode()
+
+
+def main():
+    runs = int(sys.argv[1]) if len(sys.argv) > 1 else 100
+    first = int(sys.argv[2]) if len(sys.argv) > 2 else 1
+    fates, differ = collections.Counter(), []
+    with tempfile.TemporaryDirectory() as folder:
+        for seed in range(first, first + runs):
+            text, trace, wanted = drawn(seed)
+            if run(folder, text, trace) != wanted:
+                differ.append(seed)
+            for told in read_report(wanted).values():
+                fates[told.mark + " ".join(told.fate.split()[:2 if told.fate.startswith("drop") else 1])] += 1
+    for fate, count in sorted(fates.items()):
+        print(fate, count)
+    print(f"{runs - len(differ)} of {runs} runs agree; seeds that differ: {differ}")
+    sys.exit(1 if differ else 0)
+
+
+main()

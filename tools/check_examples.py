@@ -1,5 +1,5 @@
 #!/usr/bin/env python3
-"""Checks the examples of docs/GUIDE.md, and the copies of their files that the gate runs.
+"""Checks the examples of docs/GUIDE.md, the lines that it shows, and the copies of their files that the gate runs.
 
     tools/check_examples.py [--copy]
 
@@ -8,6 +8,7 @@ over each example and compares what it puts, complains and ends with; compares t
 `vsw_examples` run in the gate. `--copy` writes these files first.
 """
 import os
+import re
 import shutil
 import subprocess
 import sys
@@ -86,6 +87,23 @@ def check_reports():
             yield compare(f"report of {folder} by the rules", report.encode() == put)
 
 
+def check_guide():
+    """The report's lines and the complaints that the guide shows are those of its examples."""
+    with open(os.path.join(ROOT, "docs", "GUIDE.md"), encoding="utf-8") as file:
+        sections = {section[0]: section for section in re.split(r"\n## (?=\d)", file.read())[1:]}
+    for folder in FOLDERS:
+        section = sections[folder[0]]
+        if folder == BAD:
+            shown = re.findall(r"^\| `([\w-]+)` \| `([^`]+)`", section, re.MULTILINE)
+            is_well = all(read(folder, f"{name}.said") == f"vsw: {said}\n".encode() for name, said in shown)
+        else:
+            lines = read(folder, "report.txt").decode().splitlines()
+            shown = re.findall(r"^    (w0 .+?|port \d.+?)(?:  .*)?$", section, re.MULTILINE)
+            is_well = all(any(line.startswith(part[:-1]) if part.endswith("…") else line == part for line in lines)
+                          for part in shown)
+        yield compare(f"{len(shown)} lines of the guide on {folder}", bool(shown) and is_well)
+
+
 def check_runs():
     for folder, policy, put, said in [("first", "policy.json", read("first", "report.txt"), b""), *runs()]:
         files = [os.path.join(EXAMPLES, folder, name) for name in (policy, "commands.jsonl", "trace.pcap")]
@@ -100,7 +118,7 @@ def main():
         sys.exit(__doc__)
     if sys.argv[1:]:
         copy()
-    results = [*check_copies(), *check_captures(), *check_reports(), *check_runs()]
+    results = [*check_copies(), *check_captures(), *check_reports(), *check_guide(), *check_runs()]
     print(f"{sum(results)} of {len(results)} as they should be")
     sys.exit(0 if all(results) else 1)
 

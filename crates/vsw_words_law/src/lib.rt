@@ -1,0 +1,6 @@
+//! What the words of rows say of packets.
+#![tactic(auto)]
+
+mod law;
+
+pub use law::laws;

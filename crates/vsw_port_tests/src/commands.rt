@@ -1,7 +1,7 @@
 //! The commands that are given.
 
 use std::alloc::{AllocError, Global};
-use vsw_base::{Dir, Items};
+use vsw_base::{Dir, Items, NoMemory};
 use vsw_layer::LayerSpec;
 use vsw_policy::Command;
 use vsw_rule::{Action, Rule};
@@ -55,4 +55,40 @@ pub fn put_rule(
         group: 1,
         rules: Items::of(rules),
     })
+}
+
+/// Puts so many rules, with numbers from 0 on, into group 1 of layer 10.
+pub fn put_rules(alloc: Global, count: u16) -> Result<Command, NoMemory> {
+    let mut rules = Items::new(alloc);
+    for number in 0..count {
+        if rules
+            .push(rule(alloc, number, Action::Allow, true))
+            .is_err()
+        {
+            return Err(NoMemory);
+        }
+    }
+    Ok(Command::PutRules {
+        layer: 10,
+        group: 1,
+        rules,
+    })
+}
+
+/// Adds a rule to group 1 of layer 10.
+pub fn add_rule(alloc: Global, number: u16) -> Command {
+    Command::AddRule {
+        layer: 10,
+        group: 1,
+        rule: rule(alloc, number, Action::Allow, true),
+    }
+}
+
+/// Removes a rule of group 1 of layer 10.
+pub fn remove_rule(number: u16) -> Command {
+    Command::RemoveRule {
+        layer: 10,
+        group: 1,
+        number,
+    }
 }

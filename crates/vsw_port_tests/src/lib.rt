@@ -4,4 +4,5 @@
 mod commands;
 mod history_tests;
 mod packets;
+mod refusal_tests;
 mod trial;

@@ -5,7 +5,7 @@ use Rattle.vsw_admit.specs.Long.{size_without}
 use Rattle.vsw_base.specs.declared.header.Header.{Header}
 use Rattle.vsw_base.specs.declared.flow.Crossing.{Crossing}
 use Rattle.vsw_base.specs.Frame.{Level, Parts, size_at, sizes_of}
-use Rattle.vsw_crossing.specs.Walk.{Walk, walk_of}
+use Rattle.vsw_walk.specs.Walk.{Walk, walk_of}
 use Rattle.vsw_base.specs.Shape.{encaps, inner}
 use Rattle.vsw_base.proofs.Stacks.{in_front}
 use Rattle.vsw_frame.specs.Bytes.{pushes, total_over}

@@ -14,7 +14,7 @@ use Rattle.vsw_base.specs.declared.packet.Dir.{Dir}
 use Rattle.vsw_base.specs.Shape.{encaps}
 use Rattle.vsw_choice.specs.Choice.{Chosen, choose}
 use Rattle.vsw_compose.specs.Edit.{cover, edited, kept_after, with_set, written}
-use Rattle.vsw_crossing.specs.Walk.{along, by_visit, crossed, placed, walk_of}
+use Rattle.vsw_walk.specs.Walk.{along, by_visit, crossed, placed, walk_of}
 use Rattle.vsw_flowid.specs.Key.{key_from}
 use Rattle.vsw_frame.specs.Bytes.{AreLike, IsLike}
 use Rattle.vsw_frame.proofs.Carried.{Carries, carries_count, likes_on}

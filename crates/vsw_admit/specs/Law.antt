@@ -5,7 +5,7 @@ use Rattle.vsw_base.specs.declared.flow.Crossing.{Crossing}
 use Rattle.vsw_base.specs.declared.header.Header.{Header}
 use Rattle.vsw_base.specs.Frame.{Parts, frame_of, sizes_of}
 use Rattle.vsw_base.specs.Shape.{is_stack}
-use Rattle.vsw_crossing.specs.Walk.{walk_of}
+use Rattle.vsw_walk.specs.Walk.{walk_of}
 use Rattle.vsw_frame.specs.Bytes as bytes
 use Rattle.vsw_layer.specs.Layer.{LayerSeen}
 

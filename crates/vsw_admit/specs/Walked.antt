@@ -2,8 +2,8 @@
 use Rattle.std.specs.Prelude.{◌≡◌, List, IsTrue}
 use Rattle.vsw_base.specs.declared.fate.Verdict.TheVariants.{Pass}
 use Rattle.vsw_base.specs.declared.flow.Crossing.{Crossing}
-use Rattle.vsw_crossing.specs.declared.walking.Walked.{Walked}
-use Rattle.vsw_crossing.specs.Walk.{Told, walk_of}
+use Rattle.vsw_walk.specs.declared.walking.Walked.{Walked}
+use Rattle.vsw_walk.specs.Walk.{Told, walk_of}
 use Rattle.vsw_layer.specs.Layer.{LayerSeen}
 use Rattle.vsw_transpose.specs.Apply.{apply}
 use Rattle.vsw_transpose.specs.Fits as fit

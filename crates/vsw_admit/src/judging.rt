@@ -5,14 +5,14 @@ ghost use Rattle.vsw_admit.specs.Admit.{refusal, stop_of};
 ghost use Rattle.vsw_admit.specs.Told.{AllThere, AllHold, LeftThere};
 ghost use Rattle.vsw_admit.specs.Walked.{IsWalk};
 ghost use Rattle.vsw_base.specs.declared.fate.Verdict.TheVariants.{Pass};
-ghost use Rattle.vsw_crossing.specs.Walk.{walk_of};
+ghost use Rattle.vsw_walk.specs.Walk.{walk_of};
 ghost use Rattle.vsw_layer.specs.Layer.{seen};
 
 use crate::length::is_long;
 use crate::stop::Stop;
 use crate::wanting::refused_at;
 use vsw_base::{Crossing, Verdict};
-use vsw_crossing::{Scratch, Walked, Wanted};
+use vsw_walk::{Scratch, Walked, Wanted};
 use vsw_layer::Layer;
 use vsw_policy::Policy;
 

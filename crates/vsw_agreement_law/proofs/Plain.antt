@@ -13,8 +13,8 @@ use Rattle.vsw_choice.specs.Choice.{Chosen, better, pick, choose, decided, appli
 use Rattle.vsw_choice.specs.Choice as choice
 use Rattle.vsw_commit.specs.Cross.{all_done, cross_of, made_by, made_after, makes}
 use Rattle.vsw_compose.specs.Edit.{edited, kept_after}
-use Rattle.vsw_crossing.specs.declared.scratch.Wanted.{Wanted}
-use Rattle.vsw_crossing.specs.Walk.{Walk, along, by_visit, crossed, placed, walk_of}
+use Rattle.vsw_walk.specs.declared.scratch.Wanted.{Wanted}
+use Rattle.vsw_walk.specs.Walk.{Walk, along, by_visit, crossed, placed, walk_of}
 use Rattle.vsw_flowid.specs.Key.{key_from}
 use Rattle.vsw_layer.specs.Groups.{changed, removed, is_group, is_rule, with_rules, with_rule, without_rule}
 use Rattle.vsw_layer.specs.Layer.{LayerSeen}

@@ -7,7 +7,7 @@ use Rattle.vsw_base.specs.declared.fate.Fate.TheVariants.{Pass, Drop}
 use Rattle.vsw_base.specs.declared.flow.Crossing.{Crossing}
 use Rattle.vsw_base.specs.declared.flow.Place.{Place}
 use Rattle.vsw_base.specs.Frame.{Parts}
-use Rattle.vsw_crossing.specs.Walk.{walk_of}
+use Rattle.vsw_walk.specs.Walk.{walk_of}
 use Rattle.vsw_layer.specs.Layer.{LayerSeen}
 use Rattle.vsw_pcap.specs.declared.capture.Record.{Record}
 use Rattle.vsw_policy.specs.Obey.{obey}

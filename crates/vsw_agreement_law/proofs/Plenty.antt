@@ -10,9 +10,9 @@ use Rattle.vsw_base.specs.declared.fate.Verdict.TheVariants as verdict
 use Rattle.vsw_base.specs.declared.flow.Crossing.{Crossing}
 use Rattle.vsw_base.specs.declared.header.Header.{Header}
 use Rattle.vsw_commit.specs.Cross.{cross_of, fate_after}
-use Rattle.vsw_crossing.specs.declared.scratch.Wanted.{Wanted}
-use Rattle.vsw_crossing.specs.declared.scratch.Wanted.TheVariants.{Make, Touch, Leave}
-use Rattle.vsw_crossing.specs.Walk.{walk_of}
+use Rattle.vsw_walk.specs.declared.scratch.Wanted.{Wanted}
+use Rattle.vsw_walk.specs.declared.scratch.Wanted.TheVariants.{Make, Touch, Leave}
+use Rattle.vsw_walk.specs.Walk.{walk_of}
 use Rattle.vsw_layer.specs.Layer.{LayerSeen}
 use Rattle.vsw_layerflow.specs.declared.pair.Pair.{Pair}
 use Rattle.vsw_layerflow.specs.Pairs.{back, holder}

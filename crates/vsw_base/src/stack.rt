@@ -1,9 +1,11 @@
 //! Stacks: the headers of a frame.
 
-ghost use Rattle.std.specs.Prelude.{◌≡◌, ◌↔◌, ◌*◌, ◌≤◌, Ok, Err, IsTrue, length, if◌then◌else◌};
+ghost use Rattle.std.specs.Prelude.{◌≡◌, ◌↔◌, ◌*◌, ◌≤◌, [], List, Ok, Err, IsTrue, length, if◌then◌else◌};
+ghost use Rattle.vsw_base.specs.declared.header.Header.{Header};
 ghost use Rattle.vsw_base.specs.Shape.{is_stack, encaps, inner};
 ghost use Rattle.vsw_base.specs.Shape as shape;
 
+use crate::address::Mac;
 use crate::header::Header;
 use crate::headers::Headers;
 use std::marker::Model;
@@ -15,7 +17,7 @@ pub struct BadShape;
 /// The headers of a frame, outermost first: at most two VXLAN encapsulations of three headers each
 /// (Ethernet, IPv4, VXLAN), then Ethernet, IPv4 where the type says so, and ports where the packet is
 /// unfragmented TCP or UDP.
-#[derive(Clone, Copy, PartialEq, Eq)]
+#[derive(Drop)]
 pub struct Stack {
     headers: Headers,
 }
@@ -30,8 +32,36 @@ impl Model for Stack {
     ghost view = { λ s. s.headers };
 
     ghost invariant = { λ s. IsTrue (is_stack s.headers) };
+}
 
-    ghost inverse = { λ hs. record { headers = hs } };
+/// What writes headers into a room that has none. `is_ready` is what it needs beside room.
+pub trait Writes {
+    ghost gives: { Self → List Header };
+
+    ghost is_ready: { Self → Type 0 };
+
+    fn write(&self, out: &mut Headers)
+        requires ready { is_ready self.now }
+        requires empty { out.old ≡ [] }
+        requires room { length (gives self.now) ≤ 9 }
+        ensures { out.new ≡ gives self.now };
+}
+
+/// Writes these headers.
+#[derive(Drop)]
+struct Given<'a> {
+    headers: &'a [Header],
+}
+
+impl Writes for Given<'_> {
+    ghost gives = { λ s. s.headers.now };
+
+    ghost is_ready = { λ s. Unit {0} };
+
+    #[inline(always)]
+    fn write(&self, out: &mut Headers) {
+        fill(out, self.headers);
+    }
 }
 
 fn is_shape(headers: &[Header]) -> bool
@@ -102,14 +132,24 @@ fn count(headers: &[Header]) -> u8
     }
 }
 
+/// Writes the headers into a room that has none.
+#[inline(always)]
+fn fill(out: &mut Headers, headers: &[Header])
+    requires empty { out.old ≡ [] }
+    requires room { length headers.now ≤ 9 }
+    ensures { out.new ≡ headers.now }
+{
+    for header in headers {
+        out.push(*header);
+    }
+}
+
 fn copied(headers: &[Header]) -> Headers
     requires { length headers.now ≤ 9 }
     ensures { result ≡ headers.now }
 {
     let mut copy = Headers::new();
-    for header in headers {
-        copy.push(*header);
-    }
+    fill(&mut copy, headers);
     copy
 }
 
@@ -135,7 +175,52 @@ impl Stack {
         Stack { headers }
     }
 
+    /// It becomes the stack of the headers that are written.
+    #[inline(always)]
+    #[tactic(auto, using(crate::proofs::Stacks::stack_short))]
+    pub fn rewrite<W: Writes>(&mut self, by: &W)
+        requires ready { W.is_ready by.now }
+        requires shape { IsTrue (is_stack (W.gives by.now)) }
+        ensures { self.new ≡ W.gives by.now }
+    {
+        self.headers.clear();
+        by.write(&mut self.headers);
+    }
+
+    /// A stack to write others into: a bare Ethernet header of zeros. It clears nine places: make it once.
+    pub fn room() -> Stack
+        ensures { IsTrue (is_stack result) }
+    {
+        let mut headers = Headers::new();
+        headers.push(Header::Ether {
+            dst: Mac::of(0),
+            src: Mac::of(0),
+            kind: 0,
+        });
+        Stack { headers }
+    }
+
+    /// It becomes the other stack.
+    #[inline(always)]
+    pub fn copy_from(&mut self, other: &Stack)
+        ensures { self.new ≡ other.now }
+    {
+        self.rewrite(&Given {
+            headers: other.headers(),
+        });
+    }
+
+    /// The same stack once more. It is for what is kept: on a packet's way, write into a room.
+    pub fn copy(&self) -> Stack
+        ensures { result ≡ self.now }
+    {
+        Stack {
+            headers: copied(self.headers()),
+        }
+    }
+
     /// The headers, outermost first.
+    #[inline(always)]
     pub fn headers(&self) -> &[Header]
         ensures all { result.now ≡ self.now }
         ensures shape { IsTrue (is_stack result.now) }
@@ -166,6 +251,6 @@ impl Stack {
     pub fn is_same(&self, other: &Stack) -> bool
         ensures { IsTrue result ↔ (self.now ≡ other.now) }
     {
-        *self == *other
+        self.headers() == other.headers()
     }
 }

@@ -4,6 +4,8 @@
 
 mod frames;
 #[cfg(test)]
+mod spelling_tests;
+#[cfg(test)]
 mod stack_tests;
 
 pub use frames::vectors;

@@ -22,9 +22,9 @@ use Rattle.vsw_commit.specs.Can.{AreApart, CanAll, IsWithin, NotMade}
 use Rattle.vsw_commit.specs.Cross.{is_memory}
 use Rattle.vsw_commit.proofs.Places.{at_get, crossed_apart, flip, get_beside, get_changed, same_place}
 use Rattle.vsw_compose.specs.Edit.{edited, kept_after}
-use Rattle.vsw_crossing.specs.declared.scratch.Wanted.{Wanted}
-use Rattle.vsw_crossing.specs.declared.scratch.Wanted.TheVariants as wanted
-use Rattle.vsw_crossing.specs.Walk.{Walk, along, by_visit, crossed, placed, walk_of}
+use Rattle.vsw_walk.specs.declared.scratch.Wanted.{Wanted}
+use Rattle.vsw_walk.specs.declared.scratch.Wanted.TheVariants as wanted
+use Rattle.vsw_walk.specs.Walk.{Walk, along, by_visit, crossed, placed, walk_of}
 use Rattle.vsw_flowid.specs.Key.{key_from}
 use Rattle.vsw_layer.specs.Layer.{LayerSeen, CanTake, with_pair, with_touched, without_pair}
 use Rattle.vsw_layerflow.specs.declared.pair.Pair.{Pair}

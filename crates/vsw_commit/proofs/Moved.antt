@@ -22,9 +22,9 @@ use Rattle.vsw_commit.specs.Cross.{all_done, made_after, made_by}
 use Rattle.vsw_commit.specs.Law.{ChangesTell}
 use Rattle.vsw_commit.proofs.Places.{crossed_apart, flip, get_beside, get_changed, same_place}
 use Rattle.vsw_compose.specs.Edit.{edited, kept_after}
-use Rattle.vsw_crossing.specs.declared.scratch.Wanted.{Wanted}
-use Rattle.vsw_crossing.specs.declared.scratch.Wanted.TheVariants as wanted
-use Rattle.vsw_crossing.specs.Walk.{along, by_visit, crossed, placed, walk_of}
+use Rattle.vsw_walk.specs.declared.scratch.Wanted.{Wanted}
+use Rattle.vsw_walk.specs.declared.scratch.Wanted.TheVariants as wanted
+use Rattle.vsw_walk.specs.Walk.{along, by_visit, crossed, placed, walk_of}
 use Rattle.vsw_flowid.specs.Key.{key_from}
 use Rattle.vsw_layer.specs.declared.layer.LayerSpec.{LayerSpec}
 use Rattle.vsw_layer.specs.Layer.{LayerSeen, with_pair, with_touched, without_pair}

@@ -5,7 +5,7 @@ use Rattle.std.proofs.lemmas.List.{reverse-append}
 use Rattle.vsw_admit.proofs.Walks.{each_append, each_reverse}
 use Rattle.vsw_base.specs.declared.packet.Dir.{Dir}
 use Rattle.vsw_base.specs.declared.packet.Dir.TheVariants.{Out, In}
-use Rattle.vsw_crossing.specs.Walk.{crossed, placed}
+use Rattle.vsw_walk.specs.Walk.{crossed, placed}
 use Rattle.vsw_layer.specs.Layer.{LayerSeen}
 use Rattle.vsw_policy.specs.Layers.{At, changed_at}
 use Rattle.vsw_policy.specs.Sound.{AreApart, Each}

@@ -3,9 +3,9 @@
 ghost use Rattle.std.specs.Prelude.{◌≡◌, ◌∷◌, List};
 ghost use Rattle.vsw_commit.specs.Can.{AllRoom, AreApart, CanAll, CanDo, HasRoom};
 ghost use Rattle.vsw_commit.specs.Cross.{all_done, done};
-ghost use Rattle.vsw_crossing.specs.declared.scratch.Wanted.{Wanted};
+ghost use Rattle.vsw_walk.specs.declared.scratch.Wanted.{Wanted};
 
-use vsw_crossing::Wanted;
+use vsw_walk::Wanted;
 use vsw_policy::Policy;
 
 fn change(policy: &mut Policy, wanted: &Wanted)

@@ -11,7 +11,7 @@ use crate::changing::change_all;
 use crate::room::reserve_all;
 use vsw_admit::{Stop, judge};
 use vsw_base::{Crossing, Verdict};
-use vsw_crossing::{Scratch, Walked};
+use vsw_walk::{Scratch, Walked};
 use vsw_policy::Policy;
 
 /// Carries out the walk of this packet, or refuses to. Ok tells whether the layers were changed.

@@ -7,7 +7,7 @@ ghost use Rattle.vsw_policy.specs.Layers.{room_at};
 ghost use Rattle.vsw_policy.specs.Sound.{Each};
 
 use vsw_base::NoMemory;
-use vsw_crossing::Wanted;
+use vsw_walk::Wanted;
 use vsw_policy::Policy;
 
 fn reserve(policy: &mut Policy, change: &Wanted) -> Result<(), NoMemory>

@@ -9,7 +9,7 @@ use std::alloc::Global;
 use vsw_admit::Stop;
 use vsw_base::{Control, Crossing, Dir, Moment};
 use vsw_commit::commit;
-use vsw_crossing::{Scratch, walk};
+use vsw_walk::{Scratch, walk};
 use vsw_layer::Layer;
 use vsw_policy::Policy;
 

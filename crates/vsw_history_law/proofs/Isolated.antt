@@ -6,8 +6,8 @@ use Rattle.vsw_base.specs.declared.flow.Crossing.{Crossing}
 use Rattle.vsw_base.specs.declared.packet.Dir.{Dir}
 use Rattle.vsw_base.specs.declared.packet.Dir.TheVariants.{Out, In}
 use Rattle.vsw_commit.specs.Cross.{cross_of, done, all_done, made_by}
-use Rattle.vsw_crossing.specs.declared.scratch.Wanted.{Wanted}
-use Rattle.vsw_crossing.specs.declared.scratch.Wanted.TheVariants.{Make, Touch, Leave}
+use Rattle.vsw_walk.specs.declared.scratch.Wanted.{Wanted}
+use Rattle.vsw_walk.specs.declared.scratch.Wanted.TheVariants.{Make, Touch, Leave}
 use Rattle.vsw_layer.specs.declared.layer.LayerSpec.{LayerSpec}
 use Rattle.vsw_layer.specs.Groups.{changed, removed}
 use Rattle.vsw_layer.specs.Layer.{LayerSeen, defaulting, with_pair, with_touched, without_pair}

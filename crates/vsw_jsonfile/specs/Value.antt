@@ -2,7 +2,7 @@
 use Rattle.std.specs.Prelude.{ℕ, ◌&&◌, List, [], ◌∷◌, Bool, nat_le, Option, Some, None, option_and_then, Result, Ok, bytes_eq, if◌then◌else◌}
 use Rattle.serde_json.specs.Data.{Data}
 use Rattle.serde_json.specs.Find.{as_number, as_u64, as_str, as_bool}
-use Rattle.vsw_spelling.specs.Spelling.{mac_of, ip4_of}
+use Rattle.vsw_base.specs.Spelling.{mac_of, ip4_of}
 use Rattle.vsw_jsonfile.specs.declared.fault.Fault.{Fault}
 use Rattle.vsw_jsonfile.specs.Fault.{◌>>=◌, shape}
 

@@ -14,7 +14,6 @@ use crate::word::Word;
 use serde_json::Value;
 use std::alloc::Global;
 use vsw_base::{Ip4, Mac};
-use vsw_spelling::{read_ip4, read_mac};
 
 /// A whole number.
 pub fn whole(alloc: Global, value: &Value) -> Result<u64, Fault>
@@ -72,7 +71,7 @@ pub fn mac(alloc: Global, value: &Value) -> Result<Mac, Fault>
     ensures { result ≡ spec.mac_in (view value.now) }
 {
     let text = text(alloc, value)?;
-    read_mac(text.as_bytes()).map_err(|_| here(alloc, Kind::Shape))
+    Mac::read(text.as_bytes()).map_err(|_| here(alloc, Kind::Shape))
 }
 
 /// The IPv4 address that a text spells.
@@ -80,7 +79,7 @@ pub fn ip4(alloc: Global, value: &Value) -> Result<Ip4, Fault>
     ensures { result ≡ spec.ip4_in (view value.now) }
 {
     let text = text(alloc, value)?;
-    read_ip4(text.as_bytes()).map_err(|_| here(alloc, Kind::Shape))
+    Ip4::read(text.as_bytes()).map_err(|_| here(alloc, Kind::Shape))
 }
 
 /// A member's number from `low` to `high`.

@@ -10,9 +10,9 @@ use Rattle.vsw_base.specs.declared.packet.Dir.{Dir}
 use Rattle.vsw_base.specs.declared.packet.Dir.TheVariants.{Out, In}
 use Rattle.vsw_commit.specs.Cross.{makes}
 use Rattle.vsw_compose.specs.Edit.{edited, kept_after}
-use Rattle.vsw_crossing.specs.declared.scratch.Looked.{Looked}
-use Rattle.vsw_crossing.specs.declared.scratch.Wanted.{Wanted}
-use Rattle.vsw_crossing.specs.Walk.{Walk, along, by_visit, crossed, due_of, leaving, look_of, placed, sooner, wanting}
+use Rattle.vsw_walk.specs.declared.scratch.Looked.{Looked}
+use Rattle.vsw_walk.specs.declared.scratch.Wanted.{Wanted}
+use Rattle.vsw_walk.specs.Walk.{Walk, along, by_visit, crossed, due_of, leaving, look_of, placed, sooner, wanting}
 use Rattle.vsw_flowid.specs.Key.{key_from}
 use Rattle.vsw_layer.specs.Layer.{LayerSeen}
 use Rattle.vsw_layerflow.specs.Life.{later}

@@ -9,7 +9,7 @@ use Rattle.vsw_base.specs.declared.header.Header.{Header}
 use Rattle.vsw_base.specs.declared.packet.Control.TheVariants as control
 use Rattle.vsw_base.specs.declared.packet.Dir.{Dir}
 use Rattle.vsw_choice.specs.Choice.{Chosen, choose}
-use Rattle.vsw_crossing.specs.Walk.{look_of}
+use Rattle.vsw_walk.specs.Walk.{look_of}
 use Rattle.vsw_flowid.specs.Key.{key_from}
 use Rattle.vsw_layer.specs.declared.layer.LayerSpec.{LayerSpec}
 use Rattle.vsw_layer.specs.Layer.{LayerSeen}

@@ -1,7 +1,7 @@
 -- One list of looks for several rows.
 use Rattle.std.proofs.Common.{◌≡◌, ◌||◌, Bool, true, false, List, [], ◌∷◌, ◌++◌, refl, sym, ap, ◌∙◌, true≢false}
-use Rattle.vsw_crossing.specs.declared.scratch.Looked.{Looked}
-use Rattle.vsw_crossing.specs.declared.scratch.Wanted.{Wanted}
+use Rattle.vsw_walk.specs.declared.scratch.Looked.{Looked}
+use Rattle.vsw_walk.specs.declared.scratch.Wanted.{Wanted}
 use Rattle.vsw_layer.specs.Layer.{LayerSeen}
 use Rattle.vsw_lean.specs.Good.{all_looks, shaken}
 use Rattle.vsw_lean.specs.Law.{LooksJoin, OneListServes}

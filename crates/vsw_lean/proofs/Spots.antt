@@ -1,7 +1,7 @@
 -- Of the spots on which rows lean, and of the looks that they stand for.
 use Rattle.std.proofs.Common.{◌≡◌, ℕ, ◌==◌, Bool, true, false, not, ◌&&◌, ◌||◌, if◌then◌else◌, cond, List, [], ◌∷◌, ◌++◌, Option, Some, None, is_some, refl, sym, ap, ◌∙◌, arith, true≢false}
 use Rattle.std.specs.Prelude.{◌+◌, Result, Ok, Err, IsOk, IfOk}
-use Rattle.vsw_crossing.specs.declared.scratch.Looked.{Looked}
+use Rattle.vsw_walk.specs.declared.scratch.Looked.{Looked}
 use Rattle.vsw_layerflow.specs.declared.pair.Probe.{Probe}
 use Rattle.vsw_layerflow.specs.Pairs.{probe, same_probe}
 use Rattle.vsw_layerflow.proofs.Lists.{eq_self, same_is, same_self}

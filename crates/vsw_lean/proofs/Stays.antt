@@ -5,10 +5,10 @@ use Rattle.vsw_base.specs.declared.flow.Track.{Track}
 use Rattle.vsw_base.specs.declared.packet.Dir.{Dir}
 use Rattle.vsw_commit.specs.Cross.{all_done, done}
 use Rattle.vsw_commit.proofs.Places.{get_beside}
-use Rattle.vsw_crossing.specs.declared.scratch.Looked.{Looked}
-use Rattle.vsw_crossing.specs.declared.scratch.Wanted.{Wanted}
-use Rattle.vsw_crossing.specs.declared.scratch.Wanted.TheVariants.{Make, Touch, Leave}
-use Rattle.vsw_crossing.specs.Walk.{due_of}
+use Rattle.vsw_walk.specs.declared.scratch.Looked.{Looked}
+use Rattle.vsw_walk.specs.declared.scratch.Wanted.{Wanted}
+use Rattle.vsw_walk.specs.declared.scratch.Wanted.TheVariants.{Make, Touch, Leave}
+use Rattle.vsw_walk.specs.Walk.{due_of}
 use Rattle.vsw_layer.specs.declared.layer.LayerSpec.{LayerSpec}
 use Rattle.vsw_layer.specs.Layer.{LayerSeen, with_pair, with_touched, without_pair}
 use Rattle.vsw_layerflow.specs.declared.pair.Pair.{Pair}

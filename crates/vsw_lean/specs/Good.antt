@@ -6,9 +6,9 @@ use Rattle.vsw_base.specs.declared.flow.Crossing.{Crossing}
 use Rattle.vsw_base.specs.declared.flow.Ufid.{Ufid}
 use Rattle.vsw_base.specs.declared.packet.Control.TheVariants.{None}
 use Rattle.vsw_commit.specs.Cross.{makes}
-use Rattle.vsw_crossing.specs.declared.scratch.Looked.{Looked}
-use Rattle.vsw_crossing.specs.declared.scratch.Wanted.{Wanted}
-use Rattle.vsw_crossing.specs.Walk.{until_of, walk_of}
+use Rattle.vsw_walk.specs.declared.scratch.Looked.{Looked}
+use Rattle.vsw_walk.specs.declared.scratch.Wanted.{Wanted}
+use Rattle.vsw_walk.specs.Walk.{until_of, walk_of}
 use Rattle.vsw_layer.specs.Layer.{LayerSeen}
 use Rattle.vsw_lean.specs.Shaken.{shake}
 use Rattle.vsw_lean.specs.Way.{looks, way_of}

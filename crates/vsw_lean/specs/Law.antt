@@ -10,9 +10,9 @@ use Rattle.vsw_base.specs.declared.flow.Track.{Track}
 use Rattle.vsw_base.specs.declared.flow.Ufid.{Ufid}
 use Rattle.vsw_base.specs.declared.packet.Control.TheVariants as control
 use Rattle.vsw_commit.specs.Cross.{Crossed, Passing, all_done, cross_of, fate_after, made_by, makes}
-use Rattle.vsw_crossing.specs.declared.scratch.Looked.{Looked}
-use Rattle.vsw_crossing.specs.declared.scratch.Wanted.{Wanted}
-use Rattle.vsw_crossing.specs.Walk.{Walk, greatest, until_of, walk_of}
+use Rattle.vsw_walk.specs.declared.scratch.Looked.{Looked}
+use Rattle.vsw_walk.specs.declared.scratch.Wanted.{Wanted}
+use Rattle.vsw_walk.specs.Walk.{Walk, greatest, until_of, walk_of}
 use Rattle.vsw_layer.specs.Layer.{LayerSeen}
 use Rattle.vsw_layerflow.specs.Pairs.{AllApart, number_of, numbered, pair_of}
 use Rattle.vsw_lean.specs.Good.{Good, IsGoodLeaning, IsRowOf, LeaningRow, MayAnswer, Row, all_looks, shaken}

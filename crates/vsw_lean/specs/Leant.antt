@@ -1,7 +1,7 @@
 -- What rows lean on: directions and keys that were missed in a layer, and pairs of a layer that were found.
 use Rattle.std.specs.Prelude.{◌≡◌, ℕ, ◌==◌, ◌&&◌, ◌||◌, List, [], ◌∷◌, Bool, false, not, Option, Some, None, is_some, if◌then◌else◌}
 use Rattle.std.specs.Map.{lookup}
-use Rattle.vsw_crossing.specs.declared.scratch.Looked.{Looked}
+use Rattle.vsw_walk.specs.declared.scratch.Looked.{Looked}
 use Rattle.vsw_layerflow.specs.declared.pair.Probe.{Probe}
 use Rattle.vsw_layerflow.specs.Pairs.{probe, same_probe}
 use Rattle.vsw_lean.specs.declared.spot.Spot.{Spot}

@@ -2,9 +2,9 @@
 use Rattle.std.specs.Prelude.{◌≡◌, ℕ, ◌==◌, ◌&&◌, ◌||◌, List, [], ◌∷◌, Bool, false, not, Option, Some, None, is_some, option_map}
 use Rattle.std.specs.List.{slice_get}
 use Rattle.vsw_base.specs.declared.flow.Track.{Track}
-use Rattle.vsw_crossing.specs.declared.scratch.Looked.{Looked}
-use Rattle.vsw_crossing.specs.declared.scratch.Wanted.{Wanted}
-use Rattle.vsw_crossing.specs.declared.scratch.Wanted.TheVariants.{Make, Touch, Leave}
+use Rattle.vsw_walk.specs.declared.scratch.Looked.{Looked}
+use Rattle.vsw_walk.specs.declared.scratch.Wanted.{Wanted}
+use Rattle.vsw_walk.specs.declared.scratch.Wanted.TheVariants.{Make, Touch, Leave}
 use Rattle.vsw_layer.specs.declared.layer.LayerSpec.{LayerSpec}
 use Rattle.vsw_layer.specs.Layer.{LayerSeen}
 use Rattle.vsw_layerflow.specs.declared.pair.Pair.{Pair}

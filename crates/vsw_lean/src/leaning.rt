@@ -2,7 +2,7 @@
 
 ghost use Rattle.std.specs.Prelude.{◌≡◌, ◌≤◌, ◌+◌, ◌++◌, List, [], ◌∷◌, OnOk, IsOk, is_some, length, map};
 ghost use Rattle.std.specs.List.{slice_get};
-ghost use Rattle.vsw_crossing.specs.declared.scratch.Looked.{Looked};
+ghost use Rattle.vsw_walk.specs.declared.scratch.Looked.{Looked};
 ghost use Rattle.vsw_layer.specs.Layer.{seen};
 ghost use Rattle.vsw_lean.specs.declared.spot.Spot.TheVariants.{Missed, Found};
 ghost use Rattle.vsw_lean.specs.Leant.{StandsFor, spot_in};
@@ -16,7 +16,7 @@ use indexmap::IndexMap;
 use std::alloc::Global;
 use std::marker::Model;
 use vsw_base::{Moment, NoMemory, Track};
-use vsw_crossing::{Looked, Wanted};
+use vsw_walk::{Looked, Wanted};
 use vsw_layer::Layer;
 use vsw_layerflow::Probe;
 

@@ -8,7 +8,7 @@ ghost use Rattle.vsw_lean.specs.Leant.{same_spot, spot_in};
 ghost use Rattle.vsw_lean.specs.Spots.{or_put, spot_by};
 
 use indexmap::IndexMap;
-use vsw_crossing::Looked;
+use vsw_walk::Looked;
 use vsw_layerflow::Probe;
 
 /// A spot of a layer on which a row leans. The layer is told by its place among those of the policy.

@@ -6,7 +6,7 @@ use crate::packets::packet;
 use crate::trial::Trial;
 use std::alloc::Global;
 use vsw_base::{Control, Ufid};
-use vsw_crossing::{Looked, Walked};
+use vsw_walk::{Looked, Walked};
 use vsw_lean::Leaning;
 
 /// Rows that are all current.

@@ -9,7 +9,7 @@ use crate::rows::Rows;
 use std::alloc::Global;
 use vsw_base::{Control, Crossing, Ufid};
 use vsw_commit::commit;
-use vsw_crossing::{Looked, Scratch, Walked, Wanted, walk};
+use vsw_walk::{Looked, Scratch, Walked, Wanted, walk};
 use vsw_layer::Layer;
 use vsw_lean::shake;
 use vsw_policy::Policy;

@@ -8,9 +8,9 @@ use Rattle.vsw_admit.specs.Admit.{stop_of}
 use Rattle.vsw_commit.specs.Can.{AreApart, NotMade}
 use Rattle.vsw_commit.specs.Cross.{all_done, cross_of, made_after, made_by}
 use Rattle.vsw_commit.proofs.Makes.{walk_apart}
-use Rattle.vsw_crossing.specs.declared.scratch.Wanted.{Wanted}
-use Rattle.vsw_crossing.specs.declared.scratch.Wanted.TheVariants.{Make, Touch, Leave}
-use Rattle.vsw_crossing.specs.Walk.{walk_of}
+use Rattle.vsw_walk.specs.declared.scratch.Wanted.{Wanted}
+use Rattle.vsw_walk.specs.declared.scratch.Wanted.TheVariants.{Make, Touch, Leave}
+use Rattle.vsw_walk.specs.Walk.{walk_of}
 use Rattle.vsw_layer.specs.Layer.{LayerSeen, with_pair, with_touched, without_pair}
 use Rattle.vsw_policy.specs.Layers.{changed_at}
 use Rattle.vsw_policy.specs.Sound.{Each}

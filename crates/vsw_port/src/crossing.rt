@@ -10,7 +10,7 @@ ghost use Rattle.vsw_port.specs.Crossed.{EditsPass, MayBeShort, crossed, is_shor
 use vsw_admit::outgoing_size;
 use vsw_base::{Cause, Crossing, Fate, Verdict};
 use vsw_commit::commit;
-use vsw_crossing::{Scratch, Walked, walk};
+use vsw_walk::{Scratch, Walked, walk};
 use vsw_policy::Policy;
 use vsw_transpose::Transposition;
 

@@ -18,7 +18,7 @@ use std::alloc::Global;
 use std::marker::Model;
 use std::snapshot::Snapshot;
 use vsw_base::{Crossing, NoMemory};
-use vsw_crossing::Scratch;
+use vsw_walk::Scratch;
 use vsw_history::Event;
 use vsw_policy::{Command, Policy, Refusal, Reply};
 use vsw_transpose::Transposition;

@@ -3,7 +3,7 @@ use Rattle.std.proofs.Common.{ℕ, List, [], ◌∷◌, refl}
 use Rattle.std.specs.Fmt.{digits}
 use Rattle.hex.specs.Hex.{encode_with}
 use Rattle.vsw_base.specs.Frame.{frame_in}
-use Rattle.vsw_crossing.specs.Walk.{walk_of}
+use Rattle.vsw_walk.specs.Walk.{walk_of}
 use Rattle.vsw_report.specs.Print.{port_line}
 use Rattle.vsw_promise.specs.Alone.{rounds_alone}
 use Rattle.vsw_promise.specs.Jobs.{Setting}

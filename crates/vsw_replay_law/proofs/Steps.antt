@@ -9,7 +9,7 @@ use Rattle.vsw_base.specs.declared.flow.Crossing.{Crossing}
 use Rattle.vsw_base.specs.declared.header.Header.{Header}
 use Rattle.vsw_base.specs.Frame.{Parts, frame_of}
 use Rattle.vsw_commit.specs.Cross.{cross_of, made_by, makes, fate_after}
-use Rattle.vsw_crossing.specs.Walk.{walk_of}
+use Rattle.vsw_walk.specs.Walk.{walk_of}
 use Rattle.vsw_admit.specs.Admit.{stop_of}
 use Rattle.vsw_frame.specs.Bytes.{outgoing}
 use Rattle.vsw_layer.specs.Layer.{LayerSeen}

@@ -2,7 +2,7 @@
 use Rattle.std.specs.Prelude.{ℕ, List, [], ◌∷◌, Result, Ok, Err}
 use Rattle.serde_json.specs.Data.{Data}
 use Rattle.vsw_base.specs.declared.address.Prefix.{Prefix}
-use Rattle.vsw_spelling.specs.Spelling.{prefix_of}
+use Rattle.vsw_base.specs.Spelling.{prefix_of}
 use Rattle.vsw_rule.specs.declared.rule.Item.{Item}
 use Rattle.vsw_rule.specs.declared.rule.Item.TheVariants as item
 use Rattle.vsw_rule.specs.declared.rule.Cond.{Cond}

@@ -18,7 +18,6 @@ use vsw_jsonfile::{
     under_step, value_in, whole,
 };
 use vsw_rule::{Cond, Item};
-use vsw_spelling::read_prefix;
 
 /// The most items of a condition.
 const MOST_ITEMS: usize = 64;
@@ -47,7 +46,7 @@ fn prefix(alloc: Global, value: &Value) -> Result<Prefix, Fault>
     ensures { result ≡ prefix_in (view value.now) }
 {
     let text = text(alloc, value)?;
-    read_prefix(text.as_bytes()).map_err(|_| here(alloc, Kind::Shape))
+    Prefix::read(text.as_bytes()).map_err(|_| here(alloc, Kind::Shape))
 }
 
 fn single(alloc: Global, form: Form, value: &Value) -> Result<Item, Fault>

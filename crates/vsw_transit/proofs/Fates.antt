@@ -11,7 +11,7 @@ use Rattle.vsw_base.specs.declared.flow.Crossing.{Crossing}
 use Rattle.vsw_base.specs.declared.header.Header.{Header}
 use Rattle.vsw_base.specs.Frame.{Parts}
 use Rattle.vsw_commit.specs.Cross.{fate_after}
-use Rattle.vsw_crossing.specs.Walk.{walk_of}
+use Rattle.vsw_walk.specs.Walk.{walk_of}
 use Rattle.vsw_frame.specs.Bytes.{outgoing}
 use Rattle.vsw_commit.specs.Fate.{fate_by}
 use Rattle.vsw_transit.specs.Fate.{Measures}

@@ -19,7 +19,7 @@ use Rattle.vsw_base.specs.Shape.{encaps, is_stack}
 use Rattle.vsw_base.proofs.Stacks.{in_front}
 use Rattle.vsw_commit.specs.Cross.{Passing, cross_of, fate_after}
 use Rattle.vsw_commit.specs.Fate.{fate_at, fate_by}
-use Rattle.vsw_crossing.specs.Walk.{Walk, walk_of}
+use Rattle.vsw_walk.specs.Walk.{Walk, walk_of}
 use Rattle.vsw_frame.specs.Bytes.{outer_total, outgoing, outgoing_size, pushes}
 use Rattle.vsw_history.specs.Calls.{Shows}
 use Rattle.vsw_layer.specs.Layer.{LayerSeen}

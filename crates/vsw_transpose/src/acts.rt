@@ -5,32 +5,28 @@ ghost use Rattle.std.specs.Prelude.{◌≡◌, ◌<◌, ◌≤◌, ◌++◌, ◌
 use crate::act::Act;
 use std::marker::Model;
 
-/// Up to eighteen acts of any order: what a transposition is built in. What stands in the places that
-/// aren't used is `Act::Ignore`, so that equal lists are equal values.
-#[derive(Clone, Copy, PartialEq, Eq)]
+/// Up to eighteen acts of any order: what a transposition is built in. What stands behind the last of
+/// them means nothing: a room that is used again keeps it.
+#[derive(Drop)]
 pub struct Acts {
     items: [Act; 18],
-    len: usize,
+    len: u8,
 }
 
 impl Model for Acts {
     ghost use Rattle.std.specs.Prelude.{List};
     ghost use Rattle.vsw_transpose.specs.declared.act.Act.{Act};
-    ghost use Rattle.vsw_transpose.specs.Room.{seen, IsFilled, inside_of, inside_is};
+    ghost use Rattle.vsw_transpose.specs.Room.{seen, IsWithin};
 
     ghost Value = { List Act };
 
     ghost view = { seen };
 
-    ghost invariant = { IsFilled };
-
-    ghost inverse = { inside_of };
-
-    ghost inverse_ok = { inside_is };
+    ghost invariant = { IsWithin };
 }
 
 impl Acts {
-    /// No act.
+    /// No act. It clears eighteen places: make it once, and `clear` it for each packet.
     pub fn new() -> Acts
         ensures { result ≡ [] }
     {
@@ -40,20 +36,30 @@ impl Acts {
         }
     }
 
+    /// No act again.
+    #[inline(always)]
+    pub fn clear(&mut self)
+        ensures { self.new ≡ [] }
+    {
+        self.len = 0;
+    }
+
     /// The acts, in the order in which they are done.
+    #[inline(always)]
     pub fn as_slice(&self) -> &[Act]
         ensures all { result.now ≡ self.now }
         ensures room { length result.now ≤ 18 }
     {
-        &self.items[..self.len]
+        &self.items[..usize::from(self.len)]
     }
 
     /// Appends an act.
+    #[inline(always)]
     pub fn push(&mut self, act: Act)
         requires { length self.old < 18 }
         ensures { self.new ≡ self.old ++ act ∷ [] }
     {
-        self.items[self.len] = act;
+        self.items[usize::from(self.len)] = act;
         self.len += 1;
     }
 }

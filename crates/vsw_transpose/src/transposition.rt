@@ -1,8 +1,9 @@
 //! Transpositions.
 
-ghost use Rattle.std.specs.Prelude.{◌≡◌, ◌↔◌, ◌*◌, ◌+◌, ◌≤◌, Ok, Err, IsTrue, List, if◌then◌else◌, length, replicate};
+ghost use Rattle.std.specs.Prelude.{◌≡◌, ◌↔◌, ◌*◌, ◌+◌, ◌≤◌, [], Ok, Err, IsTrue, List, if◌then◌else◌, length, replicate};
 ghost use Rattle.vsw_base.specs.declared.header.Header.{Header};
 ghost use Rattle.vsw_base.specs.Shape.{is_stack, encaps};
+ghost use Rattle.vsw_transpose.specs.declared.act.Act.{Act};
 ghost use Rattle.vsw_transpose.specs.declared.act.Act.TheVariants.{Ignore};
 ghost use Rattle.vsw_transpose.specs.Apply as spec;
 ghost use Rattle.vsw_transpose.specs.Fits as fit;
@@ -13,7 +14,7 @@ use crate::acts::Acts;
 use crate::doing::{act, do_suit};
 use crate::form;
 use std::marker::Model;
-use vsw_base::{Headers, Stack};
+use vsw_base::{Headers, Stack, Writes};
 
 /// The acts aren't of the form of a transposition.
 #[derive(Clone, Copy, Debug, PartialEq, Eq)]
@@ -21,7 +22,7 @@ pub struct BadActs;
 
 /// What is done to the headers of a stack, outermost first: at most eighteen acts, first pops in threes,
 /// then pushes of whole encapsulations, then an ignore or a modify for each header that stays.
-#[derive(Clone, Copy, PartialEq, Eq)]
+#[derive(Drop)]
 pub struct Transposition {
     acts: Acts,
 }
@@ -36,8 +37,37 @@ impl Model for Transposition {
     ghost view = { λ s. s.acts };
 
     ghost invariant = { λ s. IsTrue (is_form s.acts) };
+}
 
-    ghost inverse = { λ xs. record { acts = xs } };
+/// What writes acts into a room that has none.
+pub trait WritesActs {
+    ghost gives: { Self → List Act };
+
+    ghost is_ready: { Self → Type 0 };
+
+    fn write(&self, out: &mut Acts)
+        requires ready { is_ready self.now }
+        requires empty { out.old ≡ [] }
+        requires form { IsTrue (is_form (gives self.now)) }
+        ensures { out.new ≡ gives self.now };
+}
+
+/// A transposition at a stack.
+#[derive(Drop)]
+struct Applied<'a> {
+    by: &'a Transposition,
+    to: &'a Stack,
+}
+
+impl Writes for Applied<'_> {
+    ghost gives = { λ s. spec.apply s.by.now s.to.now };
+
+    ghost is_ready = { λ s. Unit {0} };
+
+    #[inline(always)]
+    fn write(&self, out: &mut Headers) {
+        act(out, self.by.acts(), self.to.headers());
+    }
 }
 
 fn copied(acts: &[Act]) -> Acts
@@ -52,14 +82,24 @@ fn copied(acts: &[Act]) -> Acts
 }
 
 /// So many ignores.
+/// So many ignores, in a room.
+#[inline(always)]
+fn fill_ignores(acts: &mut Acts, count: usize)
+    requires { count ≤ 18 }
+    ensures { acts.new ≡ replicate count Ignore }
+{
+    acts.clear();
+    for _ in 0..count {
+        acts.push(Act::Ignore);
+    }
+}
+
 fn ignores(count: usize) -> Acts
     requires { count ≤ 18 }
     ensures { result ≡ replicate count Ignore }
 {
     let mut acts = Acts::new();
-    for _ in 0..count {
-        acts.push(Act::Ignore);
-    }
+    fill_ignores(&mut acts, count);
     acts
 }
 
@@ -82,7 +122,15 @@ impl Transposition {
         Transposition { acts }
     }
 
+    /// A transposition to write others into. It clears eighteen places: make it once.
+    pub fn room() -> Transposition
+        ensures { IsTrue (is_form result) }
+    {
+        Transposition { acts: ignores(1) }
+    }
+
     /// The acts, in the order in which they are done.
+    #[inline(always)]
     pub fn acts(&self) -> &[Act]
         ensures all { result.now ≡ self.now }
         ensures form { IsTrue (is_form result.now) }
@@ -108,9 +156,39 @@ impl Transposition {
         ensures done { result ≡ spec.apply self.now stack.now }
         ensures shape { IsTrue (is_stack result) }
     {
-        let mut headers = Headers::new();
-        act(&mut headers, self.acts(), stack.headers());
-        Stack::new(headers)
+        let mut made = Stack::room();
+        self.apply_to(stack, &mut made);
+        made
+    }
+
+    /// The stack that it makes of one that it fits, in a room.
+    #[inline(always)]
+    pub fn apply_to(&self, stack: &Stack, out: &mut Stack)
+        requires { IsTrue (fit.fits self.now stack.now) }
+        ensures { out.new ≡ spec.apply self.now stack.now }
+    {
+        out.rewrite(&Applied {
+            by: self,
+            to: stack,
+        });
+    }
+
+    /// It becomes the transposition of the acts that are written.
+    #[inline(always)]
+    pub fn rewrite<W: WritesActs>(&mut self, by: &W)
+        requires ready { W.is_ready by.now }
+        requires form { IsTrue (is_form (W.gives by.now)) }
+        ensures { self.new ≡ W.gives by.now }
+    {
+        self.acts.clear();
+        by.write(&mut self.acts);
+    }
+
+    /// It becomes the transposition that does nothing to the stack.
+    pub fn set_none(&mut self, stack: &Stack)
+        ensures { self.new ≡ fit.none stack.now }
+    {
+        fill_ignores(&mut self.acts, stack.headers().len());
     }
 
     /// The number of encapsulations that stay of a stack that it fits. Three pops stand for each of the
@@ -138,7 +216,7 @@ impl Transposition {
     pub fn is_same(&self, other: &Transposition) -> bool
         ensures { IsTrue result ↔ (self.now ≡ other.now) }
     {
-        *self == *other
+        self.acts() == other.acts()
     }
 }
 

@@ -7,8 +7,8 @@ use Rattle.vsw_base.specs.declared.fate.Cause.{Cause}
 use Rattle.vsw_base.specs.declared.fate.Fate.TheVariants.{Pass}
 use Rattle.vsw_commit.specs.Cross.{Crossed, Passing, all_done, cross_of, fate_after, made_after}
 use Rattle.vsw_commit.specs.Fate.{fate_by}
-use Rattle.vsw_crossing.specs.Walk.{Walk, walk_of}
-use Rattle.vsw_crossing.proofs.Held.{unseen}
+use Rattle.vsw_walk.specs.Walk.{Walk, walk_of}
+use Rattle.vsw_walk.proofs.Held.{unseen}
 use Rattle.vsw_layer.specs.Layer.{LayerSeen}
 use Rattle.vsw_words.proofs.Decoded.{apart}
 use Rattle.vsw_words_law.specs.Law.{WordsDecide}

@@ -1,6 +1,0 @@
-use Rattle.std.proofs.Common.{arith}
-use Rattle.vsw_base.proofs.Pushed.{pushed_is}
-use Rattle.vsw_base.proofs.headers.Headers.push.Goals as goal
-
-pub invariant_of-self : goal.invariant_of-self
-invariant_of-self c = pushed_is c.self.inside.items c.self.inside.len c.args.header (grind (arith, c.requires, c.self.view_is, c.self.invariant.1)) (c.self.invariant.1) (c.self.invariant.2)

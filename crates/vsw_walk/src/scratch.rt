@@ -1,0 +1,205 @@
+//! What a walk tells: the changes that it wants, and what it looked for.
+
+ghost use Rattle.std.specs.Prelude.{◌≡◌, ◌≤◌, ◌+◌, ◌∷◌, ◌++◌, [], None, IfOk, length, option_copied, option_map};
+ghost use Rattle.vsw_walk.specs.Walk as spec;
+ghost use Rattle.vsw_walk.specs.Walk.{due_of, leaving, wanting};
+ghost use Rattle.vsw_layerflow.specs.Pairs.{number_of};
+
+use std::alloc::Global;
+use std::marker::Model;
+use vsw_base::{Dir, LayerKey, Moment, NoMemory, Track};
+use vsw_layer::LayerSpec;
+use vsw_layerflow::{Pair, due};
+use vsw_visit::Want;
+
+/// The most changes that a walk can want: two of each of 128 layers.
+const ROOM: usize = 256;
+
+/// The most layers that a packet crosses.
+const LAYERS: usize = 128;
+
+/// A change that a packet wants of a layer's pairs. The layer is told by its place among those of the
+/// policy.
+#[derive(Clone, Copy, Debug, PartialEq, Eq)]
+pub enum Wanted {
+    /// A pair of the packet's flow.
+    Make {
+        layer: u32,
+        pair: Pair,
+    },
+    /// Another state or last use of the pair of this number.
+    Touch {
+        layer: u32,
+        number: u32,
+        state: Track,
+        last: Moment,
+    },
+    /// The pair of this number goes, since the packet re-opens it.
+    Leave {
+        layer: u32,
+        number: u32,
+    },
+}
+
+/// What a packet looked for among the pairs of a layer: its direction and key, and the number of the pair
+/// that holds them, if one does. The layer is told by its place among those of the policy.
+#[derive(Clone, Copy, Debug, PartialEq, Eq)]
+pub struct Looked {
+    pub layer: u32,
+    pub dir: Dir,
+    pub key: LayerKey,
+    pub found: Option<u32>,
+}
+
+/// Room for what a walk tells, kept from packet to packet.
+#[derive(Drop)]
+pub struct Scratch {
+    wanted: Vec<Wanted>,
+    looked: Vec<Looked>,
+    due: Option<Moment>,
+}
+
+impl Model for Scratch {
+    ghost use Rattle.std.specs.Prelude.{◌≤◌, vec_capacity};
+    ghost use Rattle.vsw_walk.specs.Walk.{Told};
+
+    ghost Value = { Told };
+
+    ghost view = { λ s. record { changes = s.wanted.items; looked = s.looked.items; due = s.due } };
+
+    ghost invariant = { λ s. (256 ≤ vec_capacity s.wanted) × (128 ≤ vec_capacity s.looked) };
+}
+
+impl Scratch {
+    /// Room for what the longest walk tells.
+    pub fn new(alloc: Global) -> Result<Scratch, NoMemory>
+        ensures { IfOk result (λ scratch. scratch ≡ record { changes = []; looked = []; due = None }) }
+    {
+        let Ok(wanted) = Vec::with_capacity(alloc, ROOM) else {
+            return Err(NoMemory);
+        };
+        match Vec::with_capacity(alloc, LAYERS) {
+            Ok(looked) => Ok(Scratch {
+                wanted,
+                looked,
+                due: None,
+            }),
+            Err(_) => Err(NoMemory),
+        }
+    }
+
+    /// The changes that the last walk wanted, in the order in which the packet crossed the layers. Before
+    /// the first walk there are none.
+    pub fn changes(&self) -> &[Wanted]
+        ensures { result.now ≡ self.now.changes }
+    {
+        &self.wanted
+    }
+
+    /// What the last walk looked for, in the order in which the packet crossed the layers: one look of each,
+    /// the layer that dropped the packet included. Before the first walk there are none.
+    pub fn looked(&self) -> &[Looked]
+        ensures { result.now ≡ self.now.looked }
+    {
+        &self.looked
+    }
+
+    /// The least moment at which one of the pairs is due that were found.
+    pub(crate) fn due(&self) -> Option<Moment>
+        ensures { result ≡ self.now.due }
+    {
+        self.due
+    }
+
+    pub(crate) fn clear(&mut self)
+        ensures { self.new ≡ record { changes = []; looked = []; due = None } }
+    {
+        self.wanted.clear();
+        self.looked.clear();
+        self.due = None;
+    }
+
+    /// Tells what is looked for in a layer, and when the pair that was found there is due.
+    pub(crate) fn look(
+        &mut self,
+        layer: u32,
+        dir: Dir,
+        key: &LayerKey,
+        found: Option<&Pair>,
+        times: &LayerSpec,
+    )
+        requires { length self.old.looked + 1 ≤ 128 }
+        ensures changes { self.new.changes ≡ self.old.changes }
+        ensures looked { self.new.looked ≡ self.old.looked ++ (record { layer = layer; dir = dir; key = key.now; found = option_map number_of (option_copied found.entry) }) ∷ [] }
+        ensures due { self.new.due ≡ spec.sooner self.old.due (due_of times.now (option_copied found.entry)) }
+    {
+        let _ = self.looked.push(Looked {
+            layer,
+            dir,
+            key: *key,
+            found: number_in(found),
+        });
+        self.due = sooner(self.due, due_in(found, times));
+    }
+
+    /// Tells what is wanted of a layer: first the pair that leaves, if one does.
+    pub(crate) fn tell(&mut self, layer: u32, leaves: Option<u32>, wants: &Option<Want>)
+        requires { length self.old.changes + 2 ≤ 256 }
+        ensures { self.new ≡ record self.old { changes = self.old.changes ++ (leaving layer leaves ++ wanting layer wants.now) } }
+    {
+        if let Some(number) = leaves {
+            let _ = self.wanted.push(Wanted::Leave { layer, number });
+        }
+        match wants {
+            None => {}
+            Some(Want::Make(pair)) => {
+                let _ = self.wanted.push(Wanted::Make { layer, pair: *pair });
+            }
+            Some(
+                Want::Touch {
+                    number,
+                    state,
+                    last,
+                },
+            ) => {
+                let _ = self.wanted.push(Wanted::Touch {
+                    layer,
+                    number: *number,
+                    state: *state,
+                    last: *last,
+                });
+            }
+        }
+    }
+}
+
+/// The lesser of two moments, where there are two.
+fn sooner(a: Option<Moment>, b: Option<Moment>) -> Option<Moment>
+    ensures { result ≡ spec.sooner a b }
+{
+    match (a, b) {
+        (a, None) => a,
+        (None, b) => b,
+        (Some(a), Some(b)) => Some(Moment::of(a.micros().min(b.micros()))),
+    }
+}
+
+/// The number of the pair that was found.
+fn number_in(found: Option<&Pair>) -> Option<u32>
+    ensures { result ≡ option_map number_of (option_copied found.entry) }
+{
+    match found {
+        None => None,
+        Some(pair) => Some(pair.number),
+    }
+}
+
+/// When the pair that was found is due.
+fn due_in(found: Option<&Pair>, times: &LayerSpec) -> Option<Moment>
+    ensures { result ≡ due_of times.now (option_copied found.entry) }
+{
+    match found {
+        None => None,
+        Some(pair) => Some(due(pair.last_use, pair.state, times.idle, times.linger)),
+    }
+}

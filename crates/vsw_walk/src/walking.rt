@@ -1,0 +1,184 @@
+//! The walk over the layers.
+
+ghost use Rattle.std.specs.Prelude.{◌≡◌, ◌≢◌, ◌≤◌, ◌+◌, ◌*◌, ℕ, List, [], IsTrue, length, map, reverse};
+ghost use Rattle.vsw_base.specs.declared.fate.Verdict.TheVariants.{Pass};
+ghost use Rattle.vsw_base.specs.declared.header.Header.{Header};
+ghost use Rattle.vsw_walk.specs.Between.{Leads, ended_with, from, met, stepped};
+ghost use Rattle.vsw_walk.specs.Walk.{Walk, after, crossed, placed, until_after, until_of, walk_of};
+ghost use Rattle.vsw_layer.specs.Layer.{seen};
+ghost use Rattle.vsw_transpose.specs.Apply.{apply};
+ghost use Rattle.vsw_transpose.specs.Fits as fit;
+
+use crate::between::Between;
+use crate::scratch::Scratch;
+use vsw_base::{Crossing, Dir, Moment, Verdict};
+use vsw_flowid::key_of;
+use vsw_layer::Layer;
+use vsw_policy::Policy;
+use vsw_transpose::{Acts, Transposition};
+use vsw_visit::{Visit, visit_with};
+
+/// What a walk comes to: the verdict, and what all layers do to the packet, as one transposition. For a
+/// packet that is dropped it has no acts.
+#[derive(Clone, Copy, PartialEq, Eq)]
+pub struct Walked {
+    pub verdict: Verdict,
+    pub by: Transposition,
+    /// The moment up to which this holds for later packets, where they have no control and want no pair: a
+    /// later one renews the last use of a pair. It is the greatest if no pair was found, or the packet is
+    /// dropped.
+    pub until: Moment,
+}
+
+/// The packet meets the layer at this place. Where it is dropped there, the verdict.
+fn step(
+    layer: &Layer,
+    place: u32,
+    crossing: &Crossing,
+    between: &mut Between,
+    scratch: &mut Scratch,
+) -> Option<Verdict>
+    requires leads { Leads crossing.now.id.stack between.old }
+    requires room { length scratch.old.changes + 2 ≤ 256 }
+    requires looks { length scratch.old.looked + 1 ≤ 128 }
+    ensures leads { Leads crossing.now.id.stack between.new }
+    ensures room { length scratch.new.changes ≤ length scratch.old.changes + 2 }
+    ensures looks { length scratch.new.looked ≤ length scratch.old.looked + 1 }
+    ensures value { (next : List Header → ℕ → Walk) → after scratch.old (met crossing.now place (seen layer.now) between.old next) ≡ stepped result scratch.new between.new next }
+{
+    let key = key_of(&between.stack);
+    let found = layer.flows.find(crossing.id.dir, &key);
+    scratch.look(place, crossing.id.dir, &key, found, &layer.spec);
+    match visit_with(
+        layer,
+        found,
+        crossing.id.dir,
+        crossing.control,
+        crossing.moment,
+        &between.stack,
+    ) {
+        Visit::Stops(verdict) => Some(verdict),
+        Visit::Goes {
+            action,
+            leaves,
+            wants,
+        } => {
+            scratch.tell(place, leaves, &wants);
+            between.go_on(&crossing.id.stack, &action);
+            None
+        }
+    }
+}
+
+/// The packet crosses these layers in order, of which the first has this place.
+fn go_out(
+    layers: &[Layer],
+    place: u32,
+    crossing: &Crossing,
+    between: &mut Between,
+    scratch: &mut Scratch,
+) -> Verdict
+    requires leads { Leads crossing.now.id.stack between.old }
+    requires places { place + length layers.now ≤ 128 }
+    requires room { length scratch.old.changes + 2 * length layers.now ≤ 256 }
+    requires looks { length scratch.old.looked + length layers.now ≤ 128 }
+    ensures leads { Leads crossing.now.id.stack between.new }
+    ensures value { from crossing.now scratch.old between.old (placed place (map seen layers.now)) ≡ ended_with result scratch.new between.new }
+{
+    let [layer, rest @ ..] = layers else {
+        return Verdict::Pass;
+    };
+    if let Some(verdict) = step(layer, place, crossing, between, scratch) {
+        return verdict;
+    }
+    go_out(rest, place + 1, crossing, between, scratch)
+}
+
+/// The packet crosses these layers in reverse, of which the first has place 0.
+#[tactic(auto, using(crate::proofs::Places::last_first))]
+fn go_in(
+    layers: &[Layer],
+    crossing: &Crossing,
+    between: &mut Between,
+    scratch: &mut Scratch,
+) -> Verdict
+    requires leads { Leads crossing.now.id.stack between.old }
+    requires few { length layers.now ≤ 128 }
+    requires room { length scratch.old.changes + 2 * length layers.now ≤ 256 }
+    requires looks { length scratch.old.looked + length layers.now ≤ 128 }
+    ensures leads { Leads crossing.now.id.stack between.new }
+    ensures value { from crossing.now scratch.old between.old (reverse (placed 0 (map seen layers.now))) ≡ ended_with result scratch.new between.new }
+{
+    let Some((layer, rest)) = layers.split_last() else {
+        return Verdict::Pass;
+    };
+    let place = rest.len() as u32;
+    if let Some(verdict) = step(layer, place, crossing, between, scratch) {
+        return verdict;
+    }
+    go_in(rest, crossing, between, scratch)
+}
+
+/// The packet crosses these layers, of which the first has place 0, in the order of its direction.
+fn cross(
+    layers: &[Layer],
+    crossing: &Crossing,
+    between: &mut Between,
+    scratch: &mut Scratch,
+) -> Verdict
+    requires leads { Leads crossing.now.id.stack between.old }
+    requires few { length layers.now ≤ 128 }
+    requires room { length scratch.old.changes + 2 * length layers.now ≤ 256 }
+    requires looks { length scratch.old.looked + length layers.now ≤ 128 }
+    ensures leads { Leads crossing.now.id.stack between.new }
+    ensures value { from crossing.now scratch.old between.old (crossed crossing.now.id.dir (placed 0 (map seen layers.now))) ≡ ended_with result scratch.new between.new }
+{
+    match crossing.id.dir {
+        Dir::Out => go_out(layers, 0, crossing, between, scratch),
+        Dir::In => go_in(layers, crossing, between, scratch),
+    }
+}
+
+/// What becomes of a packet that crosses the policy's layers, what it wants of their pairs, and what it
+/// looks for there. It takes no memory.
+#[tactic(auto, unfolding(crate::specs::Walk::walk_of))]
+pub fn walk(policy: &Policy, crossing: &Crossing, scratch: &mut Scratch) -> Walked
+    ensures verdict { result.verdict ≡ (walk_of policy.now.layers crossing.now).verdict }
+    ensures changes { scratch.new.changes ≡ (walk_of policy.now.layers crossing.now).changes }
+    ensures looked { scratch.new.looked ≡ (walk_of policy.now.layers crossing.now).looked }
+    ensures until { result.until ≡ until_of (walk_of policy.now.layers crossing.now) }
+    ensures fits { result.verdict ≡ Pass → IsTrue (fit.fits result.by crossing.now.id.stack) }
+    ensures stack { result.verdict ≡ Pass → apply result.by crossing.now.id.stack ≡ (walk_of policy.now.layers crossing.now).stack }
+    ensures kept { result.verdict ≡ Pass → fit.kept result.by ≡ (walk_of policy.now.layers crossing.now).kept }
+    ensures acts { result.verdict ≢ Pass → result.by ≡ [] }
+{
+    scratch.clear();
+    let mut between = Between::of(&crossing.id.stack);
+    let verdict = cross(policy.layers(), crossing, &mut between, scratch);
+    Walked {
+        verdict,
+        by: handed(verdict, &between),
+        until: until(verdict, scratch.due()),
+    }
+}
+
+/// Until when a walk holds that ends with this verdict, and of whose pairs the first is due at `due`.
+fn until(verdict: Verdict, due: Option<Moment>) -> Moment
+    ensures { result ≡ until_after verdict due }
+{
+    match (verdict, due) {
+        (Verdict::Pass, Some(moment)) => moment,
+        _ => Moment::of(u64::MAX),
+    }
+}
+
+/// What is handed out of a walk with this verdict.
+fn handed(verdict: Verdict, between: &Between) -> Transposition
+    ensures passed { verdict ≡ Pass → result ≡ between.now.by }
+    ensures dropped { verdict ≢ Pass → result ≡ [] }
+{
+    match verdict {
+        Verdict::Pass => between.by,
+        _ => Transposition::new(Acts::new()),
+    }
+}

@@ -1,0 +1,110 @@
+//! Packets, and what becomes of them.
+
+ghost use Rattle.std.specs.Prelude.{◌<◌, ◌^◌};
+
+use vsw_base::{
+    BadShape, Control, Crossing, Dir, Header, Ip4, Mac, Moment, Sizes, Stack, Ufid, Verdict,
+};
+use vsw_walk::{Scratch, Walked, Wanted, walk};
+use vsw_policy::Policy;
+
+fn ether(dst: u64, src: u64) -> Header
+    requires dst { dst < 2 ^ 48 }
+    requires src { src < 2 ^ 48 }
+{
+    Header::Ether {
+        dst: Mac::of(dst),
+        src: Mac::of(src),
+        kind: 0x0800,
+    }
+}
+
+fn udp(src: u32, dst: u32) -> Header {
+    Header::Ip {
+        src: Ip4::of(src),
+        dst: Ip4::of(dst),
+        proto: 17,
+        part: false,
+    }
+}
+
+fn ports(src: u16, dst: u16) -> Header {
+    Header::Ports {
+        proto: 17,
+        src,
+        dst,
+    }
+}
+
+/// UDP from a port of an address to a port of another.
+pub fn plain(src: u32, src_port: u16, dst: u32, dst_port: u16) -> Result<Stack, BadShape> {
+    Stack::of(&[
+        ether(0x0200_0000_0099, 0x0200_0000_0001),
+        udp(src, dst),
+        ports(src_port, dst_port),
+    ])
+}
+
+/// Such a packet in network 5001, from 172.16.0.1 to 172.16.0.2.
+pub fn covered(src: u32, src_port: u16, dst: u32, dst_port: u16) -> Result<Stack, BadShape> {
+    Stack::of(&[
+        ether(0x0200_0000_0a02, 0x0200_0000_0a01),
+        udp(0xac10_0001, 0xac10_0002),
+        Header::Vxlan { vni: 5001 },
+        ether(0x0200_0000_0099, 0x0200_0000_0001),
+        udp(src, dst),
+        ports(src_port, dst_port),
+    ])
+}
+
+/// What becomes of a packet of this direction and stack.
+pub fn cross(policy: &Policy, dir: Dir, stack: &Stack, scratch: &mut Scratch) -> Walked {
+    let crossing = Crossing {
+        caller: 0,
+        packet: 0,
+        id: Ufid { dir, stack: *stack },
+        control: Control::None,
+        moment: Moment::of(1_000),
+        sizes: Sizes {
+            whole: 44,
+            one: 0,
+            two: 0,
+        },
+    };
+    walk(policy, &crossing, scratch)
+}
+
+/// Whether the packet passes, and as this one.
+pub fn passes_as(walked: &Walked, stack: &Stack, made: &Stack) -> bool {
+    matches!(walked.verdict, Verdict::Pass)
+        && walked.by.fits(stack)
+        && walked.by.apply(stack).is_same(made)
+}
+
+/// Place of the layer, number and rule of the pair, where one pair is wanted and nothing else.
+pub fn wanted(scratch: &Scratch) -> Option<(u32, u32, u16)> {
+    match scratch.changes() {
+        [Wanted::Make { layer, pair }] => Some((*layer, pair.number, pair.rule)),
+        _ => None,
+    }
+}
+
+/// Places of the layers, where two pairs are wanted and nothing else.
+pub fn places(scratch: &Scratch) -> Option<(u32, u32)> {
+    match scratch.changes() {
+        [
+            Wanted::Make { layer: first, .. },
+            Wanted::Make { layer: second, .. },
+        ] => Some((*first, *second)),
+        _ => None,
+    }
+}
+
+/// What the packet looked for in the layer that it met after so many others: the layer's place,
+/// encapsulations, source address and source port of the key, and the pair.
+pub fn looked(scratch: &Scratch, met: usize) -> Option<(u32, u8, u32, u16, Option<u32>)> {
+    let look = scratch.looked().get(met)?;
+    let key = &look.key;
+    let address = key.src.number();
+    Some((look.layer, key.encaps, address, key.src_port, look.found))
+}

@@ -4,6 +4,7 @@ ghost use Rattle.std.specs.Prelude.{◌≡◌, ◌↔◌, ◌*◌, ◌≤◌, []
 ghost use Rattle.vsw_base.specs.declared.header.Header.{Header};
 ghost use Rattle.vsw_base.specs.Shape.{is_stack, encaps, inner};
 ghost use Rattle.vsw_base.specs.Shape as shape;
+ghost use Rattle.vsw_base.specs.Shape.{is_covered};
 
 use crate::address::Mac;
 use crate::header::Header;
@@ -120,15 +121,26 @@ fn is_encap(headers: &[Header]) -> bool
     }
 }
 
-fn count(headers: &[Header]) -> u8
-    requires { length headers.now ≤ 9 }
-    ensures value { result ≡ encaps headers.now }
-    ensures few { result ≤ length headers.now }
+/// Whether an encapsulation stands in front: only there the third header of a stack is VXLAN.
+#[inline(always)]
+fn is_covered(headers: &[Header]) -> bool
+    ensures { result ≡ is_covered headers.now }
 {
+    matches!(headers, [_, _, Header::Vxlan { .. }, ..])
+}
+
+/// The number of encapsulations in front of the headers of a stack. It looks at two places.
+#[inline(always)]
+fn count(headers: &[Header]) -> u8
+    requires { IsTrue (is_stack headers.now) }
+    ensures { result ≡ encaps headers.now }
+{
+    if !is_covered(headers) {
+        return 0;
+    }
     match headers {
-        [] => 0,
-        [Header::Vxlan { .. }, rest @ ..] => count(rest) + 1,
-        [_, rest @ ..] => count(rest),
+        [_, _, _, rest @ ..] => 1 + u8::from(is_covered(rest)),
+        _ => 0,
     }
 }
 

@@ -1,5 +1,5 @@
 -- Digits by arithmetic.
-use Rattle.std.specs.Prelude.{ℕ, ◌+◌, ◌%◌, ◌/◌, List, [], ◌∷◌, nat_lt, bit_and, if◌then◌else◌, take, drop}
+use Rattle.std.specs.Prelude.{ℕ, ◌+◌, ◌%◌, ◌/◌, List, [], ◌∷◌, nat_lt, bit_and, if◌then◌else◌}
 
 -- the wrapping arithmetic of a lane
 abbrev pub digit : ℕ → ℕ
@@ -15,6 +15,3 @@ abbrev pub zipped : List ℕ → List ℕ → List ℕ
 zipped [] ys = []
 zipped (x ∷ xs) [] = []
 zipped (x ∷ xs) (y ∷ ys) = x ∷ y ∷ zipped xs ys
-
-abbrev pub sixteen : List ℕ → ℕ → List ℕ
-sixteen bytes from = take 16 (drop from bytes)

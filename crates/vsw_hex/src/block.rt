@@ -1,71 +1,77 @@
-//! The text of sixteen bytes, by vectors of sixteen lanes.
+//! The text of 32 bytes, by vectors of 32 lanes.
 
 ghost use Rattle.std.specs.Prelude.{◌≡◌, ◌+◌, ◌*◌, ◌<◌, ◌≤◌, ◌++◌, map, take, drop, length};
 ghost use Rattle.std.specs.Simd.Lanes.{Each1};
 ghost use Rattle.hex.specs.Hex.{encode_lower};
-ghost use Rattle.vsw_hex.specs.Digit.{digit, high, low, zipped, sixteen};
+ghost use Rattle.vsw_hex.specs.Digit.{digit, high, low, zipped};
 
 use std::simd::prelude::*;
 
 /// The digits of numbers below sixteen: `0` is 48, and 39 more for letters (`a` is 97).
 #[inline(always)]
-fn digits(v: u8x16) -> u8x16
+fn digits(v: u8x32) -> u8x32
     ensures { result ≡ map digit v }
 {
     let letters = v
-        .simd_gt(u8x16::splat(9))
-        .select(u8x16::splat(39), u8x16::splat(0));
-    v + u8x16::splat(48) + letters
+        .simd_gt(u8x32::splat(9))
+        .select(u8x32::splat(39), u8x32::splat(0));
+    v + u8x32::splat(48) + letters
 }
 
 #[inline(always)]
-fn highs(v: u8x16) -> u8x16
+fn highs(v: u8x32) -> u8x32
     ensures { result ≡ map high v }
 {
-    digits(v >> u8x16::splat(4))
+    digits(v >> u8x32::splat(4))
 }
 
 #[inline(always)]
-fn lows(v: u8x16) -> u8x16
+fn lows(v: u8x32) -> u8x32
     ensures { result ≡ map low v }
 {
-    digits(v & u8x16::splat(15))
+    digits(v & u8x32::splat(15))
 }
 
-/// The first sixteen of the digits, high and low in turn.
+/// The first 32 of the digits, high and low in turn.
 #[inline(always)]
-fn front(high: u8x16, low: u8x16) -> u8x16
-    ensures lanes { result ≡ take 16 (zipped high low) }
-    ensures long { length result ≡ 16 }
+fn front(high: u8x32, low: u8x32) -> u8x32
+    ensures lanes { result ≡ take 32 (zipped high low) }
+    ensures long { length result ≡ 32 }
 {
     high.shuffle(
         low,
-        [0, 16, 1, 17, 2, 18, 3, 19, 4, 20, 5, 21, 6, 22, 7, 23],
+        [
+            0, 32, 1, 33, 2, 34, 3, 35, 4, 36, 5, 37, 6, 38, 7, 39,
+            8, 40, 9, 41, 10, 42, 11, 43, 12, 44, 13, 45, 14, 46, 15, 47,
+        ],
     )
 }
 
-/// The last sixteen of the digits, high and low in turn.
+/// The last 32 of the digits, high and low in turn.
 #[inline(always)]
-fn back(high: u8x16, low: u8x16) -> u8x16
-    ensures lanes { result ≡ drop 16 (zipped high low) }
-    ensures long { length result ≡ 16 }
+fn back(high: u8x32, low: u8x32) -> u8x32
+    ensures lanes { result ≡ drop 32 (zipped high low) }
+    ensures long { length result ≡ 32 }
 {
     high.shuffle(
         low,
-        [8, 24, 9, 25, 10, 26, 11, 27, 12, 28, 13, 29, 14, 30, 15, 31],
+        [
+            16, 48, 17, 49, 18, 50, 19, 51, 20, 52, 21, 53, 22, 54, 23, 55,
+            24, 56, 25, 57, 26, 58, 27, 59, 28, 60, 29, 61, 30, 62, 31, 63,
+        ],
     )
 }
 
-/// Writes the text of the sixteen bytes from this place on over the first 32 bytes of `text`.
+/// Writes the text of the 32 bytes from this place on over the first 64 bytes of `text`.
 #[inline(always)]
-pub fn write_sixteen(bytes: &[u8], from: usize, text: &mut [u8])
-    requires bytes { from + 16 ≤ length bytes.now }
-    requires text { 32 ≤ length text.old }
-    ensures { text.new ≡ encode_lower (take 16 (drop from bytes.now)) ++ drop 32 text.old }
+pub fn write_lanes(bytes: &[u8], from: usize, text: &mut [u8])
+    requires bytes { from + 32 ≤ length bytes.now }
+    requires text { 64 ≤ length text.old }
+    ensures { text.new ≡ encode_lower (take 32 (drop from bytes.now)) ++ drop 64 text.old }
 {
-    let v = u8x16::from_slice(&bytes[from..]);
+    let v = u8x32::from_slice(&bytes[from..]);
     let high = highs(v);
     let low = lows(v);
     front(high, low).copy_to_slice(text);
-    back(high, low).copy_to_slice(&mut text[16..]);
+    back(high, low).copy_to_slice(&mut text[32..]);
 }

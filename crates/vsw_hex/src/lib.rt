@@ -1,4 +1,4 @@
-//! Bytes as lower-case hexadecimal text, sixteen at a time.
+//! Bytes as lower-case hexadecimal text, 32 at a time.
 #![tactic(auto)]
 
 mod block;

@@ -3,31 +3,31 @@
 ghost use Rattle.std.specs.Prelude.{◌≡◌, ◌+◌, ◌*◌, ◌<◌, ◌≤◌, ◌++◌, OnOk, IfSome, take, drop, length};
 ghost use Rattle.hex.specs.Hex.{encode_lower};
 
-use crate::block::write_sixteen;
+use crate::block::write_lanes;
 use std::alloc::AllocError;
 
-/// Writes the text of fewer than sixteen bytes, those that fill no block.
+/// Writes the text of fewer than 32 bytes, those that fill no block.
 fn write_few(bytes: &[u8], text: &mut [u8])
-    requires bytes { length bytes.now < 16 }
+    requires bytes { length bytes.now < 32 }
     requires text { length text.old ≡ 2 * length bytes.now }
     ensures { text.new ≡ encode_lower bytes.now }
 {
-    let mut block = [0u8; 16];
+    let mut block = [0u8; 32];
     block[..bytes.len()].copy_from_slice(bytes);
-    let mut whole = [0u8; 32];
-    write_sixteen(&block, 0, &mut whole);
+    let mut whole = [0u8; 64];
+    write_lanes(&block, 0, &mut whole);
     text.copy_from_slice(&whole[..text.len()]);
 }
 
 /// Writes the text of the block of this number where it belongs.
 #[inline(always)]
 fn write_block(bytes: &[u8], i: usize, text: &mut [u8])
-    requires bytes { 16 * i + 16 ≤ length bytes.now }
-    requires text { 32 * i + 32 ≤ length text.old }
-    ensures front { take (32 * (i + 1)) text.new ≡ take (32 * i) text.old ++ encode_lower (take 16 (drop (16 * i) bytes.now)) }
+    requires bytes { 32 * i + 32 ≤ length bytes.now }
+    requires text { 64 * i + 64 ≤ length text.old }
+    ensures front { take (64 * (i + 1)) text.new ≡ take (64 * i) text.old ++ encode_lower (take 32 (drop (32 * i) bytes.now)) }
     ensures long { length text.new ≡ length text.old }
 {
-    write_sixteen(bytes, 16 * i, &mut text[32 * i..]);
+    write_lanes(bytes, 32 * i, &mut text[64 * i..]);
 }
 
 /// Writes two digits for each byte over a text of that length.
@@ -35,11 +35,11 @@ fn write_hex(bytes: &[u8], text: &mut [u8])
     requires { length text.old ≡ 2 * length bytes.now }
     ensures { text.new ≡ encode_lower bytes.now }
 {
-    let blocks = bytes.len() / 16;
+    let blocks = bytes.len() / 32;
     for i in 0..blocks {
         write_block(bytes, i, text);
     }
-    write_few(&bytes[16 * blocks..], &mut text[32 * blocks..]);
+    write_few(&bytes[32 * blocks..], &mut text[64 * blocks..]);
 }
 
 /// How long a text is with two digits more for each of so many bytes.
@@ -72,10 +72,10 @@ mod tests {
     #[test]
     fn digits_are_lower_case_and_in_order(rt: HostRuntime) -> Result<(), Fail> {
         let mut out = b"x ".to_vec(rt.alloc())?;
-        append_hex(&mut out, b"\x00\x09\x0a\x0f\x10\x99\xa9\xff vsw at sixteen")?;
+        append_hex(&mut out, b"\x00\x09\x0a\x0f\x10\x99\xa9\xff vsw at sixteen and thirty-two")?;
         assert_eq!(rt;
             out.as_slice(),
-            b"x 00090a0f1099a9ff20767377206174207369787465656e".as_slice()
+            b"x 00090a0f1099a9ff20767377206174207369787465656e20616e64207468697274792d74776f".as_slice()
         );
         Ok(())
     }

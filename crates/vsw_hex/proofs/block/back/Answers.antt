@@ -1,4 +1,4 @@
-use Rattle.vsw_hex.proofs.Sixteen.{back_is}
+use Rattle.vsw_hex.proofs.ThirtyTwo.{back_is}
 use Rattle.vsw_hex.proofs.block.back.Goals as goal
 
 pub returns-clause-lanes : goal.returns-clause-lanes

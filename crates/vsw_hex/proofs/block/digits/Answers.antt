@@ -9,6 +9,6 @@ pub returns : goal.returns
 returns c =
     let v = c.args.v in
     let long = c.fits-v.0 in
-    let above = tops_compared w8 ltb (replicate 16 9) v ∙ zip2_splat_left ltb 9 16 v long in
-    let letters = ap (λ m. sel_l m (replicate 16 39) (replicate 16 0)) above ∙ sel_splat (ltb 9) 39 0 v 16 long in
-    zip2_of_maps _ _ _ v (zip2_splat _ v 16 48 long) letters
+    let above = tops_compared w8 ltb (replicate 32 9) v ∙ zip2_splat_left ltb 9 32 v long in
+    let letters = ap (λ m. sel_l m (replicate 32 39) (replicate 32 0)) above ∙ sel_splat (ltb 9) 39 0 v 32 long in
+    zip2_of_maps _ _ _ v (zip2_splat _ v 32 48 long) letters

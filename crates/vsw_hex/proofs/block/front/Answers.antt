@@ -1,4 +1,4 @@
-use Rattle.vsw_hex.proofs.Sixteen.{front_is}
+use Rattle.vsw_hex.proofs.ThirtyTwo.{front_is}
 use Rattle.vsw_hex.proofs.block.front.Goals as goal
 
 pub returns-clause-lanes : goal.returns-clause-lanes

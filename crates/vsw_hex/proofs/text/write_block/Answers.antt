@@ -1,7 +1,7 @@
 use Rattle.std.proofs.Common.{List, ℕ, ◌+◌, ◌*◌, ◌-◌, ◌∙◌, ap, arith, take, drop, length}
 use borrow.Rule.Slice.PartMut.{put_mid}
 use Rattle.hex.specs.Hex.{encode_lower}
-use Rattle.vsw_hex.proofs.Next.{next_front, sixteen_long}
+use Rattle.vsw_hex.proofs.Next.{next_front, block_long}
 use Rattle.vsw_hex.proofs.text.write_block.Goals as goal
 
 pub returns-clause-front : goal.returns-clause-front
@@ -9,5 +9,5 @@ returns-clause-front c =
     let i = c.args.i in
     let text = c.args.text.now in
     let bytes = c.args.bytes.now in
-    ap (λ (l : List ℕ). take (32 * (i + 1)) (put_mid (32 * i) (length text - 32 * i) text l)) c.write_sixteen.ensures
-    ∙ next_front (32 * i) (32 * (i + 1)) text (encode_lower (take 16 (drop (16 * i) bytes))) _ _ (omega (arith, c.requires.text)) (omega (arith, sixteen_long bytes i c.requires.bytes))
+    ap (λ (l : List ℕ). take (64 * (i + 1)) (put_mid (64 * i) (length text - 64 * i) text l)) c.write_lanes.ensures
+    ∙ next_front (64 * i) (64 * (i + 1)) text (encode_lower (take 32 (drop (32 * i) bytes))) _ _ (omega (arith, c.requires.text)) (omega (arith, block_long bytes i c.requires.bytes))

@@ -1,6 +1,6 @@
 use Rattle.std.proofs.Common.{◌≡◌, List, ℕ, ◌≤◌, ◌+◌, ◌*◌, ◌-◌, ◌/◌, ◌++◌, ◌∙◌, ap, refl, subst, arith, take, drop, length}
 use Rattle.hex.specs.Hex.{encode_lower}
-use Rattle.vsw_hex.proofs.Next.{next_sixteen, both_parts, no_digits}
+use Rattle.vsw_hex.proofs.Next.{next_block, both_parts, no_digits}
 use Rattle.vsw_hex.proofs.text.write_hex.Goals as goal
 
 pub loop-i-init : goal.loop-i-init
@@ -10,15 +10,15 @@ pub loop-i-preserved : goal.loop-i-preserved
 loop-i-preserved c =
     let i = c.loop-i.i in
     let bytes = c.args.bytes.now in
-    let room : 16 * i + 16 ≤ length bytes = omega (arith, c.loop-i-test.true) in
+    let room : 32 * i + 32 ≤ length bytes = omega (arith, c.loop-i-test.true) in
     record {
-      front = c.write_block.ensures.front ∙ ap (λ (l : List ℕ). l ++ encode_lower (take 16 (drop (16 * i) bytes))) c.loop-i.invariant.front ∙ next_sixteen bytes i room;
+      front = c.write_block.ensures.front ∙ ap (λ (l : List ℕ). l ++ encode_lower (take 32 (drop (32 * i) bytes))) c.loop-i.invariant.front ∙ next_block bytes i room;
       long = c.write_block.ensures.long ∙ c.loop-i.invariant.long;
     }
 
 pub returns : goal.returns
 returns c =
-    let blocks : ℕ = length c.args.bytes.now / 16 in
+    let blocks : ℕ = length c.args.bytes.now / 32 in
     let last : c.loop-i.i ≡ blocks = omega arith in
-    let Front : ℕ → Type 0 = λ n. take (32 * n) c.loop-i.text ≡ encode_lower (take (16 * n) c.args.bytes.now) in
-    both_parts (32 * blocks) (16 * blocks) (length c.loop-i.text - 32 * blocks) c.args.bytes.now c.loop-i.text c.write_few.new.text (subst Front last c.loop-i.invariant.front) c.write_few.ensures (omega arith)
+    let Front : ℕ → Type 0 = λ n. take (64 * n) c.loop-i.text ≡ encode_lower (take (32 * n) c.args.bytes.now) in
+    both_parts (64 * blocks) (32 * blocks) (length c.loop-i.text - 64 * blocks) c.args.bytes.now c.loop-i.text c.write_few.new.text (subst Front last c.loop-i.invariant.front) c.write_few.ensures (omega arith)

@@ -3,8 +3,8 @@ use Rattle.std.proofs.Common.{◌≡◌, ℕ, ◌+◌, ◌≤◌, ◌⊎◌, inl
 use Rattle.std.proofs.Math.Seq.{take-length}
 use Rattle.vsw_host.specs.Outside.{Inputs, Outside, Rose}
 use Rattle.vsw_policyfile.specs.declared.file.PolicyFile.{PolicyFile}
-use Rattle.vsw_policyfile.specs.declared.file.PolicyFault.{PolicyFault}
-use Rattle.vsw_policyfile.specs.declared.file.PolicyFault.TheVariants as fault
+use Rattle.vsw_policyfile.specs.declared.file.ConfigFault.{ConfigFault}
+use Rattle.vsw_policyfile.specs.declared.file.ConfigFault.TheVariants as fault
 use Rattle.vsw_policyfile.specs.Policy.{policy_file_of}
 use Rattle.vsw_switch.specs.Switch.{SwitchNow, switch_of}
 use Rattle.vsw_app.specs.declared.ending.Last.{Last}
@@ -72,10 +72,10 @@ one_some : (a b : List ℕ) (o : Option (List ℕ)) → o ≡ Some a → o ≡ S
 one_some a b o h k = cc
 
 -- a good policy isn't a bad one
-both_ways : (bytes : List ℕ) (p : PolicyFile) (why : PolicyFault) → policy_file_of bytes ≡ Ok p → policy_file_of bytes ≡ Err why → ⊥
+both_ways : (bytes : List ℕ) (p : PolicyFile) (why : ConfigFault) → policy_file_of bytes ≡ Ok p → policy_file_of bytes ≡ Err why → ⊥
 both_ways bytes p why h k = let e = sym h ∙ k in cc
 
-not_bad : (files : Inputs) (name : List ℕ) (p : PolicyFile) (why : PolicyFault) → HoldsPolicy files name p → HoldsBadPolicy files name why → ⊥
+not_bad : (files : Inputs) (name : List ℕ) (p : PolicyFile) (why : ConfigFault) → HoldsPolicy files name p → HoldsBadPolicy files name why → ⊥
 not_bad files name p why h w = both_ways w.bytes p why (subst (λ (t : List ℕ). policy_file_of t ≡ Ok p) (one_some h.bytes w.bytes (files.files name) h.held w.held) h.is_policy) w.is_bad
 
 at_policy : (old new : Outside) (files : Inputs) (name : List ℕ) (e : Ending) (s : Status) → s ≡ status_of (Run e) → (s ≡ status.ReadFault → Rose old.input_faults new.input_faults) → ¬ (Rose old.input_faults new.input_faults) → StopsAtPolicy name files (Run e) → (s ≡ status.Done) ⊎ (s ≡ status.Memory)

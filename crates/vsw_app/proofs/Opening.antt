@@ -6,9 +6,9 @@ use Rattle.std.specs.Prelude.{IfOk}
 use Rattle.vsw_host.specs.Outside.{Opened, Inputs, Outside, OpensSince}
 use Rattle.vsw_host.specs.Reading.{ReadsFile, ReadsOne, TellsFile}
 use Rattle.vsw_host.specs.declared.reading.ReadEnd.TheVariants as ends
-use Rattle.vsw_goodfile.specs.Good.{IsGoodPolicy}
+use Rattle.vsw_policyfile.specs.Good.{IsGoodPolicy}
 use Rattle.vsw_policyfile.specs.declared.file.PolicyFile.{PolicyFile}
-use Rattle.vsw_policyfile.specs.declared.file.PolicyFault.TheVariants as fault
+use Rattle.vsw_policyfile.specs.declared.file.ConfigFault.TheVariants as fault
 use Rattle.vsw_policyfile.specs.Policy.{policy_file_of}
 use Rattle.vsw_app.specs.declared.ending.Limit.TheVariants as limit
 use Rattle.vsw_app.specs.declared.ending.Last.{Last}

@@ -2,8 +2,8 @@
 use Rattle.std.specs.Prelude.{◌≡◌, ◌<◌, ◌⊎◌, ℕ, List, [], ◌∷◌, ◌++◌, length, Some, Ok, Err}
 use Rattle.vsw_host.specs.Outside.{Opened, Inputs, OpensSince}
 use Rattle.vsw_policyfile.specs.declared.file.PolicyFile.{PolicyFile}
-use Rattle.vsw_policyfile.specs.declared.file.PolicyFault.{PolicyFault}
-use Rattle.vsw_policyfile.specs.declared.file.PolicyFault.TheVariants as fault
+use Rattle.vsw_policyfile.specs.declared.file.ConfigFault.{ConfigFault}
+use Rattle.vsw_policyfile.specs.declared.file.ConfigFault.TheVariants as fault
 use Rattle.vsw_policyfile.specs.Policy.{policy_file_of}
 use Rattle.vsw_app.specs.declared.ending.Limit.{Limit}
 use Rattle.vsw_app.specs.declared.ending.Limit.TheVariants.{Policy, Ports, Controllers}
@@ -29,13 +29,13 @@ pub record HoldsPolicy (inputs : Inputs) (file_name : List ℕ) (policy : Policy
   pub is_policy : policy_file_of bytes ≡ Ok policy
 
 -- or none, and this is the first thing that is wrong with it
-pub record HoldsBadPolicy (inputs : Inputs) (file_name : List ℕ) (why : PolicyFault) : Type 0 where
+pub record HoldsBadPolicy (inputs : Inputs) (file_name : List ℕ) (why : ConfigFault) : Type 0 where
   pub bytes : List ℕ
   pub held : inputs.files file_name ≡ Some bytes
   pub is_bad : policy_file_of bytes ≡ Err why
 
 -- a limit of the policy file, as its reader names it
-abbrev pub limit_fault : Limit → PolicyFault
+abbrev pub limit_fault : Limit → ConfigFault
 limit_fault Policy = fault.PolicyLimit
 limit_fault Ports = fault.PortsLimit
 limit_fault Controllers = fault.ControllersLimit

@@ -1,7 +1,7 @@
 -- What the files of a run leave, one after another.
 use Rattle.std.specs.Prelude.{◌≡◌, ◌≢◌, ◌≤◌, ◌⊎◌, ℕ, List, [], ◌∷◌, length, take, Bool, true, Option, Some, Result, Ok, Err, IfOk, false}
 use Rattle.vsw_host.specs.Outside.{Inputs, Outside, OpensSince, SameOutputs, Grows, Rose}
-use Rattle.vsw_goodfile.specs.Good.{IsGoodPolicy}
+use Rattle.vsw_policyfile.specs.Good.{IsGoodPolicy}
 use Rattle.vsw_policyfile.specs.declared.file.PolicyFile.{PolicyFile}
 use Rattle.vsw_app.specs.declared.ending.Last.{Last}
 use Rattle.vsw_app.specs.declared.ending.Last.TheVariants.{Bad, Past, Run}

@@ -1,9 +1,9 @@
 -- What the reading of each file leaves.
 use Rattle.std.specs.Prelude.{◌≡◌, ◌≤◌, ℕ, List, [], ◌∷◌, length, take, true, false, Option, Some, None, Result, Ok, Err, IfOk, ⊤}
 use Rattle.vsw_host.specs.Outside.{Inputs, Outside, OpensSince, SameOutputs, Rose}
-use Rattle.vsw_goodfile.specs.Good.{IsGoodPolicy}
+use Rattle.vsw_policyfile.specs.Good.{IsGoodPolicy}
 use Rattle.vsw_policyfile.specs.declared.file.PolicyFile.{PolicyFile}
-use Rattle.vsw_policyfile.specs.declared.file.PolicyFault.TheVariants as fault
+use Rattle.vsw_policyfile.specs.declared.file.ConfigFault.TheVariants as fault
 use Rattle.vsw_policyfile.specs.Policy.{policy_file_of}
 use Rattle.vsw_app.specs.declared.ending.Last.{Last}
 use Rattle.vsw_app.specs.declared.ending.Last.TheVariants.{Bad, Past, Run}

@@ -1,13 +1,13 @@
 //! Reading and judging the files of a run, in the order of the words.
 
 ghost use Rattle.std.specs.Prelude.{◌≡◌, IfOk};
-ghost use Rattle.vsw_goodfile.specs.Good.{IsGoodPolicy};
+ghost use Rattle.vsw_policyfile.specs.Good.{IsGoodPolicy};
 ghost use Rattle.vsw_app.specs.Reads.{Judges, ReadsPolicy, ReadsCommands, ReadsTrace};
 
 use crate::ending::{Last, Limit};
 use std::alloc::Global;
 use vsw_host::{Host, ReadEnd, read_file};
-use vsw_policyfile::{PolicyFault, PolicyFile};
+use vsw_policyfile::{ConfigFault, PolicyFile};
 use vsw_replay::{Ending, TraceBytes};
 
 /// Bytes of the longest policy file.
@@ -23,11 +23,11 @@ fn judged(alloc: Global, bytes: &[u8]) -> Result<PolicyFile, Last>
 {
     match vsw_ports::read_file(alloc, bytes) {
         Ok(policy) => Ok(policy),
-        Err(PolicyFault::Bad { kind, path }) => Err(Last::Bad { kind, path }),
-        Err(PolicyFault::PolicyLimit) => Err(Last::Past(Limit::Policy)),
-        Err(PolicyFault::PortsLimit) => Err(Last::Past(Limit::Ports)),
-        Err(PolicyFault::ControllersLimit) => Err(Last::Past(Limit::Controllers)),
-        Err(PolicyFault::Memory) => Err(Last::Run(Ending::Memory)),
+        Err(ConfigFault::Bad { kind, path }) => Err(Last::Bad { kind, path }),
+        Err(ConfigFault::PolicyLimit) => Err(Last::Past(Limit::Policy)),
+        Err(ConfigFault::PortsLimit) => Err(Last::Past(Limit::Ports)),
+        Err(ConfigFault::ControllersLimit) => Err(Last::Past(Limit::Controllers)),
+        Err(ConfigFault::Memory) => Err(Last::Run(Ending::Memory)),
     }
 }
 

@@ -1,7 +1,7 @@
 //! The run of the program.
 
 ghost use Rattle.std.specs.Prelude.{◌≡◌, ◌↔◌, None};
-ghost use Rattle.vsw_goodfile.specs.Good.{IsGoodPolicy};
+ghost use Rattle.vsw_policyfile.specs.Good.{IsGoodPolicy};
 ghost use Rattle.vsw_host.specs.Outside.{Rose};
 ghost use Rattle.vsw_switch.specs.Switch.{switch_of};
 ghost use Rattle.vsw_app.specs.Words.{names_of};

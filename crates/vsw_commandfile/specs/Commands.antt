@@ -5,8 +5,8 @@ use Rattle.vsw_jsonfile.specs.declared.fault.Fault.TheVariants as fault
 use Rattle.vsw_jsonfile.specs.Fault.{◌>>=◌}
 use Rattle.vsw_jsonfile.specs.Bytes.{json_of}
 use Rattle.vsw_policyfile.specs.declared.file.PolicyFile.{PolicyFile}
-use Rattle.vsw_commandline.specs.declared.line.Line.{Line}
-use Rattle.vsw_commandline.specs.Line.{line_of}
+use Rattle.vsw_commandfile.specs.declared.line.Line.{Line}
+use Rattle.vsw_commandfile.specs.Line.{line_of}
 use Rattle.vsw_commandfile.specs.declared.fault.CommandsFault.{CommandsFault}
 use Rattle.vsw_commandfile.specs.declared.fault.CommandsFault.TheVariants.{Bad, CommandsLimit, LinesLimit, Memory}
 use Rattle.vsw_commandfile.specs.Lines.{lines_of, is_blank}

@@ -1,2 +1,5 @@
 pub mod Commands
 pub mod Lines
+pub mod Line
+pub mod Command
+pub mod Verb

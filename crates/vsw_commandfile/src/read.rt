@@ -6,10 +6,10 @@ ghost use Rattle.vsw_commandfile.specs.Lines.{lines_of};
 ghost use Rattle.vsw_commandfile.specs.Commands.{Tells, line_in, line_at, lines_from, commands_file_of};
 
 use crate::fault::{CommandsFault, of_line};
+use crate::line::{Line, one_line};
 use crate::lines::{Lines, count_lines, is_blank};
 use std::alloc::Global;
 use vsw_base::Items;
-use vsw_commandline::{Line, one_line};
 use vsw_jsonfile::{Fault, json};
 use vsw_policyfile::PolicyFile;
 
@@ -66,10 +66,10 @@ fn read_lines(
 }
 
 /// Reads a commands file of a policy: lines, each a JSON object or blank, in at most 16,777,216 bytes.
-pub fn read_commands_file(
+pub fn read_commands(
     alloc: Global,
-    policy: &PolicyFile,
     bytes: &[u8],
+    policy: &PolicyFile,
 ) -> Result<Items<Line>, CommandsFault>
     ensures { Tells result (commands_file_of policy.now bytes.now) }
 {

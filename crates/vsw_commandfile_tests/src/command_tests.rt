@@ -3,7 +3,7 @@
 use crate::samples::{FILE, lines_of};
 use std::test::Fail;
 use vsw_base::{Dir, Moment};
-use vsw_commandline::Line;
+use vsw_commandfile::Line;
 use vsw_layer::LayerSpec;
 use vsw_policy::Command;
 use vsw_rule::{Action, Cond, Field, Item, Rule};

@@ -3,10 +3,9 @@
 use std::alloc::Global;
 use std::test::Fail;
 use vsw_base::Items;
-use vsw_commandfile::{CommandsFault, read_commands_file};
-use vsw_commandline::Line;
-use vsw_jsonfile::push_path;
-use vsw_policyfile::{PolicyFile, read_policy_file};
+use vsw_commandfile::{CommandsFault, Line, read_commands};
+use vsw_jsonfile::Step;
+use vsw_policyfile::{PolicyFile, read_policy};
 
 /// Controllers 1 and 2, and ports 7 and 1.
 const POLICY: &str = concat!(
@@ -44,7 +43,7 @@ pub const FILE: &str = concat!(
 );
 
 fn policy(alloc: Global) -> Result<PolicyFile, Fail> {
-    match read_policy_file(alloc, POLICY.as_bytes()) {
+    match read_policy(alloc, POLICY.as_bytes()) {
         Ok(policy) => Ok(policy),
         Err(_) => Err(Fail::from("no policy")),
     }
@@ -53,7 +52,7 @@ fn policy(alloc: Global) -> Result<PolicyFile, Fail> {
 /// The lines of a commands file.
 pub fn lines_of(alloc: Global, bytes: &[u8]) -> Result<Items<Line>, Fail> {
     let policy = policy(alloc)?;
-    match read_commands_file(alloc, &policy, bytes) {
+    match read_commands(alloc, bytes, &policy) {
         Ok(lines) => Ok(lines),
         Err(_) => Err(Fail::from("refused")),
     }
@@ -73,6 +72,26 @@ pub fn changed(alloc: Global, old: &str, new: &[u8]) -> Result<Vec<u8>, Fail> {
     Ok(out)
 }
 
+/// Appends a path as a complaint has it, whose innermost step stands first.
+fn push_path(alloc: Global, out: &mut Vec<u8>, path: &[Step]) -> Result<(), Fail> {
+    if path.is_empty() {
+        out.extend_from_slice(b"/")?;
+    }
+    for i in 0..path.len() {
+        match path[path.len() - 1 - i] {
+            Step::Member(word) => {
+                out.extend_from_slice(b"/")?;
+                out.extend_from_slice(word.text().as_bytes())?;
+            }
+            Step::Place(place) => {
+                let text = format!(in alloc; "/{place}")?;
+                out.extend_from_slice(text.as_bytes())?;
+            }
+        }
+    }
+    Ok(())
+}
+
 /// Appends a fault as a complaint has it: the line, the kind and the path, or the limit.
 fn push_fault(alloc: Global, out: &mut Vec<u8>, fault: &CommandsFault) -> Result<(), Fail> {
     match fault {
@@ -81,7 +100,7 @@ fn push_fault(alloc: Global, out: &mut Vec<u8>, fault: &CommandsFault) -> Result
             out.extend_from_slice(front.as_bytes())?;
             out.extend_from_slice(kind.name().as_bytes())?;
             out.extend_from_slice(b" ")?;
-            push_path(out, path.as_slice())?;
+            push_path(alloc, out, path.as_slice())?;
         }
         CommandsFault::CommandsLimit => out.extend_from_slice(b"commands")?,
         CommandsFault::LinesLimit => out.extend_from_slice(b"lines")?,
@@ -99,7 +118,7 @@ fn push_count(alloc: Global, out: &mut Vec<u8>, count: usize) -> Result<(), Fail
 /// Appends what is said of a file: how many lines it gives, or the fault.
 fn push_said(alloc: Global, out: &mut Vec<u8>, bytes: &[u8]) -> Result<(), Fail> {
     let policy = policy(alloc)?;
-    match read_commands_file(alloc, &policy, bytes) {
+    match read_commands(alloc, bytes, &policy) {
         Ok(lines) => push_count(alloc, out, lines.len()),
         Err(fault) => push_fault(alloc, out, &fault),
     }

@@ -7,7 +7,7 @@ use Rattle.vsw_base.specs.declared.fate.Fate.{Fate}
 use Rattle.vsw_base.specs.declared.fate.Fate.TheVariants.{Pass, Drop}
 use Rattle.vsw_base.specs.declared.flow.Crossing.{Crossing}
 use Rattle.vsw_base.specs.Frame.{Parts}
-use Rattle.vsw_commandline.specs.declared.line.Line.{Line}
+use Rattle.vsw_commandfile.specs.declared.line.Line.{Line}
 use Rattle.vsw_commit.specs.Cross.{cross_of, made_by, makes}
 use Rattle.vsw_commit.specs.Fate.{fate_at}
 use Rattle.vsw_walk.specs.Walk.{walk_of}

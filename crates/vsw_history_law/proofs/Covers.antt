@@ -4,7 +4,7 @@ use Rattle.std.specs.List.{flat_map, list_any}
 use Rattle.std.proofs.lemmas.Bool.Decides.{nat_tests}
 use Rattle.std.proofs.lemmas.List.{length-drop, drop-drop}
 use native.Mathlib.Decide.{ℕ_discrete}
-use Rattle.vsw_commandline.specs.declared.line.Line.{Line}
+use Rattle.vsw_commandfile.specs.declared.line.Line.{Line}
 use Rattle.vsw_pcap.specs.declared.capture.Record.{Record}
 use Rattle.vsw_policy.specs.Sound.{Each}
 use Rattle.vsw_history.specs.Order.{put_in, ascending, counted, numbered, StandsOnce}

@@ -2,16 +2,16 @@
 use Rattle.std.proofs.Common.{◌≡◌, ◌≢◌, ℕ, zero, suc, true, List, [], ◌∷◌, ◌++◌, length, take, drop, Option, Some, None, Ok, Err, Result, refl, ap, sym, ◌∙◌, subst, arith, All}
 use Rattle.vsw_commandfile.specs.declared.fault.CommandsFault.{CommandsFault}
 use Rattle.vsw_commandfile.specs.Commands.{commands_file_of}
-use Rattle.vsw_commandline.specs.declared.line.Line.{Line}
-use Rattle.vsw_goodcommands.proofs.Lines.{each_is_good}
-use Rattle.vsw_goodcommands.specs.Good.{CanAsk}
+use Rattle.vsw_commandfile.specs.declared.line.Line.{Line}
+use Rattle.vsw_commandfile_law.proofs.Lines.{each_is_good}
+use Rattle.vsw_commandfile_law.specs.Good.{CanAsk}
 use Rattle.vsw_host.specs.Outside.{Inputs, Opened, Outside, Grows}
 use Rattle.vsw_host.specs.Told.{TellsHeld}
 use Rattle.vsw_pcap.specs.declared.capture.Record.{Record}
 use Rattle.vsw_pcap.specs.declared.fault.BadTrace.TheVariants.{NotPcap, Version, LinkType, Cut, Huge}
 use Rattle.vsw_policy.specs.Sound.{Each, is_listed}
 use Rattle.vsw_policyfile.specs.declared.file.PolicyFile.{PolicyFile}
-use Rattle.vsw_policyfile.specs.declared.file.PolicyFault.{PolicyFault}
+use Rattle.vsw_policyfile.specs.declared.file.ConfigFault.{ConfigFault}
 use Rattle.vsw_policyfile.specs.Policy.{policy_file_of}
 use Rattle.vsw_promise.specs.declared.ending.Ending.{Ending}
 use Rattle.vsw_promise.specs.declared.ending.Ending.TheVariants as ending
@@ -94,7 +94,7 @@ record FoundTrace (q : Request) (files : List ℕ → Option (List ℕ)) (old ne
   puts : Grows old new text
 
 -- the policy is bad, or the commands are
-record FoundPolicy (q : Request) (files : List ℕ → Option (List ℕ)) (why : PolicyFault) : Type 0 where
+record FoundPolicy (q : Request) (files : List ℕ → Option (List ℕ)) (why : ConfigFault) : Type 0 where
   policy : List ℕ
   held : files q.policy ≡ Some policy
   bad : policy_file_of policy ≡ Err why
@@ -109,7 +109,7 @@ record FoundCommands (q : Request) (files : List ℕ → Option (List ℕ)) (why
   bad : commands_file_of given commands ≡ Err why
 
 data Found (q : Request) (files : List ℕ → Option (List ℕ)) (old new : Option (List ℕ)) (e : Ending) : Type 0 where
-  AtPolicy : (why : PolicyFault) → e ≡ ending.Policy why → FoundPolicy q files why → Grows old new [] → Found q files old new e
+  AtPolicy : (why : ConfigFault) → e ≡ ending.Policy why → FoundPolicy q files why → Grows old new [] → Found q files old new e
   AtCommands : (why : CommandsFault) → e ≡ ending.Commands why → FoundCommands q files why → Grows old new [] → Found q files old new e
   ByTrace : IsByTrace e → FoundTrace q files old new e → Found q files old new e
 
@@ -176,7 +176,7 @@ found_trace q old new a e r told b ends =
       puts = ends.puts;
     }
 
-found_policy : (q : Request) (old new : Outside) (a : Inputs) (e : Ending) (why : PolicyFault) (r : Runs q old new e) → old.inputs ≡ Some a → HasBadPolicy r.files why → FoundPolicy q a.files why
+found_policy : (q : Request) (old new : Outside) (a : Inputs) (e : Ending) (why : ConfigFault) (r : Runs q old new e) → old.inputs ≡ Some a → HasBadPolicy r.files why → FoundPolicy q a.files why
 found_policy q old new a e why r told b =
     let turn : InTurn q (b.policy ∷ []) = subst (InTurn q) b.only r.opens.in_turn in
     let held : Each (λ f. TellsHeld old.inputs f.name f.bytes) (b.policy ∷ []) = subst (Each (λ f. TellsHeld old.inputs f.name f.bytes)) b.only r.opens.held in

@@ -67,14 +67,6 @@ abbrev pub path_text : List Step → List ℕ
 path_text [] = 47 ∷ []
 path_text (s ∷ ss) = steps_text (s ∷ ss)
 
-abbrev pub kind_number : Kind → ℕ
-kind_number Json = 1
-kind_number Shape = 2
-kind_number BadRule = 3
-kind_number Many = 4
-kind_number Unknown = 5
-kind_number Twice = 6
-
 abbrev pub kind_name : Kind → List ℕ
 kind_name Json = codes "Json"
 kind_name Shape = codes "Shape"

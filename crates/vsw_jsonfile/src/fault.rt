@@ -1,7 +1,7 @@
 //! What is wrong with a file, and where.
 
 ghost use Rattle.std.specs.Prelude.{◌≡◌, []};
-ghost use Rattle.vsw_jsonfile.specs.Path.{kind_number, kind_name};
+ghost use Rattle.vsw_jsonfile.specs.Path.{kind_name};
 ghost use Rattle.vsw_jsonfile.specs.Fault.{fault_under, under, Says, MaySay};
 ghost use Rattle.vsw_jsonfile.specs.declared.fault.Fault.TheVariants.{Bad};
 
@@ -36,20 +36,6 @@ pub enum Kind {
 }
 
 impl Kind {
-    /// Its number in this order, from 1.
-    pub fn number(self) -> u8
-        ensures { result ≡ kind_number self }
-    {
-        match self {
-            Kind::Json => 1,
-            Kind::Shape => 2,
-            Kind::BadRule => 3,
-            Kind::Many => 4,
-            Kind::Unknown => 5,
-            Kind::Twice => 6,
-        }
-    }
-
     /// Its name.
     pub fn name(self) -> &'static str
         ensures { result.now ≡ kind_name self }

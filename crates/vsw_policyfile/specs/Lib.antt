@@ -1,2 +1,4 @@
 pub mod Policy
 pub mod Port
+pub mod Layer
+pub mod Good

@@ -13,12 +13,12 @@ use Rattle.vsw_jsonfile.specs.Value.{number_from}
 use Rattle.vsw_jsonfile.specs.List.{items_in, items_after, fresh_number}
 use Rattle.vsw_policyfile.specs.declared.file.PortFile.{PortFile}
 use Rattle.vsw_policyfile.specs.declared.file.PolicyFile.{PolicyFile}
-use Rattle.vsw_policyfile.specs.declared.file.PolicyFault.{PolicyFault}
-use Rattle.vsw_policyfile.specs.declared.file.PolicyFault.TheVariants.{Bad, PolicyLimit, PortsLimit, ControllersLimit, Memory}
+use Rattle.vsw_policyfile.specs.declared.file.ConfigFault.{ConfigFault}
+use Rattle.vsw_policyfile.specs.declared.file.ConfigFault.TheVariants.{Bad, PolicyLimit, PortsLimit, ControllersLimit, Memory}
 use Rattle.vsw_policyfile.specs.Port.{port_of}
 
 -- the answer is the value or the first fault, where memory sufficed
-abbrev pub Tells : {A : Type 0} → Result A PolicyFault → Result A PolicyFault → Type 0
+abbrev pub Tells : {A : Type 0} → Result A ConfigFault → Result A ConfigFault → Type 0
 Tells (Ok x) value = value ≡ Ok x
 Tells (Err (Bad kind path)) value = value ≡ Err (Bad kind path)
 Tells (Err PolicyLimit) value = value ≡ Err PolicyLimit
@@ -26,35 +26,35 @@ Tells (Err PortsLimit) value = value ≡ Err PortsLimit
 Tells (Err ControllersLimit) value = value ≡ Err ControllersLimit
 Tells (Err Memory) value = Unit {0}
 
-abbrev pub as_policy_fault : Fault → PolicyFault
-as_policy_fault (fault.Bad kind path) = Bad kind path
-as_policy_fault fault.Memory = Memory
+abbrev pub as_config_fault : Fault → ConfigFault
+as_config_fault (fault.Bad kind path) = Bad kind path
+as_config_fault fault.Memory = Memory
 
 -- an answer of a part of the file
-abbrev pub of_part : {A : Type 0} → Result A Fault → Result A PolicyFault
+abbrev pub of_part : {A : Type 0} → Result A Fault → Result A ConfigFault
 of_part (Ok x) = Ok x
-of_part (Err e) = Err (as_policy_fault e)
+of_part (Err e) = Err (as_config_fault e)
 
 -- a list that the switch has room for
-abbrev pub few : PolicyFault → ℕ → List Data → Result (List Data) PolicyFault
+abbrev pub few : ConfigFault → ℕ → List Data → Result (List Data) ConfigFault
 few limit most ds = if nat_le (length ds) most then Ok ds else Err limit
 
 -- a member's items, which must not be more than this
-unfoldable pub few_in : PolicyFault → ℕ → Word → Data → Result (List Data) PolicyFault
+unfoldable pub few_in : ConfigFault → ℕ → Word → Data → Result (List Data) ConfigFault
 few_in limit most w o = of_part (read_in w o items_in) >>= few limit most
 
 -- the controllers, each once, at most 8
-unfoldable pub controllers_in : Data → Result (List ℕ) PolicyFault
+unfoldable pub controllers_in : Data → Result (List ℕ) ConfigFault
 controllers_in o = few_in ControllersLimit 8 word.Controllers o >>= (λ ds. of_part (under (Member word.Controllers) (items_after fresh_number [] ds)))
 
 -- the ports, at most 16
-unfoldable pub ports_in : List ℕ → Data → Result (List PortFile) PolicyFault
+unfoldable pub ports_in : List ℕ → Data → Result (List PortFile) ConfigFault
 ports_in known o = few_in PortsLimit 16 word.Ports o >>= (λ ds. of_part (under (Member word.Ports) (items_after (port_of known) [] ds)))
 
 abbrev pub file_words : List Word
 file_words = word.Version ∷ word.Controllers ∷ word.Ports ∷ []
 
-unfoldable pub policy_of : Data → Result PolicyFile PolicyFault
+unfoldable pub policy_of : Data → Result PolicyFile ConfigFault
 policy_of d = do
   o ← of_part (object_among file_words d)
   version ← of_part (read_in word.Version o (number_from 1 1))
@@ -63,5 +63,5 @@ policy_of d = do
   Ok (record { controllers = controllers; ports = ports })
 
 -- the policy that the bytes are the text of, at most 4,194,304 of them
-abbrev pub policy_file_of : List ℕ → Result PolicyFile PolicyFault
+abbrev pub policy_file_of : List ℕ → Result PolicyFile ConfigFault
 policy_file_of bytes = if nat_lt 4194304 (length bytes) then Err PolicyLimit else of_part (json_of bytes) >>= policy_of

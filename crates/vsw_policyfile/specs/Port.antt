@@ -10,7 +10,7 @@ use Rattle.vsw_jsonfile.specs.Fault.{◌>>=◌, bad}
 use Rattle.vsw_jsonfile.specs.Object.{object_among, read_in}
 use Rattle.vsw_jsonfile.specs.Value.{short_of, number_from, mac_in}
 use Rattle.vsw_policyfile.specs.declared.file.PortFile.{PortFile}
-use Rattle.vsw_layerfile.specs.Layer.{layers_of}
+use Rattle.vsw_policyfile.specs.Layer.{layers_of}
 
 -- a number that no port so far has
 unfoldable pub fresh_port : List PortFile → Data → Result ℕ Fault

@@ -2,7 +2,17 @@
 
 use vsw_base::{Items, Mac};
 use vsw_jsonfile::{Kind, Step};
-use vsw_layerfile::LayerFile;
+use vsw_layer::LayerSpec;
+use vsw_rule::Group;
+
+/// A layer of a port.
+#[derive(PartialEq, Eq, Drop)]
+pub struct LayerFile {
+    /// The controller that it belongs to, one of the file's.
+    pub controller: u16,
+    pub spec: LayerSpec,
+    pub groups: Items<Group>,
+}
 
 /// A port.
 #[derive(PartialEq, Eq, Drop)]
@@ -23,7 +33,7 @@ pub struct PolicyFile {
 
 /// Why a policy file is refused.
 #[derive(PartialEq, Eq, Drop)]
-pub enum PolicyFault {
+pub enum ConfigFault {
     /// It is no such file; this is the first place, in the order of reading. The innermost step of the
     /// path stands first.
     Bad { kind: Kind, path: Items<Step> },

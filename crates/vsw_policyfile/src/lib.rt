@@ -5,8 +5,10 @@
 #![tactic(auto)]
 
 mod file;
+mod layer;
 mod port;
 mod read;
 
-pub use file::{PolicyFault, PolicyFile, PortFile};
-pub use read::read_policy_file;
+pub use file::{ConfigFault, LayerFile, PolicyFile, PortFile};
+pub use layer::{allows_in, listed_in, spec_in};
+pub use read::read_policy;

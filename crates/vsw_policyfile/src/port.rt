@@ -11,6 +11,7 @@ ghost use Rattle.vsw_jsonfile.specs.List.{items_after};
 ghost use Rattle.vsw_policyfile.specs.Port.{fresh_port, fresh_address, fresh_mac, port_of};
 
 use crate::file::PortFile;
+use crate::layer::layers_in;
 use serde_json::Value;
 use std::alloc::Global;
 use vsw_base::{Items, Mac};
@@ -18,7 +19,6 @@ use vsw_jsonfile::{
     Fault, Kind, ReadItem, Step, Word, here, list, mac, number_in, object_in, short, under_step,
     value_in,
 };
-use vsw_layerfile::layers_in;
 
 const PORT_WORDS: [Word; 4] = [Word::Port, Word::Mac, Word::Rows, Word::Layers];
 

@@ -10,7 +10,7 @@ ghost use Rattle.vsw_jsonfile.specs.List.{items_in};
 ghost use Rattle.vsw_policyfile.specs.Policy.{Tells, policy_file_of, policy_of};
 ghost use Rattle.vsw_policyfile.specs.Policy as spec;
 
-use crate::file::{PolicyFault, PolicyFile, PortFile};
+use crate::file::{ConfigFault, PolicyFile, PortFile};
 use crate::port::ports;
 use serde_json::Value;
 use std::alloc::Global;
@@ -28,16 +28,16 @@ const MOST_PORTS: usize = 16;
 
 const FILE_WORDS: [Word; 3] = [Word::Version, Word::Controllers, Word::Ports];
 
-impl From<Fault> for PolicyFault {
+impl From<Fault> for ConfigFault {
     ghost use Rattle.std.specs.Prelude.{◌≡◌};
-    ghost use Rattle.vsw_policyfile.specs.Policy.{as_policy_fault};
+    ghost use Rattle.vsw_policyfile.specs.Policy.{as_config_fault};
 
-    ghost from_gives = { λ x y. y ≡ as_policy_fault x };
+    ghost from_gives = { λ x y. y ≡ as_config_fault x };
 
-    fn from(fault: Fault) -> PolicyFault {
+    fn from(fault: Fault) -> ConfigFault {
         match fault {
-            Fault::Bad { kind, path } => PolicyFault::Bad { kind, path },
-            Fault::Memory => PolicyFault::Memory,
+            Fault::Bad { kind, path } => ConfigFault::Bad { kind, path },
+            Fault::Memory => ConfigFault::Memory,
         }
     }
 }
@@ -52,12 +52,12 @@ fn items_in<'a>(alloc: Global, object: &'a Value, word: Word) -> Result<&'a [Val
 }
 
 #[tactic(auto, unfolding(crate::specs::Policy::controllers_in, crate::specs::Policy::few_in))]
-fn controllers_in(alloc: Global, object: &Value) -> Result<Items<u16>, PolicyFault>
+fn controllers_in(alloc: Global, object: &Value) -> Result<Items<u16>, ConfigFault>
     ensures { Tells result (spec.controllers_in (view object.now)) }
 {
     let values = items_in(alloc, object, Word::Controllers)?;
     if values.len() > MOST_CONTROLLERS {
-        return Err(PolicyFault::ControllersLimit);
+        return Err(ConfigFault::ControllersLimit);
     }
     let controllers = list(alloc, &FreshNumbers, values);
     let controllers = under_step(Step::Member(Word::Controllers), controllers)?;
@@ -65,19 +65,19 @@ fn controllers_in(alloc: Global, object: &Value) -> Result<Items<u16>, PolicyFau
 }
 
 #[tactic(auto, unfolding(crate::specs::Policy::ports_in, crate::specs::Policy::few_in))]
-fn ports_in(alloc: Global, known: &[u16], object: &Value) -> Result<Items<PortFile>, PolicyFault>
+fn ports_in(alloc: Global, known: &[u16], object: &Value) -> Result<Items<PortFile>, ConfigFault>
     ensures { Tells result (spec.ports_in known.now (view object.now)) }
 {
     let values = items_in(alloc, object, Word::Ports)?;
     if values.len() > MOST_PORTS {
-        return Err(PolicyFault::PortsLimit);
+        return Err(ConfigFault::PortsLimit);
     }
     let ports = under_step(Step::Member(Word::Ports), ports(alloc, known, values))?;
     Ok(ports)
 }
 
 #[tactic(auto, unfolding(crate::specs::Policy::policy_of))]
-fn policy(alloc: Global, value: &Value) -> Result<PolicyFile, PolicyFault>
+fn policy(alloc: Global, value: &Value) -> Result<PolicyFile, ConfigFault>
     ensures { Tells result (policy_of (view value.now)) }
 {
     let object = object_in(alloc, &FILE_WORDS, value)?;
@@ -88,11 +88,11 @@ fn policy(alloc: Global, value: &Value) -> Result<PolicyFile, PolicyFault>
 }
 
 /// Reads a policy file: a JSON value of at most 4,194,304 bytes.
-pub fn read_policy_file(alloc: Global, bytes: &[u8]) -> Result<PolicyFile, PolicyFault>
+pub fn read_policy(alloc: Global, bytes: &[u8]) -> Result<PolicyFile, ConfigFault>
     ensures { Tells result (policy_file_of bytes.now) }
 {
     if bytes.len() > MOST_BYTES {
-        return Err(PolicyFault::PolicyLimit);
+        return Err(ConfigFault::PolicyLimit);
     }
     let value = json(alloc, bytes)?;
     let policy = policy(alloc, &value)?;

@@ -4,8 +4,7 @@ use crate::samples::ONE;
 use std::alloc::Global;
 use vsw_base::{Dir, Ip4, Items, Mac, Outer, Prefix, Set};
 use vsw_layer::LayerSpec;
-use vsw_layerfile::LayerFile;
-use vsw_policyfile::{PolicyFile, PortFile, read_policy_file};
+use vsw_policyfile::{LayerFile, PolicyFile, PortFile, read_policy};
 use vsw_rule::{Action, Cond, Field, Group, Item, Rule};
 
 fn one<T: Drop>(alloc: Global, item: T) -> Option<Items<T>> {
@@ -110,7 +109,7 @@ fn first(alloc: Global) -> Option<PolicyFile> {
 #[test]
 fn one_layer_is_read(rt: HostRuntime) {
     let expected = first(rt.alloc()).expect(&rt, "memory");
-    assert!(rt; read_policy_file(rt.alloc(), ONE.as_bytes()) == Ok(expected));
+    assert!(rt; read_policy(rt.alloc(), ONE.as_bytes()) == Ok(expected));
 }
 
 /// Three controllers, each with a layer: one that keeps the state of all flows, one that translates the
@@ -210,7 +209,7 @@ fn three(alloc: Global) -> Option<PolicyFile> {
 #[test]
 fn three_layers_are_read(rt: HostRuntime) {
     let expected = three(rt.alloc()).expect(&rt, "memory");
-    assert!(rt; read_policy_file(rt.alloc(), THREE.as_bytes()) == Ok(expected));
+    assert!(rt; read_policy(rt.alloc(), THREE.as_bytes()) == Ok(expected));
 }
 
 /// What comes for 203.0.113.4 is sent on to 10.0.0.5, port 1234.
@@ -253,5 +252,5 @@ fn forwarding(alloc: Global) -> Option<PolicyFile> {
 #[test]
 fn two_groups_are_read(rt: HostRuntime) {
     let expected = forwarding(rt.alloc()).expect(&rt, "memory");
-    assert!(rt; read_policy_file(rt.alloc(), FORWARDING.as_bytes()) == Ok(expected));
+    assert!(rt; read_policy(rt.alloc(), FORWARDING.as_bytes()) == Ok(expected));
 }

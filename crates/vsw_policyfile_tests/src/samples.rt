@@ -2,8 +2,8 @@
 
 use std::alloc::Global;
 use std::test::Fail;
-use vsw_jsonfile::push_path;
-use vsw_policyfile::{PolicyFault, read_policy_file};
+use vsw_jsonfile::Step;
+use vsw_policyfile::{ConfigFault, read_policy};
 
 /// A policy of one layer, whose one rule lets packets to 10.0.0.0/24 go out.
 pub const ONE: &str = concat!(
@@ -48,18 +48,38 @@ pub fn changed(alloc: Global, old: &str, new: &[u8]) -> Result<Vec<u8>, Fail> {
     Ok(out)
 }
 
+/// Appends a path as a complaint has it, whose innermost step stands first.
+fn push_path(alloc: Global, out: &mut Vec<u8>, path: &[Step]) -> Result<(), Fail> {
+    if path.is_empty() {
+        out.extend_from_slice(b"/")?;
+    }
+    for i in 0..path.len() {
+        match path[path.len() - 1 - i] {
+            Step::Member(word) => {
+                out.extend_from_slice(b"/")?;
+                out.extend_from_slice(word.text().as_bytes())?;
+            }
+            Step::Place(place) => {
+                let text = format!(in alloc; "/{place}")?;
+                out.extend_from_slice(text.as_bytes())?;
+            }
+        }
+    }
+    Ok(())
+}
+
 /// Appends a fault as a complaint has it: its kind and path, or the limit.
-fn push_fault(out: &mut Vec<u8>, fault: &PolicyFault) -> Result<(), Fail> {
+fn push_fault(alloc: Global, out: &mut Vec<u8>, fault: &ConfigFault) -> Result<(), Fail> {
     match fault {
-        PolicyFault::Bad { kind, path } => {
+        ConfigFault::Bad { kind, path } => {
             out.extend_from_slice(kind.name().as_bytes())?;
             out.extend_from_slice(b" ")?;
-            push_path(out, path.as_slice())?;
+            push_path(alloc, out, path.as_slice())?;
         }
-        PolicyFault::PolicyLimit => out.extend_from_slice(b"policy")?,
-        PolicyFault::PortsLimit => out.extend_from_slice(b"ports")?,
-        PolicyFault::ControllersLimit => out.extend_from_slice(b"controllers")?,
-        PolicyFault::Memory => out.extend_from_slice(b"memory")?,
+        ConfigFault::PolicyLimit => out.extend_from_slice(b"policy")?,
+        ConfigFault::PortsLimit => out.extend_from_slice(b"ports")?,
+        ConfigFault::ControllersLimit => out.extend_from_slice(b"controllers")?,
+        ConfigFault::Memory => out.extend_from_slice(b"memory")?,
     }
     Ok(())
 }
@@ -67,9 +87,9 @@ fn push_fault(out: &mut Vec<u8>, fault: &PolicyFault) -> Result<(), Fail> {
 /// Whether this is what is said of a file: `read`, or the fault.
 pub fn is_said(alloc: Global, bytes: &[u8], expected: &str) -> Result<bool, Fail> {
     let mut out = Vec::new(alloc);
-    match read_policy_file(alloc, bytes) {
+    match read_policy(alloc, bytes) {
         Ok(_) => out.extend_from_slice(b"read")?,
-        Err(fault) => push_fault(&mut out, &fault)?,
+        Err(fault) => push_fault(alloc, &mut out, &fault)?,
     }
     Ok(out.as_slice() == expected.as_bytes())
 }

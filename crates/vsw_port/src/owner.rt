@@ -2,7 +2,7 @@
 
 ghost use Rattle.std.specs.Prelude.{◌≡◌, ◌≤◌, ◌<◌, ◌+◌, ◌-◌, ◌^◌, ◌++◌, [], ℕ, List, not, true, length, vec_capacity, IfOk, OnOk, OnErr};
 ghost use Rattle.vsw_base.specs.Frame.{Parts};
-ghost use Rattle.vsw_commandline.specs.declared.line.Line.{Line};
+ghost use Rattle.vsw_commandfile.specs.declared.line.Line.{Line};
 ghost use Rattle.vsw_history.specs.declared.event.Event.TheVariants as event;
 ghost use Rattle.vsw_history.specs.Calls.{Asked, Carried};
 ghost use Rattle.vsw_history.specs.Next.{IsDone};

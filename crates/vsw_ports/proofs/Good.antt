@@ -6,14 +6,14 @@ use Rattle.std.proofs.lemmas.Bool.Decides.{nat_tests}
 use Rattle.vsw_rule.specs.Check.{bad_rule_of}
 use Rattle.vsw_rule.specs.declared.rule.Rule.{Rule}
 use Rattle.vsw_rule.specs.declared.rule.Group.{Group}
-use Rattle.vsw_layerfile.specs.declared.file.LayerFile.{LayerFile}
+use Rattle.vsw_policyfile.specs.declared.file.LayerFile.{LayerFile}
 use Rattle.vsw_policyfile.specs.declared.file.PortFile.{PortFile}
 use Rattle.vsw_policyfile.specs.declared.file.PolicyFile.{PolicyFile}
-use Rattle.vsw_layerfile.specs.Layer.{count_by}
-use Rattle.vsw_policyfile.specs.declared.file.PolicyFault.{PolicyFault}
+use Rattle.vsw_policyfile.specs.Layer.{count_by}
+use Rattle.vsw_policyfile.specs.declared.file.ConfigFault.{ConfigFault}
 use Rattle.vsw_policyfile.specs.Policy.{Tells, policy_file_of}
-use Rattle.vsw_goodfile.specs.Good as good
-use Rattle.vsw_goodfile.proofs.Policies.{each_is_good}
+use Rattle.vsw_policyfile.specs.Good as good
+use Rattle.vsw_policyfile_law.proofs.Policies.{each_is_good}
 use Rattle.vsw_policy.specs.Layers.{is_of}
 use Rattle.vsw_policy.specs.Sound.{Each, AreApart, IsGoodRule, IsGoodGroup, IsGoodLayer, same_layer, same_group, same_number, is_listed, are_distinct}
 use Rattle.vsw_ports.specs.File.{AreLayers, IsFile}
@@ -128,6 +128,6 @@ good-file f h = record {
   layers = good-ports f.controllers f.ports h.2;
 }
 
-pub told-good : (bytes : List ℕ) (r : Result PolicyFile PolicyFault) → Tells r (policy_file_of bytes) → IfOk r good.IsGoodPolicy
+pub told-good : (bytes : List ℕ) (r : Result PolicyFile ConfigFault) → Tells r (policy_file_of bytes) → IfOk r good.IsGoodPolicy
 told-good bytes (Ok f) h = each_is_good bytes f h
 told-good bytes (Err e) h = tt

@@ -15,7 +15,7 @@ use Rattle.std.specs.List.{position_or_len}
 use Rattle.std.proofs.lemmas.List.Sorted.{IsPermutation-refl, IsPermutation-cons, IsPermutation-insert, IsPermutation-trans}
 use Rattle.vsw_policy.proofs.Firsts.{placed-at}
 use Rattle.vsw_policy.proofs.Keeps.{each-placed, count-placed, order-placed}
-use Rattle.vsw_layerfile.specs.declared.file.LayerFile.{LayerFile}
+use Rattle.vsw_policyfile.specs.declared.file.LayerFile.{LayerFile}
 use Rattle.vsw_ports.specs.File.{AreLayers}
 use Rattle.vsw_ports.specs.Groups.{with_groups, AdmitsAll}
 use Rattle.vsw_ports.specs.Order.{StandInOrder}

@@ -14,8 +14,8 @@ ghost use Rattle.vsw_ports.specs.Ports.{whole, in_order};
 use std::alloc::Global;
 use vsw_base::NoMemory;
 use vsw_layer::{copy_conditions, copy_rules};
-use vsw_layerfile::LayerFile;
 use vsw_policy::{Command, Policy, Refusal};
+use vsw_policyfile::LayerFile;
 use vsw_rule::Group;
 
 /// Does what a controller asks, for which there is no refusal but want of memory.

@@ -2,7 +2,7 @@
 
 ghost use Rattle.std.specs.Prelude.{◌≡◌, ◌≤◌, ◌++◌, IfOk, OnOk, IsTrue, map, length};
 ghost use Rattle.vsw_policy.specs.Sound.{Each, are_distinct};
-ghost use Rattle.vsw_goodfile.specs.Good.{IsGoodPolicy};
+ghost use Rattle.vsw_policyfile.specs.Good.{IsGoodPolicy};
 ghost use Rattle.vsw_ports.specs.File.{AreLayers};
 ghost use Rattle.vsw_ports.specs.Ports.{whole};
 ghost use Rattle.vsw_ports.specs.Ports as spec;

@@ -9,15 +9,15 @@ use Rattle.vsw_host.specs.Outside.{Outside, Grows, Rose}
 use Rattle.vsw_pcap.specs.Fault.{trace_name}
 use Rattle.vsw_pcap.specs.declared.fault.BadTrace.{BadTrace}
 use Rattle.vsw_pcap.specs.declared.fault.BadTrace.TheVariants.{NotPcap, Version, LinkType, Cut, Huge}
-use Rattle.vsw_policyfile.specs.declared.file.PolicyFault.{PolicyFault}
-use Rattle.vsw_policyfile.specs.declared.file.PolicyFault.TheVariants as policy
+use Rattle.vsw_policyfile.specs.declared.file.ConfigFault.{ConfigFault}
+use Rattle.vsw_policyfile.specs.declared.file.ConfigFault.TheVariants as policy
 use Rattle.vsw_promise.specs.declared.ending.Ending.{Ending}
 use Rattle.vsw_promise.specs.declared.ending.Ending.TheVariants as ending
 use Rattle.vsw_promise.specs.declared.ending.Status.{Status}
 use Rattle.vsw_promise.specs.declared.ending.Status.TheVariants as status
 
 -- a refused file has one status, a file over a limit another
-abbrev pub policy_status : PolicyFault → Status
+abbrev pub policy_status : ConfigFault → Status
 policy_status (policy.Bad kind path) = status.Refused
 policy_status policy.Memory = status.Memory
 policy_status _ = status.Limit
@@ -57,7 +57,7 @@ abbrev pub memory_text : List ℕ
 memory_text = codes "vsw: memory\n"
 
 -- what is complained of a policy and of commands
-abbrev pub policy_text : PolicyFault → List ℕ
+abbrev pub policy_text : ConfigFault → List ℕ
 policy_text (policy.Bad kind path) = codes "vsw: refused policy " ++ fault_text kind path
 policy_text policy.PolicyLimit = codes "vsw: limit policy\n"
 policy_text policy.PortsLimit = codes "vsw: limit ports\n"

@@ -3,14 +3,14 @@ use Rattle.std.specs.Prelude.{◌≡◌, ◌<◌, ◌≤◌, ◌+◌, ℕ, List,
 use Rattle.vsw_commandfile.specs.declared.fault.CommandsFault.{CommandsFault}
 use Rattle.vsw_commandfile.specs.declared.fault.CommandsFault.TheVariants as commands_fault
 use Rattle.vsw_commandfile.specs.Commands.{commands_file_of}
-use Rattle.vsw_commandline.specs.declared.line.Line.{Line}
+use Rattle.vsw_commandfile.specs.declared.line.Line.{Line}
 use Rattle.vsw_host.specs.Outside.{Opened, Outside, Rose}
 use Rattle.vsw_host.specs.Reading.{piece}
 use Rattle.vsw_host.specs.Told.{TellsHeld, TellsSince}
 use Rattle.vsw_policy.specs.Sound.{Each}
 use Rattle.vsw_policyfile.specs.declared.file.PolicyFile.{PolicyFile}
-use Rattle.vsw_policyfile.specs.declared.file.PolicyFault.{PolicyFault}
-use Rattle.vsw_policyfile.specs.declared.file.PolicyFault.TheVariants as policy_fault
+use Rattle.vsw_policyfile.specs.declared.file.ConfigFault.{ConfigFault}
+use Rattle.vsw_policyfile.specs.declared.file.ConfigFault.TheVariants as policy_fault
 use Rattle.vsw_policyfile.specs.Policy.{policy_file_of}
 use Rattle.vsw_promise.specs.Jobs.{Setting}
 use Rattle.vsw_promise.specs.Words.{Request}
@@ -61,7 +61,7 @@ pub record Opens (old new : Outside) (q : Request) (files : List Opened) : Type 
   pub in_turn : InTurn q files
 
 -- a file over its limit is read no further than one piece past it. Any other fault is shown by the whole file
-abbrev pub ShowsPolicy : PolicyFault → Opened → Type 0
+abbrev pub ShowsPolicy : ConfigFault → Opened → Type 0
 ShowsPolicy policy_fault.PolicyLimit f = (most_policy < f.read) × (f.read ≤ most_policy + piece)
 ShowsPolicy why f = IsWhole f
 
@@ -70,7 +70,7 @@ ShowsCommands commands_fault.CommandsLimit f = (most_commands < f.read) × (f.re
 ShowsCommands why f = IsWhole f
 
 -- the policy is refused, or over a limit, and no other file was opened. No bytes give the fault Memory: a run without memory ends by that
-pub record HasBadPolicy (files : List Opened) (why : PolicyFault) : Type 0 where
+pub record HasBadPolicy (files : List Opened) (why : ConfigFault) : Type 0 where
   pub policy : Opened
   pub only : files ≡ policy ∷ []
   pub shown : ShowsPolicy why policy

@@ -4,7 +4,7 @@ use Rattle.std.specs.List.{flat_map}
 use Rattle.vsw_base.specs.declared.flow.Crossing.{Crossing}
 use Rattle.vsw_base.specs.declared.flow.Place.{Place}
 use Rattle.vsw_base.specs.Frame.{Parts, sizes_of}
-use Rattle.vsw_commandline.specs.declared.line.Line.{Line}
+use Rattle.vsw_commandfile.specs.declared.line.Line.{Line}
 use Rattle.vsw_flowid.specs.Sum.{flow_sum_of}
 use Rattle.vsw_pcap.specs.declared.capture.Record.{Record}
 use Rattle.vsw_policyfile.specs.declared.file.PolicyFile.{PolicyFile}

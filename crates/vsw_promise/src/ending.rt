@@ -2,7 +2,7 @@
 
 use vsw_commandfile::CommandsFault;
 use vsw_pcap::BadTrace;
-use vsw_policyfile::PolicyFault;
+use vsw_policyfile::ConfigFault;
 
 /// How a run ended, with what the complaint names.
 #[derive(Drop)]
@@ -16,7 +16,7 @@ pub enum Ending {
     /// The report couldn't be put.
     WriteFault,
     /// The policy is refused, or over a limit.
-    Policy(PolicyFault),
+    Policy(ConfigFault),
     /// The commands are refused, or over a limit.
     Commands(CommandsFault),
     /// The trace is refused.

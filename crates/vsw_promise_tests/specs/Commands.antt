@@ -1,7 +1,7 @@
 -- Commands that are obeyed and refused, commands past the end of a trace, and a trace that ends early.
 use Rattle.std.specs.Prelude.{◌≡◌, ℕ, ◌+◌, List, [], ◌∷◌, ◌++◌, length, map, true, false, codes}
 use Rattle.vsw_base.specs.declared.packet.Dir.TheVariants.{In}
-use Rattle.vsw_commandline.specs.declared.line.Line.{Line}
+use Rattle.vsw_commandfile.specs.declared.line.Line.{Line}
 use Rattle.vsw_pcap.specs.declared.capture.Record.{Record}
 use Rattle.vsw_policy.specs.declared.command.Command.{Command}
 use Rattle.vsw_policy.specs.declared.command.Command.TheVariants.{AddLayer, AddRule, PutRules, SetDefault}

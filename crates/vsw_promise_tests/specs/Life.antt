@@ -2,7 +2,7 @@
 use Rattle.std.specs.Prelude.{ℕ, List, [], ◌∷◌, length, true, false, codes}
 use Rattle.vsw_base.specs.declared.packet.Dir.TheVariants.{Out}
 use Rattle.vsw_base.specs.Hexadecimal.{spelled}
-use Rattle.vsw_commandline.specs.declared.line.Line.{Line}
+use Rattle.vsw_commandfile.specs.declared.line.Line.{Line}
 use Rattle.vsw_pcap.specs.declared.capture.Record.{Record}
 use Rattle.vsw_policy.specs.declared.command.Command.TheVariants.{Sweep}
 use Rattle.vsw_policyfile.specs.declared.file.PolicyFile.{PolicyFile}

@@ -1,1 +1,4 @@
 pub mod Rule
+pub mod Condition
+pub mod Action
+pub mod Field

@@ -15,8 +15,8 @@ use Rattle.vsw_jsonfile.specs.Fault.{◌>>=◌, bad}
 use Rattle.vsw_jsonfile.specs.Object.{object_among, read_in}
 use Rattle.vsw_jsonfile.specs.Value.{short_of, truth_of, text_of, value_for}
 use Rattle.vsw_jsonfile.specs.List.{items_to, items_after}
-use Rattle.vsw_rulepart.specs.Condition.{conds_of}
-use Rattle.vsw_rulepart.specs.Action.{action_of}
+use Rattle.vsw_rulefile.specs.Condition.{conds_of}
+use Rattle.vsw_rulefile.specs.Action.{action_of}
 
 -- a number that no rule so far has
 unfoldable pub fresh_rule : List Rule → Data → Result ℕ Fault

@@ -8,6 +8,7 @@ ghost use Rattle.vsw_jsonfile.specs.Fault.{Says};
 ghost use Rattle.vsw_jsonfile.specs.Object.{read_in};
 ghost use Rattle.vsw_rulefile.specs.Rule.{fresh_group, dir_for, dir_of, group_of, groups_of};
 
+use crate::condition::conds_in;
 use crate::rule::rules_in;
 use serde_json::Value;
 use std::alloc::Global;
@@ -17,7 +18,6 @@ use vsw_jsonfile::{
     value_in,
 };
 use vsw_rule::Group;
-use vsw_rulepart::conds_in;
 
 /// The most groups of a layer.
 const MOST_GROUPS: usize = 32;

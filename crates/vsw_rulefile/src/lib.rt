@@ -3,8 +3,12 @@
 //! Each level of the file is a function over its value, and a definition of the same shape in specs/.
 #![tactic(auto)]
 
+mod action;
+mod condition;
+mod field;
 mod group;
 mod rule;
 
+pub use condition::conds_in;
 pub use group::{dir_in, groups_in};
 pub use rule::{one_rule, rules_in};

@@ -9,6 +9,8 @@ ghost use Rattle.vsw_jsonfile.specs.Object.{read_in};
 ghost use Rattle.vsw_rulefile.specs.Rule.{fresh_rule, rule_of, rules_of};
 ghost use Rattle.vsw_rulefile.specs.Rule as spec;
 
+use crate::action::action_in;
+use crate::condition::conds_in;
 use serde_json::Value;
 use std::alloc::Global;
 use vsw_base::Items;
@@ -17,7 +19,6 @@ use vsw_jsonfile::{
     truth_in, under_step, value_in,
 };
 use vsw_rule::Rule;
-use vsw_rulepart::{action_in, conds_in};
 
 /// The most rules of a group.
 const MOST_RULES: usize = 1024;

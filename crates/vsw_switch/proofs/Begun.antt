@@ -2,8 +2,8 @@
 use Rattle.std.proofs.Common.{◌≡◌, zero, suc, ◌<◌, ◌≤◌, ◌+◌, ℕ, List, [], ◌∷◌, ◌++◌, map, length, take, drop, get_or, refl, ap, sym, subst, ◌∙◌, arith, append_assoc}
 use Rattle.std.specs.List.{slice_set}
 use Rattle.std.proofs.lemmas.List.{length-map}
-use Rattle.vsw_goodfile.specs.Good.{AreGoodPorts, IsGoodPolicy}
-use Rattle.vsw_layerfile.specs.declared.file.LayerFile.{LayerFile}
+use Rattle.vsw_policyfile.specs.Good.{AreGoodPorts, IsGoodPolicy}
+use Rattle.vsw_policyfile.specs.declared.file.LayerFile.{LayerFile}
 use Rattle.vsw_policy.proofs.Keeps.{each-placed}
 use Rattle.vsw_policy.specs.Sound.{Each}
 use Rattle.vsw_port.specs.Core.{AreAtMost}

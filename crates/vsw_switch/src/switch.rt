@@ -3,7 +3,7 @@
 ghost use Rattle.std.specs.Prelude.{◌≡◌, ◌≤◌, ◌<◌, ◌+◌, ◌-◌, ◌^◌, ◌++◌, [], ℕ, Some, length, map, OnOk, IfOk, Ok};
 ghost use Rattle.vsw_flowid.specs.Port.{choose};
 ghost use Rattle.vsw_frame.specs.Frame.{parts};
-ghost use Rattle.vsw_goodfile.specs.Good.{IsGoodPolicy};
+ghost use Rattle.vsw_policyfile.specs.Good.{IsGoodPolicy};
 ghost use Rattle.vsw_policy.specs.Sound.{Each};
 ghost use Rattle.vsw_port.specs.Core.{AreAtMost};
 ghost use Rattle.vsw_ports.specs.Ports.{port_seen, ports_of};

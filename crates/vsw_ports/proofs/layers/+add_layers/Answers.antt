@@ -1,5 +1,5 @@
 use Rattle.std.proofs.Common.{◌-◌, rules, length, take, drop, map, List, subst, ap}
-use Rattle.vsw_layerfile.specs.declared.file.LayerFile.{LayerFile}
+use Rattle.vsw_policyfile.specs.declared.file.LayerFile.{LayerFile}
 use Rattle.vsw_ports.specs.File.{AreLayers}
 use Rattle.vsw_ports.specs.Ports.{whole}
 use Rattle.vsw_ports.proofs.Placing.{layers-rest, layer-new, layer-room}

@@ -1,0 +1,93 @@
+-- The command of a line, by what it is to do.
+use Rattle.std.specs.Prelude.{List, [], Result, Ok}
+use Rattle.serde_json.specs.Data.{Data}
+use Rattle.vsw_rule.specs.declared.rule.Rule.{Rule}
+use Rattle.vsw_policy.specs.declared.command.Command.{Command}
+use Rattle.vsw_policy.specs.declared.command.Command.TheVariants as command
+use Rattle.vsw_jsonfile.specs.declared.fault.Fault.{Fault}
+use Rattle.vsw_jsonfile.specs.declared.word.Word.TheVariants as word
+use Rattle.vsw_jsonfile.specs.Fault.{◌>>=◌}
+use Rattle.vsw_jsonfile.specs.Object.{read_in}
+use Rattle.vsw_jsonfile.specs.Value.{short_of, whole_of}
+use Rattle.vsw_jsonfile.specs.List.{items_in, items_after}
+use Rattle.vsw_rulefile.specs.Condition.{conds_of}
+use Rattle.vsw_rulefile.specs.Rule.{rule_of, dir_of}
+use Rattle.vsw_policyfile.specs.Layer.{allows_of, spec_in}
+use Rattle.vsw_commandfile.specs.declared.verb.Verb.{Verb}
+use Rattle.vsw_commandfile.specs.declared.verb.Verb.TheVariants as verb
+
+-- rules, each read as if it stood alone: they may be any number, and have one number
+unfoldable pub rules_of : Data → Result (List Rule) Fault
+rules_of d = items_in d >>= items_after (λ done. rule_of []) []
+
+unfoldable pub add_layer : Data → Result Command Fault
+add_layer o = do
+  layer ← read_in word.Layer o short_of
+  spec ← spec_in layer o
+  Ok (command.AddLayer spec)
+
+unfoldable pub remove_layer : Data → Result Command Fault
+remove_layer o = do
+  layer ← read_in word.Layer o short_of
+  Ok (command.RemoveLayer layer)
+
+unfoldable pub add_group : Data → Result Command Fault
+add_group o = do
+  layer ← read_in word.Layer o short_of
+  group ← read_in word.Group o short_of
+  dir ← read_in word.Dir o dir_of
+  when ← read_in word.WhenAll o conds_of
+  Ok (command.AddGroup layer group dir when)
+
+unfoldable pub remove_group : Data → Result Command Fault
+remove_group o = do
+  layer ← read_in word.Layer o short_of
+  group ← read_in word.Group o short_of
+  Ok (command.RemoveGroup layer group)
+
+unfoldable pub put_rules : Data → Result Command Fault
+put_rules o = do
+  layer ← read_in word.Layer o short_of
+  group ← read_in word.Group o short_of
+  rules ← read_in word.Rules o rules_of
+  Ok (command.PutRules layer group rules)
+
+unfoldable pub add_rule : Data → Result Command Fault
+add_rule o = do
+  layer ← read_in word.Layer o short_of
+  group ← read_in word.Group o short_of
+  rule ← read_in word.Rule o (rule_of [])
+  Ok (command.AddRule layer group rule)
+
+unfoldable pub remove_rule : Data → Result Command Fault
+remove_rule o = do
+  layer ← read_in word.Layer o short_of
+  group ← read_in word.Group o short_of
+  number ← read_in word.Rule o short_of
+  Ok (command.RemoveRule layer group number)
+
+unfoldable pub set_default : Data → Result Command Fault
+set_default o = do
+  layer ← read_in word.Layer o short_of
+  dir ← read_in word.Dir o dir_of
+  allow ← read_in word.Default o allows_of
+  Ok (command.SetDefault layer dir allow)
+
+-- the moment is in microseconds
+unfoldable pub sweep : Data → Result Command Fault
+sweep o = do
+  layer ← read_in word.Layer o short_of
+  now ← read_in word.Now o whole_of
+  Ok (command.Sweep layer now)
+
+-- what a line asks for that is to do this
+abbrev pub command_of : Verb → Data → Result Command Fault
+command_of verb.AddLayer o = add_layer o
+command_of verb.RemoveLayer o = remove_layer o
+command_of verb.AddGroup o = add_group o
+command_of verb.RemoveGroup o = remove_group o
+command_of verb.PutRules o = put_rules o
+command_of verb.AddRule o = add_rule o
+command_of verb.RemoveRule o = remove_rule o
+command_of verb.SetDefault o = set_default o
+command_of verb.Sweep o = sweep o

@@ -1,0 +1,85 @@
+//! What a line is to do, and the names of its members.
+
+ghost use Rattle.std.specs.Prelude.{◌≡◌};
+ghost use Rattle.serde_json.specs.View.{view};
+ghost use Rattle.vsw_jsonfile.specs.declared.word.Word.TheVariants as word;
+ghost use Rattle.vsw_jsonfile.specs.Fault.{Says};
+ghost use Rattle.vsw_jsonfile.specs.Object.{read_in};
+ghost use Rattle.vsw_commandfile.specs.Verb.{verb_for, verb_of, names_of};
+
+use serde_json::Value;
+use std::alloc::Global;
+use vsw_jsonfile::{Fault, Kind, Step, Word, here, text, under_step, value_in};
+
+/// What a line is to do, each a command of the same name.
+#[derive(Clone, Copy)]
+pub enum Verb {
+    AddLayer,
+    RemoveLayer,
+    AddGroup,
+    RemoveGroup,
+    PutRules,
+    AddRule,
+    RemoveRule,
+    SetDefault,
+    Sweep,
+}
+
+#[tactic(auto, unfolding(crate::specs::Verb::verb_for))]
+fn verb_named(alloc: Global, name: &str) -> Result<Verb, Fault>
+    ensures { result ≡ verb_for name.now }
+{
+    match name {
+        "add_layer" => Ok(Verb::AddLayer),
+        "remove_layer" => Ok(Verb::RemoveLayer),
+        "add_group" => Ok(Verb::AddGroup),
+        "remove_group" => Ok(Verb::RemoveGroup),
+        "put_rules" => Ok(Verb::PutRules),
+        "add_rule" => Ok(Verb::AddRule),
+        "remove_rule" => Ok(Verb::RemoveRule),
+        "set_default" => Ok(Verb::SetDefault),
+        "sweep" => Ok(Verb::Sweep),
+        _ => Err(here(alloc, Kind::Shape)),
+    }
+}
+
+fn verb_from(alloc: Global, value: &Value) -> Result<Verb, Fault>
+    ensures { result ≡ verb_of (view value.now) }
+{
+    let name = text(alloc, value)?;
+    verb_named(alloc, name)
+}
+
+/// What a line is to do.
+#[tactic(auto, unfolding(vsw_jsonfile::specs::Object::read_in))]
+pub(crate) fn verb_in(alloc: Global, object: &Value) -> Result<Verb, Fault>
+    ensures { Says result (read_in word.Do (view object.now) verb_of) }
+{
+    let value = value_in(alloc, object, Word::Do)?;
+    let verb = under_step(Step::Member(Word::Do), verb_from(alloc, value))?;
+    Ok(verb)
+}
+
+/// The names of all members: those that each line has, and these.
+macro_rules! names {
+    ($($further:ident),*) => {
+        &[Word::At, Word::When, Word::Controller, Word::Port, Word::Do, $(Word::$further),*]
+    };
+}
+
+/// The names of all members of a line that is to do this.
+pub(crate) fn names(verb: Verb) -> &'static [Word]
+    ensures { result.now ≡ names_of verb }
+{
+    match verb {
+        Verb::AddLayer => names!(Layer, Order, DefaultOut, DefaultIn, Pairs, Idle, Linger),
+        Verb::RemoveLayer => names!(Layer),
+        Verb::AddGroup => names!(Layer, Group, Dir, WhenAll),
+        Verb::RemoveGroup => names!(Layer, Group),
+        Verb::PutRules => names!(Layer, Group, Rules),
+        Verb::AddRule => names!(Layer, Group, Rule),
+        Verb::RemoveRule => names!(Layer, Group, Rule),
+        Verb::SetDefault => names!(Layer, Dir, Default),
+        Verb::Sweep => names!(Layer, Now),
+    }
+}

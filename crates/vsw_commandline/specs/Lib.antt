@@ -1,3 +1,0 @@
-pub mod Verb
-pub mod Command
-pub mod Line

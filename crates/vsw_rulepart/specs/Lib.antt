@@ -1,3 +1,0 @@
-pub mod Condition
-pub mod Action
-pub mod Field

@@ -2,9 +2,7 @@
 
 ghost use Rattle.std.specs.Prelude.{◌≡◌, []};
 ghost use Rattle.serde_json.specs.View.{view};
-ghost use Rattle.vsw_jsonfile.specs.declared.word.Word.TheVariants as word;
 ghost use Rattle.vsw_jsonfile.specs.Fault.{Says};
-ghost use Rattle.vsw_jsonfile.specs.Object.{read_in};
 ghost use Rattle.vsw_jsonfile.specs.Value.{whole_of};
 ghost use Rattle.vsw_rulefile.specs.Rule.{rule_of};
 ghost use Rattle.vsw_commandfile.specs.Command as spec;
@@ -13,66 +11,61 @@ use crate::verb::Verb;
 use serde_json::Value;
 use std::alloc::Global;
 use vsw_base::{Items, Moment};
-use vsw_jsonfile::{
-    Fault, ReadItem, Step, Word, items, list, short_in, under_step, value_in, whole,
-};
+use vsw_jsonfile::{Fault, ReadItem, ReadValue, ShortReader, Word, items, list, member, whole};
 use vsw_policy::Command;
-use vsw_policyfile::{allows_in, spec_in};
+use vsw_policyfile::{AllowsReader, spec_in};
 use vsw_rule::Rule;
-use vsw_rulefile::{conds_in, dir_in, one_rule};
+use vsw_rulefile::{CondsReader, DirReader, one_rule};
 
-/// Reads rules each of which stands alone: no two are compared.
+/// Reads a rule alone: it is compared with no other.
 struct AloneReader;
+
+impl ReadValue<Rule> for AloneReader {
+    ghost value_of = { λ reader. rule_of [] };
+
+    fn value(&self, alloc: Global, value: &Value) -> Result<Rule, Fault> {
+        one_rule(alloc, &[], value)
+    }
+}
 
 impl ReadItem<Rule> for AloneReader {
     ghost item_of = { λ reader done. rule_of [] };
 
     fn item(&self, alloc: Global, _done: &[Rule], value: &Value) -> Result<Rule, Fault> {
-        one_rule(alloc, &[], value)
+        self.value(alloc, value)
     }
 }
 
-#[tactic(auto, unfolding(crate::specs::Command::rules_of))]
-fn rules(alloc: Global, value: &Value) -> Result<Items<Rule>, Fault>
-    ensures { Says result (spec.rules_of (view value.now)) }
-{
-    let values = items(alloc, value)?;
-    let rules = list(alloc, &AloneReader, values)?;
-    Ok(rules)
+struct RulesReader;
+
+impl ReadValue<Items<Rule>> for RulesReader {
+    ghost value_of = { λ reader. spec.rules_of };
+
+    #[tactic(auto, unfolding(crate::specs::Command::rules_of))]
+    fn value(&self, alloc: Global, value: &Value) -> Result<Items<Rule>, Fault> {
+        let values = items(alloc, value)?;
+        let rules = list(alloc, &AloneReader, values)?;
+        Ok(rules)
+    }
 }
 
-#[tactic(auto, unfolding(vsw_jsonfile::specs::Object::read_in))]
-fn rules_in(alloc: Global, object: &Value) -> Result<Items<Rule>, Fault>
-    ensures { Says result (read_in word.Rules (view object.now) spec.rules_of) }
-{
-    let value = value_in(alloc, object, Word::Rules)?;
-    let rules = under_step(Step::Member(Word::Rules), rules(alloc, value))?;
-    Ok(rules)
-}
+/// Reads a moment, in microseconds.
+struct MomentReader;
 
-#[tactic(auto, unfolding(vsw_jsonfile::specs::Object::read_in))]
-fn rule_in(alloc: Global, object: &Value) -> Result<Rule, Fault>
-    ensures { Says result (read_in word.Rule (view object.now) (rule_of [])) }
-{
-    let value = value_in(alloc, object, Word::Rule)?;
-    let rule = under_step(Step::Member(Word::Rule), one_rule(alloc, &[], value))?;
-    Ok(rule)
-}
+impl ReadValue<Moment> for MomentReader {
+    ghost value_of = { λ reader. whole_of };
 
-#[tactic(auto, unfolding(vsw_jsonfile::specs::Object::read_in))]
-fn moment_in(alloc: Global, object: &Value) -> Result<Moment, Fault>
-    ensures { Says result (read_in word.Now (view object.now) whole_of) }
-{
-    let value = value_in(alloc, object, Word::Now)?;
-    let micros = under_step(Step::Member(Word::Now), whole(alloc, value))?;
-    Ok(Moment::of(micros))
+    fn value(&self, alloc: Global, value: &Value) -> Result<Moment, Fault> {
+        let micros = whole(alloc, value)?;
+        Ok(Moment::of(micros))
+    }
 }
 
 #[tactic(auto, unfolding(crate::specs::Command::add_layer))]
 fn add_layer(alloc: Global, object: &Value) -> Result<Command, Fault>
     ensures { Says result (spec.add_layer (view object.now)) }
 {
-    let layer = short_in(alloc, object, Word::Layer)?;
+    let layer = member(alloc, object, Word::Layer, &ShortReader)?;
     let spec = spec_in(alloc, layer, object)?;
     Ok(Command::AddLayer { spec })
 }
@@ -81,7 +74,7 @@ fn add_layer(alloc: Global, object: &Value) -> Result<Command, Fault>
 fn remove_layer(alloc: Global, object: &Value) -> Result<Command, Fault>
     ensures { Says result (spec.remove_layer (view object.now)) }
 {
-    let layer = short_in(alloc, object, Word::Layer)?;
+    let layer = member(alloc, object, Word::Layer, &ShortReader)?;
     Ok(Command::RemoveLayer { layer })
 }
 
@@ -89,10 +82,10 @@ fn remove_layer(alloc: Global, object: &Value) -> Result<Command, Fault>
 fn add_group(alloc: Global, object: &Value) -> Result<Command, Fault>
     ensures { Says result (spec.add_group (view object.now)) }
 {
-    let layer = short_in(alloc, object, Word::Layer)?;
-    let group = short_in(alloc, object, Word::Group)?;
-    let dir = dir_in(alloc, object, Word::Dir)?;
-    let when = conds_in(alloc, object, Word::WhenAll)?;
+    let layer = member(alloc, object, Word::Layer, &ShortReader)?;
+    let group = member(alloc, object, Word::Group, &ShortReader)?;
+    let dir = member(alloc, object, Word::Dir, &DirReader)?;
+    let when = member(alloc, object, Word::WhenAll, &CondsReader)?;
     Ok(Command::AddGroup {
         layer,
         group,
@@ -105,8 +98,8 @@ fn add_group(alloc: Global, object: &Value) -> Result<Command, Fault>
 fn remove_group(alloc: Global, object: &Value) -> Result<Command, Fault>
     ensures { Says result (spec.remove_group (view object.now)) }
 {
-    let layer = short_in(alloc, object, Word::Layer)?;
-    let group = short_in(alloc, object, Word::Group)?;
+    let layer = member(alloc, object, Word::Layer, &ShortReader)?;
+    let group = member(alloc, object, Word::Group, &ShortReader)?;
     Ok(Command::RemoveGroup { layer, group })
 }
 
@@ -114,9 +107,9 @@ fn remove_group(alloc: Global, object: &Value) -> Result<Command, Fault>
 fn put_rules(alloc: Global, object: &Value) -> Result<Command, Fault>
     ensures { Says result (spec.put_rules (view object.now)) }
 {
-    let layer = short_in(alloc, object, Word::Layer)?;
-    let group = short_in(alloc, object, Word::Group)?;
-    let rules = rules_in(alloc, object)?;
+    let layer = member(alloc, object, Word::Layer, &ShortReader)?;
+    let group = member(alloc, object, Word::Group, &ShortReader)?;
+    let rules = member(alloc, object, Word::Rules, &RulesReader)?;
     Ok(Command::PutRules {
         layer,
         group,
@@ -128,9 +121,9 @@ fn put_rules(alloc: Global, object: &Value) -> Result<Command, Fault>
 fn add_rule(alloc: Global, object: &Value) -> Result<Command, Fault>
     ensures { Says result (spec.add_rule (view object.now)) }
 {
-    let layer = short_in(alloc, object, Word::Layer)?;
-    let group = short_in(alloc, object, Word::Group)?;
-    let rule = rule_in(alloc, object)?;
+    let layer = member(alloc, object, Word::Layer, &ShortReader)?;
+    let group = member(alloc, object, Word::Group, &ShortReader)?;
+    let rule = member(alloc, object, Word::Rule, &AloneReader)?;
     Ok(Command::AddRule { layer, group, rule })
 }
 
@@ -138,9 +131,9 @@ fn add_rule(alloc: Global, object: &Value) -> Result<Command, Fault>
 fn remove_rule(alloc: Global, object: &Value) -> Result<Command, Fault>
     ensures { Says result (spec.remove_rule (view object.now)) }
 {
-    let layer = short_in(alloc, object, Word::Layer)?;
-    let group = short_in(alloc, object, Word::Group)?;
-    let number = short_in(alloc, object, Word::Rule)?;
+    let layer = member(alloc, object, Word::Layer, &ShortReader)?;
+    let group = member(alloc, object, Word::Group, &ShortReader)?;
+    let number = member(alloc, object, Word::Rule, &ShortReader)?;
     Ok(Command::RemoveRule {
         layer,
         group,
@@ -152,9 +145,9 @@ fn remove_rule(alloc: Global, object: &Value) -> Result<Command, Fault>
 fn set_default(alloc: Global, object: &Value) -> Result<Command, Fault>
     ensures { Says result (spec.set_default (view object.now)) }
 {
-    let layer = short_in(alloc, object, Word::Layer)?;
-    let dir = dir_in(alloc, object, Word::Dir)?;
-    let allow = allows_in(alloc, object, Word::Default)?;
+    let layer = member(alloc, object, Word::Layer, &ShortReader)?;
+    let dir = member(alloc, object, Word::Dir, &DirReader)?;
+    let allow = member(alloc, object, Word::Default, &AllowsReader)?;
     Ok(Command::SetDefault { layer, dir, allow })
 }
 
@@ -162,8 +155,8 @@ fn set_default(alloc: Global, object: &Value) -> Result<Command, Fault>
 fn sweep(alloc: Global, object: &Value) -> Result<Command, Fault>
     ensures { Says result (spec.sweep (view object.now)) }
 {
-    let layer = short_in(alloc, object, Word::Layer)?;
-    let now = moment_in(alloc, object)?;
+    let layer = member(alloc, object, Word::Layer, &ShortReader)?;
+    let now = member(alloc, object, Word::Now, &MomentReader)?;
     Ok(Command::Sweep { layer, now })
 }
 

@@ -1,23 +1,18 @@
 //! A line of a commands file.
-#![tactic(auto, unfolding(vsw_jsonfile::specs::Object::read_in))]
 
 ghost use Rattle.std.specs.Prelude.{◌≡◌, ◌==◌};
 ghost use Rattle.std.specs.List.{list_any};
 ghost use Rattle.serde_json.specs.View.{view};
-ghost use Rattle.vsw_jsonfile.specs.declared.word.Word.TheVariants as word;
 ghost use Rattle.vsw_jsonfile.specs.Fault.{Says};
-ghost use Rattle.vsw_jsonfile.specs.Object.{read_in};
-ghost use Rattle.vsw_commandfile.specs.Line.{during_for, during_of, port_number, packet_of, is_port, line_of};
+ghost use Rattle.vsw_commandfile.specs.Line.{during_for, during_of, port_number, is_port, line_of};
 
 use crate::command::command;
-use crate::verb::{names, verb_in};
+use crate::verb::{VerbReader, names};
 use serde_json::Value;
 use std::alloc::Global;
-use vsw_jsonfile::{
-    Fault, Kind, Step, Word, here, number_in, object_in, short, text, under_step, value_in,
-};
+use vsw_jsonfile::{Fault, Kind, ReadValue, Word, here, member, number_in, object_in, short, text};
 use vsw_policy::Command;
-use vsw_policyfile::{PolicyFile, PortFile, listed_in};
+use vsw_policyfile::{ControllerReader, PolicyFile, PortFile};
 
 /// A line of a commands file.
 #[derive(Drop)]
@@ -45,19 +40,15 @@ fn during_named(alloc: Global, name: &str) -> Result<bool, Fault>
     }
 }
 
-fn during(alloc: Global, value: &Value) -> Result<bool, Fault>
-    ensures { result ≡ during_of (view value.now) }
-{
-    let name = text(alloc, value)?;
-    during_named(alloc, name)
-}
+struct DuringReader;
 
-fn during_in(alloc: Global, object: &Value) -> Result<bool, Fault>
-    ensures { Says result (read_in word.When (view object.now) during_of) }
-{
-    let value = value_in(alloc, object, Word::When)?;
-    let during = under_step(Step::Member(Word::When), during(alloc, value))?;
-    Ok(during)
+impl ReadValue<bool> for DuringReader {
+    ghost value_of = { λ reader. during_of };
+
+    fn value(&self, alloc: Global, value: &Value) -> Result<bool, Fault> {
+        let name = text(alloc, value)?;
+        during_named(alloc, name)
+    }
 }
 
 fn has_port(number: u16, ports: &[PortFile]) -> bool
@@ -66,37 +57,30 @@ fn has_port(number: u16, ports: &[PortFile]) -> bool
     ports.iter().any(|port| port.port == number)
 }
 
-#[tactic(auto, unfolding(crate::specs::Line::port_number))]
-fn port(alloc: Global, ports: &[PortFile], value: &Value) -> Result<u16, Fault>
-    ensures { result ≡ port_number ports.now (view value.now) }
-{
-    let number = short(alloc, value)?;
-    if has_port(number, ports) {
-        Ok(number)
-    } else {
-        Err(here(alloc, Kind::Unknown))
+/// Reads the number of one of these ports.
+#[derive(Drop)]
+struct PortReader<'a> {
+    ports: &'a [PortFile],
+}
+
+impl<'a> ReadValue<u16> for PortReader<'a> {
+    ghost value_of = { λ reader. port_number reader.ports.now };
+
+    #[tactic(auto, unfolding(crate::specs::Line::port_number))]
+    fn value(&self, alloc: Global, value: &Value) -> Result<u16, Fault> {
+        let number = short(alloc, value)?;
+        if has_port(number, self.ports) {
+            Ok(number)
+        } else {
+            Err(here(alloc, Kind::Unknown))
+        }
     }
-}
-
-fn port_in(alloc: Global, ports: &[PortFile], object: &Value) -> Result<u16, Fault>
-    ensures { Says result (read_in word.Port (view object.now) (port_number ports.now)) }
-{
-    let value = value_in(alloc, object, Word::Port)?;
-    let port = under_step(Step::Member(Word::Port), port(alloc, ports, value))?;
-    Ok(port)
-}
-
-fn packet_in(alloc: Global, object: &Value) -> Result<u32, Fault>
-    ensures { Says result (read_in word.At (view object.now) packet_of) }
-{
-    let packet = number_in(alloc, 0, u32::MAX, object, Word::At)?;
-    Ok(packet)
 }
 
 /// The line that an object of the commands file is, with its number there. What is no object lacks the
 /// first member.
 #[tactic(auto, unfolding(crate::specs::Line::line_of))]
-pub fn one_line(
+pub(crate) fn one_line(
     alloc: Global,
     policy: &PolicyFile,
     number: u32,
@@ -104,11 +88,13 @@ pub fn one_line(
 ) -> Result<Line, Fault>
     ensures { Says result (line_of policy.now number (view value.now)) }
 {
-    let at = packet_in(alloc, value)?;
-    let during = during_in(alloc, value)?;
-    let controller = listed_in(alloc, policy.controllers.as_slice(), value)?;
-    let port = port_in(alloc, policy.ports.as_slice(), value)?;
-    let verb = verb_in(alloc, value)?;
+    let known = policy.controllers.as_slice();
+    let ports = policy.ports.as_slice();
+    let at = number_in(alloc, 0, u32::MAX, value, Word::At)?;
+    let during = member(alloc, value, Word::When, &DuringReader)?;
+    let controller = member(alloc, value, Word::Controller, &ControllerReader { known })?;
+    let port = member(alloc, value, Word::Port, &PortReader { ports })?;
+    let verb = member(alloc, value, Word::Do, &VerbReader)?;
     let object = object_in(alloc, names(verb), value)?;
     let command = command(alloc, verb, object)?;
     Ok(Line {

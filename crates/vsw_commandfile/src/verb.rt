@@ -1,15 +1,11 @@
 //! What a line is to do, and the names of its members.
 
 ghost use Rattle.std.specs.Prelude.{◌≡◌};
-ghost use Rattle.serde_json.specs.View.{view};
-ghost use Rattle.vsw_jsonfile.specs.declared.word.Word.TheVariants as word;
-ghost use Rattle.vsw_jsonfile.specs.Fault.{Says};
-ghost use Rattle.vsw_jsonfile.specs.Object.{read_in};
 ghost use Rattle.vsw_commandfile.specs.Verb.{verb_for, verb_of, names_of};
 
 use serde_json::Value;
 use std::alloc::Global;
-use vsw_jsonfile::{Fault, Kind, Step, Word, here, text, under_step, value_in};
+use vsw_jsonfile::{Fault, Kind, ReadValue, Word, here, text};
 
 /// What a line is to do, each a command of the same name.
 #[derive(Clone, Copy)]
@@ -43,21 +39,16 @@ fn verb_named(alloc: Global, name: &str) -> Result<Verb, Fault>
     }
 }
 
-fn verb_from(alloc: Global, value: &Value) -> Result<Verb, Fault>
-    ensures { result ≡ verb_of (view value.now) }
-{
-    let name = text(alloc, value)?;
-    verb_named(alloc, name)
-}
+/// Reads what a line is to do.
+pub(crate) struct VerbReader;
 
-/// What a line is to do.
-#[tactic(auto, unfolding(vsw_jsonfile::specs::Object::read_in))]
-pub(crate) fn verb_in(alloc: Global, object: &Value) -> Result<Verb, Fault>
-    ensures { Says result (read_in word.Do (view object.now) verb_of) }
-{
-    let value = value_in(alloc, object, Word::Do)?;
-    let verb = under_step(Step::Member(Word::Do), verb_from(alloc, value))?;
-    Ok(verb)
+impl ReadValue<Verb> for VerbReader {
+    ghost value_of = { λ reader. verb_of };
+
+    fn value(&self, alloc: Global, value: &Value) -> Result<Verb, Fault> {
+        let name = text(alloc, value)?;
+        verb_named(alloc, name)
+    }
 }
 
 /// The names of all members: those that each line has, and these.

@@ -1,5 +1,5 @@
 -- Lists.
-use Rattle.std.specs.Prelude.{ℕ, ◌==◌, List, [], ◌∷◌, ◌++◌, length, nat_le, Result, Ok, option_map, if◌then◌else◌}
+use Rattle.std.specs.Prelude.{ℕ, ◌==◌, Bool, List, [], ◌∷◌, ◌++◌, length, nat_le, Result, Ok, option_map, if◌then◌else◌}
 use Rattle.std.specs.List.{list_any}
 use Rattle.serde_json.specs.Data.{Data, Items, no_items, item}
 use Rattle.serde_json.specs.Find.{as_array}
@@ -26,10 +26,10 @@ abbrev pub items_after : {A : Type 0} → (List A → Data → Result A Fault) �
 items_after f done [] = Ok done
 items_after f done (d ∷ ds) = under (Place (length done)) (f done d) >>= (λ x. items_after f (done ++ x ∷ []) ds)
 
--- a number that doesn't stand there yet
-abbrev pub fresh : List ℕ → ℕ → Result ℕ Fault
-fresh done n = if list_any (λ m. m == n) done then bad Twice else Ok n
+-- a value, unless it stands there already
+abbrev pub fresh : {A : Type 0} → Bool → A → Result A Fault
+fresh is_taken x = if is_taken then bad Twice else Ok x
 
--- one, read
+-- a number that doesn't stand there yet
 abbrev pub fresh_number : List ℕ → Data → Result ℕ Fault
-fresh_number done d = short_of d >>= fresh done
+fresh_number done d = short_of d >>= (λ n. fresh (list_any (λ m. m == n) done) n)

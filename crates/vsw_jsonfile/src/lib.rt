@@ -10,10 +10,9 @@ mod word;
 
 pub use bytes::json;
 pub use fault::{Fault, Kind, Step, here, under_step};
-pub use lists::{FreshNumbers, ReadItem, items, items_up_to, list};
-pub use object::{member_if, object_in, value_in};
+pub use lists::{FreshNumbers, ReadItem, fresh, items, items_in, items_up_to, list};
+pub use object::{ReadValue, member, member_if, object_in};
 pub use value::{
-    ip4, ip4_if, ip4_in, mac, mac_if, mac_in, number_in, short, short_if, short_in, text, truth_in,
-    whole,
+    Ip4Reader, MacReader, ShortReader, TruthReader, ip4, mac, number_in, short, text, whole,
 };
 pub use word::Word;

@@ -5,11 +5,14 @@ ghost use Rattle.std.specs.List.{list_any};
 ghost use Rattle.serde_json.specs.View.{view};
 ghost use Rattle.serde_json.specs.Data.{Data};
 ghost use Rattle.vsw_jsonfile.specs.declared.fault.Fault.{Fault};
+ghost use Rattle.vsw_jsonfile.specs.Object.{read_in};
 ghost use Rattle.vsw_jsonfile.specs.Fault.{Says, Grows, seen};
 ghost use Rattle.vsw_jsonfile.specs.List.{items_in, items_to, items_after, fresh, fresh_number};
 
 use crate::fault::{Fault, Kind, Step, here, under_step};
+use crate::object::value_in;
 use crate::value::short;
+use crate::word::Word;
 use serde_json::Value;
 use std::alloc::Global;
 use vsw_base::Items;
@@ -36,6 +39,16 @@ pub fn items_up_to<'a>(alloc: Global, most: usize, value: &'a Value) -> Result<&
     } else {
         Err(here(alloc, Kind::Many))
     }
+}
+
+/// The items of a member that is a list.
+#[tactic(auto, unfolding(crate::specs::Object::read_in))]
+pub fn items_in<'a>(alloc: Global, object: &'a Value, word: Word) -> Result<&'a [Value], Fault>
+    ensures { Says (seen (λ vs. map view vs.now) result) (read_in word (view object.now) items_in) }
+{
+    let value = value_in(alloc, object, word)?;
+    let values = under_step(Step::Member(word), items(alloc, value))?;
+    Ok(values)
 }
 
 /// A reader of the items of a list, with what it must know of the rest of the file.
@@ -71,27 +84,21 @@ pub fn list<T: Drop, R: ReadItem<T>>(
     Ok(done)
 }
 
-fn is_taken(number: u16, done: &[u16]) -> bool
-    ensures { result ≡ list_any (λ m. m == number) done.now }
+/// The value, unless it stands there already.
+pub fn fresh<T: Drop>(alloc: Global, is_taken: bool, value: T) -> Result<T, Fault>
+    ensures { result ≡ fresh is_taken value }
 {
-    done.iter().any(|each| *each == number)
-}
-
-fn fresh_among(alloc: Global, done: &[u16], number: u16) -> Result<u16, Fault>
-    ensures { result ≡ fresh done.now number }
-{
-    if is_taken(number, done) {
+    if is_taken {
         Err(here(alloc, Kind::Twice))
     } else {
-        Ok(number)
+        Ok(value)
     }
 }
 
-fn fresh_short(alloc: Global, done: &[u16], value: &Value) -> Result<u16, Fault>
-    ensures { result ≡ fresh_number done.now (view value.now) }
+fn is_among(number: u16, numbers: &[u16]) -> bool
+    ensures { result ≡ list_any (λ m. m == number) numbers.now }
 {
-    let number = short(alloc, value)?;
-    fresh_among(alloc, done, number)
+    numbers.iter().any(|each| *each == number)
 }
 
 /// Reads numbers of which none stands twice.
@@ -102,6 +109,7 @@ impl ReadItem<u16> for FreshNumbers {
     ghost item_of = { λ reader. fresh_number };
 
     fn item(&self, alloc: Global, done: &[u16], value: &Value) -> Result<u16, Fault> {
-        fresh_short(alloc, done, value)
+        let number = short(alloc, value)?;
+        fresh(alloc, is_among(number, done), number)
     }
 }

@@ -1,15 +1,15 @@
-//! The members of an object.
+//! The members of an object, and those that a reader reads.
 
-ghost use Rattle.std.specs.Prelude.{◌≡◌, string_bytes, option_map};
+ghost use Rattle.std.specs.Prelude.{◌≡◌, string_bytes, Result};
 ghost use Rattle.std.specs.List.{list_all};
 ghost use Rattle.std.specs.BTreeMap.{keys};
 ghost use Rattle.serde_json.specs.View.{view, members_view};
-ghost use Rattle.serde_json.specs.Find.{get};
-ghost use Rattle.vsw_jsonfile.specs.Path.{word_text};
-ghost use Rattle.vsw_jsonfile.specs.Object.{is_among, are_among, has_names_among, object_among, found};
-ghost use Rattle.vsw_jsonfile.specs.Fault.{seen};
+ghost use Rattle.serde_json.specs.Data.{Data};
+ghost use Rattle.vsw_jsonfile.specs.declared.fault.Fault.{Fault};
+ghost use Rattle.vsw_jsonfile.specs.Object.{is_among, are_among, has_names_among, object_among, found, read_in, read_if};
+ghost use Rattle.vsw_jsonfile.specs.Fault.{Says, seen};
 
-use crate::fault::{Fault, Kind, here};
+use crate::fault::{Fault, Kind, Step, here, under_step};
 use crate::word::{Word, is_known};
 use serde_json::{Map, Value};
 use std::alloc::Global;
@@ -48,7 +48,7 @@ pub fn object_in<'a>(alloc: Global, words: &[Word], value: &'a Value) -> Result<
 }
 
 /// The value of an object's member.
-pub fn value_in<'a>(alloc: Global, object: &'a Value, word: Word) -> Result<&'a Value, Fault>
+pub(crate) fn value_in<'a>(alloc: Global, object: &'a Value, word: Word) -> Result<&'a Value, Fault>
     ensures { seen (λ v. view v.now) result ≡ found word (view object.now) }
 {
     match object.get(word.text()) {
@@ -57,9 +57,44 @@ pub fn value_in<'a>(alloc: Global, object: &'a Value, word: Word) -> Result<&'a 
     }
 }
 
-/// The value of an object's member, if it is there.
-pub fn member_if<'a>(object: &'a Value, word: Word) -> Option<&'a Value>
-    ensures { option_map (λ v. view v.now) result ≡ get (word_text word) (view object.now) }
+/// A reader of values, with what it must know of the rest of the file.
+pub trait ReadValue<T> {
+    ghost value_of: { Self → Data → Result T Fault };
+
+    fn value(&self, alloc: Global, value: &Value) -> Result<T, Fault>
+        ensures { Says result (value_of self.now (view value.now)) };
+}
+
+/// A member's value, read.
+#[tactic(auto, unfolding(crate::specs::Object::read_in))]
+pub fn member<T: Drop, R: ReadValue<T>>(
+    alloc: Global,
+    object: &Value,
+    word: Word,
+    reader: &R,
+) -> Result<T, Fault>
+    ensures { Says result (read_in word (view object.now) (R.ReadValue.value_of reader.now)) }
 {
-    object.get(word.text())
+    let value = value_in(alloc, object, word)?;
+    let read = under_step(Step::Member(word), reader.value(alloc, value))?;
+    Ok(read)
+}
+
+/// A member's value, read if the member is there.
+#[tactic(auto, unfolding(crate::specs::Object::read_if))]
+pub fn member_if<T: Drop, R: ReadValue<T>>(
+    alloc: Global,
+    object: &Value,
+    word: Word,
+    reader: &R,
+) -> Result<Option<T>, Fault>
+    ensures { Says result (read_if word (view object.now) (R.ReadValue.value_of reader.now)) }
+{
+    match object.get(word.text()) {
+        None => Ok(None),
+        Some(value) => {
+            let read = under_step(Step::Member(word), reader.value(alloc, value))?;
+            Ok(Some(read))
+        }
+    }
 }

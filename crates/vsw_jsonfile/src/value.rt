@@ -1,15 +1,13 @@
-//! Numbers, truth values and texts.
-#![tactic(auto, unfolding(crate::specs::Object::read_in, crate::specs::Object::read_if))]
+//! Numbers, truth values and texts, and their readers.
 
 ghost use Rattle.std.specs.Prelude.{◌≡◌, ◌≤◌, IfOk};
 ghost use Rattle.serde_json.specs.View.{view};
-ghost use Rattle.vsw_jsonfile.specs.Object.{read_in, read_if};
+ghost use Rattle.vsw_jsonfile.specs.Object.{read_in};
 ghost use Rattle.vsw_jsonfile.specs.Fault.{Says, seen};
-ghost use Rattle.vsw_jsonfile.specs.Value.{whole_of, number_from, short_of, truth_of, text_of};
-ghost use Rattle.vsw_jsonfile.specs.Value as spec;
+ghost use Rattle.vsw_jsonfile.specs.Value.{whole_of, number_from, short_of, truth_of, text_of, mac_in, ip4_in};
 
 use crate::fault::{Fault, Kind, Step, here, under_step};
-use crate::object::{member_if, value_in};
+use crate::object::{ReadValue, value_in};
 use crate::word::Word;
 use serde_json::Value;
 use std::alloc::Global;
@@ -36,6 +34,23 @@ fn number(alloc: Global, low: u32, high: u32, value: &Value) -> Result<u32, Faul
     } else {
         Err(here(alloc, Kind::Shape))
     }
+}
+
+/// A member's number from `low` to `high`.
+#[tactic(auto, unfolding(crate::specs::Object::read_in))]
+pub fn number_in(
+    alloc: Global,
+    low: u32,
+    high: u32,
+    object: &Value,
+    word: Word,
+) -> Result<u32, Fault>
+    ensures value { Says result (read_in word (view object.now) (number_from low high)) }
+    ensures within { IfOk result (λ n. (low ≤ n) × (n ≤ high)) }
+{
+    let value = value_in(alloc, object, word)?;
+    let number = under_step(Step::Member(word), number(alloc, low, high, value))?;
+    Ok(number)
 }
 
 /// A number that an author may choose as a name or a place.
@@ -68,7 +83,7 @@ pub fn text<'a>(alloc: Global, value: &'a Value) -> Result<&'a str, Fault>
 
 /// The Ethernet address that a text spells.
 pub fn mac(alloc: Global, value: &Value) -> Result<Mac, Fault>
-    ensures { result ≡ spec.mac_in (view value.now) }
+    ensures { result ≡ mac_in (view value.now) }
 {
     let text = text(alloc, value)?;
     Mac::read(text.as_bytes()).map_err(|_| here(alloc, Kind::Shape))
@@ -76,99 +91,52 @@ pub fn mac(alloc: Global, value: &Value) -> Result<Mac, Fault>
 
 /// The IPv4 address that a text spells.
 pub fn ip4(alloc: Global, value: &Value) -> Result<Ip4, Fault>
-    ensures { result ≡ spec.ip4_in (view value.now) }
+    ensures { result ≡ ip4_in (view value.now) }
 {
     let text = text(alloc, value)?;
     Ip4::read(text.as_bytes()).map_err(|_| here(alloc, Kind::Shape))
 }
 
-/// A member's number from `low` to `high`.
-pub fn number_in(
-    alloc: Global,
-    low: u32,
-    high: u32,
-    object: &Value,
-    word: Word,
-) -> Result<u32, Fault>
-    ensures value { Says result (read_in word (view object.now) (number_from low high)) }
-    ensures within { IfOk result (λ n. (low ≤ n) × (n ≤ high)) }
-{
-    let value = value_in(alloc, object, word)?;
-    let number = under_step(Step::Member(word), number(alloc, low, high, value))?;
-    Ok(number)
-}
+/// Reads a number that an author may choose as a name or a place.
+pub struct ShortReader;
 
-/// A member's number that an author may choose as a name or a place.
-pub fn short_in(alloc: Global, object: &Value, word: Word) -> Result<u16, Fault>
-    ensures { Says result (read_in word (view object.now) short_of) }
-{
-    let value = value_in(alloc, object, word)?;
-    let number = under_step(Step::Member(word), short(alloc, value))?;
-    Ok(number)
-}
+impl ReadValue<u16> for ShortReader {
+    ghost value_of = { λ reader. short_of };
 
-/// A member's truth value.
-pub fn truth_in(alloc: Global, object: &Value, word: Word) -> Result<bool, Fault>
-    ensures { Says result (read_in word (view object.now) truth_of) }
-{
-    let value = value_in(alloc, object, word)?;
-    let truth = under_step(Step::Member(word), truth(alloc, value))?;
-    Ok(truth)
-}
-
-/// A member's Ethernet address.
-pub fn mac_in(alloc: Global, object: &Value, word: Word) -> Result<Mac, Fault>
-    ensures { Says result (read_in word (view object.now) spec.mac_in) }
-{
-    let value = value_in(alloc, object, word)?;
-    let mac = under_step(Step::Member(word), mac(alloc, value))?;
-    Ok(mac)
-}
-
-/// A member's IPv4 address.
-pub fn ip4_in(alloc: Global, object: &Value, word: Word) -> Result<Ip4, Fault>
-    ensures { Says result (read_in word (view object.now) spec.ip4_in) }
-{
-    let value = value_in(alloc, object, word)?;
-    let ip4 = under_step(Step::Member(word), ip4(alloc, value))?;
-    Ok(ip4)
-}
-
-/// A member's number that an author may choose, if the member is there.
-pub fn short_if(alloc: Global, object: &Value, word: Word) -> Result<Option<u16>, Fault>
-    ensures { Says result (read_if word (view object.now) short_of) }
-{
-    match member_if(object, word) {
-        None => Ok(None),
-        Some(value) => {
-            let number = under_step(Step::Member(word), short(alloc, value))?;
-            Ok(Some(number))
-        }
+    fn value(&self, alloc: Global, value: &Value) -> Result<u16, Fault> {
+        short(alloc, value)
     }
 }
 
-/// A member's Ethernet address, if the member is there.
-pub fn mac_if(alloc: Global, object: &Value, word: Word) -> Result<Option<Mac>, Fault>
-    ensures { Says result (read_if word (view object.now) spec.mac_in) }
-{
-    match member_if(object, word) {
-        None => Ok(None),
-        Some(value) => {
-            let mac = under_step(Step::Member(word), mac(alloc, value))?;
-            Ok(Some(mac))
-        }
+/// Reads a truth value.
+pub struct TruthReader;
+
+impl ReadValue<bool> for TruthReader {
+    ghost value_of = { λ reader. truth_of };
+
+    fn value(&self, alloc: Global, value: &Value) -> Result<bool, Fault> {
+        truth(alloc, value)
     }
 }
 
-/// A member's IPv4 address, if the member is there.
-pub fn ip4_if(alloc: Global, object: &Value, word: Word) -> Result<Option<Ip4>, Fault>
-    ensures { Says result (read_if word (view object.now) spec.ip4_in) }
-{
-    match member_if(object, word) {
-        None => Ok(None),
-        Some(value) => {
-            let ip4 = under_step(Step::Member(word), ip4(alloc, value))?;
-            Ok(Some(ip4))
-        }
+/// Reads the text of an Ethernet address.
+pub struct MacReader;
+
+impl ReadValue<Mac> for MacReader {
+    ghost value_of = { λ reader. mac_in };
+
+    fn value(&self, alloc: Global, value: &Value) -> Result<Mac, Fault> {
+        mac(alloc, value)
+    }
+}
+
+/// Reads the text of an IPv4 address.
+pub struct Ip4Reader;
+
+impl ReadValue<Ip4> for Ip4Reader {
+    ghost value_of = { λ reader. ip4_in };
+
+    fn value(&self, alloc: Global, value: &Value) -> Result<Ip4, Fault> {
+        ip4(alloc, value)
     }
 }

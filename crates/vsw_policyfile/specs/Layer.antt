@@ -4,13 +4,13 @@ use Rattle.std.specs.List.{list_any}
 use Rattle.serde_json.specs.Data.{Data}
 use Rattle.vsw_layer.specs.declared.layer.LayerSpec.{LayerSpec}
 use Rattle.vsw_jsonfile.specs.declared.fault.Fault.{Fault}
-use Rattle.vsw_jsonfile.specs.declared.fault.Kind.TheVariants.{Many, Unknown, Twice}
+use Rattle.vsw_jsonfile.specs.declared.fault.Kind.TheVariants.{Many, Unknown}
 use Rattle.vsw_jsonfile.specs.declared.word.Word.{Word}
 use Rattle.vsw_jsonfile.specs.declared.word.Word.TheVariants as word
 use Rattle.vsw_jsonfile.specs.Fault.{◌>>=◌, bad}
 use Rattle.vsw_jsonfile.specs.Object.{object_among, read_in}
 use Rattle.vsw_jsonfile.specs.Value.{short_of, number_from, text_of, value_for}
-use Rattle.vsw_jsonfile.specs.List.{items_in, items_after}
+use Rattle.vsw_jsonfile.specs.List.{items_in, items_after, fresh}
 use Rattle.vsw_rulefile.specs.Rule.{groups_of}
 use Rattle.vsw_policyfile.specs.declared.file.LayerFile.{LayerFile}
 
@@ -32,7 +32,7 @@ room_for c done = if nat_lt (count_by c done) 16 then Ok tt else bad Many
 
 -- a number that no layer of the controller so far has
 unfoldable pub fresh_layer : ℕ → List LayerFile → Data → Result ℕ Fault
-fresh_layer c done d = short_of d >>= (λ n. if list_any (λ l. (l.controller == c) && (l.spec.layer == n)) done then bad Twice else Ok n)
+fresh_layer c done d = short_of d >>= (λ n. fresh (list_any (λ l. (l.controller == c) && (l.spec.layer == n)) done) n)
 
 -- whether a packet goes on that no rule is chosen for
 abbrev pub allows_for : List ℕ → Result Bool Fault

@@ -1,27 +1,24 @@
 -- Ports of the policy file.
-use Rattle.std.specs.Prelude.{ℕ, ◌==◌, List, [], ◌∷◌, Result, Ok, if◌then◌else◌}
+use Rattle.std.specs.Prelude.{ℕ, ◌==◌, List, [], ◌∷◌, Result, Ok}
 use Rattle.std.specs.List.{list_any}
 use Rattle.serde_json.specs.Data.{Data}
 use Rattle.vsw_jsonfile.specs.declared.fault.Fault.{Fault}
-use Rattle.vsw_jsonfile.specs.declared.fault.Kind.TheVariants.{Twice}
 use Rattle.vsw_jsonfile.specs.declared.word.Word.{Word}
 use Rattle.vsw_jsonfile.specs.declared.word.Word.TheVariants as word
-use Rattle.vsw_jsonfile.specs.Fault.{◌>>=◌, bad}
+use Rattle.vsw_jsonfile.specs.Fault.{◌>>=◌}
 use Rattle.vsw_jsonfile.specs.Object.{object_among, read_in}
 use Rattle.vsw_jsonfile.specs.Value.{short_of, number_from, mac_in}
+use Rattle.vsw_jsonfile.specs.List.{fresh}
 use Rattle.vsw_policyfile.specs.declared.file.PortFile.{PortFile}
 use Rattle.vsw_policyfile.specs.Layer.{layers_of}
 
 -- a number that no port so far has
 unfoldable pub fresh_port : List PortFile → Data → Result ℕ Fault
-fresh_port done d = short_of d >>= (λ n. if list_any (λ p. p.port == n) done then bad Twice else Ok n)
+fresh_port done d = short_of d >>= (λ n. fresh (list_any (λ p. p.port == n) done) n)
 
 -- an address that no port so far has
-abbrev pub fresh_address : List PortFile → ℕ → Result ℕ Fault
-fresh_address done m = if list_any (λ p. p.mac == m) done then bad Twice else Ok m
-
 unfoldable pub fresh_mac : List PortFile → Data → Result ℕ Fault
-fresh_mac done d = mac_in d >>= fresh_address done
+fresh_mac done d = mac_in d >>= (λ m. fresh (list_any (λ p. p.mac == m) done) m)
 
 abbrev pub rows_of : Data → Result ℕ Fault
 rows_of d = number_from 8 16384 d

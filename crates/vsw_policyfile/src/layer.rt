@@ -1,13 +1,9 @@
 //! Layers of a port.
-#![tactic(auto, unfolding(vsw_jsonfile::specs::Object::read_in))]
 
 ghost use Rattle.std.specs.Prelude.{◌≡◌, ◌==◌, ◌&&◌};
 ghost use Rattle.std.specs.List.{list_any};
 ghost use Rattle.serde_json.specs.View.{view};
-ghost use Rattle.vsw_jsonfile.specs.declared.word.Word.{Word};
-ghost use Rattle.vsw_jsonfile.specs.declared.word.Word.TheVariants as word;
 ghost use Rattle.vsw_jsonfile.specs.Fault.{Says};
-ghost use Rattle.vsw_jsonfile.specs.Object.{read_in};
 ghost use Rattle.vsw_policyfile.specs.Layer.{listed, listed_number, room_for, fresh_layer, allows_for, allows_of, seconds_of, spec_in, layer_of, layers_of};
 ghost use Rattle.vsw_policyfile.specs.Layer as spec;
 
@@ -16,14 +12,20 @@ use serde_json::Value;
 use std::alloc::Global;
 use vsw_base::Items;
 use vsw_jsonfile::{
-    Fault, Kind, ReadItem, Step, Word, here, items, list, number_in, object_in, short, short_in,
-    text, under_step, value_in,
+    Fault, Kind, ReadItem, ReadValue, ShortReader, Word, fresh, here, items, list, member,
+    number_in, object_in, short, text,
 };
 use vsw_layer::LayerSpec;
-use vsw_rulefile::groups_in;
+use vsw_rulefile::GroupsReader;
 
 /// The most layers of one controller on a port.
 const MOST_LAYERS: usize = 16;
+
+/// The most pairs of a layer.
+const MOST_PAIRS: u32 = 65_536;
+
+/// A day.
+const MOST_SECONDS: u32 = 86_400;
 
 const LAYER_WORDS: [Word; 9] = [
     Word::Controller,
@@ -43,25 +45,24 @@ fn is_listed(number: u16, known: &[u16]) -> bool
     known.iter().any(|each| *each == number)
 }
 
-#[tactic(auto, unfolding(crate::specs::Layer::listed_number))]
-fn listed(alloc: Global, known: &[u16], value: &Value) -> Result<u16, Fault>
-    ensures { result ≡ listed_number known.now (view value.now) }
-{
-    let number = short(alloc, value)?;
-    if is_listed(number, known) {
-        Ok(number)
-    } else {
-        Err(here(alloc, Kind::Unknown))
-    }
+/// Reads the number of one of these controllers.
+#[derive(Drop)]
+pub struct ControllerReader<'a> {
+    pub known: &'a [u16],
 }
 
-/// The controller that an object names, which is to be one of these.
-pub fn listed_in(alloc: Global, known: &[u16], object: &Value) -> Result<u16, Fault>
-    ensures { Says result (read_in word.Controller (view object.now) (listed_number known.now)) }
-{
-    let value = value_in(alloc, object, Word::Controller)?;
-    let number = under_step(Step::Member(Word::Controller), listed(alloc, known, value))?;
-    Ok(number)
+impl<'a> ReadValue<u16> for ControllerReader<'a> {
+    ghost value_of = { λ reader. listed_number reader.known.now };
+
+    #[tactic(auto, unfolding(crate::specs::Layer::listed_number))]
+    fn value(&self, alloc: Global, value: &Value) -> Result<u16, Fault> {
+        let number = short(alloc, value)?;
+        if is_listed(number, self.known) {
+            Ok(number)
+        } else {
+            Err(here(alloc, Kind::Unknown))
+        }
+    }
 }
 
 fn count_by(controller: u16, layers: &[LayerFile]) -> usize
@@ -93,32 +94,21 @@ fn is_taken(controller: u16, number: u16, layers: &[LayerFile]) -> bool
     layers.iter().any(|layer| layer.controller == controller && layer.spec.layer == number)
 }
 
-#[tactic(auto, unfolding(crate::specs::Layer::fresh_layer))]
-fn fresh(alloc: Global, controller: u16, done: &[LayerFile], value: &Value) -> Result<u16, Fault>
-    ensures { result ≡ fresh_layer controller done.now (view value.now) }
-{
-    let number = short(alloc, value)?;
-    if is_taken(controller, number, done) {
-        Err(here(alloc, Kind::Twice))
-    } else {
-        Ok(number)
-    }
+/// Reads a number that none of these layers has of this controller.
+#[derive(Drop)]
+struct NumberReader<'a> {
+    controller: u16,
+    done: &'a [LayerFile],
 }
 
-fn fresh_in(
-    alloc: Global,
-    controller: u16,
-    done: &[LayerFile],
-    object: &Value,
-) -> Result<u16, Fault>
-    ensures { Says result (read_in word.Layer (view object.now) (fresh_layer controller done.now)) }
-{
-    let value = value_in(alloc, object, Word::Layer)?;
-    let number = under_step(
-        Step::Member(Word::Layer),
-        fresh(alloc, controller, done, value),
-    )?;
-    Ok(number)
+impl<'a> ReadValue<u16> for NumberReader<'a> {
+    ghost value_of = { λ reader. fresh_layer reader.controller reader.done.now };
+
+    #[tactic(auto, unfolding(crate::specs::Layer::fresh_layer))]
+    fn value(&self, alloc: Global, value: &Value) -> Result<u16, Fault> {
+        let number = short(alloc, value)?;
+        fresh(alloc, is_taken(self.controller, number, self.done), number)
+    }
 }
 
 fn allows_named(alloc: Global, name: &str) -> Result<bool, Fault>
@@ -131,27 +121,16 @@ fn allows_named(alloc: Global, name: &str) -> Result<bool, Fault>
     }
 }
 
-fn allows(alloc: Global, value: &Value) -> Result<bool, Fault>
-    ensures { result ≡ allows_of (view value.now) }
-{
-    let name = text(alloc, value)?;
-    allows_named(alloc, name)
-}
+/// Reads whether packets pass that no rule is chosen for.
+pub struct AllowsReader;
 
-/// Whether what a member is said of passes.
-pub fn allows_in(alloc: Global, object: &Value, word: Word) -> Result<bool, Fault>
-    ensures { Says result (read_in word (view object.now) allows_of) }
-{
-    let value = value_in(alloc, object, word)?;
-    let allows = under_step(Step::Member(word), allows(alloc, value))?;
-    Ok(allows)
-}
+impl ReadValue<bool> for AllowsReader {
+    ghost value_of = { λ reader. allows_of };
 
-fn seconds_in(alloc: Global, object: &Value, word: Word) -> Result<u32, Fault>
-    ensures { Says result (read_in word (view object.now) seconds_of) }
-{
-    let seconds = number_in(alloc, 1, 86400, object, word)?;
-    Ok(seconds)
+    fn value(&self, alloc: Global, value: &Value) -> Result<bool, Fault> {
+        let name = text(alloc, value)?;
+        allows_named(alloc, name)
+    }
 }
 
 /// What stands between a layer's number and its groups.
@@ -159,12 +138,12 @@ fn seconds_in(alloc: Global, object: &Value, word: Word) -> Result<u32, Fault>
 pub fn spec_in(alloc: Global, layer: u16, object: &Value) -> Result<LayerSpec, Fault>
     ensures { Says result (spec_in layer (view object.now)) }
 {
-    let order = short_in(alloc, object, Word::Order)?;
-    let allow_out = allows_in(alloc, object, Word::DefaultOut)?;
-    let allow_in = allows_in(alloc, object, Word::DefaultIn)?;
-    let pairs = number_in(alloc, 0, 65536, object, Word::Pairs)?;
-    let idle = seconds_in(alloc, object, Word::Idle)?;
-    let linger = seconds_in(alloc, object, Word::Linger)?;
+    let order = member(alloc, object, Word::Order, &ShortReader)?;
+    let allow_out = member(alloc, object, Word::DefaultOut, &AllowsReader)?;
+    let allow_in = member(alloc, object, Word::DefaultIn, &AllowsReader)?;
+    let pairs = number_in(alloc, 0, MOST_PAIRS, object, Word::Pairs)?;
+    let idle = number_in(alloc, 1, MOST_SECONDS, object, Word::Idle)?;
+    let linger = number_in(alloc, 1, MOST_SECONDS, object, Word::Linger)?;
     Ok(LayerSpec {
         layer,
         order,
@@ -176,29 +155,7 @@ pub fn spec_in(alloc: Global, layer: u16, object: &Value) -> Result<LayerSpec, F
     })
 }
 
-#[tactic(auto, unfolding(crate::specs::Layer::layer_of))]
-fn layer(
-    alloc: Global,
-    known: &[u16],
-    done: &[LayerFile],
-    value: &Value,
-) -> Result<LayerFile, Fault>
-    ensures { Says result (layer_of known.now done.now (view value.now)) }
-{
-    let object = object_in(alloc, &LAYER_WORDS, value)?;
-    let controller = listed_in(alloc, known, object)?;
-    has_room(alloc, controller, done)?;
-    let number = fresh_in(alloc, controller, done, object)?;
-    let spec = spec_in(alloc, number, object)?;
-    let groups = groups_in(alloc, object)?;
-    Ok(LayerFile {
-        controller,
-        spec,
-        groups,
-    })
-}
-
-/// Reads layers of these controllers.
+/// Reads layers of these controllers, one by one.
 #[derive(Drop)]
 struct LayerReader<'a> {
     known: &'a [u16],
@@ -207,25 +164,41 @@ struct LayerReader<'a> {
 impl<'a> ReadItem<LayerFile> for LayerReader<'a> {
     ghost item_of = { λ reader. layer_of reader.known.now };
 
+    #[tactic(auto, unfolding(crate::specs::Layer::layer_of))]
     fn item(&self, alloc: Global, done: &[LayerFile], value: &Value) -> Result<LayerFile, Fault> {
-        layer(alloc, self.known, done, value)
+        let known = self.known;
+        let object = object_in(alloc, &LAYER_WORDS, value)?;
+        let controller = member(alloc, object, Word::Controller, &ControllerReader { known })?;
+        has_room(alloc, controller, done)?;
+        let number = member(
+            alloc,
+            object,
+            Word::Layer,
+            &NumberReader { controller, done },
+        )?;
+        let spec = spec_in(alloc, number, object)?;
+        let groups = member(alloc, object, Word::Groups, &GroupsReader)?;
+        Ok(LayerFile {
+            controller,
+            spec,
+            groups,
+        })
     }
 }
 
-#[tactic(auto, unfolding(crate::specs::Layer::layers_of))]
-fn layers(alloc: Global, known: &[u16], value: &Value) -> Result<Items<LayerFile>, Fault>
-    ensures { Says result (layers_of known.now (view value.now)) }
-{
-    let values = items(alloc, value)?;
-    let layers = list(alloc, &LayerReader { known }, values)?;
-    Ok(layers)
+/// Reads the layers of a port, each of one of these controllers.
+#[derive(Drop)]
+pub(crate) struct LayersReader<'a> {
+    pub(crate) known: &'a [u16],
 }
 
-/// The layers of a port, each of one of these controllers.
-pub fn layers_in(alloc: Global, known: &[u16], object: &Value) -> Result<Items<LayerFile>, Fault>
-    ensures { Says result (read_in word.Layers (view object.now) (layers_of known.now)) }
-{
-    let value = value_in(alloc, object, Word::Layers)?;
-    let layers = under_step(Step::Member(Word::Layers), layers(alloc, known, value))?;
-    Ok(layers)
+impl<'a> ReadValue<Items<LayerFile>> for LayersReader<'a> {
+    ghost value_of = { λ reader. layers_of reader.known.now };
+
+    #[tactic(auto, unfolding(crate::specs::Layer::layers_of))]
+    fn value(&self, alloc: Global, value: &Value) -> Result<Items<LayerFile>, Fault> {
+        let values = items(alloc, value)?;
+        let layers = list(alloc, &LayerReader { known: self.known }, values)?;
+        Ok(layers)
+    }
 }

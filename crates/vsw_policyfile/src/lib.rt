@@ -10,5 +10,5 @@ mod port;
 mod read;
 
 pub use file::{ConfigFault, LayerFile, PolicyFile, PortFile};
-pub use layer::{allows_in, listed_in, spec_in};
+pub use layer::{AllowsReader, ControllerReader, spec_in};
 pub use read::read_policy;

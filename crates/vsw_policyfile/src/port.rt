@@ -1,24 +1,24 @@
 //! Ports.
-#![tactic(auto, unfolding(vsw_jsonfile::specs::Object::read_in))]
 
 ghost use Rattle.std.specs.Prelude.{◌≡◌, ◌==◌, [], map};
 ghost use Rattle.std.specs.List.{list_any};
 ghost use Rattle.serde_json.specs.View.{view};
-ghost use Rattle.vsw_jsonfile.specs.declared.word.Word.TheVariants as word;
 ghost use Rattle.vsw_jsonfile.specs.Fault.{Says};
-ghost use Rattle.vsw_jsonfile.specs.Object.{read_in};
 ghost use Rattle.vsw_jsonfile.specs.List.{items_after};
-ghost use Rattle.vsw_policyfile.specs.Port.{fresh_port, fresh_address, fresh_mac, port_of};
+ghost use Rattle.vsw_policyfile.specs.Port.{fresh_port, fresh_mac, port_of};
 
 use crate::file::PortFile;
-use crate::layer::layers_in;
+use crate::layer::LayersReader;
 use serde_json::Value;
 use std::alloc::Global;
 use vsw_base::{Items, Mac};
 use vsw_jsonfile::{
-    Fault, Kind, ReadItem, Step, Word, here, list, mac, number_in, object_in, short, under_step,
-    value_in,
+    Fault, ReadItem, ReadValue, Word, fresh, list, mac, member, number_in, object_in, short,
 };
+
+const LEAST_ROWS: u32 = 8;
+
+const MOST_ROWS: u32 = 16_384;
 
 const PORT_WORDS: [Word; 4] = [Word::Port, Word::Mac, Word::Rows, Word::Layers];
 
@@ -28,24 +28,20 @@ fn is_number_taken(number: u16, ports: &[PortFile]) -> bool
     ports.iter().any(|port| port.port == number)
 }
 
-#[tactic(auto, unfolding(crate::specs::Port::fresh_port))]
-fn fresh_number(alloc: Global, done: &[PortFile], value: &Value) -> Result<u16, Fault>
-    ensures { result ≡ fresh_port done.now (view value.now) }
-{
-    let number = short(alloc, value)?;
-    if is_number_taken(number, done) {
-        Err(here(alloc, Kind::Twice))
-    } else {
-        Ok(number)
-    }
+/// Reads a number that none of these ports has.
+#[derive(Drop)]
+struct NumberReader<'a> {
+    done: &'a [PortFile],
 }
 
-fn number_of(alloc: Global, done: &[PortFile], object: &Value) -> Result<u16, Fault>
-    ensures { Says result (read_in word.Port (view object.now) (fresh_port done.now)) }
-{
-    let value = value_in(alloc, object, Word::Port)?;
-    let number = under_step(Step::Member(Word::Port), fresh_number(alloc, done, value))?;
-    Ok(number)
+impl<'a> ReadValue<u16> for NumberReader<'a> {
+    ghost value_of = { λ reader. fresh_port reader.done.now };
+
+    #[tactic(auto, unfolding(crate::specs::Port::fresh_port))]
+    fn value(&self, alloc: Global, value: &Value) -> Result<u16, Fault> {
+        let number = short(alloc, value)?;
+        fresh(alloc, is_number_taken(number, self.done), number)
+    }
 }
 
 fn is_mac_taken(mac: u64, ports: &[PortFile]) -> bool
@@ -54,47 +50,26 @@ fn is_mac_taken(mac: u64, ports: &[PortFile]) -> bool
     ports.iter().any(|port| port.mac.number() == mac)
 }
 
-fn fresh_among(alloc: Global, done: &[PortFile], mac: Mac) -> Result<Mac, Fault>
-    ensures { result ≡ fresh_address done.now mac }
+fn has_address(mac: Mac, ports: &[PortFile]) -> bool
+    ensures { result ≡ list_any (λ p. p.mac == mac) ports.now }
 {
-    if is_mac_taken(mac.number(), done) {
-        Err(here(alloc, Kind::Twice))
-    } else {
-        Ok(mac)
+    is_mac_taken(mac.number(), ports)
+}
+
+/// Reads an address that none of these ports has.
+#[derive(Drop)]
+struct AddressReader<'a> {
+    done: &'a [PortFile],
+}
+
+impl<'a> ReadValue<Mac> for AddressReader<'a> {
+    ghost value_of = { λ reader. fresh_mac reader.done.now };
+
+    #[tactic(auto, unfolding(crate::specs::Port::fresh_mac))]
+    fn value(&self, alloc: Global, value: &Value) -> Result<Mac, Fault> {
+        let mac = mac(alloc, value)?;
+        fresh(alloc, has_address(mac, self.done), mac)
     }
-}
-
-#[tactic(auto, unfolding(crate::specs::Port::fresh_mac))]
-fn fresh_mac(alloc: Global, done: &[PortFile], value: &Value) -> Result<Mac, Fault>
-    ensures { result ≡ fresh_mac done.now (view value.now) }
-{
-    let mac = mac(alloc, value)?;
-    fresh_among(alloc, done, mac)
-}
-
-fn mac_of(alloc: Global, done: &[PortFile], object: &Value) -> Result<Mac, Fault>
-    ensures { Says result (read_in word.Mac (view object.now) (fresh_mac done.now)) }
-{
-    let value = value_in(alloc, object, Word::Mac)?;
-    let mac = under_step(Step::Member(Word::Mac), fresh_mac(alloc, done, value))?;
-    Ok(mac)
-}
-
-#[tactic(auto, unfolding(crate::specs::Port::port_of))]
-fn port(alloc: Global, known: &[u16], done: &[PortFile], value: &Value) -> Result<PortFile, Fault>
-    ensures { Says result (port_of known.now done.now (view value.now)) }
-{
-    let object = object_in(alloc, &PORT_WORDS, value)?;
-    let port = number_of(alloc, done, object)?;
-    let mac = mac_of(alloc, done, object)?;
-    let rows = number_in(alloc, 8, 16384, object, Word::Rows)?;
-    let layers = layers_in(alloc, known, object)?;
-    Ok(PortFile {
-        port,
-        mac,
-        rows,
-        layers,
-    })
 }
 
 /// Reads ports whose layers are of these controllers.
@@ -106,8 +81,20 @@ struct PortReader<'a> {
 impl<'a> ReadItem<PortFile> for PortReader<'a> {
     ghost item_of = { λ reader. port_of reader.known.now };
 
+    #[tactic(auto, unfolding(crate::specs::Port::port_of))]
     fn item(&self, alloc: Global, done: &[PortFile], value: &Value) -> Result<PortFile, Fault> {
-        port(alloc, self.known, done, value)
+        let known = self.known;
+        let object = object_in(alloc, &PORT_WORDS, value)?;
+        let port = member(alloc, object, Word::Port, &NumberReader { done })?;
+        let mac = member(alloc, object, Word::Mac, &AddressReader { done })?;
+        let rows = number_in(alloc, LEAST_ROWS, MOST_ROWS, object, Word::Rows)?;
+        let layers = member(alloc, object, Word::Layers, &LayersReader { known })?;
+        Ok(PortFile {
+            port,
+            mac,
+            rows,
+            layers,
+        })
     }
 }
 

@@ -1,12 +1,6 @@
 //! Reading a policy file.
 
-ghost use Rattle.std.specs.Prelude.{◌≡◌, map};
 ghost use Rattle.serde_json.specs.View.{view};
-ghost use Rattle.vsw_jsonfile.specs.declared.word.Word.{Word};
-ghost use Rattle.vsw_jsonfile.specs.declared.word.Word.TheVariants as word;
-ghost use Rattle.vsw_jsonfile.specs.Fault.{Says, seen};
-ghost use Rattle.vsw_jsonfile.specs.Object.{read_in};
-ghost use Rattle.vsw_jsonfile.specs.List.{items_in};
 ghost use Rattle.vsw_policyfile.specs.Policy.{Tells, policy_file_of, policy_of};
 ghost use Rattle.vsw_policyfile.specs.Policy as spec;
 
@@ -16,7 +10,7 @@ use serde_json::Value;
 use std::alloc::Global;
 use vsw_base::Items;
 use vsw_jsonfile::{
-    Fault, FreshNumbers, Step, Word, items, json, list, number_in, object_in, under_step, value_in,
+    Fault, FreshNumbers, Step, Word, items_in, json, list, number_in, object_in, under_step,
 };
 
 /// Bytes of the longest policy file that is read.
@@ -40,15 +34,6 @@ impl From<Fault> for ConfigFault {
             Fault::Memory => ConfigFault::Memory,
         }
     }
-}
-
-#[tactic(auto, unfolding(vsw_jsonfile::specs::Object::read_in))]
-fn items_in<'a>(alloc: Global, object: &'a Value, word: Word) -> Result<&'a [Value], Fault>
-    ensures { Says (seen (λ vs. map view vs.now) result) (read_in word (view object.now) items_in) }
-{
-    let value = value_in(alloc, object, word)?;
-    let values = under_step(Step::Member(word), items(alloc, value))?;
-    Ok(values)
 }
 
 #[tactic(auto, unfolding(crate::specs::Policy::controllers_in, crate::specs::Policy::few_in))]

@@ -1,5 +1,5 @@
 -- Rules and groups of rules.
-use Rattle.std.specs.Prelude.{ℕ, ◌==◌, List, [], ◌∷◌, Some, None, Result, Ok, codes, if◌then◌else◌}
+use Rattle.std.specs.Prelude.{ℕ, ◌==◌, List, [], ◌∷◌, Some, None, Result, Ok, codes}
 use Rattle.std.specs.List.{list_any}
 use Rattle.serde_json.specs.Data.{Data}
 use Rattle.vsw_base.specs.declared.packet.Dir.{Dir}
@@ -8,19 +8,19 @@ use Rattle.vsw_rule.specs.Check.{bad_rule_of}
 use Rattle.vsw_rule.specs.declared.rule.Rule.{Rule}
 use Rattle.vsw_rule.specs.declared.rule.Group.{Group}
 use Rattle.vsw_jsonfile.specs.declared.fault.Fault.{Fault}
-use Rattle.vsw_jsonfile.specs.declared.fault.Kind.TheVariants.{BadRule, Twice}
+use Rattle.vsw_jsonfile.specs.declared.fault.Kind.TheVariants.{BadRule}
 use Rattle.vsw_jsonfile.specs.declared.word.Word.{Word}
 use Rattle.vsw_jsonfile.specs.declared.word.Word.TheVariants as word
 use Rattle.vsw_jsonfile.specs.Fault.{◌>>=◌, bad}
 use Rattle.vsw_jsonfile.specs.Object.{object_among, read_in}
 use Rattle.vsw_jsonfile.specs.Value.{short_of, truth_of, text_of, value_for}
-use Rattle.vsw_jsonfile.specs.List.{items_to, items_after}
+use Rattle.vsw_jsonfile.specs.List.{items_to, items_after, fresh}
 use Rattle.vsw_rulefile.specs.Condition.{conds_of}
 use Rattle.vsw_rulefile.specs.Action.{action_of}
 
 -- a number that no rule so far has
 unfoldable pub fresh_rule : List Rule → Data → Result ℕ Fault
-fresh_rule done d = short_of d >>= (λ n. if list_any (λ r. r.number == n) done then bad Twice else Ok n)
+fresh_rule done d = short_of d >>= (λ n. fresh (list_any (λ r. r.number == n) done) n)
 
 -- the rule, which may be so
 unfoldable pub judged : Rule → Result Rule Fault
@@ -47,7 +47,7 @@ rules_of d = items_to 1024 d >>= items_after rule_of []
 
 -- a number that no group so far has
 unfoldable pub fresh_group : List Group → Data → Result ℕ Fault
-fresh_group done d = short_of d >>= (λ n. if list_any (λ g. g.number == n) done then bad Twice else Ok n)
+fresh_group done d = short_of d >>= (λ n. fresh (list_any (λ g. g.number == n) done) n)
 
 abbrev pub dir_for : List ℕ → Result Dir Fault
 dir_for = value_for ((codes "out", Out) ∷ (codes "in", In) ∷ [])

@@ -2,20 +2,17 @@
 
 ghost use Rattle.std.specs.Prelude.{◌≡◌, map, []};
 ghost use Rattle.serde_json.specs.View.{view};
-ghost use Rattle.vsw_jsonfile.specs.declared.word.Word.{Word};
-ghost use Rattle.vsw_jsonfile.specs.declared.word.Word.TheVariants as word;
 ghost use Rattle.vsw_jsonfile.specs.Fault.{Says};
-ghost use Rattle.vsw_jsonfile.specs.Object.{read_in};
 ghost use Rattle.vsw_rulefile.specs.Field.{form_of};
 ghost use Rattle.vsw_rulefile.specs.Condition.{value_of, prefix_in, single_of, alone_of, range_of, item_of, items_of, cond_of, conds_of};
 
-use crate::field::{Form, field_in, form_of};
+use crate::field::{FieldReader, Form, form_of};
 use serde_json::Value;
 use std::alloc::Global;
 use vsw_base::{Items, Prefix};
 use vsw_jsonfile::{
-    Fault, Kind, ReadItem, Step, Word, here, ip4, items, items_up_to, list, mac, object_in, text,
-    under_step, value_in, whole,
+    Fault, Kind, ReadItem, ReadValue, Step, Word, here, ip4, items, items_up_to, list, mac, member,
+    object_in, text, under_step, whole,
 };
 use vsw_rule::{Cond, Item};
 
@@ -109,32 +106,21 @@ impl ReadItem<Item> for Form {
     }
 }
 
-#[tactic(auto, unfolding(crate::specs::Condition::items_of))]
-fn all_items(alloc: Global, form: Form, value: &Value) -> Result<Items<Item>, Fault>
-    ensures { Says result (items_of form (view value.now)) }
-{
-    let values = items_up_to(alloc, MOST_ITEMS, value)?;
-    let items = list(alloc, &form, values)?;
-    Ok(items)
+/// Reads the items of a condition on a field whose values are written so.
+#[derive(Drop)]
+struct ItemsReader {
+    form: Form,
 }
 
-#[tactic(auto, unfolding(vsw_jsonfile::specs::Object::read_in))]
-fn items_in(alloc: Global, form: Form, object: &Value) -> Result<Items<Item>, Fault>
-    ensures { Says result (read_in word.Any (view object.now) (items_of form)) }
-{
-    let value = value_in(alloc, object, Word::Any)?;
-    let items = under_step(Step::Member(Word::Any), all_items(alloc, form, value))?;
-    Ok(items)
-}
+impl ReadValue<Items<Item>> for ItemsReader {
+    ghost value_of = { λ reader. items_of reader.form };
 
-#[tactic(auto, unfolding(crate::specs::Condition::cond_of))]
-fn cond(alloc: Global, value: &Value) -> Result<Cond, Fault>
-    ensures { Says result (cond_of (view value.now)) }
-{
-    let object = object_in(alloc, &[Word::Field, Word::Any], value)?;
-    let field = field_in(alloc, object)?;
-    let items = items_in(alloc, form_of(field), object)?;
-    Ok(Cond { field, items })
+    #[tactic(auto, unfolding(crate::specs::Condition::items_of))]
+    fn value(&self, alloc: Global, value: &Value) -> Result<Items<Item>, Fault> {
+        let values = items_up_to(alloc, MOST_ITEMS, value)?;
+        let items = list(alloc, &self.form, values)?;
+        Ok(items)
+    }
 }
 
 struct CondReader;
@@ -142,26 +128,26 @@ struct CondReader;
 impl ReadItem<Cond> for CondReader {
     ghost item_of = { λ reader done. cond_of };
 
+    #[tactic(auto, unfolding(crate::specs::Condition::cond_of))]
     fn item(&self, alloc: Global, _done: &[Cond], value: &Value) -> Result<Cond, Fault> {
-        cond(alloc, value)
+        let object = object_in(alloc, &[Word::Field, Word::Any], value)?;
+        let field = member(alloc, object, Word::Field, &FieldReader)?;
+        let form = form_of(field);
+        let items = member(alloc, object, Word::Any, &ItemsReader { form })?;
+        Ok(Cond { field, items })
     }
 }
 
-#[tactic(auto, unfolding(crate::specs::Condition::conds_of))]
-fn conds(alloc: Global, value: &Value) -> Result<Items<Cond>, Fault>
-    ensures { Says result (conds_of (view value.now)) }
-{
-    let values = items_up_to(alloc, MOST_CONDITIONS, value)?;
-    let conditions = list(alloc, &CondReader, values)?;
-    Ok(conditions)
-}
+/// Reads the conditions of a rule or group.
+pub struct CondsReader;
 
-/// The conditions of a member.
-#[tactic(auto, unfolding(vsw_jsonfile::specs::Object::read_in))]
-pub fn conds_in(alloc: Global, object: &Value, word: Word) -> Result<Items<Cond>, Fault>
-    ensures { Says result (read_in word (view object.now) conds_of) }
-{
-    let value = value_in(alloc, object, word)?;
-    let conditions = under_step(Step::Member(word), conds(alloc, value))?;
-    Ok(conditions)
+impl ReadValue<Items<Cond>> for CondsReader {
+    ghost value_of = { λ reader. conds_of };
+
+    #[tactic(auto, unfolding(crate::specs::Condition::conds_of))]
+    fn value(&self, alloc: Global, value: &Value) -> Result<Items<Cond>, Fault> {
+        let values = items_up_to(alloc, MOST_CONDITIONS, value)?;
+        let conditions = list(alloc, &CondReader, values)?;
+        Ok(conditions)
+    }
 }

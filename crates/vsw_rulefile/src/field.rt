@@ -1,15 +1,11 @@
 //! The fields of conditions, and how their values are written.
 
 ghost use Rattle.std.specs.Prelude.{◌≡◌};
-ghost use Rattle.serde_json.specs.View.{view};
-ghost use Rattle.vsw_jsonfile.specs.declared.word.Word.TheVariants as word;
-ghost use Rattle.vsw_jsonfile.specs.Fault.{Says};
-ghost use Rattle.vsw_jsonfile.specs.Object.{read_in};
 ghost use Rattle.vsw_rulefile.specs.Field.{field_for, field_of, form_of};
 
 use serde_json::Value;
 use std::alloc::Global;
-use vsw_jsonfile::{Fault, Kind, Step, Word, here, text, under_step, value_in};
+use vsw_jsonfile::{Fault, Kind, ReadValue, here, text};
 use vsw_rule::Field;
 
 /// How the values of a field are written.
@@ -45,21 +41,16 @@ fn field_named(alloc: Global, name: &str) -> Result<Field, Fault>
     }
 }
 
-fn field(alloc: Global, value: &Value) -> Result<Field, Fault>
-    ensures { result ≡ field_of (view value.now) }
-{
-    let name = text(alloc, value)?;
-    field_named(alloc, name)
-}
+/// Reads the field that a condition looks at.
+pub(crate) struct FieldReader;
 
-/// The field that a condition looks at.
-#[tactic(auto, unfolding(vsw_jsonfile::specs::Object::read_in))]
-pub(crate) fn field_in(alloc: Global, object: &Value) -> Result<Field, Fault>
-    ensures { Says result (read_in word.Field (view object.now) field_of) }
-{
-    let value = value_in(alloc, object, Word::Field)?;
-    let field = under_step(Step::Member(Word::Field), field(alloc, value))?;
-    Ok(field)
+impl ReadValue<Field> for FieldReader {
+    ghost value_of = { λ reader. field_of };
+
+    fn value(&self, alloc: Global, value: &Value) -> Result<Field, Fault> {
+        let name = text(alloc, value)?;
+        field_named(alloc, name)
+    }
 }
 
 /// How the values of a field are written.

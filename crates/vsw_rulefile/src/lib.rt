@@ -9,6 +9,6 @@ mod field;
 mod group;
 mod rule;
 
-pub use condition::conds_in;
-pub use group::{dir_in, groups_in};
-pub use rule::{one_rule, rules_in};
+pub use condition::CondsReader;
+pub use group::{DirReader, GroupsReader};
+pub use rule::one_rule;

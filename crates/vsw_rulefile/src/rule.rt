@@ -3,20 +3,18 @@
 ghost use Rattle.std.specs.Prelude.{◌≡◌, ◌==◌};
 ghost use Rattle.std.specs.List.{list_any};
 ghost use Rattle.serde_json.specs.View.{view};
-ghost use Rattle.vsw_jsonfile.specs.declared.word.Word.TheVariants as word;
 ghost use Rattle.vsw_jsonfile.specs.Fault.{Says};
-ghost use Rattle.vsw_jsonfile.specs.Object.{read_in};
 ghost use Rattle.vsw_rulefile.specs.Rule.{fresh_rule, rule_of, rules_of};
 ghost use Rattle.vsw_rulefile.specs.Rule as spec;
 
-use crate::action::action_in;
-use crate::condition::conds_in;
+use crate::action::ActionReader;
+use crate::condition::CondsReader;
 use serde_json::Value;
 use std::alloc::Global;
 use vsw_base::Items;
 use vsw_jsonfile::{
-    Fault, Kind, ReadItem, Step, Word, here, items_up_to, list, object_in, short, short_in,
-    truth_in, under_step, value_in,
+    Fault, Kind, ReadItem, ReadValue, ShortReader, TruthReader, Word, fresh, here, items_up_to,
+    list, member, object_in, short,
 };
 use vsw_rule::Rule;
 
@@ -38,25 +36,20 @@ fn is_taken(number: u16, rules: &[Rule]) -> bool
     rules.iter().any(|rule| rule.number == number)
 }
 
-#[tactic(auto, unfolding(crate::specs::Rule::fresh_rule))]
-fn fresh(alloc: Global, done: &[Rule], value: &Value) -> Result<u16, Fault>
-    ensures { result ≡ fresh_rule done.now (view value.now) }
-{
-    let number = short(alloc, value)?;
-    if is_taken(number, done) {
-        Err(here(alloc, Kind::Twice))
-    } else {
-        Ok(number)
-    }
+/// Reads a number that none of these rules has.
+#[derive(Drop)]
+struct NumberReader<'a> {
+    done: &'a [Rule],
 }
 
-#[tactic(auto, unfolding(vsw_jsonfile::specs::Object::read_in))]
-fn fresh_in(alloc: Global, done: &[Rule], object: &Value) -> Result<u16, Fault>
-    ensures { Says result (read_in word.Rule (view object.now) (fresh_rule done.now)) }
-{
-    let value = value_in(alloc, object, Word::Rule)?;
-    let number = under_step(Step::Member(Word::Rule), fresh(alloc, done, value))?;
-    Ok(number)
+impl<'a> ReadValue<u16> for NumberReader<'a> {
+    ghost value_of = { λ reader. fresh_rule reader.done.now };
+
+    #[tactic(auto, unfolding(crate::specs::Rule::fresh_rule))]
+    fn value(&self, alloc: Global, value: &Value) -> Result<u16, Fault> {
+        let number = short(alloc, value)?;
+        fresh(alloc, is_taken(number, self.done), number)
+    }
 }
 
 /// The rule, if it may be so.
@@ -76,12 +69,12 @@ pub fn one_rule(alloc: Global, done: &[Rule], value: &Value) -> Result<Rule, Fau
     ensures { Says result (rule_of done.now (view value.now)) }
 {
     let object = object_in(alloc, &RULE_WORDS, value)?;
-    let number = fresh_in(alloc, done, object)?;
-    let priority = short_in(alloc, object, Word::Priority)?;
-    let when = conds_in(alloc, object, Word::When)?;
-    let action = action_in(alloc, object)?;
-    let stateful = truth_in(alloc, object, Word::Stateful)?;
-    let last = truth_in(alloc, object, Word::Last)?;
+    let number = member(alloc, object, Word::Rule, &NumberReader { done })?;
+    let priority = member(alloc, object, Word::Priority, &ShortReader)?;
+    let when = member(alloc, object, Word::When, &CondsReader)?;
+    let action = member(alloc, object, Word::Action, &ActionReader)?;
+    let stateful = member(alloc, object, Word::Stateful, &TruthReader)?;
+    let last = member(alloc, object, Word::Last, &TruthReader)?;
     let rule = Rule {
         number,
         priority,
@@ -104,21 +97,16 @@ impl ReadItem<Rule> for RuleReader {
     }
 }
 
-#[tactic(auto, unfolding(crate::specs::Rule::rules_of))]
-fn rules(alloc: Global, value: &Value) -> Result<Items<Rule>, Fault>
-    ensures { Says result (rules_of (view value.now)) }
-{
-    let values = items_up_to(alloc, MOST_RULES, value)?;
-    let rules = list(alloc, &RuleReader, values)?;
-    Ok(rules)
-}
+/// Reads the rules of a group.
+pub(crate) struct RulesReader;
 
-/// The rules of a group.
-#[tactic(auto, unfolding(vsw_jsonfile::specs::Object::read_in))]
-pub fn rules_in(alloc: Global, object: &Value) -> Result<Items<Rule>, Fault>
-    ensures { Says result (read_in word.Rules (view object.now) rules_of) }
-{
-    let value = value_in(alloc, object, Word::Rules)?;
-    let rules = under_step(Step::Member(Word::Rules), rules(alloc, value))?;
-    Ok(rules)
+impl ReadValue<Items<Rule>> for RulesReader {
+    ghost value_of = { λ reader. rules_of };
+
+    #[tactic(auto, unfolding(crate::specs::Rule::rules_of))]
+    fn value(&self, alloc: Global, value: &Value) -> Result<Items<Rule>, Fault> {
+        let values = items_up_to(alloc, MOST_RULES, value)?;
+        let rules = list(alloc, &RuleReader, values)?;
+        Ok(rules)
+    }
 }

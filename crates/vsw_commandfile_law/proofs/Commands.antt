@@ -17,9 +17,9 @@ use Rattle.vsw_policyfile.specs.Layer.{allows_of, spec_in}
 use Rattle.vsw_commandfile.specs.declared.verb.Verb.{Verb}
 use Rattle.vsw_commandfile.specs.declared.verb.Verb.TheVariants as verb
 use Rattle.vsw_commandfile.specs.Command.{rules_of, add_layer, remove_layer, add_group, remove_group, put_rules, add_rule, remove_rule, set_default, sweep, command_of}
-use Rattle.vsw_policyfile_law.proofs.Steps.{taken, same_value, read}
-use Rattle.vsw_policyfile_law.proofs.Lists.{kept, no_pairs}
-use Rattle.vsw_policyfile_law.proofs.Rules.{rule_kept}
+use Rattle.vsw_policyfile.proofs.Steps.{taken, same_value, read}
+use Rattle.vsw_policyfile.proofs.Lists.{kept, no_pairs}
+use Rattle.vsw_policyfile.proofs.Rules.{rule_kept}
 
 -- nothing is wrong with the rules that the command gives
 abbrev AreGoodRules : Command → Type 0

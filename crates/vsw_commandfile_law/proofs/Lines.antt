@@ -25,9 +25,9 @@ use Rattle.vsw_commandfile.specs.declared.fault.CommandsFault.{CommandsFault}
 use Rattle.vsw_commandfile.specs.declared.fault.CommandsFault.TheVariants.{CommandsLimit, LinesLimit}
 use Rattle.vsw_commandfile.specs.Lines.{is_blank, lines_of}
 use Rattle.vsw_commandfile.specs.Commands.{of_line, line_in, line_at, lines_from}
-use Rattle.vsw_policyfile_law.proofs.Steps.{taken, same_value, read, passed}
-use Rattle.vsw_policyfile_law.proofs.Lists.{no_pairs}
-use Rattle.vsw_policyfile_law.proofs.Layers.{known_listed}
+use Rattle.vsw_policyfile.proofs.Steps.{taken, same_value, read, passed}
+use Rattle.vsw_policyfile.proofs.Lists.{no_pairs}
+use Rattle.vsw_policyfile.proofs.Layers.{known_listed}
 use Rattle.vsw_commandfile_law.specs.Good.{CanAsk, EachIsGood}
 use Rattle.vsw_commandfile_law.proofs.Commands.{command_good}
 

@@ -5,10 +5,12 @@
 #![tactic(auto)]
 
 mod file;
+mod law;
 mod layer;
 mod port;
 mod read;
 
 pub use file::{ConfigFault, LayerFile, PolicyFile, PortFile};
+pub use law::laws;
 pub use layer::{AllowsReader, ControllerReader, spec_in};
 pub use read::read_policy;

@@ -13,7 +13,7 @@ use Rattle.vsw_policyfile.specs.Layer.{count_by}
 use Rattle.vsw_policyfile.specs.declared.file.ConfigFault.{ConfigFault}
 use Rattle.vsw_policyfile.specs.Policy.{Tells, policy_file_of}
 use Rattle.vsw_policyfile.specs.Good as good
-use Rattle.vsw_policyfile_law.proofs.Policies.{each_is_good}
+use Rattle.vsw_policyfile.proofs.Policies.{each_is_good}
 use Rattle.vsw_policy.specs.Layers.{is_of}
 use Rattle.vsw_policy.specs.Sound.{Each, AreApart, IsGoodRule, IsGoodGroup, IsGoodLayer, same_layer, same_group, same_number, is_listed, are_distinct}
 use Rattle.vsw_ports.specs.File.{AreLayers, IsFile}

@@ -15,9 +15,9 @@ use Rattle.vsw_rulefile.specs.Rule.{groups_of}
 use Rattle.vsw_policyfile.specs.declared.file.LayerFile.{LayerFile}
 use Rattle.vsw_policyfile.specs.Layer.{listed_number, count_by, room_for, fresh_layer, allows_of, pairs_of, seconds_of, spec_in, layer_words, layer_of, layers_of}
 use Rattle.vsw_policyfile.specs.Good.{AreGoodGroups, IsGoodLayer, AreApart, AreGoodLayers}
-use Rattle.vsw_policyfile_law.proofs.Steps.{taken, same_value, read, passed, unless}
-use Rattle.vsw_policyfile_law.proofs.Lists.{kept, no_pairs, pairs_push}
-use Rattle.vsw_policyfile_law.proofs.Rules.{groups_good}
+use Rattle.vsw_policyfile.proofs.Steps.{taken, same_value, read, passed, unless}
+use Rattle.vsw_policyfile.proofs.Lists.{kept, no_pairs, pairs_push}
+use Rattle.vsw_policyfile.proofs.Rules.{groups_good}
 
 spec_layer : (layer : ℕ) (o : Data) (s : LayerSpec) → spec_in layer o ≡ Ok s → s.layer ≡ layer
 unfolding spec_in

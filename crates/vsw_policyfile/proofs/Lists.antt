@@ -10,7 +10,7 @@ use Rattle.vsw_jsonfile.specs.declared.fault.Step.TheVariants.{Place}
 use Rattle.vsw_jsonfile.specs.declared.fault.Fault.{Fault}
 use Rattle.vsw_jsonfile.specs.Fault.{◌>>=◌, under}
 use Rattle.vsw_jsonfile.specs.List.{items_in, items_to, items_after}
-use Rattle.vsw_policyfile_law.proofs.Steps.{taken, same_value, from_under, passed}
+use Rattle.vsw_policyfile.proofs.Steps.{taken, same_value, from_under, passed}
 
 -- what each item keeps holds of the list
 pub kept : {A : Type 0} (Q : List A → Type 0) (f : List A → Data → Result A Fault) → ((done : List A) (d : Data) (x : A) → Q done → f done d ≡ Ok x → Q (done ++ x ∷ [])) → (done : List A) (ds : List Data) (xs : List A) → Q done → items_after f done ds ≡ Ok xs → Q xs

@@ -19,9 +19,9 @@ use Rattle.vsw_policyfile.specs.Layer.{layers_of}
 use Rattle.vsw_policyfile.specs.Port.{fresh_port, fresh_mac, rows_of, port_words, port_of}
 use Rattle.vsw_policyfile.specs.Policy.{of_part, few, few_in, controllers_in, ports_in, file_words, policy_of}
 use Rattle.vsw_policyfile.specs.Good.{AreGoodLayers, AreGoodPorts, IsGoodPolicy, EachIsGood}
-use Rattle.vsw_policyfile_law.proofs.Steps.{taken, same_value, from_under, from_part, read, passed, unless}
-use Rattle.vsw_policyfile_law.proofs.Lists.{kept, as_many, at_most, no_pairs, pairs_push, apart}
-use Rattle.vsw_policyfile_law.proofs.Layers.{layers_good}
+use Rattle.vsw_policyfile.proofs.Steps.{taken, same_value, from_under, from_part, read, passed, unless}
+use Rattle.vsw_policyfile.proofs.Lists.{kept, as_many, at_most, no_pairs, pairs_push, apart}
+use Rattle.vsw_policyfile.proofs.Layers.{layers_good}
 
 fresh_port_apart : (done : List PortFile) (d : Data) (n : ℕ) → fresh_port done d ≡ Ok n → list_any (λ p. p.port == n) done ≡ false
 unfolding fresh_port

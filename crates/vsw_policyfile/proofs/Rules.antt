@@ -18,8 +18,8 @@ use Rattle.vsw_rulefile.specs.Condition.{conds_of}
 use Rattle.vsw_rulefile.specs.Action.{action_of}
 use Rattle.vsw_rulefile.specs.Rule.{fresh_rule, judged, rule_words, rule_of, rules_of, fresh_group, dir_of, group_words, group_of, groups_of}
 use Rattle.vsw_policyfile.specs.Good.{AreGoodRules, AreGoodGroups}
-use Rattle.vsw_policyfile_law.proofs.Steps.{taken, same_value, read, unless}
-use Rattle.vsw_policyfile_law.proofs.Lists.{kept_in, limited, no_pairs, pairs_push, apart}
+use Rattle.vsw_policyfile.proofs.Steps.{taken, same_value, read, unless}
+use Rattle.vsw_policyfile.proofs.Lists.{kept_in, limited, no_pairs, pairs_push, apart}
 
 -- the test of a number that is Twice where it stands
 fresh_rule_apart : (done : List Rule) (d : Data) (n : ℕ) → fresh_rule done d ≡ Ok n → list_any (λ r. r.number == n) done ≡ false

@@ -36,6 +36,7 @@ impl ReadItem<Rule> for AloneReader {
     }
 }
 
+/// Reads any number of rules, each alone.
 struct RulesReader;
 
 impl ReadValue<Items<Rule>> for RulesReader {

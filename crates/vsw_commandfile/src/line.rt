@@ -40,6 +40,7 @@ fn during_named(alloc: Global, name: &str) -> Result<bool, Fault>
     }
 }
 
+/// Reads whether a command runs beside the packets of its round.
 struct DuringReader;
 
 impl ReadValue<bool> for DuringReader {

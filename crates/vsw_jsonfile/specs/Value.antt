@@ -40,7 +40,3 @@ ip4_in d = text_of d >>= (λ t. if_there (ip4_of t))
 abbrev pub value_for : {A : Type 0} → List (List ℕ × A) → List ℕ → Result A Fault
 value_for [] text = shape
 value_for (row ∷ rows) text = if bytes_eq text row.0 then Ok row.1 else value_for rows text
-
--- one of the texts of a table
-abbrev pub choice_of : {A : Type 0} → List (List ℕ × A) → Data → Result A Fault
-choice_of table d = text_of d >>= value_for table

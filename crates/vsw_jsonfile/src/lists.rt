@@ -95,7 +95,8 @@ pub fn fresh<T: Drop>(alloc: Global, is_taken: bool, value: T) -> Result<T, Faul
     }
 }
 
-fn is_among(number: u16, numbers: &[u16]) -> bool
+/// Whether a number is one of these.
+pub fn is_number_among(number: u16, numbers: &[u16]) -> bool
     ensures { result ≡ list_any (λ m. m == number) numbers.now }
 {
     numbers.iter().any(|each| *each == number)
@@ -110,6 +111,6 @@ impl ReadItem<u16> for FreshNumbers {
 
     fn item(&self, alloc: Global, done: &[u16], value: &Value) -> Result<u16, Fault> {
         let number = short(alloc, value)?;
-        fresh(alloc, is_among(number, done), number)
+        fresh(alloc, is_number_among(number, done), number)
     }
 }

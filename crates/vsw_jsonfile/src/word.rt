@@ -106,7 +106,7 @@ impl Word {
 }
 
 /// Whether a name is one of these.
-pub fn is_known(words: &[Word], name: &str) -> bool
+pub(crate) fn is_known(words: &[Word], name: &str) -> bool
     ensures { result ≡ is_among words.now name.now }
 {
     words.iter().any(|word| word.text() == name)

@@ -4,7 +4,7 @@ ghost use Rattle.std.specs.Prelude.{◌≡◌, ◌==◌, ◌&&◌};
 ghost use Rattle.std.specs.List.{list_any};
 ghost use Rattle.serde_json.specs.View.{view};
 ghost use Rattle.vsw_jsonfile.specs.Fault.{Says};
-ghost use Rattle.vsw_policyfile.specs.Layer.{listed, listed_number, room_for, fresh_layer, allows_for, allows_of, seconds_of, spec_in, layer_of, layers_of};
+ghost use Rattle.vsw_policyfile.specs.Layer.{listed_number, room_for, fresh_layer, allows_for, allows_of, spec_in, layer_of, layers_of};
 ghost use Rattle.vsw_policyfile.specs.Layer as spec;
 
 use crate::file::LayerFile;
@@ -12,8 +12,8 @@ use serde_json::Value;
 use std::alloc::Global;
 use vsw_base::Items;
 use vsw_jsonfile::{
-    Fault, Kind, ReadItem, ReadValue, ShortReader, Word, fresh, here, items, list, member,
-    number_in, object_in, short, text,
+    Fault, Kind, ReadItem, ReadValue, ShortReader, Word, fresh, here, is_number_among, items, list,
+    member, number_in, object_in, short, text,
 };
 use vsw_layer::LayerSpec;
 use vsw_rulefile::GroupsReader;
@@ -24,7 +24,7 @@ const MOST_LAYERS: usize = 16;
 /// The most pairs of a layer.
 const MOST_PAIRS: u32 = 65_536;
 
-/// A day.
+/// Seconds of a day, the longest time that a pair may be idle or linger.
 const MOST_SECONDS: u32 = 86_400;
 
 const LAYER_WORDS: [Word; 9] = [
@@ -39,12 +39,6 @@ const LAYER_WORDS: [Word; 9] = [
     Word::Groups,
 ];
 
-fn is_listed(number: u16, known: &[u16]) -> bool
-    ensures { result ≡ list_any (λ m. m == number) known.now }
-{
-    known.iter().any(|each| *each == number)
-}
-
 /// Reads the number of one of these controllers.
 #[derive(Drop)]
 pub struct ControllerReader<'a> {
@@ -57,7 +51,7 @@ impl<'a> ReadValue<u16> for ControllerReader<'a> {
     #[tactic(auto, unfolding(crate::specs::Layer::listed_number))]
     fn value(&self, alloc: Global, value: &Value) -> Result<u16, Fault> {
         let number = short(alloc, value)?;
-        if is_listed(number, self.known) {
+        if is_number_among(number, self.known) {
             Ok(number)
         } else {
             Err(here(alloc, Kind::Unknown))
@@ -155,7 +149,7 @@ pub fn spec_in(alloc: Global, layer: u16, object: &Value) -> Result<LayerSpec, F
     })
 }
 
-/// Reads layers of these controllers, one by one.
+/// Reads a layer of one of these controllers.
 #[derive(Drop)]
 struct LayerReader<'a> {
     known: &'a [u16],

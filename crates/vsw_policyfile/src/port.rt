@@ -50,7 +50,7 @@ fn is_mac_taken(mac: u64, ports: &[PortFile]) -> bool
     ports.iter().any(|port| port.mac.number() == mac)
 }
 
-fn has_address(mac: Mac, ports: &[PortFile]) -> bool
+fn is_address_taken(mac: Mac, ports: &[PortFile]) -> bool
     ensures { result ≡ list_any (λ p. p.mac == mac) ports.now }
 {
     is_mac_taken(mac.number(), ports)
@@ -68,11 +68,11 @@ impl<'a> ReadValue<Mac> for AddressReader<'a> {
     #[tactic(auto, unfolding(crate::specs::Port::fresh_mac))]
     fn value(&self, alloc: Global, value: &Value) -> Result<Mac, Fault> {
         let mac = mac(alloc, value)?;
-        fresh(alloc, has_address(mac, self.done), mac)
+        fresh(alloc, is_address_taken(mac, self.done), mac)
     }
 }
 
-/// Reads ports whose layers are of these controllers.
+/// Reads a port whose layers are of these controllers.
 #[derive(Drop)]
 struct PortReader<'a> {
     known: &'a [u16],

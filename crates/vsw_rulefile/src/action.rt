@@ -34,6 +34,7 @@ const ENCAP_WORDS: [Word; 5] = [
 /// The greatest VNI.
 const MOST_VNI: u32 = 0xff_ffff;
 
+/// Reads the fields that an edit writes.
 struct SetReader;
 
 impl ReadValue<Set> for SetReader {
@@ -85,6 +86,7 @@ fn outer(alloc: Global, value: &Value) -> Result<Outer, Fault>
     Ok(headers(dst_mac, src_mac, src_ip, dst_ip, vni))
 }
 
+/// Reads an encapsulation, or that there is none.
 struct EncapReader;
 
 impl ReadValue<Option<Outer>> for EncapReader {

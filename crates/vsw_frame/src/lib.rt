@@ -13,4 +13,4 @@ mod writing;
 pub use frame::{Frame, Level};
 pub use law::laws;
 pub use read::read_frame;
-pub use writing::rewrite;
+pub use writing::{rewrite, rewrite_to};

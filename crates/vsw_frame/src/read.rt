@@ -27,13 +27,13 @@ fn size(level: &Option<Level<'_>>) -> u32
 }
 
 #[tactic(auto, using(crate::proofs::Finds::sizes_are, crate::proofs::Within::within_stack, crate::proofs::Finds::shorter))]
-fn framed<'a>(bytes: &'a [u8], headers: &Headers, found: &Found<'a>) -> Frame<'a>
-    requires finds { Finds 2 bytes.now headers.now found.now }
-    requires read { frame_of bytes.now ≡ Ok (found_parts headers.now found.now) }
-    ensures same { parts result ≡ found_parts headers.now found.now }
+fn framed<'a>(bytes: &'a [u8], headers: Headers, found: &Found<'a>) -> Frame<'a>
+    requires finds { Finds 2 bytes.now headers found.now }
+    requires read { frame_of bytes.now ≡ Ok (found_parts headers found.now) }
+    ensures same { parts result ≡ found_parts headers found.now }
 {
     Frame {
-        stack: Stack::new(*headers),
+        stack: Stack::new(headers),
         control: found.control,
         sizes: Sizes {
             whole: found.first.bytes.len() as u32,
@@ -61,7 +61,7 @@ pub fn read_frame<'a>(bytes: &'a [u8]) -> Result<Frame<'a>, BadFrame>
     }
     let mut headers = Headers::new();
     match find(ENCAPS_MAX, bytes, &mut headers) {
-        Ok(found) => Ok(framed(bytes, &headers, &found)),
+        Ok(found) => Ok(framed(bytes, headers, &found)),
         Err(fault) => Err(fault),
     }
 }

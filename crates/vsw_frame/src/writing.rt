@@ -77,19 +77,30 @@ fn write(out: &mut [u8], levels: &Levels<'_>, from: &[Header], edited: &Stack, p
     write_encaps(out, source_port(edited), outer(edited, pushes));
 }
 
-/// The stack that a transposition makes of one that it fits.
-fn edited(stack: &Stack, by: &Transposition) -> Stack
+/// Writes the stack that a transposition makes of one that it fits.
+fn edit(stack: &Stack, by: &Transposition, out: &mut Stack)
     requires { IsTrue (fits by.now stack.now) }
-    ensures done { result ≡ apply by.now stack.now }
-    ensures edit { IsEdit stack.now result (kept by.now) }
+    ensures done { out.new ≡ apply by.now stack.now }
+    ensures edit { IsEdit stack.now out.new (kept by.now) }
 {
     // Both calls tell of what their type keeps: a stack's shape, and the order of a transposition's acts.
     let (_headers, _acts) = (stack.headers(), by.acts());
-    by.apply(stack)
+    by.apply_to(stack, out);
 }
 
-/// Writes a frame's bytes as its stack was edited, at the front of `out`, and answers their number.
-fn rewrite_to(frame: &Frame<'_>, edited: &Stack, kept: u8, out: &mut [u8]) -> Result<usize, Long>
+/// Writes the bytes of a frame, as its headers were edited, at the front of `out`, and answers their number.
+/// So many of its encapsulations were kept; others are dropped with what surrounds their inner frame. In
+/// the inner frame addresses and ports are written over the old ones, and checksums are updated (RFC 1624).
+/// An encapsulation that stays keeps all but its UDP checksum, which is 0 where an inner field differs.
+/// Pushed encapsulations stand in front (RFC 7348, section 5).
+///
+/// `Long` tells the outermost IPv4 total length where it is above what its field can say.
+pub fn rewrite_to(
+    frame: &Frame<'_>,
+    edited: &Stack,
+    kept: u8,
+    out: &mut [u8],
+) -> Result<usize, Long>
     requires edit { IsEdit (parts frame.now).stack edited.now kept }
     requires room { 65700 ≤ length out.old }
     ensures answer { result ≡ answer (parts frame.now) edited.now kept }
@@ -110,13 +121,7 @@ fn rewrite_to(frame: &Frame<'_>, edited: &Stack, kept: u8, out: &mut [u8]) -> Re
     Ok(end)
 }
 
-/// Writes the bytes of a frame, as the transposition makes its headers, at the front of `out`, and
-/// answers their number. Headers that are dropped go with what surrounds their inner frame. In the inner
-/// frame addresses and ports are written over the old ones, and checksums are updated (RFC 1624). An
-/// encapsulation that stays keeps all but its UDP checksum, which is 0 where an inner field differs.
-/// Pushed encapsulations stand in front (RFC 7348, section 5).
-///
-/// `Long` tells the outermost IPv4 total length where it is above what its field can say.
+/// Writes the bytes of a frame, as the transposition makes its headers: see `rewrite_to`.
 pub fn rewrite(frame: &Frame<'_>, by: &Transposition, out: &mut [u8]) -> Result<usize, Long>
     requires fits { IsTrue (fits by.now (parts frame.now).stack) }
     requires room { 65700 ≤ length out.old }
@@ -126,6 +131,7 @@ pub fn rewrite(frame: &Frame<'_>, by: &Transposition, out: &mut [u8]) -> Result<
     ensures unchanged { OnErr result (out.new ≡ out.old) }
 {
     let stack = frame.stack();
-    let edited = edited(stack, by);
+    let mut edited = Stack::room();
+    edit(stack, by, &mut edited);
     rewrite_to(frame, &edited, by.kept(), out)
 }

@@ -10,7 +10,7 @@ use Rattle.vsw_frame.proofs.writing.rewrite.Goals as goal
 pub returns-clause-answer : goal.returns-clause-answer
 returns-clause-answer c =
     let p : Parts = parts c.args.frame.now in
-    let made : c.edited-edited.result ≡ apply c.args.by.now p.stack = c.edited-edited.ensures.done ∙ ap (apply c.args.by.now) c.stack-stack.ensures in
+    let made : c.edit.new.out ≡ apply c.args.by.now p.stack = c.edit.ensures.done ∙ ap (apply c.args.by.now) c.stack-stack.ensures in
     c.rewrite_to.ensures.answer
     ∙ ap (λ (hs : List Header). answer p hs c.kept.result) made
     ∙ ap (answer p (apply c.args.by.now p.stack)) c.kept.ensures.value
@@ -20,13 +20,13 @@ returns-clause-written c =
     let p : Parts = parts c.args.frame.now in
     let old : List ℕ = c.args.out.now in
     let new : List ℕ = c.rewrite_to.new.out in
-    let made : c.edited-edited.result ≡ apply c.args.by.now p.stack = c.edited-edited.ensures.done ∙ ap (apply c.args.by.now) c.stack-stack.ensures in
+    let made : c.edit.new.out ≡ apply c.args.by.now p.stack = c.edit.ensures.done ∙ ap (apply c.args.by.now) c.stack-stack.ensures in
     let first = subst (λ (hs : List Header). OnOk c.rewrite_to.result (new ≡ outgoing p hs c.kept.result ++ drop (length (outgoing p hs c.kept.result)) old)) made c.rewrite_to.ensures.written in
     subst (λ (k : ℕ). OnOk c.rewrite_to.result (new ≡ outgoing p (apply c.args.by.now p.stack) k ++ drop (length (outgoing p (apply c.args.by.now p.stack) k)) old)) c.kept.ensures.value first
 
 pub returns-clause-size : goal.returns-clause-size
 returns-clause-size c =
     let p : Parts = parts c.args.frame.now in
-    let made : c.edited-edited.result ≡ apply c.args.by.now p.stack = c.edited-edited.ensures.done ∙ ap (apply c.args.by.now) c.stack-stack.ensures in
+    let made : c.edit.new.out ≡ apply c.args.by.now p.stack = c.edit.ensures.done ∙ ap (apply c.args.by.now) c.stack-stack.ensures in
     let first = subst (λ (hs : List Header). IfOk c.rewrite_to.result (λ (len : ℕ). len ≡ outgoing_size p hs c.kept.result)) made c.rewrite_to.ensures.size in
     subst (λ (k : ℕ). IfOk c.rewrite_to.result (λ (len : ℕ). len ≡ outgoing_size p (apply c.args.by.now p.stack) k)) c.kept.ensures.value first

@@ -6,7 +6,7 @@ use Rattle.vsw_transpose.specs.Form.{is_form}
 use Rattle.vsw_transpose.specs.Fits.{kept}
 use Rattle.vsw_frame.specs.Bytes.{IsEdit}
 use Rattle.vsw_frame.proofs.Fitting.{fits_edit}
-use Rattle.vsw_frame.proofs.writing.edited.Goals as goal
+use Rattle.vsw_frame.proofs.writing.edit.Goals as goal
 
 pub returns-clause-edit : goal.returns-clause-edit
 returns-clause-edit c =
@@ -14,4 +14,4 @@ returns-clause-edit c =
     let hs : List Header = c.args.stack.now in
     let form : is_form xs ≡ true = ap is_form (sym c.acts-acts.ensures.all) ∙ c.acts-acts.ensures.form in
     let shape : is_stack hs ≡ true = ap is_stack (sym c.headers-headers.ensures.all) ∙ c.headers-headers.ensures.shape in
-    subst (λ (made : List Header). IsEdit hs made (kept xs)) (sym c.apply.ensures.done) (fits_edit xs hs form shape c.requires)
+    subst (λ (made : List Header). IsEdit hs made (kept xs)) (sym c.apply_to.ensures) (fits_edit xs hs form shape c.requires)

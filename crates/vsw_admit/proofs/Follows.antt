@@ -36,7 +36,7 @@ use Rattle.vsw_visit.proofs.Chosen.{chosen_can}
 -- inner fields that are written
 written_like : (set : Set) (h : Header) → IsLike h (written set h)
 written_like set (Ether d s k) = refl
-written_like set (Ip a b p f) = (refl, refl)
+written_like set (Ip a b p f) = refl
 written_like set (Vxlan v) = refl
 written_like set (Ports p x y) = refl
 

@@ -1,10 +1,10 @@
 -- Stacks by their encapsulations and the kinds of their inner headers, whatever their numbers.
 use Rattle.std.proofs.Common.{◌≡◌, ◌≤◌, ◌∙◌, ℕ, zero, suc, ◌*◌, List, [], ◌∷◌, ◌++◌, Some, Ok, drop, sym, ap, subst, arith}
 use Rattle.vsw_base.specs.declared.header.Header.{Header}
-use Rattle.vsw_base.specs.declared.header.Header.TheVariants.{Ether, Ip, Vxlan, Ports}
+use Rattle.vsw_base.specs.declared.header.Header.TheVariants.{Ether, Ip, Vxlan}
 use Rattle.vsw_base.specs.Frame.{Opened, Parts, encap_parts, frame_of, opened_of, plain_parts, ports, within}
 use Rattle.vsw_base.specs.Shape.{encaps, inner}
-use Rattle.vsw_frame.specs.Bytes.{AreLike, IsLike}
+use Rattle.vsw_frame.specs.Bytes.{AreLike}
 use Rattle.vsw_frame.proofs.Cases.{DepthCases, FrameCases, OpenedCases, depth_cases, frame_cases, opened_cases, read_in}
 use Rattle.vsw_frame.proofs.Fitting.{same_like}
 use Rattle.vsw_frame.proofs.Laid.{in_front, inner_same, no_vxlan}
@@ -34,16 +34,9 @@ pub all_like : (hs : List Header) → AreLike hs hs
 all_like [] = tt
 all_like (h ∷ hs) = (same_like h, all_like hs)
 
-like_on : (f g h : Header) → IsLike f g → IsLike g h → IsLike f h
-like_on (Ether d s k) (Ether d' s' k') (Ether d'' s'' k'') e f = f ∙ e
-like_on (Ip a b p q) (Ip a' b' p' q') (Ip a'' b'' p'' q'') e f = (f.0 ∙ e.0, f.1 ∙ e.1)
-like_on (Vxlan v) (Vxlan v') (Vxlan v'') e f = f ∙ e
-like_on (Ports p x y) (Ports p' x' y') (Ports p'' x'' y'') e f = f ∙ e
-like_on f g h e k = absurd (grind arith)
-
 pub likes_on : (fs gs hs : List Header) → AreLike fs gs → AreLike gs hs → AreLike fs hs
 likes_on [] [] [] e f = tt
-likes_on (f ∷ fs) (g ∷ gs) (h ∷ hs) e k = (like_on f g h e.0 k.0, likes_on fs gs hs e.1 k.1)
+likes_on (f ∷ fs) (g ∷ gs) (h ∷ hs) e k = (k.0 ∙ e.0, likes_on fs gs hs e.1 k.1)
 likes_on fs gs hs e f = absurd (grind arith)
 
 -- of the headers of a frame

@@ -24,7 +24,7 @@ lt_false m n h = grind (arith, common_steps)
 -- room for headers is room for headers of the same kinds
 like_packet : (hs gs : List Header) (bytes : List ℕ) → AreLike hs gs → HasPacket hs bytes → HasPacket gs bytes
 like_packet [] [] bytes a h = tt
-like_packet (Ip a b p f ∷ Ports q x y ∷ hs) (Ip c d r g ∷ Ports s u v ∷ gs) bytes l h = (h.0, let e : ports_len s ≡ ports_len q = ap ports_len l.1.0 in omega (arith, h.1, e))
+like_packet (Ip a b p f ∷ Ports q x y ∷ hs) (Ip c d r g ∷ Ports s u v ∷ gs) bytes l h = (h.0, let same : Ports s 0 0 ≡ Ports q 0 0 = l.1.0 in let proto : s ≡ q = cc in omega (arith, h.1, ap ports_len proto))
 like_packet (Ip a b p f ∷ []) (Ip c d r g ∷ []) bytes l h = h
 like_packet (Ip a b p f ∷ Ether m n o ∷ hs) (Ip c d r g ∷ Ether i j k ∷ gs) bytes l h = h
 like_packet (Ip a b p f ∷ Ip m n o q ∷ hs) (Ip c d r g ∷ Ip i j k s ∷ gs) bytes l h = h

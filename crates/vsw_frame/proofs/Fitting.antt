@@ -3,7 +3,7 @@ use Rattle.std.proofs.Common.{◌≡◌, ℕ, zero, suc, ◌+◌, ◌-◌, ◌*�
 use Rattle.std.proofs.lemmas.Grind.{common_steps}
 use Rattle.std.proofs.Math.Seq.{take-append_seam, drop-append_seam}
 use Rattle.vsw_base.specs.declared.header.Header.{Header}
-use Rattle.vsw_base.specs.declared.header.Header.TheVariants.{Ether, Ip, Vxlan, Ports}
+use Rattle.vsw_base.specs.declared.header.Header.TheVariants.{Ether, Ip, Ports}
 use Rattle.vsw_base.specs.Shape.{is_stack, encaps, inner}
 use Rattle.vsw_base.proofs.Stacks.{in_front}
 use Rattle.vsw_transpose.specs.declared.act.Change.{Change}
@@ -20,14 +20,11 @@ use Rattle.vsw_frame.specs.Bytes.{IsLike, AreLike, IsEdit, kept_headers}
 use Rattle.vsw_base.proofs.Dropped.{drop_none}
 
 pub same_like : (h : Header) → IsLike h h
-same_like (Ether d s k) = refl
-same_like (Ip a b p f) = (refl, refl)
-same_like (Vxlan v) = refl
-same_like (Ports p x y) = refl
+same_like h = refl
 
 changed_like : (c : Change) (h : Header) → IsLike h (changed c h)
 changed_like (of.Ether a b) (Ether d s k) = refl
-changed_like (of.Ip a b) (Ip d s p f) = (refl, refl)
+changed_like (of.Ip a b) (Ip d s p f) = refl
 changed_like (of.Ports a b) (Ports p x y) = refl
 changed_like c h = same_like h
 

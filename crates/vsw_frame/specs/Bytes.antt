@@ -53,18 +53,22 @@ outer_total p edited kept = total_over (pushes edited kept) (size_at (drops p ke
 abbrev pub answer : Parts → List Header → ℕ → Result ℕ Long
 answer p edited kept = if nat_lt 65535 (outer_total p edited kept) then Err (record { total = outer_total p edited kept }) else Ok (length (outgoing p edited kept))
 
+-- a header with zeros for the addresses and ports that an edit may write
+abbrev pub bare : Header → Header
+bare (Ether dst src kind) = Ether 0 0 kind
+bare (Ip src dst proto part) = Ip 0 0 proto part
+bare (Vxlan vni) = Vxlan vni
+bare (Ports proto src dst) = Ports proto 0 0
+
 -- headers of one kind, whose addresses and ports alone may differ
 abbrev pub IsLike : Header → Header → Type 0
-IsLike (Ether d s k) (Ether dst src kind) = kind ≡ k
-IsLike (Ip a b p f) (Ip src dst proto part) = (proto ≡ p) × (part ≡ f)
-IsLike (Vxlan v) (Vxlan vni) = vni ≡ v
-IsLike (Ports p x y) (Ports proto src dst) = proto ≡ p
-IsLike h g = ⊥
+IsLike h g = bare g ≡ bare h
 
 abbrev pub AreLike : List Header → List Header → Type 0
 AreLike [] [] = Unit {0}
+AreLike [] (g ∷ gs) = ⊥
+AreLike (h ∷ hs) [] = ⊥
 AreLike (h ∷ hs) (g ∷ gs) = IsLike h g × AreLike hs gs
-AreLike hs gs = ⊥
 
 -- the innermost of so many encapsulations, and what is in them
 abbrev pub kept_headers : List Header → ℕ → List Header

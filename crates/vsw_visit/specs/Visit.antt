@@ -12,7 +12,7 @@ use Rattle.vsw_layer.specs.Layer.{LayerSeen}
 use Rattle.vsw_layerflow.specs.declared.pair.Pair.{Pair}
 use Rattle.vsw_layerflow.specs.Pairs.{pair_of}
 use Rattle.vsw_rule.specs.declared.rule.Action.{Action}
-use Rattle.vsw_rule.specs.declared.rule.Action.TheVariants.{Allow, Drop}
+use Rattle.vsw_rule.specs.declared.rule.Action.TheVariants.{Allow, Drop, Edit}
 use Rattle.vsw_rule.specs.declared.rule.Rule.{Rule}
 use Rattle.vsw_tcp.specs.declared.state.Tracked.{Tracked}
 use Rattle.vsw_tcp.specs.declared.state.Tracked.TheVariants.{To, Reopen}
@@ -38,8 +38,9 @@ wanted number d c moment hs group r = if r.stateful then Some (Make (wanted_pair
 
 -- a rule's action drops the packet, or it goes on with it
 abbrev pub by_action : Action → Visit → Visit → Visit
+by_action Allow stops goes = goes
 by_action Drop stops goes = stops
-by_action action stops goes = goes
+by_action (Edit decap set encap) stops goes = goes
 
 abbrev pub by_rule : LayerSeen → Dir → Control → ℕ → List Header → Option ℕ → ℕ → Rule → Visit
 by_rule l d c moment hs leaves group r = by_action r.action

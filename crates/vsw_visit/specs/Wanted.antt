@@ -13,7 +13,7 @@ use Rattle.vsw_compose.specs.Edit.{edited}
 use Rattle.vsw_flowid.specs.Key.{key_from, mirror_of}
 use Rattle.vsw_layerflow.specs.declared.pair.Pair.{Pair}
 use Rattle.vsw_rule.specs.declared.rule.Action.{Action}
-use Rattle.vsw_rule.specs.declared.rule.Action.TheVariants.{Edit}
+use Rattle.vsw_rule.specs.declared.rule.Action.TheVariants.{Allow, Drop, Edit}
 use Rattle.vsw_rule.specs.declared.rule.Rule.{Rule}
 use Rattle.vsw_rule.specs.Field as field
 use Rattle.vsw_tcp.specs.Track.{opening_of}
@@ -24,8 +24,9 @@ nothing = record { dst_mac = None; src_mac = None; src_ip = None; dst_ip = None;
 
 -- what an action writes into inner headers
 abbrev pub set_of : Action → Set
+set_of Allow = nothing
+set_of Drop = nothing
 set_of (Edit decap set encap) = set
-set_of action = nothing
 
 -- the value from before, where another one is written and there was one
 abbrev pub undone : Option ℕ → Option ℕ → Option ℕ

@@ -51,7 +51,6 @@ fn wanted(
     moment: Moment,
     stack: &Stack,
 ) -> Option<Want>
-    requires goes_on { IsTrue (goes_on rule.now.action) }
     requires can { IsTrue (can_do rule.now.action stack.now) }
     ensures { result ≡ spec.wanted number dir control moment stack.now group rule.now }
 {

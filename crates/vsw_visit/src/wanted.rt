@@ -1,14 +1,14 @@
 //! The pair that a stateful rule wants.
 
 ghost use Rattle.std.specs.Prelude.{◌≡◌, IsTrue};
-ghost use Rattle.vsw_compose.specs.Edit.{goes_on, edited};
+ghost use Rattle.vsw_compose.specs.Edit.{edited};
 ghost use Rattle.vsw_flowid.specs.Key.{key_from};
 ghost use Rattle.vsw_rule.specs.Field as field;
 ghost use Rattle.vsw_rule.specs.Match.{can_do};
 ghost use Rattle.vsw_visit.specs.Wanted as spec;
 
 use vsw_base::{Control, Dir, Header, Ip4, LayerKey, Mac, Moment, Set, Stack, Track};
-use vsw_compose::act_of;
+use vsw_compose::edit_stack;
 use vsw_flowid::{key_of, mirror};
 use vsw_layerflow::Pair;
 use vsw_rule::{Action, Rule};
@@ -85,11 +85,17 @@ fn set_of(action: &Action) -> Set
 
 /// The key of the stack after the action.
 fn key_after(action: &Action, stack: &Stack) -> LayerKey
-    requires goes_on { IsTrue (goes_on action.now) }
     requires can { IsTrue (can_do action.now stack.now) }
     ensures { result ≡ key_from (edited action.now stack.now) }
 {
-    key_of(&act_of(action, stack).apply(stack))
+    match action {
+        Action::Edit { decap, set, encap } => {
+            let mut after = Stack::room();
+            edit_stack(*decap, set, encap, stack, &mut after);
+            key_of(&after)
+        }
+        Action::Allow | Action::Drop => key_of(stack),
+    }
 }
 
 /// The state of a pair that a packet of this key makes: fragments and other protocols than TCP have none
@@ -114,7 +120,6 @@ pub fn wanted_pair(
     moment: Moment,
     stack: &Stack,
 ) -> Pair
-    requires goes_on { IsTrue (goes_on rule.now.action) }
     requires can { IsTrue (can_do rule.now.action stack.now) }
     ensures { result ≡ spec.wanted_pair number dir control moment stack.now group rule.now }
 {

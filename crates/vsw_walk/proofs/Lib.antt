@@ -1,3 +1,3 @@
-pub mod Goes
 pub mod Places
 pub mod Held
+pub mod Made

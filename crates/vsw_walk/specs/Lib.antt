@@ -1,3 +1,4 @@
 pub mod Walk
-pub mod Between
+pub mod Met
+pub mod Made
 pub mod Law

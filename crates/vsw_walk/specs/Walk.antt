@@ -15,6 +15,7 @@ use Rattle.vsw_layer.specs.Layer.{LayerSeen}
 use Rattle.vsw_layerflow.specs.declared.pair.Pair.{Pair}
 use Rattle.vsw_layerflow.specs.Life.{due}
 use Rattle.vsw_layerflow.specs.Pairs.{number_of, pair_of}
+use Rattle.vsw_rule.specs.declared.rule.Action.{Action}
 use Rattle.vsw_visit.specs.declared.outcome.Visit.{Visit}
 use Rattle.vsw_visit.specs.declared.outcome.Visit.TheVariants.{Stops, Goes}
 use Rattle.vsw_visit.specs.declared.outcome.Want.{Want}
@@ -35,8 +36,11 @@ pub record Walk : Type 0 where
   pub looked : List Looked
   pub due : Option ℕ
 
--- what a walk has told so far
+-- what a walk has told so far: the headers with which the packet goes on, the actions that made them of those with which it came, and
+-- what it wanted and looked for
 pub record Told : Type 0 where
+  pub stack : List Header
+  pub edits : List Action
   pub changes : List Wanted
   pub looked : List Looked
   pub due : Option ℕ

@@ -2,9 +2,9 @@
 //! of their pairs is told.
 #![tactic(auto)]
 
-mod between;
 mod law;
 mod scratch;
+mod turns;
 mod walking;
 
 pub use law::laws;

@@ -1,29 +1,26 @@
 //! The walk over the layers.
 
-ghost use Rattle.std.specs.Prelude.{◌≡◌, ◌≢◌, ◌≤◌, ◌+◌, ◌*◌, ℕ, List, [], IsTrue, length, map, reverse};
+ghost use Rattle.std.specs.Prelude.{◌≡◌, ◌≤◌, ◌+◌, ◌*◌, ℕ, List, length, map, reverse};
 ghost use Rattle.vsw_base.specs.declared.fate.Verdict.TheVariants.{Pass};
 ghost use Rattle.vsw_base.specs.declared.header.Header.{Header};
-ghost use Rattle.vsw_walk.specs.Between.{Leads, ended_with, from, met, stepped};
+ghost use Rattle.vsw_walk.specs.Met.{ended_with, from, met, stepped};
 ghost use Rattle.vsw_walk.specs.Walk.{Walk, after, crossed, placed, until_after, until_of, walk_of};
+ghost use Rattle.vsw_walk.specs.Made.{Leads};
 ghost use Rattle.vsw_layer.specs.Layer.{seen};
-ghost use Rattle.vsw_transpose.specs.Apply.{apply};
-ghost use Rattle.vsw_transpose.specs.Fits as fit;
 
-use crate::between::Between;
 use crate::scratch::Scratch;
 use vsw_base::{Crossing, Dir, Moment, Verdict};
 use vsw_flowid::key_of;
 use vsw_layer::Layer;
 use vsw_policy::Policy;
-use vsw_transpose::{Acts, Transposition};
 use vsw_visit::{Visit, visit_with};
 
-/// What a walk comes to: the verdict, and what all layers do to the packet, as one transposition. For a
-/// packet that is dropped it has no acts.
-#[derive(Clone, Copy, PartialEq, Eq)]
+/// What a walk comes to. The stack with which a packet passes is in the scratch.
+#[derive(Clone, Copy, Debug, PartialEq, Eq)]
 pub struct Walked {
     pub verdict: Verdict,
-    pub by: Transposition,
+    /// How many of the frame's encapsulations are kept, where the packet passes.
+    pub kept: u8,
     /// The moment up to which this holds for later packets, where they have no control and want no pair: a
     /// later one renews the last use of a pair. It is the greatest if no pair was found, or the packet is
     /// dropped.
@@ -35,18 +32,18 @@ fn step(
     layer: &Layer,
     place: u32,
     crossing: &Crossing,
-    between: &mut Between,
+    kept: &mut u8,
     scratch: &mut Scratch,
 ) -> Option<Verdict>
-    requires leads { Leads crossing.now.id.stack between.old }
+    requires leads { Leads crossing.now.id.stack scratch.old kept.old }
     requires room { length scratch.old.changes + 2 ≤ 256 }
     requires looks { length scratch.old.looked + 1 ≤ 128 }
-    ensures leads { Leads crossing.now.id.stack between.new }
+    ensures leads { Leads crossing.now.id.stack scratch.new kept.new }
     ensures room { length scratch.new.changes ≤ length scratch.old.changes + 2 }
     ensures looks { length scratch.new.looked ≤ length scratch.old.looked + 1 }
-    ensures value { (next : List Header → ℕ → Walk) → after scratch.old (met crossing.now place (seen layer.now) between.old next) ≡ stepped result scratch.new between.new next }
+    ensures value { (next : List Header → ℕ → Walk) → after scratch.old (met crossing.now place (seen layer.now) scratch.old.stack kept.old next) ≡ stepped result scratch.new kept.new next }
 {
-    let key = key_of(&between.stack);
+    let key = key_of(scratch.stack());
     let found = layer.flows.find(crossing.id.dir, &key);
     scratch.look(place, crossing.id.dir, &key, found, &layer.spec);
     match visit_with(
@@ -55,7 +52,7 @@ fn step(
         crossing.id.dir,
         crossing.control,
         crossing.moment,
-        &between.stack,
+        scratch.stack(),
     ) {
         Visit::Stops(verdict) => Some(verdict),
         Visit::Goes {
@@ -64,7 +61,7 @@ fn step(
             wants,
         } => {
             scratch.tell(place, leaves, &wants);
-            between.go_on(&crossing.id.stack, &action);
+            *kept = scratch.go_on(&action, *kept);
             None
         }
     }
@@ -75,23 +72,23 @@ fn go_out(
     layers: &[Layer],
     place: u32,
     crossing: &Crossing,
-    between: &mut Between,
+    kept: &mut u8,
     scratch: &mut Scratch,
 ) -> Verdict
-    requires leads { Leads crossing.now.id.stack between.old }
+    requires leads { Leads crossing.now.id.stack scratch.old kept.old }
     requires places { place + length layers.now ≤ 128 }
     requires room { length scratch.old.changes + 2 * length layers.now ≤ 256 }
     requires looks { length scratch.old.looked + length layers.now ≤ 128 }
-    ensures leads { Leads crossing.now.id.stack between.new }
-    ensures value { from crossing.now scratch.old between.old (placed place (map seen layers.now)) ≡ ended_with result scratch.new between.new }
+    ensures leads { Leads crossing.now.id.stack scratch.new kept.new }
+    ensures value { from crossing.now scratch.old kept.old (placed place (map seen layers.now)) ≡ ended_with result scratch.new kept.new }
 {
     let [layer, rest @ ..] = layers else {
         return Verdict::Pass;
     };
-    if let Some(verdict) = step(layer, place, crossing, between, scratch) {
+    if let Some(verdict) = step(layer, place, crossing, kept, scratch) {
         return verdict;
     }
-    go_out(rest, place + 1, crossing, between, scratch)
+    go_out(rest, place + 1, crossing, kept, scratch)
 }
 
 /// The packet crosses these layers in reverse, of which the first has place 0.
@@ -99,43 +96,43 @@ fn go_out(
 fn go_in(
     layers: &[Layer],
     crossing: &Crossing,
-    between: &mut Between,
+    kept: &mut u8,
     scratch: &mut Scratch,
 ) -> Verdict
-    requires leads { Leads crossing.now.id.stack between.old }
+    requires leads { Leads crossing.now.id.stack scratch.old kept.old }
     requires few { length layers.now ≤ 128 }
     requires room { length scratch.old.changes + 2 * length layers.now ≤ 256 }
     requires looks { length scratch.old.looked + length layers.now ≤ 128 }
-    ensures leads { Leads crossing.now.id.stack between.new }
-    ensures value { from crossing.now scratch.old between.old (reverse (placed 0 (map seen layers.now))) ≡ ended_with result scratch.new between.new }
+    ensures leads { Leads crossing.now.id.stack scratch.new kept.new }
+    ensures value { from crossing.now scratch.old kept.old (reverse (placed 0 (map seen layers.now))) ≡ ended_with result scratch.new kept.new }
 {
     let Some((layer, rest)) = layers.split_last() else {
         return Verdict::Pass;
     };
     let place = rest.len() as u32;
-    if let Some(verdict) = step(layer, place, crossing, between, scratch) {
+    if let Some(verdict) = step(layer, place, crossing, kept, scratch) {
         return verdict;
     }
-    go_in(rest, crossing, between, scratch)
+    go_in(rest, crossing, kept, scratch)
 }
 
 /// The packet crosses these layers, of which the first has place 0, in the order of its direction.
 fn cross(
     layers: &[Layer],
     crossing: &Crossing,
-    between: &mut Between,
+    kept: &mut u8,
     scratch: &mut Scratch,
 ) -> Verdict
-    requires leads { Leads crossing.now.id.stack between.old }
+    requires leads { Leads crossing.now.id.stack scratch.old kept.old }
     requires few { length layers.now ≤ 128 }
     requires room { length scratch.old.changes + 2 * length layers.now ≤ 256 }
     requires looks { length scratch.old.looked + length layers.now ≤ 128 }
-    ensures leads { Leads crossing.now.id.stack between.new }
-    ensures value { from crossing.now scratch.old between.old (crossed crossing.now.id.dir (placed 0 (map seen layers.now))) ≡ ended_with result scratch.new between.new }
+    ensures leads { Leads crossing.now.id.stack scratch.new kept.new }
+    ensures value { from crossing.now scratch.old kept.old (crossed crossing.now.id.dir (placed 0 (map seen layers.now))) ≡ ended_with result scratch.new kept.new }
 {
     match crossing.id.dir {
-        Dir::Out => go_out(layers, 0, crossing, between, scratch),
-        Dir::In => go_in(layers, crossing, between, scratch),
+        Dir::Out => go_out(layers, 0, crossing, kept, scratch),
+        Dir::In => go_in(layers, crossing, kept, scratch),
     }
 }
 
@@ -147,17 +144,17 @@ pub fn walk(policy: &Policy, crossing: &Crossing, scratch: &mut Scratch) -> Walk
     ensures changes { scratch.new.changes ≡ (walk_of policy.now.layers crossing.now).changes }
     ensures looked { scratch.new.looked ≡ (walk_of policy.now.layers crossing.now).looked }
     ensures until { result.until ≡ until_of (walk_of policy.now.layers crossing.now) }
-    ensures fits { result.verdict ≡ Pass → IsTrue (fit.fits result.by crossing.now.id.stack) }
-    ensures stack { result.verdict ≡ Pass → apply result.by crossing.now.id.stack ≡ (walk_of policy.now.layers crossing.now).stack }
-    ensures kept { result.verdict ≡ Pass → fit.kept result.by ≡ (walk_of policy.now.layers crossing.now).kept }
-    ensures acts { result.verdict ≢ Pass → result.by ≡ [] }
+    ensures stack { result.verdict ≡ Pass → scratch.new.stack ≡ (walk_of policy.now.layers crossing.now).stack }
+    ensures kept { result.verdict ≡ Pass → result.kept ≡ (walk_of policy.now.layers crossing.now).kept }
+    ensures leads { Leads crossing.now.id.stack scratch.new result.kept }
 {
-    scratch.clear();
-    let mut between = Between::of(&crossing.id.stack);
-    let verdict = cross(policy.layers(), crossing, &mut between, scratch);
+    let first = &crossing.id.stack;
+    scratch.begin(first);
+    let mut kept = first.encaps();
+    let verdict = cross(policy.layers(), crossing, &mut kept, scratch);
     Walked {
         verdict,
-        by: handed(verdict, &between),
+        kept,
         until: until(verdict, scratch.due()),
     }
 }
@@ -169,16 +166,5 @@ fn until(verdict: Verdict, due: Option<Moment>) -> Moment
     match (verdict, due) {
         (Verdict::Pass, Some(moment)) => moment,
         _ => Moment::of(u64::MAX),
-    }
-}
-
-/// What is handed out of a walk with this verdict.
-fn handed(verdict: Verdict, between: &Between) -> Transposition
-    ensures passed { verdict ≡ Pass → result ≡ between.now.by }
-    ensures dropped { verdict ≢ Pass → result ≡ [] }
-{
-    match verdict {
-        Verdict::Pass => between.by,
-        _ => Transposition::new(Acts::new()),
     }
 }

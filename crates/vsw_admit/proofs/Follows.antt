@@ -99,7 +99,7 @@ follows_on (Edit true set encap) core most hs kept t f =
     covers encap most (f.number - 1) (kept_after (Edit true set encap) hs kept) core (with_set set (drop 3 hs)) (carries_set set (f.number - 1) core (drop 3 hs) rest) (omega (arith, left.0, f.of_first)) (omega (arith, left.1, count))
 
 -- what a layer does to a packet that goes on can be done
-abbrev Can : List Header → Visit → Type 0
+abbrev pub Can : List Header → Visit → Type 0
 Can hs v = IfGoes v (λ a. can_do a hs ≡ true)
 
 action_can : (hs : List Header) (a b : Action) (verdict : Verdict) (leaves : Option ℕ) (wants : Option Want) → can_do b hs ≡ true → Can hs (by_action a (Stops verdict) (Goes b leaves wants))
@@ -117,7 +117,7 @@ state_can : (l : LayerSeen) (d : Dir) (c : Control) (moment : ℕ) (hs : List He
 state_can l d c moment hs p (To t) = refl
 state_can l d c moment hs p Reopen = choice_can l d c moment hs (Some p.number) (choose d l.groups hs) refl
 
-pair_can : (l : LayerSeen) (d : Dir) (c : Control) (moment : ℕ) (hs : List Header) (o : Option Pair) → Can hs (by_pair l d c moment hs o)
+pub pair_can : (l : LayerSeen) (d : Dir) (c : Control) (moment : ℕ) (hs : List Header) (o : Option Pair) → Can hs (by_pair l d c moment hs o)
 pair_can l d c moment hs None = choice_can l d c moment hs None (choose d l.groups hs) refl
 pair_can l d c moment hs (Some p) = state_can l d c moment hs p (track_of p.state p.dir c d)
 

@@ -1,4 +1,5 @@
 pub mod Alike
+pub mod Edits
 pub mod Follows
 pub mod Stays
 pub mod Visits

@@ -1,4 +1,4 @@
--- What a crossing's sizes tell of the frame that it is of.
+-- What a crossing tells of the frame that it is of.
 use Rattle.std.specs.Prelude.{◌≡◌, ℕ, List, true, length, Ok}
 use Rattle.vsw_admit.specs.Long.{outer_total, outgoing_size}
 use Rattle.vsw_base.specs.declared.flow.Crossing.{Crossing}
@@ -18,3 +18,7 @@ IsLongAlike = (p : Parts) (x : Crossing) (edited : List Header) (kept : ℕ) →
 abbrev pub IsSized : Type 0
 IsSized = (ls : List LayerSeen) (x : Crossing) (p : Parts) (frame : List ℕ) → frame_of frame ≡ Ok p → x.id.stack ≡ p.stack → x.sizes ≡ sizes_of p.levels
     → length (bytes.outgoing p (walk_of ls x).stack (walk_of ls x).kept) ≡ outgoing_size x (walk_of ls x).stack (walk_of ls x).kept
+
+-- a walk makes of a packet's stack one that its frame's bytes can follow
+abbrev pub IsFollowed : Type 0
+IsFollowed = (ls : List LayerSeen) (x : Crossing) → is_stack x.id.stack ≡ true → bytes.IsEdit x.id.stack (walk_of ls x).stack (walk_of ls x).kept

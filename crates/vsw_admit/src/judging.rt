@@ -12,9 +12,9 @@ use crate::length::is_long;
 use crate::stop::Stop;
 use crate::wanting::refused_at;
 use vsw_base::{Crossing, Verdict};
-use vsw_walk::{Scratch, Walked, Wanted};
 use vsw_layer::Layer;
 use vsw_policy::Policy;
+use vsw_walk::{Scratch, Walked, Wanted};
 
 /// The first refusal of a wanted pair. The pair that leaves a layer is told right before.
 fn judge_changes(layers: &[Layer], left: Option<(u32, u32)>, changes: &[Wanted]) -> Option<Stop>
@@ -52,7 +52,7 @@ pub fn judge(
     let Verdict::Pass = walked.verdict else {
         return None;
     };
-    if is_long(crossing, &walked.by) {
+    if is_long(crossing, scratch.stack(), walked.kept) {
         return Some(Stop::Long);
     }
     judge_changes(policy.layers(), None, scratch.changes())

@@ -1,13 +1,10 @@
 //! How long a packet gets under pushed encapsulations.
 
-ghost use Rattle.std.specs.Prelude.{◌≡◌, ◌≤◌, ◌+◌, ◌*◌, false, nat_lt, IsTrue};
+ghost use Rattle.std.specs.Prelude.{◌≡◌, ◌≤◌, ◌+◌, ◌*◌, false, nat_lt};
 ghost use Rattle.vsw_admit.specs.Long as spec;
 ghost use Rattle.vsw_frame.specs.Bytes.{total_over};
-ghost use Rattle.vsw_transpose.specs.Apply.{apply};
-ghost use Rattle.vsw_transpose.specs.Fits as fit;
 
-use vsw_base::{Crossing, Sizes};
-use vsw_transpose::Transposition;
+use vsw_base::{Crossing, Sizes, Stack};
 
 /// The most bytes that the total length of an IPv4 header can tell.
 const MOST: u64 = 65_535;
@@ -48,25 +45,22 @@ fn grown(pushes: u8, len: u32) -> u32
     }
 }
 
-/// Whether an encapsulation is pushed in front of more than it can tell the length of.
-pub fn is_long(crossing: &Crossing, by: &Transposition) -> bool
-    requires fits { IsTrue (fit.fits by.now crossing.now.id.stack) }
-    ensures { result ≡ spec.is_long crossing.now (apply by.now crossing.now.id.stack) (fit.kept by.now) }
+/// Whether an encapsulation is pushed in front of more than it can tell the length of, where the packet
+/// leaves with this stack and so many of its encapsulations are kept.
+pub fn is_long(crossing: &Crossing, edited: &Stack, kept: u8) -> bool
+    ensures { result ≡ spec.is_long crossing.now edited.now kept }
 {
-    let kept = by.kept();
-    let pushes = by.apply(&crossing.id.stack).encaps().saturating_sub(kept);
+    let pushes = edited.encaps().saturating_sub(kept);
     let drops = crossing.id.stack.encaps().saturating_sub(kept);
     total(pushes, size_without(crossing.sizes, drops)) > MOST
 }
 
-/// Bytes of what leaves, where the packet isn't long.
-pub fn outgoing_size(crossing: &Crossing, by: &Transposition) -> u32
-    requires fits { IsTrue (fit.fits by.now crossing.now.id.stack) }
-    requires short { spec.is_long crossing.now (apply by.now crossing.now.id.stack) (fit.kept by.now) ≡ false }
-    ensures { result ≡ spec.outgoing_size crossing.now (apply by.now crossing.now.id.stack) (fit.kept by.now) }
+/// Bytes of what leaves so, where the packet isn't long.
+pub fn outgoing_size(crossing: &Crossing, edited: &Stack, kept: u8) -> u32
+    requires short { spec.is_long crossing.now edited.now kept ≡ false }
+    ensures { result ≡ spec.outgoing_size crossing.now edited.now kept }
 {
-    let kept = by.kept();
-    let pushes = by.apply(&crossing.id.stack).encaps().saturating_sub(kept);
+    let pushes = edited.encaps().saturating_sub(kept);
     let drops = crossing.id.stack.encaps().saturating_sub(kept);
     grown(pushes, size_without(crossing.sizes, drops))
 }

@@ -5,8 +5,8 @@ ghost use Rattle.vsw_commit.specs.Can.{AllRoom, AreApart, CanAll, CanDo, HasRoom
 ghost use Rattle.vsw_commit.specs.Cross.{all_done, done};
 ghost use Rattle.vsw_walk.specs.declared.scratch.Wanted.{Wanted};
 
-use vsw_walk::Wanted;
 use vsw_policy::Policy;
+use vsw_walk::Wanted;
 
 fn change(policy: &mut Policy, wanted: &Wanted)
     requires can { CanDo wanted.now policy.old.layers }

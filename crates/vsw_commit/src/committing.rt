@@ -4,15 +4,13 @@ ghost use Rattle.std.specs.Prelude.{◌≡◌, ◌<◌, ◌-◌, ◌^◌, true, 
 ghost use Rattle.vsw_admit.specs.Walked.{IsWalk};
 ghost use Rattle.vsw_commit.specs.Cross.{cross_of, is_memory, made_by, makes, told};
 ghost use Rattle.vsw_policy.specs.Sound.{Each};
-ghost use Rattle.vsw_transpose.specs.Apply.{apply};
-ghost use Rattle.vsw_transpose.specs.Fits as fit;
 
 use crate::changing::change_all;
 use crate::room::reserve_all;
 use vsw_admit::{Stop, judge};
 use vsw_base::{Crossing, Verdict};
-use vsw_walk::{Scratch, Walked};
 use vsw_policy::Policy;
+use vsw_walk::{Scratch, Walked};
 
 /// Carries out the walk of this packet, or refuses to. Ok tells whether the layers were changed.
 pub fn commit(
@@ -23,7 +21,7 @@ pub fn commit(
 ) -> Result<bool, Stop>
     requires numbers { Each (λ l. l.next_pair < 2 ^ 32 - 1) policy.old.layers }
     requires walk { IsWalk policy.old.layers crossing.now walked.now scratch.now }
-    ensures exact { is_memory result ≡ false → told walked.now.verdict (apply walked.now.by crossing.now.id.stack) (fit.kept walked.now.by) result policy.new.layers ≡ cross_of policy.old.layers crossing.now }
+    ensures exact { is_memory result ≡ false → told walked.now.verdict scratch.now.stack walked.now.kept result policy.new.layers ≡ cross_of policy.old.layers crossing.now }
     ensures memory { is_memory result ≡ true → makes (made_by policy.old.layers crossing.now) ≡ true }
     ensures controllers { policy.new.controllers ≡ policy.old.controllers }
     ensures unchanged { OnErr result (policy.new.layers ≡ policy.old.layers) }

@@ -7,8 +7,8 @@ ghost use Rattle.vsw_policy.specs.Layers.{room_at};
 ghost use Rattle.vsw_policy.specs.Sound.{Each};
 
 use vsw_base::NoMemory;
-use vsw_walk::Wanted;
 use vsw_policy::Policy;
+use vsw_walk::Wanted;
 
 fn reserve(policy: &mut Policy, change: &Wanted) -> Result<(), NoMemory>
     requires { IsWithin (length policy.old.layers) change.now }

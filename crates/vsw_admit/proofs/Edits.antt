@@ -1,10 +1,9 @@
 -- A walk edits a packet's stack so that the frame's bytes can follow.
-use Rattle.std.proofs.Common.{◌≡◌, ◌≤◌, ◌∙◌, ℕ, ◌-◌, ◌*◌, List, [], ◌∷◌, Option, Some, None, take, drop, true, refl, sym, ap, subst, arith}
+use Rattle.std.proofs.Common.{◌≡◌, ◌≤◌, ◌∙◌, ℕ, ◌-◌, ◌*◌, List, [], ◌∷◌, take, drop, true, refl, sym, ap, subst, arith}
 use Rattle.std.specs.Prelude.{min}
 use Rattle.std.proofs.lemmas.List.{drop-take, drop-drop}
 use Rattle.vsw_admit.specs.Law.{IsFollowed}
 use Rattle.vsw_admit.proofs.Follows.{Can, pair_can}
-use Rattle.vsw_base.specs.declared.flow.Crossing.{Crossing}
 use Rattle.vsw_base.specs.declared.header.Header.{Header}
 use Rattle.vsw_base.specs.declared.packet.Control.{Control}
 use Rattle.vsw_base.specs.declared.packet.Dir.{Dir}

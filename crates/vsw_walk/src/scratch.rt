@@ -241,7 +241,11 @@ impl Scratch {
 fn left_of(kept: u8, decap: bool, stack: &Stack) -> u8
     ensures { (set : Set) (encap : Option Outer) → result ≡ kept_after (Edit decap set encap) stack.now kept }
 {
-    if decap && stack.encaps() == kept { kept.saturating_sub(1) } else { kept }
+    if decap && stack.encaps() == kept {
+        kept.saturating_sub(1)
+    } else {
+        kept
+    }
 }
 
 /// The lesser of two moments, where there are two.

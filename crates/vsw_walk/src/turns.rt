@@ -41,7 +41,11 @@ impl Turns {
     pub fn stack(&self) -> &Stack
         ensures { result.now ≡ self.now }
     {
-        if self.turned { &self.second } else { &self.first }
+        if self.turned {
+            &self.second
+        } else {
+            &self.first
+        }
     }
 
     /// It becomes this stack.

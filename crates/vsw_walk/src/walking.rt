@@ -93,12 +93,7 @@ fn go_out(
 
 /// The packet crosses these layers in reverse, of which the first has place 0.
 #[tactic(auto, using(crate::proofs::Places::last_first))]
-fn go_in(
-    layers: &[Layer],
-    crossing: &Crossing,
-    kept: &mut u8,
-    scratch: &mut Scratch,
-) -> Verdict
+fn go_in(layers: &[Layer], crossing: &Crossing, kept: &mut u8, scratch: &mut Scratch) -> Verdict
     requires leads { Leads crossing.now.id.stack scratch.old kept.old }
     requires few { length layers.now ≤ 128 }
     requires room { length scratch.old.changes + 2 * length layers.now ≤ 256 }
@@ -117,12 +112,7 @@ fn go_in(
 }
 
 /// The packet crosses these layers, of which the first has place 0, in the order of its direction.
-fn cross(
-    layers: &[Layer],
-    crossing: &Crossing,
-    kept: &mut u8,
-    scratch: &mut Scratch,
-) -> Verdict
+fn cross(layers: &[Layer], crossing: &Crossing, kept: &mut u8, scratch: &mut Scratch) -> Verdict
     requires leads { Leads crossing.now.id.stack scratch.old kept.old }
     requires few { length layers.now ≤ 128 }
     requires room { length scratch.old.changes + 2 * length layers.now ≤ 256 }

@@ -5,7 +5,7 @@ ghost use Rattle.vsw_choice.specs.Choice as spec;
 ghost use Rattle.vsw_choice.specs.ChoiceSeen.{seen};
 
 use vsw_base::{Dir, Stack};
-use vsw_rule::{Group, Rule, all_hold};
+use vsw_rule::{Group, Packet, Rule, all_hold};
 
 /// A rule that was chosen, and the number of its group.
 #[derive(Clone, Copy)]
@@ -25,23 +25,23 @@ fn better<'a>(rule: &'a Rule, found: Option<&'a Rule>) -> Option<&'a Rule>
 }
 
 /// A group's pick: of the rules that match the one of least priority, and of these the first.
-pub fn pick<'a>(rules: &'a [Rule], stack: &Stack) -> Option<&'a Rule>
-    ensures value { option_copied result ≡ spec.pick rules.now stack.now }
-    ensures picks { spec.Picks rules.now stack.now (option_copied result) }
+pub fn pick<'a>(rules: &'a [Rule], packet: &Packet<'_>) -> Option<&'a Rule>
+    ensures value { option_copied result ≡ spec.pick rules.now packet.now }
+    ensures picks { spec.Picks rules.now packet.now (option_copied result) }
 {
-    least(rules, stack)
+    least(rules, packet)
 }
 
 /// Goes over the rules from the last to the first.
-fn least<'a>(rules: &'a [Rule], stack: &Stack) -> Option<&'a Rule>
-    ensures { option_copied result ≡ spec.pick rules.now stack.now }
+fn least<'a>(rules: &'a [Rule], packet: &Packet<'_>) -> Option<&'a Rule>
+    ensures { option_copied result ≡ spec.pick rules.now packet.now }
 {
     let mut found: Option<&'a Rule> = None;
     let mut left = rules.len();
     while left > 0 {
         left -= 1;
         let rule = &rules[left];
-        if rule.matches(stack) {
+        if rule.meets(packet) {
             found = better(rule, found);
         }
     }
@@ -49,10 +49,10 @@ fn least<'a>(rules: &'a [Rule], stack: &Stack) -> Option<&'a Rule>
 }
 
 /// Whether the group is of this direction and all its conditions hold.
-fn applies(group: &Group, dir: Dir, stack: &Stack) -> bool
-    ensures { result ≡ spec.applies dir stack.now group.now }
+fn applies(group: &Group, dir: Dir, packet: &Packet<'_>) -> bool
+    ensures { result ≡ spec.applies dir packet.now group.now }
 {
-    group.dir == dir && all_hold(group.when.as_slice(), stack)
+    group.dir == dir && all_hold(group.when.as_slice(), packet)
 }
 
 /// A pick marked last is chosen at once; any other gives way to what later groups choose.
@@ -80,13 +80,14 @@ fn decided<'a>(
 pub fn choose<'a>(dir: Dir, groups: &'a [Group], stack: &Stack) -> Option<Choice<'a>>
     ensures { option_map seen result ≡ spec.choose dir groups.now stack.now }
 {
+    let packet = Packet::of(stack);
     let mut found: Option<Choice<'a>> = None;
     let mut left = groups.len();
     while left > 0 {
         left -= 1;
         let group = &groups[left];
-        if applies(group, dir, stack) {
-            found = decided(group.number, pick(group.rules.as_slice(), stack), found);
+        if applies(group, dir, &packet) {
+            found = decided(group.number, pick(group.rules.as_slice(), &packet), found);
         }
     }
     found

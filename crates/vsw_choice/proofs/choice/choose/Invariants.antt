@@ -5,7 +5,7 @@ use Rattle.vsw_choice.proofs.choice.choose.Given as goal
 
 abbrev pub invariant-loop-left : goal.invariant-loop-left
 invariant-loop-left l = record {
-  found : option_map seen l.found ≡ choose l.dir (drop l.left l.groups) l.stack;
+  found : option_map seen l.found ≡ choose l.dir (drop l.left l.groups) l.fn.stack;
   within : l.left ≤ length l.groups;
 }
 

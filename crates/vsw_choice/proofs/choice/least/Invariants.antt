@@ -4,7 +4,7 @@ use Rattle.vsw_choice.proofs.choice.least.Given as goal
 
 abbrev pub invariant-loop-left : goal.invariant-loop-left
 invariant-loop-left l = record {
-  found : option_copied l.found ≡ pick (drop l.left l.rules) l.stack;
+  found : option_copied l.found ≡ pick (drop l.left l.rules) l.packet;
   within : l.left ≤ length l.rules;
 }
 

@@ -5,16 +5,27 @@
 ghost use Rattle.std.specs.Prelude.{◌≡◌, ◌↔◌};
 ghost use Rattle.vsw.specs.Exit.{exit_of, Exits};
 
-use std::alloc::{AllocError, Global};
+use std::alloc::Global;
 use std::process::ExitCode;
 use std::{env, io};
 use vsw_app::{Status, Word, run_words};
 use vsw_host::{Host, RealHost};
 
-fn words(rt: &HostRuntime) -> io::Result<Vec<Word>> {
+/// How a run ends whose words can't be had: one that isn't UTF-8 is of no grammar.
+fn without_words(error: io::ErrorKind) -> Status {
+    match error {
+        io::ErrorKind::OutOfMemory => Status::Memory,
+        _ => Status::Usage,
+    }
+}
+
+fn words(rt: &HostRuntime) -> Result<Vec<Word>, Status> {
+    let given = env::args(rt).map_err(|error| without_words(error.kind()))?;
     let mut words = Vec::new(rt.alloc());
-    for word in env::args(rt)? {
-        words.push(Word::of(word)).map_err(AllocError::from)?;
+    for word in given {
+        if words.push(Word::of(word)).is_err() {
+            return Err(Status::Memory);
+        }
     }
     Ok(words)
 }
@@ -44,11 +55,19 @@ fn run<H: Host>(alloc: Global, words: &[Word], host: &mut H) -> ExitCode
     ExitCode::from(exit_code(status))
 }
 
-fn main(rt: HostRuntime) -> io::Result<ExitCode> {
-    let words = words(&rt)?;
+fn main(rt: HostRuntime) -> ExitCode {
+    let words = words(&rt);
     let alloc = rt.alloc();
     let mut host = RealHost::new(alloc, rt);
-    Ok(run(alloc, &words, &mut host))
+    match words {
+        Ok(words) => run(alloc, &words, &mut host),
+        Err(Status::Memory) => {
+            let _ = host.complain(b"vsw: memory\n");
+            ExitCode::from(exit_code(Status::Memory))
+        }
+        // No words are refused as those are that can't be read.
+        Err(_) => run(alloc, &[], &mut host),
+    }
 }
 
 #[cfg(test)]

@@ -1,0 +1,94 @@
+#!/usr/bin/env python3
+"""Brings about each status of docs/FORMATS.md, and looks at what standard error says.
+
+    tools/check_statuses.py
+
+What is complained is in no contract of the real host, which may say nothing: so it is looked at here. Exits with 1
+where a run ends or speaks otherwise.
+"""
+import json, os, subprocess, sys, tempfile
+
+TOP = os.path.dirname(os.path.dirname(os.path.abspath(__file__)))
+EXAMPLE = os.path.join(TOP, "examples", "first")
+POLICY, COMMANDS, TRACE = (os.path.join(EXAMPLE, name) for name in ("policy.json", "commands.jsonl", "trace.pcap"))
+RECORDS = 1_048_576
+
+
+def port(number):
+    return {"port": number, "mac": f"02:00:00:00:00:{number:02x}", "rows": 8, "layers": []}
+
+
+def policy(controllers, ports):
+    text = json.dumps({"version": 1, "controllers": controllers, "ports": [port(n) for n in ports]})
+    return text.encode()
+
+
+def head():
+    return bytes.fromhex("d4c3b2a1020004000000000000000000ffff000001000000")
+
+
+def record(captured, original):
+    return bytes(8) + captured.to_bytes(4, "little") + original.to_bytes(4, "little")
+
+
+def run(words, output=subprocess.DEVNULL, program=os.path.join(TOP, "vsw"), limit=None):
+    words = [program, *words]
+    if limit:
+        words = ["sh", "-c", f'ulimit -v {limit}; exec "$@"', "sh", *words]
+    done = subprocess.run(words, stdout=output, stderr=subprocess.PIPE)
+    return done.returncode, done.stderr
+
+
+def cases(folder):
+    """Of each: what it is, the words, the status and what is complained."""
+    def file(name, data):
+        path = os.path.join(folder, name)
+        with open(path, "wb") as out:
+            out.write(data)
+        return path
+
+    def of_policy(name, data):
+        return ["forward", file(name, data), COMMANDS, TRACE]
+
+    def of_trace(name, data):
+        return ["forward", POLICY, COMMANDS, file(name, data)]
+
+    yield "a whole report", ["forward", POLICY, COMMANDS, TRACE], 0, b""
+    for words in [], ["help"], ["forward"], ["forward", "-x", COMMANDS, TRACE], ["forward", b"\xff", COMMANDS, TRACE]:
+        yield f"words {words}", words, 2, b"vsw: usage\n"
+    for place in range(3):
+        files = [POLICY, COMMANDS, TRACE]
+        files[place] = os.path.join(folder, "missing")
+        yield f"file {place} is missing", ["forward", *files], 3, b"vsw: read fault\n"
+    yield "a policy that is no JSON", of_policy("json", b"{"), 5, b"vsw: refused policy Json $\n"
+    yield "a policy without members", of_policy("shape", b"{}"), 5, b"vsw: refused policy Shape $.version\n"
+    yield "a number twice", of_policy("twice", policy([1], [1, 1])), 5, b"vsw: refused policy Twice $.ports[1].port\n"
+    yield "a trace that is none", of_trace("none", bytes(24)), 5, b"vsw: refused trace NotPcap\n"
+    yield "a trace that is cut", of_trace("cut", head() + record(9, 9)), 5, b"vsw: refused trace Cut 24\n"
+    yield "a large policy", of_policy("large", b" " * 4_194_305), 6, b"vsw: limit policy\n"
+    yield "many ports", of_policy("ports", policy([1], range(1, 18))), 6, b"vsw: limit ports\n"
+    yield "many controllers", of_policy("controllers", policy(list(range(1, 10)), [1])), 6, b"vsw: limit controllers\n"
+    yield "many records", of_trace("records", head() + record(0, 1) * (RECORDS + 1)), 6, b"vsw: limit records\n"
+    yield "a command", ["forward", POLICY, file("command", b"{}\n"), TRACE], 7, b"vsw: not built\n"
+
+
+def main():
+    wrong = 0
+
+    def look(what, got, status, complaint):
+        nonlocal wrong
+        if got != (status, complaint):
+            wrong += 1
+            print(f"{what}: {got}, and not {(status, complaint)}")
+
+    run(["forward", POLICY, COMMANDS, TRACE])  # builds the program, where it isn't
+    with tempfile.TemporaryDirectory() as folder:
+        for what, words, status, complaint in cases(folder):
+            look(what, run(words), status, complaint)
+    with open("/dev/full", "wb") as full:
+        look("a full disk", run(["forward", POLICY, COMMANDS, TRACE], full), 4, b"vsw: write fault\n")
+    look("little memory", run(["forward", POLICY, COMMANDS, TRACE], program=os.path.join(TOP, "crates/vsw/out/vsw"), limit=8_192), 9, b"vsw: memory\n")
+    sys.exit(1 if wrong else print("each status came, with its words") or 0)
+
+
+main()

@@ -2,24 +2,35 @@
 use Rattle.std.specs.Prelude.{ℕ, List, [], ◌∷◌, get_or, Bool, false}
 use Rattle.vsw_base.specs.declared.flow.LayerKey.{LayerKey}
 use Rattle.vsw_base.specs.declared.header.Header.{Header}
-use Rattle.vsw_base.specs.declared.header.Header.TheVariants.{Ip, Vxlan, Ports}
+use Rattle.vsw_base.specs.declared.header.Header.TheVariants.{Ether, Ip, Vxlan, Ports}
 use Rattle.vsw_base.specs.Shape.{encaps, inner}
 
 -- the networks of the encapsulations, outermost first
 abbrev pub vnis : List Header → List ℕ
 vnis [] = []
+vnis (Ether dst src kind ∷ hs) = vnis hs
+vnis (Ip src dst proto part ∷ hs) = vnis hs
 vnis (Vxlan vni ∷ hs) = vni ∷ vnis hs
-vnis (h ∷ hs) = vnis hs
+vnis (Ports proto src dst ∷ hs) = vnis hs
 
 -- source, destination, protocol and fragment mark of inner headers
 abbrev pub packet_of : List Header → ℕ × ℕ × ℕ × Bool
+packet_of [] = (0, 0, 0, false)
+packet_of (ether ∷ []) = (0, 0, 0, false)
+packet_of (ether ∷ Ether dst src kind ∷ hs) = (0, 0, 0, false)
 packet_of (ether ∷ Ip src dst proto part ∷ hs) = (src, dst, proto, part)
-packet_of hs = (0, 0, 0, false)
+packet_of (ether ∷ Vxlan vni ∷ hs) = (0, 0, 0, false)
+packet_of (ether ∷ Ports proto src dst ∷ hs) = (0, 0, 0, false)
 
 -- source and destination port of inner headers
 abbrev pub ports_of : List Header → ℕ × ℕ
+ports_of [] = (0, 0)
+ports_of (ether ∷ []) = (0, 0)
+ports_of (ether ∷ ip ∷ []) = (0, 0)
+ports_of (ether ∷ ip ∷ Ether dst src kind ∷ hs) = (0, 0)
+ports_of (ether ∷ ip ∷ Ip src dst proto part ∷ hs) = (0, 0)
+ports_of (ether ∷ ip ∷ Vxlan vni ∷ hs) = (0, 0)
 ports_of (ether ∷ ip ∷ Ports proto src dst ∷ hs) = (src, dst)
-ports_of hs = (0, 0)
 
 -- the key of a stack; what it hasn't is 0
 abbrev pub key_from : List Header → LayerKey

@@ -2,17 +2,23 @@
 use Rattle.std.specs.Prelude.{◌≡◌, ◌↔◌, ℕ, ◌==◌, ◌||◌, Bool, true, false, List, [], ◌∷◌, Option, Some, None, option_map, option_and_then, position}
 use Rattle.vsw_base.specs.declared.flow.Place.{Place}
 use Rattle.vsw_base.specs.declared.header.Header.{Header}
-use Rattle.vsw_base.specs.declared.header.Header.TheVariants.{Ether}
+use Rattle.vsw_base.specs.declared.header.Header.TheVariants.{Ether, Ip, Vxlan, Ports}
 use Rattle.vsw_base.specs.declared.packet.Dir.TheVariants.{Out, In}
 use Rattle.vsw_base.specs.Shape.{inner}
 
 abbrev pub source_of : List Header → Option ℕ
+source_of [] = None
 source_of (Ether dst src kind ∷ hs) = Some src
-source_of hs = None
+source_of (Ip src dst proto part ∷ hs) = None
+source_of (Vxlan vni ∷ hs) = None
+source_of (Ports proto src dst ∷ hs) = None
 
 abbrev pub destination_of : List Header → Option ℕ
+destination_of [] = None
 destination_of (Ether dst src kind ∷ hs) = Some dst
-destination_of hs = None
+destination_of (Ip src dst proto part ∷ hs) = None
+destination_of (Vxlan vni ∷ hs) = None
+destination_of (Ports proto src dst ∷ hs) = None
 
 -- the first place of an address among these
 abbrev pub place_of : List ℕ → ℕ → Option ℕ

@@ -1,3 +1,4 @@
+pub mod Inner
 pub mod RoundTrip
 pub mod Numbers
 pub mod Sums

@@ -17,6 +17,7 @@ use Rattle.vsw_transpose.specs.Fits.{fits, kept}
 use Rattle.vsw_transpose.specs.Form.{is_form}
 use Rattle.vsw_frame.specs.Bytes.{IsEdit, answer, drops, levels_changed, outgoing, pushes, source_port}
 use Rattle.vsw_change.specs.Push.{pushed}
+use Rattle.vsw_roundtrip.specs.Inner.{segment_of}
 
 -- kept levels, outermost first: changed bytes, the same slacks and trailers
 abbrev pub levels_kept : List Header → List Header → List Level → List Level
@@ -25,8 +26,19 @@ levels_kept from to (l ∷ ls) = record { bytes = levels_changed from to (l ∷ 
 
 -- a level for each pushed encapsulation, without slack and trailer
 abbrev pub levels_pushed : ℕ → List Header → List ℕ → List Level
-levels_pushed port (Ether dst src kind ∷ Ip a b proto part ∷ Vxlan vni ∷ hs) frame = record { bytes = pushed port (Ether dst src kind ∷ Ip a b proto part ∷ Vxlan vni ∷ hs) frame; trailer = []; slack = [] } ∷ levels_pushed port hs frame
-levels_pushed port hs frame = []
+levels_pushed port [] frame = []
+levels_pushed port (Ether d s k ∷ []) frame = []
+levels_pushed port (Ether d s k ∷ Ether e t l ∷ hs) frame = []
+levels_pushed port (Ether d s k ∷ Ip a b p f ∷ []) frame = []
+levels_pushed port (Ether d s k ∷ Ip a b p f ∷ Ether e t l ∷ hs) frame = []
+levels_pushed port (Ether d s k ∷ Ip a b p f ∷ Ip c e q g ∷ hs) frame = []
+levels_pushed port (Ether d s k ∷ Ip a b p f ∷ Vxlan v ∷ hs) frame = record { bytes = pushed port (Ether d s k ∷ Ip a b p f ∷ Vxlan v ∷ hs) frame; trailer = []; slack = [] } ∷ levels_pushed port hs frame
+levels_pushed port (Ether d s k ∷ Ip a b p f ∷ Ports q x y ∷ hs) frame = []
+levels_pushed port (Ether d s k ∷ Vxlan v ∷ hs) frame = []
+levels_pushed port (Ether d s k ∷ Ports q x y ∷ hs) frame = []
+levels_pushed port (Ip a b p f ∷ hs) frame = []
+levels_pushed port (Vxlan v ∷ hs) frame = []
+levels_pushed port (Ports q x y ∷ hs) frame = []
 
 -- the levels that stay, outermost first
 abbrev pub levels_staying : Parts → ℕ → List Level
@@ -44,8 +56,10 @@ written p edited kept = record { stack = edited; control = p.control; levels = l
 
 -- inner UDP to VXLAN's port, whose payload begins with a VXLAN header with the I flag
 abbrev pub is_vxlan : List Header → List ℕ → Bool
-is_vxlan (Ether d s k ∷ Ip a b p f ∷ Ports proto x y ∷ hs) payload = (proto == 17) && (y == vxlan_port) && is_some (vni_of payload)
-is_vxlan hs payload = false
+is_vxlan hs payload = elim (segment_of hs) [
+  | None ↦ false
+  | Some s ↦ (s.proto == 17) && (s.port == vxlan_port) && is_some (vni_of payload)
+]
 
 -- at most two encapsulations are looked for, and where fewer are written, such a payload is taken for one more
 abbrev pub reads_deeper : Parts → List Header → Bool

@@ -1,7 +1,6 @@
 -- The checksums of the bytes that are written.
-use Rattle.std.specs.Prelude.{◌≡◌, ℕ, ◌+◌, ◌*◌, ◌==◌, Bool, true, false, List, [], ◌∷◌, ◌++◌, length, take, drop, ◌⊎◌}
+use Rattle.std.specs.Prelude.{◌≡◌, ℕ, ◌+◌, ◌*◌, ◌==◌, Bool, true, false, List, [], ◌∷◌, ◌++◌, length, take, drop, ◌⊎◌, IfSome, IsSomeAnd}
 use Rattle.vsw_base.specs.declared.header.Header.{Header}
-use Rattle.vsw_base.specs.declared.header.Header.TheVariants.{Ether, Ip, Ports}
 use Rattle.vsw_base.specs.Frame.{Level, Parts}
 use Rattle.vsw_base.specs.Ipv4.{ip_header, ip_total}
 use Rattle.vsw_base.specs.Shape.{inner}
@@ -12,6 +11,7 @@ use Rattle.vsw_l4.specs.Right.{IsTcpRight, IsUdpRight, tcp_checksum, tcp_words, 
 use Rattle.vsw_frame.specs.Bytes.{levels_changed, outgoing, pushes, source_port}
 use Rattle.vsw_change.specs.Differ.{differ}
 use Rattle.vsw_change.specs.Kept.{udp_at}
+use Rattle.vsw_roundtrip.specs.Inner.{packet_of, segment_of}
 use Rattle.vsw_roundtrip.specs.RoundTrip.{IsRewriting, levels_kept, levels_pushed, levels_staying, levels_written, written}
 use Rattle.vsw_frame.specs.Ends.{lengths}
 use Rattle.vsw_frame.specs.Tiles.{Tiles}
@@ -32,13 +32,11 @@ carried bytes = drop (ip_header bytes) (take (ip_total bytes) bytes)
 
 -- the IPv4 header checksum of a frame with these headers is right, if it has one
 abbrev pub IsIpRight : List Header → List ℕ → Type 0
-IsIpRight (Ether d s k ∷ Ip a b p f ∷ hs) bytes = IsRight (drop 14 bytes)
-IsIpRight hs bytes = Unit {0}
+IsIpRight hs bytes = IfSome (packet_of hs) (λ p. IsRight (drop 14 bytes))
 
 -- or it was wrong by which zero stands for 0
 abbrev pub WasIpRight : List Header → List ℕ → Type 0
-WasIpRight (Ether d s k ∷ Ip a b p f ∷ hs) bytes = IsRight (drop 14 bytes) ⊎ IsOtherZero (header_checksum (drop 14 bytes)) (checksum (header_words (drop 14 bytes)))
-WasIpRight hs bytes = Unit {0}
+WasIpRight hs bytes = IfSome (packet_of hs) (λ p. IsRight (drop 14 bytes) ⊎ IsOtherZero (header_checksum (drop 14 bytes)) (checksum (header_words (drop 14 bytes))))
 
 -- the checksum of TCP, or else of UDP
 abbrev pub IsSegmentRight : Bool → ℕ → ℕ → List ℕ → Type 0
@@ -51,17 +49,14 @@ WasSegmentRight false src dst segment = IsUdpRight src dst segment
 
 -- the checksum of an unfragmented TCP or UDP segment in a frame with these headers is right, if it has one
 abbrev pub IsEndRight : List Header → List ℕ → Type 0
-IsEndRight (Ether d s k ∷ Ip a b p f ∷ Ports proto x y ∷ hs) bytes = IsSegmentRight (proto == 6) a b (carried (drop 14 bytes))
-IsEndRight hs bytes = Unit {0}
+IsEndRight hs bytes = IfSome (segment_of hs) (λ s. IsSegmentRight (s.proto == 6) s.src s.dst (carried (drop 14 bytes)))
 
 abbrev pub WasEndRight : List Header → List ℕ → Type 0
-WasEndRight (Ether d s k ∷ Ip a b p f ∷ Ports proto x y ∷ hs) bytes = WasSegmentRight (proto == 6) a b (carried (drop 14 bytes))
-WasEndRight hs bytes = Unit {0}
+WasEndRight hs bytes = IfSome (segment_of hs) (λ s. WasSegmentRight (s.proto == 6) s.src s.dst (carried (drop 14 bytes)))
 
 -- a frame with these headers has UDP without a checksum
 abbrev pub HasNoSum : List Header → List ℕ → Type 0
-HasNoSum (Ether d s k ∷ Ip a b p f ∷ Ports proto x y ∷ hs) bytes = (proto ≡ 17) × (udp_checksum (carried (drop 14 bytes)) ≡ 0)
-HasNoSum hs bytes = ⊥
+HasNoSum hs bytes = IsSomeAnd (segment_of hs) (λ s. (s.proto ≡ 17) × (udp_checksum (carried (drop 14 bytes)) ≡ 0))
 
 -- where it held of the innermost level that was read, it holds of the one that is written
 abbrev pub Stays : (List Header → List ℕ → Type 0) → Type 0
@@ -106,7 +101,10 @@ pub record IsAsItWas (changed : Bool) (l w : Level) (old new : List ℕ) : Type 
 abbrev pub AreAsTheyWere : Bool → List Level → List Level → Type 0
 AreAsTheyWere changed (l ∷ m ∷ ls) (w ∷ x ∷ ws) = IsAsItWas changed l w m.bytes x.bytes × AreAsTheyWere changed (m ∷ ls) (x ∷ ws)
 AreAsTheyWere changed (l ∷ []) (w ∷ []) = Unit {0}
-AreAsTheyWere changed ls ws = ⊥
+AreAsTheyWere changed (l ∷ []) (w ∷ x ∷ ws) = ⊥
+AreAsTheyWere changed (l ∷ m ∷ ls) (w ∷ []) = ⊥
+AreAsTheyWere changed (l ∷ ls) [] = ⊥
+AreAsTheyWere changed [] ws = ⊥
 
 -- and no level changes its size
 pub record AreKept (changed : Bool) (ls ws : List Level) : Type 0 where

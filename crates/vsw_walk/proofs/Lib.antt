@@ -1,3 +1,5 @@
 pub mod Places
 pub mod Held
 pub mod Made
+pub mod Goes
+pub mod Composed

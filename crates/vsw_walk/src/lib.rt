@@ -2,6 +2,7 @@
 //! of their pairs is told.
 #![tactic(auto)]
 
+mod composing;
 mod law;
 mod scratch;
 mod turns;

@@ -130,6 +130,13 @@ impl Scratch {
         &self.looked
     }
 
+    /// The actions that made the stack of the one with which the last packet came, in their order.
+    pub(crate) fn edits(&self) -> &[Action]
+        ensures { result.now ≡ self.now.edits }
+    {
+        &self.edits
+    }
+
     /// The least moment at which one of the pairs is due that were found.
     pub(crate) fn due(&self) -> Option<Moment>
         ensures { result ≡ self.now.due }

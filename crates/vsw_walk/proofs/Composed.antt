@@ -9,7 +9,7 @@ use Rattle.vsw_transpose.specs.declared.act.Act.{Act}
 use Rattle.vsw_transpose.specs.Apply.{apply}
 use Rattle.vsw_transpose.specs.Fits.{fits, kept, none}
 use Rattle.vsw_transpose.proofs.None.{none_does, none_fits, none_kept}
-use Rattle.vsw_walk.specs.Made.{CanMake, Does, left_by, made_by}
+use Rattle.vsw_walk.specs.Made.{CanMake, Does, made_by}
 use Rattle.vsw_walk.proofs.Made.{can_before, left_last, made_last}
 
 -- no action

@@ -1,12 +1,14 @@
 //! Packets, and what becomes of them.
 
 ghost use Rattle.std.specs.Prelude.{◌<◌, ◌^◌};
+ghost use Rattle.vsw_walk.specs.Made.{Leads};
 
 use vsw_base::{
     BadShape, Control, Crossing, Dir, Header, Ip4, Mac, Moment, Sizes, Stack, Ufid, Verdict,
 };
-use vsw_walk::{Scratch, Walked, Wanted, walk};
 use vsw_policy::Policy;
+use vsw_transpose::Transposition;
+use vsw_walk::{Scratch, Walked, Wanted, walk};
 
 fn ether(dst: u64, src: u64) -> Header
     requires dst { dst < 2 ^ 48 }
@@ -58,11 +60,16 @@ pub fn covered(src: u32, src_port: u16, dst: u32, dst_port: u16) -> Result<Stack
 }
 
 /// What becomes of a packet of this direction and stack.
-pub fn cross(policy: &Policy, dir: Dir, stack: &Stack, scratch: &mut Scratch) -> Walked {
+pub fn cross(policy: &Policy, dir: Dir, stack: &Stack, scratch: &mut Scratch) -> Walked
+    ensures { Leads stack.now scratch.new result.kept }
+{
     let crossing = Crossing {
         caller: 0,
         packet: 0,
-        id: Ufid { dir, stack: *stack },
+        id: Ufid {
+            dir,
+            stack: stack.copy(),
+        },
         control: Control::None,
         moment: Moment::of(1_000),
         sizes: Sizes {
@@ -74,11 +81,16 @@ pub fn cross(policy: &Policy, dir: Dir, stack: &Stack, scratch: &mut Scratch) ->
     walk(policy, &crossing, scratch)
 }
 
-/// Whether the packet passes, and as this one.
-pub fn passes_as(walked: &Walked, stack: &Stack, made: &Stack) -> bool {
+/// Whether a packet that came with this stack passes, and as this one: by its edits in turn, and by all of
+/// them as one transposition.
+pub fn passes_as(walked: &Walked, scratch: &Scratch, stack: &Stack, made: &Stack) -> bool
+    requires { Leads stack.now scratch.now walked.now.kept }
+{
+    let mut by = Transposition::room();
+    walked.compose(stack, scratch, &mut by);
     matches!(walked.verdict, Verdict::Pass)
-        && walked.by.fits(stack)
-        && walked.by.apply(stack).is_same(made)
+        && scratch.stack().is_same(made)
+        && by.apply(stack).is_same(made)
 }
 
 /// Place of the layer, number and rule of the pair, where one pair is wanted and nothing else.

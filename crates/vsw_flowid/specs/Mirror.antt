@@ -1,5 +1,5 @@
 -- The mirror of a stack: the headers of its replies, and what a stack and its mirror have in common.
-use Rattle.std.specs.Prelude.{◌≡◌, ◌*◌, List, ◌++◌, true, map, take}
+use Rattle.std.specs.Prelude.{◌≡◌, ℕ, ◌*◌, ◌%◌, List, ◌++◌, true, map, take}
 use Rattle.vsw_base.specs.declared.flow.LayerKey.{LayerKey}
 use Rattle.vsw_base.specs.declared.header.Header.{Header}
 use Rattle.vsw_base.specs.declared.header.Header.TheVariants.{Ether, Ip, Vxlan, Ports}
@@ -18,6 +18,17 @@ turned (Ports proto src dst) = Ports proto dst src
 abbrev pub mirrored : List Header → List Header
 mirrored hs = take (3 * encaps hs) hs ++ map turned (inner hs)
 
+-- a header with source and destination exchanged, but for Ethernet
+abbrev pub swapped : Header → Header
+swapped (Ether dst src kind) = Ether dst src kind
+swapped (Ip src dst proto part) = Ip dst src proto part
+swapped (Vxlan vni) = Vxlan vni
+swapped (Ports proto src dst) = Ports proto dst src
+
+-- a stack whose inner IPv4 addresses and ports are exchanged, and whose Ethernet addresses stay
+abbrev pub with_ends_swapped : List Header → List Header
+with_ends_swapped hs = take (3 * encaps hs) hs ++ map swapped (inner hs)
+
 -- the mirror of a stack is a stack
 abbrev pub IsStill : Type 0
 IsStill = (hs : List Header) → is_stack hs ≡ true → is_stack (mirrored hs) ≡ true
@@ -29,6 +40,10 @@ KeysMirror = (hs : List Header) → is_stack hs ≡ true → key_from (mirrored 
 -- its flow sum is the flow sum
 abbrev pub SumsAlike : Type 0
 SumsAlike = (hs : List Header) → is_stack hs ≡ true → flow_sum_of (mirrored hs) ≡ flow_sum_of hs
+
+-- the flow sum, and so the worker of so many, is the same too where the Ethernet addresses aren't exchanged
+abbrev pub SwapsAlike : Type 0
+SwapsAlike = (hs : List Header) → is_stack hs ≡ true → (flow_sum_of (with_ends_swapped hs) ≡ flow_sum_of hs) × ((workers : ℕ) → flow_sum_of (with_ends_swapped hs) % workers ≡ flow_sum_of hs % workers)
 
 -- mirrors of mirrors are the stack and the key
 abbrev pub MirrorsBack : Type 0

@@ -1,15 +1,17 @@
 //! What holds of keys, sums and ports.
 
-ghost use Rattle.vsw_flowid.specs.Mirror.{IsStill, KeysMirror, SumsAlike, MirrorsBack};
+ghost use Rattle.vsw_flowid.specs.Mirror.{IsStill, KeysMirror, SumsAlike, SwapsAlike, MirrorsBack};
 ghost use Rattle.vsw_flowid.specs.Port.{MeetsNone, OutWins};
 
 /// The mirrored stack is a stack, its key is the mirror of the key, its flow sum is the flow sum, and
-/// its mirror is the stack. No port is found exactly where neither address is a port's, and a packet
-/// is outbound exactly where its outermost source address is one.
+/// its mirror is the stack. The flow sum is also the same where inner IPv4 addresses and ports alone are
+/// exchanged. No port is found exactly where neither address is a port's, and a packet is outbound exactly
+/// where its outermost source address is one.
 pub fn laws()
     ensures shape { IsStill }
     ensures key { KeysMirror }
     ensures sum { SumsAlike }
+    ensures swap { SwapsAlike }
     ensures back { MirrorsBack }
     ensures none { MeetsNone }
     ensures out { OutWins }

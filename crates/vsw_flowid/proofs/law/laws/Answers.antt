@@ -1,5 +1,5 @@
 use Rattle.std.proofs.Common.{refl, ◌∙◌}
-use Rattle.vsw_flowid.proofs.Mirrors.{turns, sums_alike}
+use Rattle.vsw_flowid.proofs.Mirrors.{turns, sums_alike, swaps_alike}
 use Rattle.vsw_flowid.proofs.Ports.{meets_none, out_wins}
 use Rattle.vsw_flowid.proofs.law.laws.Goals as goal
 
@@ -11,6 +11,9 @@ returns-clause-key c hs t = (turns hs t).1
 
 pub returns-clause-sum : goal.returns-clause-sum
 returns-clause-sum c = sums_alike
+
+pub returns-clause-swap : goal.returns-clause-swap
+returns-clause-swap c = swaps_alike
 
 pub returns-clause-back : goal.returns-clause-back
 returns-clause-back c = (λ hs t. (turns hs t).2, λ key. refl)

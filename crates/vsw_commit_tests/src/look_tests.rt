@@ -26,25 +26,25 @@ fn translation(alloc: Global, idle: (u32, u32)) -> Option<Trial> {
 /// What an outbound query looks for at this moment, and until when its walk holds.
 fn query(trial: &mut Trial, moment: u64) -> Option<(Looks, u64)> {
     let sent = packet(Dir::Out, UDP, (OWN, 1234), (FAR, 53), Control::None, 44);
-    trial.look(&sent.ok()?, moment)
+    trial.look(sent.ok()?, moment)
 }
 
 /// The same of the reply, in the network.
 fn reply(trial: &mut Trial, moment: u64) -> Option<(Looks, u64)> {
     let received = covered((FAR, 53), (PUBLIC, 40_000));
-    trial.look(&received.ok()?, moment)
+    trial.look(received.ok()?, moment)
 }
 
 /// The same of a packet that comes in to the public address.
 fn call(trial: &mut Trial, moment: u64) -> Option<(Looks, u64)> {
     let received = packet(Dir::In, UDP, (FAR, 53), (PUBLIC, 80), Control::None, 44);
-    trial.look(&received.ok()?, moment)
+    trial.look(received.ok()?, moment)
 }
 
 /// The same of a packet of a connection.
 fn connect(trial: &mut Trial, control: Control, moment: u64) -> Option<(Looks, u64)> {
     let sent = packet(Dir::Out, TCP, (OWN, 1234), (FAR, 80), control, 60);
-    trial.look(&sent.ok()?, moment)
+    trial.look(sent.ok()?, moment)
 }
 
 const MISSED_ALL: Looks = [

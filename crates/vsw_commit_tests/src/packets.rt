@@ -59,7 +59,10 @@ fn crossing(dir: Dir, stack: &Stack, control: Control, whole: u32) -> Crossing {
     Crossing {
         caller: 0,
         packet: 0,
-        id: Ufid { dir, stack: *stack },
+        id: Ufid {
+            dir,
+            stack: stack.copy(),
+        },
         control,
         moment: Moment::of(1_000),
         sizes: Sizes {

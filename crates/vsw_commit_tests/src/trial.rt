@@ -9,9 +9,9 @@ use std::alloc::Global;
 use vsw_admit::Stop;
 use vsw_base::{Control, Crossing, Dir, Moment};
 use vsw_commit::commit;
-use vsw_walk::{Scratch, walk};
 use vsw_layer::Layer;
 use vsw_policy::Policy;
+use vsw_walk::{Scratch, walk};
 
 /// Whether each layer has a number for one more pair.
 fn have_numbers(layers: &[Layer]) -> bool
@@ -82,11 +82,8 @@ impl Trial {
 
     /// What this packet looks for at this moment, and until when its walk holds, in microseconds. The walk is
     /// carried out.
-    pub fn look(&mut self, crossing: &Crossing, moment: u64) -> Option<(Looks, u64)> {
-        let met = Crossing {
-            moment: Moment::of(moment),
-            ..*crossing
-        };
+    pub fn look(&mut self, mut met: Crossing, moment: u64) -> Option<(Looks, u64)> {
+        met.moment = Moment::of(moment);
         let walked = walk(&self.policy, &met, &mut self.scratch);
         let looks = [
             look_at(&self.scratch, 0),

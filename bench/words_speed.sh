@@ -1,6 +1,7 @@
 #!/bin/sh
 # Instructions of vsw_words, one call each, counted by callgrind: the key of a plain frame and of one in two
-# encapsulations, a slot, and rows and bodies of a frame that stays as it is and of one that is edited and put in a network.
+# encapsulations, a slot, rows and bodies of a frame that stays as it is and of one that is edited and put in a network, and a body of one
+# that is put in two.
 #
 #   bench/words_speed.sh
 #
@@ -36,19 +37,20 @@ mod cases;
 mod samples;
 
 use cases::{keys, reads, rows, slots};
-use samples::{Sample, edited, kept, plain, twice};
+use samples::{Sample, edited, encapped, kept, plain, twice};
 use std::{env, io};
 
 fn run(case: usize, rounds: u32) -> u64 {
-    match (plain(), twice(), kept(), edited()) {
-        (Some(plain), Some(twice), Some(kept), Some(edited)) => match case {
+    match (plain(), twice(), kept(), edited(), encapped()) {
+        (Some(plain), Some(twice), Some(kept), Some(edited), Some(encapped)) => match case {
             1 => keys(rounds, &plain),
             2 => keys(rounds, &twice),
             3 => slots(rounds, &plain),
             4 => rows(rounds, &plain, &kept),
             5 => rows(rounds, &plain, &edited),
             6 => reads(rounds, &plain, &kept),
-            _ => reads(rounds, &plain, &edited),
+            7 => reads(rounds, &plain, &edited),
+            _ => reads(rounds, &plain, &encapped),
         },
         _ => 0,
     }
@@ -168,14 +170,31 @@ pub fn edited() -> Option<Transposition> {
     ])
     .ok()
 }
+
+pub fn encapped() -> Option<Transposition> {
+    let [a, b, c] = outer(3);
+    let [d, e, f] = outer(4);
+    Transposition::of(&[
+        Act::Push(a),
+        Act::Push(b),
+        Act::Push(c),
+        Act::Push(d),
+        Act::Push(e),
+        Act::Push(f),
+        Act::Ignore,
+        Act::Ignore,
+        Act::Ignore,
+    ])
+    .ok()
+}
 END
 cat > src/cases.rt << 'END'
 //! The calls that are counted.
 
 use crate::samples::Sample;
 use vsw_base::{Moment, Ufid, Verdict};
-use vsw_transpose::{Acts, Transposition};
-use vsw_words::{Body, body_of, key_words, row_of, slot_of};
+use vsw_transpose::Transposition;
+use vsw_words::{Body, body_to, key_words, row_of, slot_of};
 
 fn one_of(sample: &Sample, round: u32) -> &Ufid {
     if round % 2 == 0 { &sample.first } else { &sample.second }
@@ -218,15 +237,11 @@ pub fn reads(rounds: u32, sample: &Sample, by: &Transposition) -> u64 {
     row_of(&sample.first, &Verdict::Pass, by, Moment::of(7), &mut out);
     let mut words = [0; 57];
     words.copy_from_slice(&out[16..]);
-    let mut body = Body {
-        verdict: Verdict::Pass,
-        by: Transposition::new(Acts::new()),
-        until: Moment::of(0),
-    };
+    let mut body = Body::room();
     let mut sum = 0u64;
     for round in 0..rounds {
         words[1] = u64::from(round);
-        if body_of(&words, &mut body) {
+        if body_to(&words, &mut body) {
             sum = sum.wrapping_add(body.until.micros());
         }
     }
@@ -247,6 +262,7 @@ done << 'END'
 333 slot_of
 4444 row_of, three acts
 55555 row_of, six acts
-666666 body_of, three acts
-7777777 body_of, six acts
+666666 body_to, three acts
+7777777 body_to, six acts
+88888888 body_to, two encapsulations
 END

@@ -6,3 +6,4 @@ pub mod Written
 pub mod Acts
 pub mod Passes
 pub mod Used
+pub mod Formed

@@ -1,7 +1,9 @@
 -- Bodies read back from their words.
-use Rattle.std.proofs.Common.{◌≡◌, ℕ, ◌/◌, ◌%◌, ◌^◌, ◌≤◌, ◌==◌, ◌&&◌, List, [], ◌∷◌, refl, sym, ◌∙◌, ap, subst, arith, length, true, false, Bool, Option, Some, None, Result, Ok, Err, if◌then◌else◌, get_or, drop, nat_lt}
+use Rattle.std.proofs.Common.{◌≡◌, ℕ, ◌+◌, ◌<◌, ◌/◌, ◌%◌, ◌^◌, ◌≤◌, ◌==◌, ◌&&◌, List, [], ◌∷◌, refl, sym, ◌∙◌, ap, subst, arith, length, true, false, Bool, Option, Some, None, Result, Ok, Err, if◌then◌else◌, get_or, drop, nat_lt, bit_or, zero, suc}
 use Rattle.std.specs.Prelude.{replicate}
 use Rattle.std.proofs.lemmas.Grind.{common_steps}
+use Rattle.std.proofs.lemmas.List.{drop_more}
+use Rattle.std.proofs.lemmas.Nat.{le_or_l, le_or_r}
 use Rattle.vsw_transpose.specs.declared.act.Act.{Act}
 use Rattle.vsw_base.specs.declared.packet.Dir.{Dir}
 use Rattle.vsw_base.specs.declared.packet.Dir.TheVariants.{Out, In}
@@ -9,20 +11,44 @@ use Rattle.vsw_base.specs.declared.fate.Verdict.{Verdict}
 use Rattle.vsw_base.specs.declared.fate.Verdict.TheVariants.{Pass, Rule, Default}
 use Rattle.vsw_transpose.specs.Form.{is_form}
 use Rattle.vsw_words.specs.Row.{acts_words, filled, verdict_word, dropper_word, last_words, body_words, IsBare}
-use Rattle.vsw_words.specs.Reading.{added, if_read, are_zero, read_acts, verdict_of, IsBody, IsVerdictFit, IsDropper, IsLast, IsTold}
+use Rattle.vsw_words.specs.Stage.{is_read}
+use Rattle.vsw_words.specs.declared.stage.Stage.TheVariants.{Pops}
+use Rattle.vsw_words.specs.Reading.{or_none, are_zero, read_acts, verdict_of, IsBody, IsVerdictFit, IsDropper, IsLast, IsTold}
+use Rattle.vsw_words.proofs.Formed.{formed}
 use Rattle.vsw_words.proofs.Written.{form_short}
 use Rattle.vsw_words.proofs.Acts.{acts_told, acts_back, form_good, zeros_are}
 
-of_made : {E : Type 0} (t : Bool) (acts made : List Act) (e : E) → ◌≡◌ {A = Result (List Act) E} (if t then Ok acts else Err e) (Ok made) → made ≡ acts
-of_made true acts made e h = grind (arith, common_steps)
-of_made false acts made e h = absurd (grind (arith, common_steps))
+-- the or of two numbers is 0 where both are
+both_zero : (a b : ℕ) → (bit_or a b == 0) ≡ ((a == 0) && (b == 0))
+both_zero zero zero = refl
+both_zero (suc a) b = let h : suc a ≤ bit_or (suc a) b = le_or_l (suc a) b in grind (arith, common_steps, h)
+both_zero zero (suc b) = let h : suc b ≤ bit_or zero (suc b) = le_or_r zero (suc b) in grind (arith, common_steps, h)
 
--- what was read into an empty list is what a transposition was made of
-pub pass_told : {E : Type 0} (t form : Bool) (old new acts made : List Act) (e : E) (r : Result (List Act) E) (o : Option (List Act)) → old ≡ [] → t ≡ true → if_read t (added old new) ≡ o → acts ≡ new
-    → r ≡ (if form then Ok acts else Err e) → r ≡ Ok made → o ≡ Some made
-pass_told t form old new acts made e r o empty done is same by ok =
-    let made_is : made ≡ acts = of_made form acts made e (sym by ∙ ok) in
-    sym is ∙ rw (done, empty, made_is, same) refl
+and_more : (a b c : Bool) → ((a && b) && c) ≡ (a && (b && c))
+and_more true b c = refl
+and_more false b c = refl
+
+-- a further word goes into the or of those before it
+pub zero_more : (all i : ℕ) (words : List ℕ) (t : Bool) → i < length words → ((all == 0) && are_zero (drop i words)) ≡ t → ((bit_or all (get_or words i 0) == 0) && are_zero (drop (i + 1) words)) ≡ t
+zero_more all i words t h e = ap (λ (b : Bool). b && are_zero (drop (i + 1) words)) (both_zero all (get_or words i 0))
+    ∙ and_more (all == 0) (get_or words i 0 == 0) (are_zero (drop (i + 1) words))
+    ∙ ap (λ (l : List ℕ). (all == 0) && are_zero l) (sym (drop_more words i 0 h)) ∙ e
+
+-- where acts are read that go on to a whole form, they are those of a transposition
+pub acts_are : (count : ℕ) (words : List ℕ) → count ≤ 18 → is_read Pops (read_acts count words) ≡ true → (read_acts count words ≡ Some (or_none (read_acts count words))) × (is_form (or_none (read_acts count words)) ≡ true)
+acts_are count words few whole = by (read_acts count words) refl whole
+  where
+    by : (o : Option (List Act)) → read_acts count words ≡ o → is_read Pops o ≡ true → (o ≡ Some (or_none o)) × (is_form (or_none o) ≡ true)
+    by None e w = absurd (grind (arith, common_steps))
+    by (Some xs) e w =
+        let long : count ≡ length xs = (acts_told count words xs e).0 in
+        (refl, sym (formed xs (omega (arith, few, long))) ∙ w)
+
+-- and the other way round
+pub acts_read : (count : ℕ) (words : List ℕ) (xs : List Act) → read_acts count words ≡ Some xs → is_form xs ≡ true → count ≤ 18 → (is_read Pops (read_acts count words) ≡ true) × (or_none (read_acts count words) ≡ xs)
+acts_read count words xs read form few =
+    let long : count ≡ length xs = (acts_told count words xs read).0 in
+    rw read (formed xs (omega (arith, few, long)) ∙ form, refl)
 
 pub last_pass_told : (v : Verdict) (count : ℕ) (last : List ℕ) (by : List Act) → v ≡ Pass → length last ≡ 54 → read_acts count last ≡ Some by → is_form by ≡ true → IsLast v count last by
 last_pass_told v count last by is long read form =

@@ -4,4 +4,5 @@ pub mod Id
 pub mod Row
 pub mod Reading
 pub mod Slot
+pub mod Stage
 pub mod Law

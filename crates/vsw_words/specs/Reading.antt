@@ -157,11 +157,7 @@ pub record IsTold (words : List ℕ) (verdict : Verdict) (by : List Act) (until 
   pub form : is_form by ≡ true
   pub bare : IsBare verdict by
 
--- what a reader added to a list
-abbrev pub added : List Act → List Act → List Act
-added old new = drop (length old) new
-
--- what it answered, with what it added
-abbrev pub if_read : Bool → List Act → Option (List Act)
-if_read true acts = Some acts
-if_read false acts = None
+-- the acts, if they were read
+abbrev pub or_none : Option (List Act) → List Act
+or_none None = []
+or_none (Some acts) = acts

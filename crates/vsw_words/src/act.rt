@@ -1,6 +1,6 @@
 //! The words of an act.
 
-ghost use Rattle.std.specs.Prelude.{◌≡◌, ◌<◌, ◌^◌};
+ghost use Rattle.std.specs.Prelude.{◌≡◌, ◌<◌, ◌^◌, Some, is_some, true};
 ghost use Rattle.vsw_base.specs.Fits.{IsFit};
 ghost use Rattle.vsw_words.specs.Reading as reading;
 ghost use Rattle.vsw_words.specs.Reading.{IsBelow, IsActFit, IsRanged};
@@ -34,6 +34,7 @@ fn head(kind: u64, first: bool, second: bool, more: u64) -> u64
     kind + 16 * u64::from(first) + 32 * u64::from(second) + 0x1_0000 * more
 }
 
+#[inline(always)]
 fn pushed(header: &Header) -> [u64; 3]
     ensures words { result ≡ spec.act_words (Push header.now) }
     ensures ranges { IsRanged (Push header.now) }
@@ -63,6 +64,7 @@ fn pushed(header: &Header) -> [u64; 3]
     }
 }
 
+#[inline(always)]
 fn modified(change: &Change) -> [u64; 3]
     ensures words { result ≡ spec.act_words (Modify change.now) }
     ensures ranges { IsRanged (Modify change.now) }
@@ -92,6 +94,7 @@ fn modified(change: &Change) -> [u64; 3]
     }
 }
 
+#[inline(always)]
 fn mac_word(mac: &Option<Mac>) -> u64
     ensures value { result ≡ spec.or_zero mac.now }
     ensures below { IsBelow (2 ^ 48) mac.now }
@@ -102,6 +105,7 @@ fn mac_word(mac: &Option<Mac>) -> u64
     }
 }
 
+#[inline(always)]
 fn ip_word(address: &Option<Ip4>) -> u64
     ensures value { result ≡ spec.or_zero address.now }
     ensures below { IsBelow (2 ^ 32) address.now }
@@ -112,6 +116,7 @@ fn ip_word(address: &Option<Ip4>) -> u64
     }
 }
 
+#[inline(always)]
 fn port_word(port: &Option<u16>) -> u64
     ensures value { result ≡ spec.or_zero port.now }
     ensures below { IsBelow (2 ^ 16) port.now }
@@ -122,21 +127,27 @@ fn port_word(port: &Option<u16>) -> u64
     }
 }
 
-/// The act that three words are of, if they are an act's.
+/// Whether three words are an act's.
 #[inline(always)]
 #[tactic(auto, unfolding(crate::specs::Reading::read_act))]
-pub(crate) fn read_act(head: u64, first: u64, second: u64) -> Option<Act>
-    ensures { result ≡ reading.read_act head first second }
+pub(crate) fn is_act(head: u64, first: u64, second: u64) -> bool
+    ensures { result ≡ is_some (reading.read_act head first second) }
 {
     match act_by(head, first, second) {
-        None => None,
-        Some(act) => {
-            if is_of(&act, head, first, second) {
-                Some(act)
-            } else {
-                None
-            }
-        }
+        None => false,
+        Some(act) => is_of(&act, head, first, second),
+    }
+}
+
+/// The act that three words are of. They are an act's.
+#[inline(always)]
+#[tactic(auto, unfolding(crate::specs::Reading::read_act))]
+pub(crate) fn act_of(head: u64, first: u64, second: u64) -> Act
+    ensures { is_some (reading.read_act head first second) ≡ true → reading.read_act head first second ≡ Some result }
+{
+    match act_by(head, first, second) {
+        None => Act::Ignore,
+        Some(act) => act,
     }
 }
 
@@ -150,6 +161,7 @@ fn is_of(act: &Act, head: u64, first: u64, second: u64) -> bool
 }
 
 /// Some act, or none: of words that are an act's this act.
+#[inline(always)]
 fn act_by(head: u64, first: u64, second: u64) -> Option<Act>
     ensures { result ≡ reading.act_by head first second }
 {
@@ -175,6 +187,7 @@ fn act_by(head: u64, first: u64, second: u64) -> Option<Act>
     }
 }
 
+#[inline(always)]
 fn ether_by(head: u64, first: u64, second: u64) -> Header
     ensures { result ≡ reading.ether_by head first second }
 {
@@ -185,6 +198,7 @@ fn ether_by(head: u64, first: u64, second: u64) -> Header
     }
 }
 
+#[inline(always)]
 fn ip_by(head: u64, first: u64, second: u64) -> Header
     ensures { result ≡ reading.ip_by head first second }
 {
@@ -196,6 +210,7 @@ fn ip_by(head: u64, first: u64, second: u64) -> Header
     }
 }
 
+#[inline(always)]
 fn vxlan_by(head: u64) -> Header
     ensures { result ≡ reading.vxlan_by head }
 {
@@ -204,6 +219,7 @@ fn vxlan_by(head: u64) -> Header
     }
 }
 
+#[inline(always)]
 fn ether_change(head: u64, first: u64, second: u64) -> Change
     ensures { result ≡ reading.ether_change head first second }
 {
@@ -221,6 +237,7 @@ fn ether_change(head: u64, first: u64, second: u64) -> Change
     }
 }
 
+#[inline(always)]
 fn ip_change(head: u64, first: u64, second: u64) -> Change
     ensures { result ≡ reading.ip_change head first second }
 {
@@ -238,6 +255,7 @@ fn ip_change(head: u64, first: u64, second: u64) -> Change
     }
 }
 
+#[inline(always)]
 fn ports_change(head: u64, first: u64, second: u64) -> Change
     ensures { result ≡ reading.ports_change head first second }
 {
@@ -255,30 +273,35 @@ fn ports_change(head: u64, first: u64, second: u64) -> Change
     }
 }
 
+#[inline(always)]
 fn has_first(head: u64) -> bool
     ensures { result ≡ reading.has_first head }
 {
     head / 16 % 2 == 1
 }
 
+#[inline(always)]
 fn has_second(head: u64) -> bool
     ensures { result ≡ reading.has_second head }
 {
     head / 32 % 2 == 1
 }
 
+#[inline(always)]
 fn mac(word: u64) -> Mac
     ensures { result ≡ reading.mac word }
 {
     Mac::of(word % 0x1_0000_0000_0000)
 }
 
+#[inline(always)]
 fn ip4(word: u64) -> Ip4
     ensures { result ≡ reading.ip4 word }
 {
     Ip4::of((word % 0x1_0000_0000) as u32)
 }
 
+#[inline(always)]
 fn port(word: u64) -> u16
     ensures { result ≡ reading.port word }
 {

@@ -7,9 +7,10 @@ mod law;
 mod reading;
 mod row;
 mod slots;
+mod stage;
 
 pub use key::key_words;
 pub use law::laws;
-pub use reading::body_of;
+pub use reading::{body_of, body_to};
 pub use row::{Body, row_of, words_in_use};
 pub use slots::slot_of;

@@ -1,21 +1,38 @@
 //! A body read back from its words.
 
-ghost use Rattle.std.specs.Prelude.{◌≡◌, ◌+◌, ◌*◌, ◌<◌, ◌≤◌, ◌^◌, ◌++◌, ◌∷◌, ◌==◌, ◌&&◌, drop, get_or, [], ℕ, List, Some, true, length, IfSome};
+ghost use Rattle.std.specs.Prelude.{◌≡◌, ◌+◌, ◌*◌, ◌<◌, ◌≤◌, ◌^◌, ◌++◌, ◌∷◌, ◌==◌, ◌&&◌, drop, get_or, [], ℕ, List, Some, true, length, is_some, IfSome};
 ghost use Rattle.vsw_base.specs.declared.fate.Verdict.{Verdict};
 ghost use Rattle.vsw_transpose.specs.declared.act.Act.{Act};
 ghost use Rattle.vsw_transpose.specs.Form.{is_form};
 ghost use Rattle.vsw_words.specs.Reading as spec;
-ghost use Rattle.vsw_words.specs.Reading.{IsBody, IsTold, IsLast, IsDropper, added, if_read};
+ghost use Rattle.vsw_words.specs.Reading.{IsBody, IsTold, IsLast, IsDropper, or_none};
 ghost use Rattle.vsw_words.specs.Row.{body_words, last_words, verdict_word};
+ghost use Rattle.vsw_words.specs.Stage.{is_read};
+ghost use Rattle.vsw_words.specs.declared.row.Body.{Body};
 
-use crate::act::read_act;
+use crate::act::{act_of, is_act};
 use crate::row::Body;
+use crate::stage::{Stage, is_whole, next};
 use vsw_base::{Dir, Moment, Verdict};
-use vsw_transpose::{Acts, Transposition};
+use vsw_transpose::{Acts, Transposition, WritesActs};
 
-/// Reads the body that the words are of: words 16 to 72 of a row. False exactly where they are of no row; what
-/// then stands in `out` means nothing.
-pub fn body_of(words: &[u64; 57], out: &mut Body) -> bool
+/// The body that the words are of: words 16 to 72 of a row. None exactly where they are of no row. It makes
+/// a room for the acts: on a packet's way, use `body_to`.
+pub fn body_of(words: &[u64; 57]) -> Option<Body>
+    ensures told { IfSome result (λ b. IsTold words.now b.verdict b.by b.until) }
+    ensures back { (verdict : Verdict) (by : List Act) (until : ℕ) → IsBody verdict by → words.now ≡ body_words verdict by until → result ≡ Some (record { verdict = verdict; by = by; until = until }) }
+{
+    let mut body = Body::room();
+    if body_to(words, &mut body) {
+        Some(body)
+    } else {
+        None
+    }
+}
+
+/// Reads the body that the words are of into a room. False exactly where they are of no row; what then stands
+/// there means nothing.
+pub fn body_to(words: &[u64; 57], out: &mut Body) -> bool
     ensures told { result ≡ true → IsTold words.now out.new.verdict out.new.by out.new.until }
     ensures back { (verdict : Verdict) (by : List Act) (until : ℕ) → IsBody verdict by → words.now ≡ body_words verdict by until → (result ≡ true) × (out.new.verdict ≡ verdict) × (out.new.by ≡ by) × (out.new.until ≡ until) }
 {
@@ -74,7 +91,10 @@ fn read_drop(count: u64, last: &[u64], by: &mut Transposition) -> bool
     ensures value { result ≡ ((count == 0) && spec.are_zero (drop 1 last.now)) }
     ensures bare { by.new ≡ [] }
 {
-    *by = Transposition::new(Acts::new());
+    by.rewrite(&ActWords {
+        count: 0,
+        words: &[],
+    });
     count == 0 && are_zero(&last[1..])
 }
 
@@ -109,7 +129,26 @@ fn verdict_of(word: u64, dropper: u64) -> Option<Verdict>
     }
 }
 
-/// Reads so many acts of a transposition, with 0 behind them.
+/// So many acts, as words.
+#[derive(Drop)]
+struct ActWords<'a> {
+    count: u64,
+    words: &'a [u64],
+}
+
+impl WritesActs for ActWords<'_> {
+    ghost gives = { λ a. or_none (spec.read_acts a.count a.words.now) };
+
+    ghost is_ready = { λ a. (is_some (spec.read_acts a.count a.words.now) ≡ true) × (a.count ≤ 18) };
+
+    #[inline(always)]
+    fn write(&self, out: &mut Acts) {
+        write_acts(self.count, self.words, out);
+    }
+}
+
+/// Reads so many acts of a transposition, with 0 behind them. Only when all are found to be of one does it
+/// write them.
 fn read_pass(count: u64, words: &[u64], by: &mut Transposition) -> bool
     ensures told { result ≡ true → spec.read_acts count words.now ≡ Some by.new }
     ensures form { result ≡ true → is_form by.new ≡ true }
@@ -118,45 +157,56 @@ fn read_pass(count: u64, words: &[u64], by: &mut Transposition) -> bool
     if count > 18 {
         return false;
     }
-    let mut acts = Acts::new();
-    if !read_acts(count, words, &mut acts) {
+    if !are_acts(Stage::Pops, count, words) {
         return false;
     }
-    match Transposition::of(acts.as_slice()) {
-        Ok(made) => {
-            *by = made;
-            true
-        }
-        Err(_) => false,
-    }
+    by.rewrite(&ActWords { count, words });
+    true
 }
 
-/// Appends so many acts, with 0 behind them; false where the words aren't of acts.
-fn read_acts(count: u64, words: &[u64], out: &mut Acts) -> bool
-    requires { length out.old + count ≤ 18 }
-    ensures adds { out.new ≡ out.old ++ added out.old out.new }
-    ensures read { if_read result (added out.old out.new) ≡ spec.read_acts count words.now }
+/// Whether the words are of so many acts, with 0 behind them, and the acts go on to a whole form.
+fn are_acts(stage: Stage, count: u64, words: &[u64]) -> bool
+    ensures { result ≡ is_read stage (spec.read_acts count words.now) }
 {
     if count == 0 {
-        return are_zero(words);
+        return is_whole(stage) && are_zero(words);
     }
     match words {
-        [head, first, second, rest @ ..] => match read_act(*head, *first, *second) {
-            Some(act) => {
-                out.push(act);
-                read_acts(count - 1, rest, out)
-            }
-            None => false,
-        },
+        [head, first, second, rest @ ..] => {
+            is_act(*head, *first, *second)
+                && are_acts(
+                    next(stage, &act_of(*head, *first, *second)),
+                    count - 1,
+                    rest,
+                )
+        }
         _ => false,
     }
 }
 
+/// Appends the acts of these words.
+fn write_acts(count: u64, words: &[u64], out: &mut Acts)
+    requires told { is_some (spec.read_acts count words.now) ≡ true }
+    requires room { length out.old + count ≤ 18 }
+    ensures { out.new ≡ out.old ++ or_none (spec.read_acts count words.now) }
+{
+    if count == 0 {
+        return;
+    }
+    if let [head, first, second, rest @ ..] = words {
+        out.push(act_of(*head, *first, *second));
+        write_acts(count - 1, rest, out);
+    }
+}
+
+/// All are read, in no order: that is quicker than to stop at the first one that isn't 0.
+#[inline(always)]
 fn are_zero(words: &[u64]) -> bool
     ensures { result ≡ spec.are_zero words.now }
 {
-    match words {
-        [] => true,
-        [word, rest @ ..] => *word == 0 && are_zero(rest),
+    let mut all = 0;
+    for word in words {
+        all |= *word;
     }
+    all == 0
 }

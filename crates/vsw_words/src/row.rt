@@ -20,6 +20,17 @@ pub struct Body {
     pub until: Moment,
 }
 
+impl Body {
+    /// A body to read others into. It clears room for the acts: make it once.
+    pub fn room() -> Body {
+        Body {
+            verdict: Verdict::Pass,
+            by: Transposition::room(),
+            until: Moment::of(0),
+        }
+    }
+}
+
 /// Writes the row of an identity: its words, the verdict, what is done to the headers, and until when that holds.
 pub fn row_of(id: &Ufid, verdict: &Verdict, by: &Transposition, until: Moment, out: &mut [u64; 73])
     requires { IsBare verdict.now by.now }

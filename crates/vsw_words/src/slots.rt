@@ -12,17 +12,19 @@ pub fn slot_of(key: &[u64; 16], rows: u32) -> u32
     ensures value { result ≡ spec.slot key.now rows }
     ensures inside { result < rows }
 {
-    (hash(0, key) % u64::from(rows)) as u32
+    (hash(key) % u64::from(rows)) as u32
 }
 
-/// The sum with these words mixed in.
-fn hash(sum: u64, words: &[u64]) -> u64
-    ensures { result ≡ spec.hash sum words.now }
+/// The hash of the words.
+#[inline(always)]
+fn hash(key: &[u64; 16]) -> u64
+    ensures { result ≡ spec.hash 0 key.now }
 {
-    match words {
-        [] => sum,
-        [word, rest @ ..] => hash(mixed(sum, *word), rest),
+    let mut sum = 0;
+    for word in key {
+        sum = mixed(sum, *word);
     }
+    sum
 }
 
 #[inline(always)]

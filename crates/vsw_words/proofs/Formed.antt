@@ -1,15 +1,15 @@
 -- The form of a transposition is found one act at a time.
-use Rattle.std.proofs.Common.{◌≡◌, ℕ, ◌+◌, ◌%◌, ◌≤◌, ◌==◌, ◌&&◌, List, [], ◌∷◌, refl, sym, ◌∙◌, ap, arith, length, true, false, Bool, nat_le, zero, suc}
+use Rattle.std.proofs.Common.{◌≡◌, ℕ, ◌+◌, ◌%◌, ◌≤◌, ◌==◌, ◌&&◌, List, [], ◌∷◌, refl, sym, ◌∙◌, ap, arith, length, true, false, Bool, nat_le, suc}
 use Rattle.std.proofs.lemmas.Grind.{common_steps}
 use Rattle.vsw_base.specs.declared.header.Header.TheVariants.{Ether, Ip, Vxlan, Ports}
 use Rattle.vsw_transpose.specs.declared.act.Act.{Act}
 use Rattle.vsw_transpose.specs.declared.act.Act.TheVariants.{Push, Pop, Modify, Ignore}
 use Rattle.vsw_transpose.specs.Chain.{chain}
-use Rattle.vsw_transpose.specs.Form.{is_form, pushed, pops, are_encaps, are_stays, are_late, are_ordered}
+use Rattle.vsw_transpose.specs.Form.{is_form, pushed, pops, are_stays, are_late, are_ordered}
 use Rattle.vsw_transpose.proofs.Encaps.{chained}
 use Rattle.vsw_words.specs.declared.stage.Stage.{Stage}
 use Rattle.vsw_words.specs.declared.stage.Stage.TheVariants.{Pops, OnePop, TwoPops, Pushes, BehindEther, BehindIp, Stays, Wrong}
-use Rattle.vsw_words.specs.Stage.{if_so, next, is_rest}
+use Rattle.vsw_words.specs.Stage.{if_so, is_rest}
 
 if_wrong : (t : Bool) → if_so t Wrong ≡ Wrong
 if_wrong true = refl

@@ -1,5 +1,5 @@
 -- The form of a transposition, one act at a time: where the acts so far end in it.
-use Rattle.std.specs.Prelude.{ℕ, ◌^◌, ◌==◌, ◌&&◌, List, [], ◌∷◌, Bool, true, false, not, nat_lt, Option, Some, None, if◌then◌else◌}
+use Rattle.std.specs.Prelude.{◌^◌, ◌==◌, ◌&&◌, List, [], ◌∷◌, Bool, true, false, not, nat_lt, Option, Some, None, if◌then◌else◌}
 use Rattle.vsw_base.specs.declared.header.Header.{Header}
 use Rattle.vsw_base.specs.declared.header.Header.TheVariants.{Ether, Ip, Vxlan, Ports}
 use Rattle.vsw_transpose.specs.declared.act.Act.{Act}

@@ -5,8 +5,8 @@ ghost use Rattle.vsw_words.specs.Row.{IsBare};
 
 use crate::samples::{QUERY, encap, query};
 use vsw_base::{Dir, Ip4, Moment, Stack, Ufid, Verdict};
-use vsw_transpose::{Act, Acts, Change, Transposition};
-use vsw_words::{Body, body_of, row_of, words_in_use};
+use vsw_transpose::{Act, Change, Transposition};
+use vsw_words::{Body, body_of, body_to, row_of, words_in_use};
 
 /// What edits source address and port of a query and puts it in network 5001.
 fn edit() -> [Act; 6] {
@@ -90,21 +90,19 @@ fn has_row(verdict: &Verdict, acts: &[Act], body: &[u64; 57], used: usize) -> bo
     }
 }
 
-fn body() -> Body {
-    Body {
-        verdict: Verdict::Pass,
-        by: Transposition::new(Acts::new()),
-        until: Moment::of(0),
-    }
+/// Whether the words are read as this body, in a room and without one.
+fn reads(words: &[u64; 57], verdict: &Verdict, acts: &[Act]) -> bool {
+    let mut body = Body::room();
+    body_to(words, &mut body)
+        && is_body(&body, verdict, acts)
+        && match body_of(words) {
+            Some(body) => is_body(&body, verdict, acts),
+            None => false,
+        }
 }
 
-/// Whether the words are read as this body.
-fn reads(words: &[u64; 57], verdict: &Verdict, acts: &[Act]) -> bool {
-    let mut body = body();
-    body_of(words, &mut body)
-        && body.verdict == *verdict
-        && body.by.acts() == acts
-        && body.until.micros() == 240_000_000
+fn is_body(body: &Body, verdict: &Verdict, acts: &[Act]) -> bool {
+    body.verdict == *verdict && body.by.acts() == acts && body.until.micros() == 240_000_000
 }
 
 /// Whether the words are of a body still, if one of them is another.
@@ -113,7 +111,7 @@ fn is_body_with(words: &[u64; 57], place: usize, word: u64) -> bool {
     if place < 57 {
         changed[place] = word;
     }
-    body_of(&changed, &mut body())
+    body_of(&changed).is_some()
 }
 
 const RULE: Verdict = Verdict::Rule {

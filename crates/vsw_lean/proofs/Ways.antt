@@ -60,6 +60,7 @@ way_stays ls ws id h =
 good_as : (ls now : List LayerSeen) (r : Row) → way_of now r.id ≡ way_of ls r.id → Good ls r → Good now r
 good_as ls now r e g = record {
   verdict = g.verdict ∙ ap (λ w. w.verdict) (sym e);
+  bare = g.bare;
   makes = λ p. ap (λ w. w.makes) e ∙ g.makes p;
   fits = g.fits;
   stack = λ p. g.stack p ∙ ap (λ w. w.stack) (sym e);
@@ -82,6 +83,7 @@ walk_makes ls x r m =
     record {
       good = record {
         verdict = m.verdict ∙ w.0.verdict ∙ ap (λ i. (way_of ls i).verdict) (sym m.id);
+        bare = m.bare;
         makes = λ p. ap (λ i. (way_of ls i).makes) m.id ∙ sym w.0.makes ∙ m.makes p;
         fits = λ p. ap (λ i. fit.fits r.acts i.stack) m.id ∙ m.fits p;
         stack = λ p. ap (λ i. apply r.acts i.stack) m.id ∙ m.stack p ∙ w.0.stack ∙ ap (λ i. (way_of ls i).stack) (sym m.id);

@@ -15,6 +15,7 @@ use Rattle.vsw_lean.specs.Way.{looks, way_of}
 use Rattle.vsw_transpose.specs.declared.act.Act.{Act}
 use Rattle.vsw_transpose.specs.Apply.{apply}
 use Rattle.vsw_transpose.specs.Fits as fit
+use Rattle.vsw_words.specs.Row.{IsBare}
 
 -- what a row says of the packets of an identity: the verdict, what the layers do to them, and until when it may answer
 pub record Row : Type 0 where
@@ -24,9 +25,10 @@ pub record Row : Type 0 where
   pub until : ℕ
 
 -- a row is good where it says the way of its packets. Where they pass, they want no pair made, and the acts fit them and make of them what
--- the layers do
+-- the layers do. Where they are dropped, there are no acts
 pub record Good (ls : List LayerSeen) (r : Row) : Type 0 where
   pub verdict : r.verdict ≡ (way_of ls r.id).verdict
+  pub bare : IsBare r.verdict r.acts
   pub makes : r.verdict ≡ Pass → (way_of ls r.id).makes ≡ false
   pub fits : r.verdict ≡ Pass → fit.fits r.acts r.id.stack ≡ true
   pub stack : r.verdict ≡ Pass → apply r.acts r.id.stack ≡ (way_of ls r.id).stack
@@ -57,6 +59,7 @@ pub record IsRowOf (ls : List LayerSeen) (x : Crossing) (r : Row) : Type 0 where
   pub control : x.control ≡ None
   pub id : r.id ≡ x.id
   pub verdict : r.verdict ≡ (walk_of ls x).verdict
+  pub bare : IsBare r.verdict r.acts
   pub makes : r.verdict ≡ Pass → makes (walk_of ls x).changes ≡ false
   pub fits : r.verdict ≡ Pass → fit.fits r.acts x.id.stack ≡ true
   pub stack : r.verdict ≡ Pass → apply r.acts x.id.stack ≡ (walk_of ls x).stack

@@ -43,7 +43,7 @@ fn shakes(
     let look = trial.first_look()?;
     let (shaken, change) = trial.meet(&packet(met, control, moment), &look)?;
     let after = trial.row(row);
-    Some((shaken, change, before != after))
+    Some((shaken, change, !before.is_same(&after)))
 }
 
 /// The row of what the second host sends, and a packet that comes in.

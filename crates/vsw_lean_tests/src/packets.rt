@@ -46,7 +46,10 @@ pub fn packet(id: &Ufid, control: Control, moment: u64) -> Crossing {
     Crossing {
         caller: 0,
         packet: 0,
-        id: *id,
+        id: Ufid {
+            dir: id.dir,
+            stack: id.stack.copy(),
+        },
         control,
         moment: Moment::of(moment),
         sizes: Sizes {

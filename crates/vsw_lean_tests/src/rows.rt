@@ -3,17 +3,17 @@
 ghost use Rattle.std.specs.Prelude.{◌<◌, ◌^◌};
 
 use crate::packets::packet;
-use crate::trial::Trial;
+use crate::trial::{Row, Trial};
 use std::alloc::Global;
 use vsw_base::{Control, Ufid};
-use vsw_walk::{Looked, Walked};
+use vsw_walk::Looked;
 use vsw_lean::Leaning;
 
 /// Rows that are all current.
 #[derive(Drop)]
 pub struct Rows {
     ids: Vec<Ufid>,
-    walks: Vec<Walked>,
+    rows: Vec<Row>,
     pub looks: Vec<Looked>,
     pub leaning: Leaning,
 }
@@ -23,7 +23,7 @@ impl Rows {
     pub fn new(alloc: Global) -> Rows {
         Rows {
             ids: Vec::new(alloc),
-            walks: Vec::new(alloc),
+            rows: Vec::new(alloc),
             looks: Vec::new(alloc),
             leaning: Leaning::new(alloc),
         }
@@ -36,11 +36,11 @@ impl Rows {
 
     /// All rows are made anew. Whether memory sufficed.
     pub fn renew(&mut self, trial: &mut Trial) -> bool {
-        self.walks.clear();
+        self.rows.clear();
         self.looks.clear();
         for id in &self.ids {
             let row = trial.row(id);
-            if self.walks.push(row).is_err() {
+            if self.rows.push(row).is_err() {
                 return false;
             }
             for look in trial.scratch.looked() {
@@ -59,8 +59,8 @@ impl Rows {
 
     /// Whether each row is what a walk gives.
     pub fn are_right(&self, trial: &mut Trial) -> bool {
-        for (id, row) in self.ids.iter().zip(self.walks.iter()) {
-            if trial.row(id) != *row {
+        for (id, row) in self.ids.iter().zip(self.rows.iter()) {
+            if !trial.row(id).is_same(row) {
                 return false;
             }
         }

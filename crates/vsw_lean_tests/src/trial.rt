@@ -7,7 +7,7 @@ ghost use Rattle.vsw_policy.specs.Sound.{Each};
 use crate::packets::packet;
 use crate::rows::Rows;
 use std::alloc::Global;
-use vsw_base::{Control, Crossing, Ufid};
+use vsw_base::{Control, Crossing, Stack, Ufid, Verdict};
 use vsw_commit::commit;
 use vsw_walk::{Looked, Scratch, Walked, Wanted, walk};
 use vsw_layer::Layer;
@@ -21,6 +21,21 @@ fn have_numbers(layers: &[Layer]) -> bool
     match layers {
         [] => true,
         [first, rest @ ..] => first.next_pair < u32::MAX && have_numbers(rest),
+    }
+}
+
+/// What the walk of an identity comes to, and the headers with which it passes.
+#[derive(Drop)]
+pub struct Row {
+    walked: Walked,
+    stack: Stack,
+}
+
+impl Row {
+    /// Whether both say the same. What a packet that is dropped ends with means nothing.
+    pub fn is_same(&self, other: &Row) -> bool {
+        self.walked == other.walked
+            && (self.walked.verdict != Verdict::Pass || self.stack.is_same(&other.stack))
     }
 }
 
@@ -44,12 +59,16 @@ impl Trial {
     }
 
     /// The row of an identity: the walk of a packet of it that has no control.
-    pub fn row(&mut self, id: &Ufid) -> Walked {
-        walk(
+    pub fn row(&mut self, id: &Ufid) -> Row {
+        let walked = walk(
             &self.policy,
             &packet(id, Control::None, 0),
             &mut self.scratch,
-        )
+        );
+        Row {
+            walked,
+            stack: self.scratch.stack().copy(),
+        }
     }
 
     /// What the packet of the last walk looked for in the layer that it met first.

@@ -1,7 +1,14 @@
 //! Tests of `vsw_lookup`, kept apart from it: with tests of its own, a crate is proved once more.
 #![tactic(auto)]
 
-#[cfg(test)]
+mod callers;
 mod counted;
 #[cfg(test)]
+mod ends;
+#[cfg(test)]
 mod row_tests;
+#[cfg(test)]
+mod thread_tests;
+
+pub use callers::{add_and_put, add_and_tell, counts_of};
+pub use counted::Counted;

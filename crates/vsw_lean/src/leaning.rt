@@ -16,9 +16,9 @@ use indexmap::IndexMap;
 use std::alloc::Global;
 use std::marker::Model;
 use vsw_base::{Moment, NoMemory, Track};
-use vsw_walk::{Looked, Wanted};
 use vsw_layer::Layer;
 use vsw_layerflow::Probe;
+use vsw_walk::{Looked, Wanted};
 
 /// What all current rows of a port lean on: directions and keys that were missed, and pairs that were found.
 /// Rows cease to be current together, so what they lean on only grows until it is cleared. A change is

@@ -8,8 +8,8 @@ ghost use Rattle.vsw_lean.specs.Leant.{same_spot, spot_in};
 ghost use Rattle.vsw_lean.specs.Spots.{or_put, spot_by};
 
 use indexmap::IndexMap;
-use vsw_walk::Looked;
 use vsw_layerflow::Probe;
+use vsw_walk::Looked;
 
 /// A spot of a layer on which a row leans. The layer is told by its place among those of the policy.
 #[derive(Clone, Copy, Debug, PartialEq, Eq, Hash)]

@@ -9,10 +9,10 @@ use crate::rows::Rows;
 use std::alloc::Global;
 use vsw_base::{Control, Crossing, Stack, Ufid, Verdict};
 use vsw_commit::commit;
-use vsw_walk::{Looked, Scratch, Walked, Wanted, walk};
 use vsw_layer::Layer;
 use vsw_lean::shake;
 use vsw_policy::Policy;
+use vsw_walk::{Looked, Scratch, Walked, Wanted, walk};
 
 /// Whether each layer has a number for one more pair.
 fn have_numbers(layers: &[Layer]) -> bool

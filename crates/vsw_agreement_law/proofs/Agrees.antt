@@ -206,14 +206,14 @@ all_picked n (c ∷ cs) = by (is_of n c) (one_picked n c.deed c refl) (all_picke
     by false one ih = ih ∙ ap (λ w. w ++ picked n (flat_map (λ c. what_became c.deed) cs)) one
 
 -- the lines of a port's round tell of packet n what became of it
-pub round_tells : (s : Setting) (records : List Record) (first next place : ℕ) (p : PortSeen) (h : List Event) (r : PortRound) (n : ℕ) → 0 < s.workers → s.workers ≤ 16 → (i : IsPortRound s.workers p h (jobs_of s records first next place p.number) r) → fates_in n r.told ≡ picked n (flat_map (λ c. what_became c.deed) (i.first ++ i.later))
+pub round_tells : (s : Setting) (records : List Record) (first next place : ℕ) (p : PortSeen) (h : List Event) (r : PortRound) (n : ℕ) → 0 < s.workers → s.workers ≤ 16 → (i : IsPortRound s.workers p h (jobs_of s records first next place p.number) r) → fates_in n r.lines ≡ picked n (flat_map (λ c. what_became c.deed) (i.first ++ i.later))
 round_tells s records first next place p h r n least most i =
     let ns = p.controllers in
     let calls = i.first ++ i.later in
     let k = worker_at s records n in
     let jobs = jobs_of s records first next place p.number in
     let brought : Each (λ c. IsBroughtBy n k (job_of c.deed)) calls = map_each (IsBroughtBy n k) (λ c. job_of c.deed) calls (subst (Each (IsBroughtBy n k)) (sym (round_jobs s.workers p h jobs r i)) (jobs_by_one s records first next place p.number n)) in
-    ap (fates_in n) i.told
+    ap (fates_in n) i.lines
     ∙ (filter_lines n (in_told_order ns calls r.before (r.after - r.before))
     ∙ (ap (map (λ (c : Call). what_of c.deed)) (told_packets ns n k calls r.before (r.after - r.before) (worker_once ns k (got_low s.workers (macs_of s.policy) (slice_get records n) least most)) (order_at s.workers p h jobs r i k) (calls_by ns n k calls brought))
     ∙ all_picked n calls))

@@ -25,7 +25,7 @@ use Rattle.vsw_commit.specs.Fate.{fate_at}
 use Rattle.vsw_promise.specs.Jobs.{Jobs, crossing_by, worker_of, aimed_at, packet_jobs}
 use Rattle.vsw_promise.specs.Rounds.{opening_of, IsPortRound}
 use Rattle.vsw_promise.specs.Told.{what_of}
-use Rattle.vsw_promise.specs.Trace.{tells_short}
+use Rattle.vsw_report.specs.Short.{tells_short}
 use Rattle.vsw_history_law.proofs.Ones.{shown_is}
 use Rattle.vsw_history_law.proofs.Values.{right_front}
 use Rattle.vsw_history_law.proofs.Reports.{map_each}

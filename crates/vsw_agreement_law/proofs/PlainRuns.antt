@@ -26,7 +26,7 @@ use Rattle.vsw_history_law.specs.Law.{all_jobs}
 use Rattle.vsw_history.specs.Order.{StandsOnce}
 use Rattle.vsw_promise.specs.Rounds.{opening_of, IsPortRound, AreRoundsAt, AreChained, AreHistories, AreRounds, end_before}
 use Rattle.vsw_promise.specs.Told.{callers, line_of, what_of, in_told_order}
-use Rattle.vsw_promise.specs.Trace.{tells_short, is_short_port, is_short_round, are_short}
+use Rattle.vsw_report.specs.Short.{tells_short, is_short_port, is_short_round, are_short}
 use Rattle.vsw_history_law.proofs.Callers.{worker_once, controller_once}
 use Rattle.vsw_history.proofs.Calls.{each_append, legal_of, shares_join}
 use Rattle.vsw_history.proofs.Fronts.{prefix_self, append_end}
@@ -210,10 +210,10 @@ fates_append n (x ∷ xs) ys = by (is_packet n x) (fates_append n xs ys)
     by false ih = ih
 
 -- the lines of a port over rounds are those of the first and of the others
-lines_more : (n i : ℕ) (r : Round) (rs : List Round) (q : PortRound) → slice_get r.ports i ≡ Some q → fates_in n (lines_at i (r ∷ rs)) ≡ fates_in n q.told ++ fates_in n (lines_at i rs)
+lines_more : (n i : ℕ) (r : Round) (rs : List Round) (q : PortRound) → slice_get r.ports i ≡ Some q → fates_in n (lines_at i (r ∷ rs)) ≡ fates_in n q.lines ++ fates_in n (lines_at i rs)
 lines_more n i r rs q e =
-    ap (λ o. fates_in n (flat_map (λ p. p.told) (option_to_list o) ++ lines_at i rs)) e
-    ∙ (ap (λ w. fates_in n (w ++ lines_at i rs)) (append_end q.told) ∙ fates_append n q.told (lines_at i rs))
+    ap (λ o. fates_in n (flat_map (λ p. p.lines) (option_to_list o) ++ lines_at i rs)) e
+    ∙ (ap (λ w. fates_in n (w ++ lines_at i rs)) (append_end q.lines) ∙ fates_append n q.lines (lines_at i rs))
 
 spans_plain : (s : Setting) (records : List Record) (hs : List (List Event)) (i : ℕ) (p : PortSeen) (h : List Event) → Plainly s p h → slice_get (ports_of s.policy) i ≡ Some p → slice_get hs i ≡ Some h
     → (cuts : List ℕ) (rounds : List Round) (counts last : List ℕ) (low high : ℕ) (ls : List LayerSeen) → AreRoundsAt s records hs cuts rounds → AreChained counts rounds last → slice_get counts i ≡ Some low → slice_get last i ≡ Some high

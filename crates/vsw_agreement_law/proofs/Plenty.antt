@@ -34,7 +34,7 @@ use Rattle.vsw_promise.specs.Alone.{deed_at, call_at, next_history, calls_from, 
 use Rattle.vsw_promise.specs.Jobs.{Setting, jobs_of}
 use Rattle.vsw_promise.specs.Rounds.{opening_of, end_before}
 use Rattle.vsw_promise.specs.Told.{line_of, what_of, in_told_order}
-use Rattle.vsw_promise.specs.Trace.{tells_short, is_short_port, is_short_round, are_short}
+use Rattle.vsw_report.specs.Short.{tells_short, is_short_port, is_short_round, are_short}
 use Rattle.vsw_history_law.proofs.Reports.{each_told, each_map}
 use Rattle.vsw_agreement_law.specs.Law.{AloneIsPlenty}
 

@@ -9,7 +9,7 @@ use Rattle.vsw_promise.specs.Agree.{IsPlainSetting, AgreeOnPackets, with_workers
 use Rattle.vsw_promise.specs.Alone.{rounds_alone}
 use Rattle.vsw_promise.specs.Jobs.{Setting}
 use Rattle.vsw_promise.specs.Rounds.{AreRounds}
-use Rattle.vsw_promise.specs.Trace.{are_short}
+use Rattle.vsw_report.specs.Short.{are_short}
 use Rattle.vsw_history_law.specs.Law.{AreServed}
 use Rattle.vsw_agreement_law.specs.Plain.{FatesAre}
 

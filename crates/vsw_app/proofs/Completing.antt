@@ -7,8 +7,8 @@ use Rattle.vsw_policyfile.specs.declared.file.ConfigFault.{ConfigFault}
 use Rattle.vsw_policyfile.specs.declared.file.ConfigFault.TheVariants as fault
 use Rattle.vsw_policyfile.specs.Policy.{policy_file_of}
 use Rattle.vsw_switch.specs.Switch.{SwitchNow, switch_of}
-use Rattle.vsw_app.specs.declared.ending.Last.{Last}
-use Rattle.vsw_app.specs.declared.ending.Last.TheVariants.{Bad, Past, Run}
+use Rattle.vsw_app.specs.declared.ending.RunEnd.{RunEnd}
+use Rattle.vsw_app.specs.declared.ending.RunEnd.TheVariants.{Bad, Past, Run}
 use Rattle.vsw_pcap.specs.Capture.{header_of, front_of, Splits, IsCapture}
 use Rattle.vsw_pcap.specs.declared.capture.Form.{Form}
 use Rattle.vsw_pcap.specs.declared.capture.Record.{Record}
@@ -127,12 +127,12 @@ completes_by names a b old new policy trace_bytes records e s i r w h none held 
 completes_by names a b old new policy trace_bytes records e s i r w h none held c few n m (BeforeTrace t) = before_trace old new a b names t.holds.bytes e s i r n t.why
 completes_by names a b old new policy trace_bytes records e s i r w h none held c few n m (ByTrace t) = whole_trace names a b old new trace_bytes records e s i r w c few n m held t
 
-completes_as : (names : Names) (a b : Inputs) (old new : Outside) (policy : PolicyFile) (trace_bytes : List ℕ) (records : List Record) (last : Last) (s : Status) → s ≡ status_of last → (s ≡ status.ReadFault → Rose old.input_faults new.input_faults) → (s ≡ status.WriteFault → Rose old.put_faults new.put_faults) → HoldsPolicy a names.policy policy → a.files names.commands ≡ Some [] → a.files names.trace ≡ Some trace_bytes → IsCapture trace_bytes records None → length records ≤ most_records → ¬ (Rose old.input_faults new.input_faults) → ¬ (Rose old.put_faults new.put_faults) → LeavesFiles names a b old.put new.put old.input_faults new.input_faults last → (s ≡ status.Done) ⊎ (s ≡ status.Memory)
+completes_as : (names : Names) (a b : Inputs) (old new : Outside) (policy : PolicyFile) (trace_bytes : List ℕ) (records : List Record) (last : RunEnd) (s : Status) → s ≡ status_of last → (s ≡ status.ReadFault → Rose old.input_faults new.input_faults) → (s ≡ status.WriteFault → Rose old.put_faults new.put_faults) → HoldsPolicy a names.policy policy → a.files names.commands ≡ Some [] → a.files names.trace ≡ Some trace_bytes → IsCapture trace_bytes records None → length records ≤ most_records → ¬ (Rose old.input_faults new.input_faults) → ¬ (Rose old.put_faults new.put_faults) → LeavesFiles names a b old.put new.put old.input_faults new.input_faults last → (s ≡ status.Done) ⊎ (s ≡ status.Memory)
 completes_as names a b old new policy trace_bytes records (Bad kind path) s i r w h none held c few n m l = absurd (not_bad a names.policy policy (fault.Bad kind path) h l.why)
 completes_as names a b old new policy trace_bytes records (Past limit) s i r w h none held c few n m l = absurd (not_bad a names.policy policy (limit_fault limit) h l.why)
 completes_as names a b old new policy trace_bytes records (Run e) s i r w h none held c few n m l = completes_by names a b old new policy trace_bytes records e s i r w h none held c few n m l
 
-told_by : (names : Names) (a : Inputs) (new_inputs : Option Inputs) (old new : Outside) (policy : PolicyFile) (trace_bytes : List ℕ) (records : List Record) (last : Last) (s : Status) → s ≡ status_of last → (s ≡ status.ReadFault → Rose old.input_faults new.input_faults) → (s ≡ status.WriteFault → Rose old.put_faults new.put_faults) → HoldsPolicy a names.policy policy → a.files names.commands ≡ Some [] → a.files names.trace ≡ Some trace_bytes → IsCapture trace_bytes records None → length records ≤ most_records → ¬ (Rose old.input_faults new.input_faults) → ¬ (Rose old.put_faults new.put_faults) → LeavesTold (Some names) (Some a) new_inputs old.put new.put old.input_faults new.input_faults last → (s ≡ status.Done) ⊎ (s ≡ status.Memory)
+told_by : (names : Names) (a : Inputs) (new_inputs : Option Inputs) (old new : Outside) (policy : PolicyFile) (trace_bytes : List ℕ) (records : List Record) (last : RunEnd) (s : Status) → s ≡ status_of last → (s ≡ status.ReadFault → Rose old.input_faults new.input_faults) → (s ≡ status.WriteFault → Rose old.put_faults new.put_faults) → HoldsPolicy a names.policy policy → a.files names.commands ≡ Some [] → a.files names.trace ≡ Some trace_bytes → IsCapture trace_bytes records None → length records ≤ most_records → ¬ (Rose old.input_faults new.input_faults) → ¬ (Rose old.put_faults new.put_faults) → LeavesTold (Some names) (Some a) new_inputs old.put new.put old.input_faults new.input_faults last → (s ≡ status.Done) ⊎ (s ≡ status.Memory)
 told_by names a None old new policy trace_bytes records last s i r w h none held c few n m l = absurd l
 told_by names a (Some b) old new policy trace_bytes records last s i r w h none held c few n m l = completes_as names a b old new policy trace_bytes records last s i r w h none held c few n m l
 

@@ -4,8 +4,8 @@ use Rattle.std.specs.Prelude.{⊤}
 use Rattle.vsw_host.specs.Outside.{Opened, Inputs, Outside, OpensSince, SameOutputs, SameInputs, Rose, Grows}
 use Rattle.vsw_policyfile.specs.declared.file.PolicyFile.{PolicyFile}
 use Rattle.vsw_switch.specs.Switch.{SwitchNow, switch_of}
-use Rattle.vsw_app.specs.declared.ending.Last.{Last}
-use Rattle.vsw_app.specs.declared.ending.Last.TheVariants.{Bad, Past, Run}
+use Rattle.vsw_app.specs.declared.ending.RunEnd.{RunEnd}
+use Rattle.vsw_app.specs.declared.ending.RunEnd.TheVariants.{Bad, Past, Run}
 use Rattle.vsw_replay.specs.declared.ending.Ending.{Ending}
 use Rattle.vsw_replay.specs.declared.ending.Ending.TheVariants.{Done, Usage, ReadFault, WriteFault, Refused, Records, NotBuilt, Memory}
 use Rattle.vsw_replay.specs.declared.trace.TraceBytes.{TraceBytes}
@@ -76,7 +76,7 @@ told_err (Some a) None c pn cn p e s t = absurd s
 told_err (Some a) (Some b) None pn cn p e s t = absurd t
 told_err (Some a) (Some b) (Some c) pn cn p e s t = inr (p, s.0, most_then a b c (read_whole pn s.0.bytes ∷ []) cn s.1 t.0, commands_before a b (read_whole pn s.0.bytes ∷ []) cn e s.1 t.1)
 
-told_first : (a b : Option Inputs) (pn cn : List ℕ) (last : Last) → Told (λ x y. PolicySays x y pn (Err last)) a b → Told (λ x y. JudgeSays x y pn cn (Err last)) a b
+told_first : (a b : Option Inputs) (pn cn : List ℕ) (last : RunEnd) → Told (λ x y. PolicySays x y pn (Err last)) a b → Told (λ x y. JudgeSays x y pn cn (Err last)) a b
 told_first None b pn cn last s = tt
 told_first (Some a) None pn cn last s = absurd s
 told_first (Some a) (Some b) pn cn (Bad kind path) s = s
@@ -86,13 +86,13 @@ told_first (Some a) (Some b) pn cn (Run e) s = inl s
 pub judged_ok : (old now new : Outside) (pn cn : List ℕ) (p : PolicyFile) (u : ⊤) → ReadsPolicy old now pn (Ok p) → ReadsCommands now new cn (Ok u) → Judged old new pn cn (Ok p)
 judged_ok old now new pn cn p u r s = record { good = r.good; outputs = same_outputs old now new r.outputs s.outputs; rises = tt; early = tt; later = omega (arith, r.later, s.later); told = told_ok old.inputs now.inputs new.inputs pn cn p u r.told s.told }
 
-run_is : (e f : Ending) → ◌≡◌ {A = Last} (Run e) (Run f) → e ≡ f
+run_is : (e f : Ending) → ◌≡◌ {A = RunEnd} (Run e) (Run f) → e ≡ f
 run_is e f h = cc
 
 pub judged_err : (old now new : Outside) (pn cn : List ℕ) (p : PolicyFile) (e : Ending) → ReadsPolicy old now pn (Ok p) → ReadsCommands now new cn (Err e) → Judged old new pn cn (Err (Run e))
 judged_err old now new pn cn p e r s = record { good = tt; outputs = same_outputs old now new r.outputs s.outputs; rises = λ i. rose_from old.input_faults now.input_faults new.input_faults r.later (s.rises (run_is e ReadFault i)); early = s.early; later = omega (arith, r.later, s.later); told = told_err old.inputs now.inputs new.inputs pn cn p e r.told s.told }
 
-pub judged_first : (old new : Outside) (pn cn : List ℕ) (last : Last) → ReadsPolicy old new pn (Err last) → Judged old new pn cn (Err last)
+pub judged_first : (old new : Outside) (pn cn : List ℕ) (last : RunEnd) → ReadsPolicy old new pn (Err last) → Judged old new pn cn (Err last)
 judged_first old new pn cn last r = record { good = tt; outputs = r.outputs; rises = r.rises; early = r.early; later = r.later; told = told_first old.inputs new.inputs pn cn last r.told }
 
 -- how a run can end by its trace
@@ -221,7 +221,7 @@ forwards_ok old now new names p e j r = record {
   leaves = told_forward old.inputs now.inputs new.inputs old.put now.put new.put old.input_faults now.input_faults new.input_faults names p e j.outputs.put j.later j.told r.told;
 }
 
-told_judged : (a b : Option Inputs) (before after : Option (List ℕ)) (faults risen : ℕ) (names : Names) (last : Last) → Grows before after [] → Told (λ x y. JudgeSays x y names.policy names.commands (Err last)) a b → LeavesTold (Some names) a b before after faults risen last
+told_judged : (a b : Option Inputs) (before after : Option (List ℕ)) (faults risen : ℕ) (names : Names) (last : RunEnd) → Grows before after [] → Told (λ x y. JudgeSays x y names.policy names.commands (Err last)) a b → LeavesTold (Some names) a b before after faults risen last
 told_judged None b before after faults risen names last g s = tt
 told_judged (Some a) None before after faults risen names last g s = absurd s
 told_judged (Some a) (Some b) before after faults risen names (Bad kind path) g s = record { opens = s.0; why = s.1; nothing = g }
@@ -229,17 +229,17 @@ told_judged (Some a) (Some b) before after faults risen names (Past limit) g s =
 told_judged (Some a) (Some b) before after faults risen names (Run e) g (inl s) = AtPolicy (record { opens = s.0; why = s.1; nothing = g })
 told_judged (Some a) (Some b) before after faults risen names (Run e) g (inr s) = AtCommands (record { policy = s.0; holds = s.1; opens = s.2; why = s.3; nothing = g })
 
-last_used : (last : Last) → IsEarlyLast last → last ≡ Run Usage → ⊥
+last_used : (last : RunEnd) → IsEarlyLast last → last ≡ Run Usage → ⊥
 last_used (Bad kind path) q i = cc
 last_used (Past limit) q i = cc
 last_used (Run e) q i = early_used e q (run_is e Usage i)
 
-last_write : (old new : Outside) (last : Last) → IsEarlyLast last → last ≡ Run WriteFault → Rose old.put_faults new.put_faults
+last_write : (old new : Outside) (last : RunEnd) → IsEarlyLast last → last ≡ Run WriteFault → Rose old.put_faults new.put_faults
 last_write old new (Bad kind path) q i = absurd (cc)
 last_write old new (Past limit) q i = absurd (cc)
 last_write old new (Run e) q i = early_write old new e q (run_is e WriteFault i)
 
-pub forwards_err : (old new : Outside) (names : Names) (last : Last) → Judged old new names.policy names.commands (Err last) → Forwards old new names last
+pub forwards_err : (old new : Outside) (names : Names) (last : RunEnd) → Judged old new names.policy names.commands (Err last) → Forwards old new names last
 forwards_err old new names last j = record {
   complained = j.outputs.complained;
   complain_faults = j.outputs.complain_faults;

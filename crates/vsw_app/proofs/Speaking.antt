@@ -5,7 +5,7 @@ use Rattle.vsw_host.specs.Outside.{Outside, Grows, Rose, SameInputs}
 use Rattle.vsw_host.specs.declared.host.Failed.{Failed}
 use Rattle.vsw_replay.specs.declared.ending.Ending.{Ending}
 use Rattle.vsw_app.specs.Ending.{Says, Speaks, KeepsPut, Complains, complaint, ending_text, name_text}
-use Rattle.vsw_app.specs.declared.ending.Last.{Last}
+use Rattle.vsw_app.specs.declared.ending.RunEnd.{RunEnd}
 use Rattle.vsw_jsonfile.specs.Path.{step_text}
 use Rattle.vsw_jsonfile.specs.declared.fault.Step.{Step}
 use Rattle.vsw_jsonfile.specs.declared.fault.Step.TheVariants.{Member, Place}
@@ -45,8 +45,8 @@ speaks_part a b xs ys e f p = record {
 pub speaks_of : (a b : Outside) (e f : Ending) (r : Result ⊤ Failed) → e ≡ f → Speaks a b (ending_text f) r → Speaks a b (ending_text e) r
 speaks_of a b e f r same s = let P : Ending → Type 0 = λ g. Speaks a b (ending_text g) r in subst P (sym same) s
 
-pub speaks_last : (a b : Outside) (e f : Last) (r : Result ⊤ Failed) → e ≡ f → Speaks a b (complaint f) r → Speaks a b (complaint e) r
-speaks_last a b e f r same s = let P : Last → Type 0 = λ g. Speaks a b (complaint g) r in subst P (sym same) s
+pub speaks_last : (a b : Outside) (e f : RunEnd) (r : Result ⊤ Failed) → e ≡ f → Speaks a b (complaint f) r → Speaks a b (complaint e) r
+speaks_last a b e f r same s = let P : RunEnd → Type 0 = λ g. Speaks a b (complaint g) r in subst P (sym same) s
 
 pub speaks_is : (a b : Outside) (xs ys : List ℕ) (r : Result ⊤ Failed) → xs ≡ ys → Speaks a b xs r → Speaks a b ys r
 speaks_is a b xs ys r same s = let P : List ℕ → Type 0 = λ t. Speaks a b t r in subst P same s

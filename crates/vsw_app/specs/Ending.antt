@@ -12,12 +12,12 @@ use Rattle.vsw_app.specs.declared.ending.Status.{Status}
 use Rattle.vsw_app.specs.declared.ending.Status.TheVariants as status
 use Rattle.vsw_app.specs.declared.ending.Limit.{Limit}
 use Rattle.vsw_app.specs.declared.ending.Limit.TheVariants.{Policy, Ports, Controllers}
-use Rattle.vsw_app.specs.declared.ending.Last.{Last}
-use Rattle.vsw_app.specs.declared.ending.Last.TheVariants.{Bad, Past, Run}
+use Rattle.vsw_app.specs.declared.ending.RunEnd.{RunEnd}
+use Rattle.vsw_app.specs.declared.ending.RunEnd.TheVariants.{Bad, Past, Run}
 use Rattle.vsw_replay.specs.declared.ending.Ending.{Ending}
 use Rattle.vsw_replay.specs.declared.ending.Ending.TheVariants.{Done, Usage, ReadFault, WriteFault, Refused, Records, NotBuilt, Memory}
 
-abbrev pub status_of : Last → Status
+abbrev pub status_of : RunEnd → Status
 status_of (Bad kind path) = status.Refused
 status_of (Past limit) = status.Limit
 status_of (Run Done) = status.Done
@@ -58,7 +58,7 @@ ending_text NotBuilt = codes "vsw: not built\n"
 ending_text Memory = codes "vsw: memory\n"
 
 -- the words that are complained; a refused policy's are the kind of its fault and the path to it
-abbrev pub complaint : Last → List ℕ
+abbrev pub complaint : RunEnd → List ℕ
 complaint (Bad kind path) = codes "vsw: refused policy " ++ (kind_name kind ++ (codes " " ++ (path_text path ++ codes "\n")))
 complaint (Past limit) = limit_text limit
 complaint (Run ending) = ending_text ending

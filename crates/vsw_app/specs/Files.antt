@@ -7,8 +7,8 @@ use Rattle.vsw_policyfile.specs.declared.file.ConfigFault.TheVariants as fault
 use Rattle.vsw_policyfile.specs.Policy.{policy_file_of}
 use Rattle.vsw_app.specs.declared.ending.Limit.{Limit}
 use Rattle.vsw_app.specs.declared.ending.Limit.TheVariants.{Policy, Ports, Controllers}
-use Rattle.vsw_app.specs.declared.ending.Last.{Last}
-use Rattle.vsw_app.specs.declared.ending.Last.TheVariants.{Bad, Past, Run}
+use Rattle.vsw_app.specs.declared.ending.RunEnd.{RunEnd}
+use Rattle.vsw_app.specs.declared.ending.RunEnd.TheVariants.{Bad, Past, Run}
 use Rattle.vsw_replay.specs.declared.ending.Ending.{Ending}
 use Rattle.vsw_replay.specs.declared.ending.Ending.TheVariants.{Done, Usage, ReadFault, WriteFault, Refused, Records, NotBuilt, Memory}
 
@@ -47,7 +47,7 @@ pub record HoldsCommands (inputs : Inputs) (file_name : List ℕ) : Type 0 where
   pub some : 0 < length bytes
 
 -- why a run ended at the policy: what is wrong with it, or the limit that it passes; a read fault, or want of memory
-abbrev pub StopsAtPolicy : List ℕ → Inputs → Last → Type 0
+abbrev pub StopsAtPolicy : List ℕ → Inputs → RunEnd → Type 0
 StopsAtPolicy file_name inputs (Bad kind path) = HoldsBadPolicy inputs file_name (fault.Bad kind path)
 StopsAtPolicy file_name inputs (Past limit) = HoldsBadPolicy inputs file_name (limit_fault limit)
 StopsAtPolicy file_name inputs (Run ReadFault) = Unit {0}

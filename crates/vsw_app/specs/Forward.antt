@@ -3,8 +3,8 @@ use Rattle.std.specs.Prelude.{◌≡◌, ◌≢◌, ◌≤◌, ◌⊎◌, ℕ, L
 use Rattle.vsw_host.specs.Outside.{Inputs, Outside, OpensSince, SameOutputs, Grows, Rose}
 use Rattle.vsw_policyfile.specs.Good.{IsGoodPolicy}
 use Rattle.vsw_policyfile.specs.declared.file.PolicyFile.{PolicyFile}
-use Rattle.vsw_app.specs.declared.ending.Last.{Last}
-use Rattle.vsw_app.specs.declared.ending.Last.TheVariants.{Bad, Past, Run}
+use Rattle.vsw_app.specs.declared.ending.RunEnd.{RunEnd}
+use Rattle.vsw_app.specs.declared.ending.RunEnd.TheVariants.{Bad, Past, Run}
 use Rattle.vsw_switch.specs.Switch.{SwitchNow}
 use Rattle.vsw_replay.specs.declared.ending.Ending.{Ending}
 use Rattle.vsw_replay.specs.declared.ending.Ending.TheVariants.{Usage, WriteFault}
@@ -16,14 +16,14 @@ use Rattle.vsw_app.specs.Reads.{Told, RisesAt, LastRises, LastRisesAt, LastEndsE
 use Rattle.vsw_replay.specs.Going.{WriteRises}
 
 -- the policy and the commands were read, or one of them ends the run
-abbrev pub JudgeSays : Inputs → Inputs → List ℕ → List ℕ → Result PolicyFile Last → Type 0
+abbrev pub JudgeSays : Inputs → Inputs → List ℕ → List ℕ → Result PolicyFile RunEnd → Type 0
 JudgeSays old new policy_name commands_name (Ok p) = (holds : HoldsPolicy old policy_name p) × (old.files commands_name ≡ Some []) × OpensSince old new (read_whole policy_name holds.bytes ∷ read_whole commands_name [] ∷ [])
 JudgeSays old new policy_name commands_name (Err (Bad kind path)) = OpensAtMost old new [] policy_name × StopsAtPolicy policy_name old (Bad kind path)
 JudgeSays old new policy_name commands_name (Err (Past limit)) = OpensAtMost old new [] policy_name × StopsAtPolicy policy_name old (Past limit)
 JudgeSays old new policy_name commands_name (Err (Run ending)) = (OpensAtMost old new [] policy_name × StopsAtPolicy policy_name old (Run ending))
     ⊎ ((p : PolicyFile) × (holds : HoldsPolicy old policy_name p) × OpensAtMost old new (read_whole policy_name holds.bytes ∷ []) commands_name × StopsAtCommands commands_name old ending)
 
-pub record Judged (old new : Outside) (policy_name commands_name : List ℕ) (r : Result PolicyFile Last) : Type 0 where
+pub record Judged (old new : Outside) (policy_name commands_name : List ℕ) (r : Result PolicyFile RunEnd) : Type 0 where
   pub good : IfOk r IsGoodPolicy
   pub outputs : SameOutputs old new
   pub rises : LastRises old new r
@@ -44,7 +44,7 @@ pub record Replays (old new : Outside) (start : SwitchNow) (trace_name : List �
   pub no_usage : ending ≢ Usage
   pub told : Told (λ a b. ReplaySays a b old.put new.put old.input_faults new.input_faults start trace_name ending) old.inputs new.inputs
 
-pub record Forwards (old new : Outside) (names : Names) (last : Last) : Type 0 where
+pub record Forwards (old new : Outside) (names : Names) (last : RunEnd) : Type 0 where
   pub complained : new.complained ≡ old.complained
   pub complain_faults : new.complain_faults ≡ old.complain_faults
   pub rises : LastRisesAt old new last

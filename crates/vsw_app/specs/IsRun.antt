@@ -3,8 +3,8 @@ use Rattle.std.specs.Prelude.{◌≡◌, ◌≤◌, ◌⊎◌, ℕ, List, [], �
 use Rattle.vsw_host.specs.Outside.{Opened, Inputs, Outside, OpensSince, Grows, Rose}
 use Rattle.vsw_policyfile.specs.declared.file.PolicyFile.{PolicyFile}
 use Rattle.vsw_switch.specs.Switch.{switch_of}
-use Rattle.vsw_app.specs.declared.ending.Last.{Last}
-use Rattle.vsw_app.specs.declared.ending.Last.TheVariants.{Bad, Past, Run}
+use Rattle.vsw_app.specs.declared.ending.RunEnd.{RunEnd}
+use Rattle.vsw_app.specs.declared.ending.RunEnd.TheVariants.{Bad, Past, Run}
 use Rattle.vsw_app.specs.declared.ending.Status.{Status}
 use Rattle.vsw_app.specs.declared.ending.Status.TheVariants as status
 use Rattle.vsw_replay.specs.declared.ending.Ending.{Ending}
@@ -17,7 +17,7 @@ use Rattle.vsw_pcap.specs.Capture.{IsCapture}
 use Rattle.vsw_pcap.specs.declared.capture.Record.{Record}
 
 -- the policy is read and judged first: where it isn't read or isn't good, no other file is opened
-pub record EndsAtPolicy (names : Names) (old new : Inputs) (before after : Option (List ℕ)) (last : Last) : Type 0 where
+pub record EndsAtPolicy (names : Names) (old new : Inputs) (before after : Option (List ℕ)) (last : RunEnd) : Type 0 where
   pub opens : OpensAtMost old new [] names.policy
   pub why : StopsAtPolicy names.policy old last
   pub nothing : Grows before after []
@@ -65,25 +65,25 @@ pub data Leaves (names : Names) (old new : Inputs) (before after : Option (List 
   ByTrace : EndsByTrace names old new before after faults now ending → Leaves names old new before after faults now ending
 
 -- how a run over these files ended
-abbrev pub LeavesFiles : Names → Inputs → Inputs → Option (List ℕ) → Option (List ℕ) → ℕ → ℕ → Last → Type 0
+abbrev pub LeavesFiles : Names → Inputs → Inputs → Option (List ℕ) → Option (List ℕ) → ℕ → ℕ → RunEnd → Type 0
 LeavesFiles names old new before after faults now (Bad kind path) = EndsAtPolicy names old new before after (Bad kind path)
 LeavesFiles names old new before after faults now (Past limit) = EndsAtPolicy names old new before after (Past limit)
 LeavesFiles names old new before after faults now (Run ending) = Leaves names old new before after faults now ending
 
 -- words outside the grammar open nothing and put nothing
-abbrev pub LeavesBy : Option Names → Inputs → Inputs → Option (List ℕ) → Option (List ℕ) → ℕ → ℕ → Last → Type 0
+abbrev pub LeavesBy : Option Names → Inputs → Inputs → Option (List ℕ) → Option (List ℕ) → ℕ → ℕ → RunEnd → Type 0
 LeavesBy None old new before after faults now last = (last ≡ Run Usage) × (new ≡ old) × Grows before after []
 LeavesBy (Some names) old new before after faults now last = LeavesFiles names old new before after faults now last
 
 -- where the host tells its files; what was put is told where the host tells it
-abbrev pub LeavesTold : Option Names → Option Inputs → Option Inputs → Option (List ℕ) → Option (List ℕ) → ℕ → ℕ → Last → Type 0
+abbrev pub LeavesTold : Option Names → Option Inputs → Option Inputs → Option (List ℕ) → Option (List ℕ) → ℕ → ℕ → RunEnd → Type 0
 LeavesTold names None new before after faults now last = Unit {0}
 LeavesTold names (Some a) None before after faults now last = ⊥
 LeavesTold names (Some a) (Some b) before after faults now last = LeavesBy names a b before after faults now last
 
 -- what a run of these words left, by its status
 pub record IsRun (words : List (List ℕ)) (old new : Outside) (status : Status) : Type 0 where
-  pub last : Last
+  pub last : RunEnd
   pub status_is : status ≡ status_of last
   pub leaves : LeavesTold (names_of words) old.inputs new.inputs old.put new.put old.input_faults new.input_faults last
   pub complains : Complains old new (complaint last)

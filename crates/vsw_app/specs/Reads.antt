@@ -5,8 +5,8 @@ use Rattle.vsw_policyfile.specs.Good.{IsGoodPolicy}
 use Rattle.vsw_policyfile.specs.declared.file.PolicyFile.{PolicyFile}
 use Rattle.vsw_policyfile.specs.declared.file.ConfigFault.TheVariants as fault
 use Rattle.vsw_policyfile.specs.Policy.{policy_file_of}
-use Rattle.vsw_app.specs.declared.ending.Last.{Last}
-use Rattle.vsw_app.specs.declared.ending.Last.TheVariants.{Bad, Past, Run}
+use Rattle.vsw_app.specs.declared.ending.RunEnd.{RunEnd}
+use Rattle.vsw_app.specs.declared.ending.RunEnd.TheVariants.{Bad, Past, Run}
 use Rattle.vsw_replay.specs.declared.ending.Ending.{Ending}
 use Rattle.vsw_replay.specs.declared.ending.Ending.TheVariants.{Done, Usage, ReadFault, WriteFault, Refused, Records, NotBuilt, Memory}
 use Rattle.vsw_replay.specs.declared.trace.TraceBytes.{TraceBytes}
@@ -20,15 +20,15 @@ abbrev pub Rises : {T : Type 0} → Outside → Outside → Result T Ending → 
 Rises old new (Ok x) = Unit {0}
 Rises old new (Err ending) = RisesAt old new ending
 
-abbrev pub LastRisesAt : Outside → Outside → Last → Type 0
+abbrev pub LastRisesAt : Outside → Outside → RunEnd → Type 0
 LastRisesAt old new last = last ≡ Run ReadFault → Rose old.input_faults new.input_faults
 
-abbrev pub LastRises : {T : Type 0} → Outside → Outside → Result T Last → Type 0
+abbrev pub LastRises : {T : Type 0} → Outside → Outside → Result T RunEnd → Type 0
 LastRises old new (Ok x) = Unit {0}
 LastRises old new (Err last) = LastRisesAt old new last
 
 -- what the judging of a policy's bytes says
-abbrev pub Judges : List ℕ → Result PolicyFile Last → Type 0
+abbrev pub Judges : List ℕ → Result PolicyFile RunEnd → Type 0
 Judges bytes (Ok p) = policy_file_of bytes ≡ Ok p
 Judges bytes (Err (Bad kind path)) = policy_file_of bytes ≡ Err (fault.Bad kind path)
 Judges bytes (Err (Past limit)) = policy_file_of bytes ≡ Err (limit_fault limit)
@@ -50,16 +50,16 @@ EndsEarly (Ok x) = Unit {0}
 EndsEarly (Err ending) = IsEarly ending
 
 -- the same of a run that its policy may end
-abbrev pub IsEarlyLast : Last → Type 0
+abbrev pub IsEarlyLast : RunEnd → Type 0
 IsEarlyLast (Bad kind path) = Unit {0}
 IsEarlyLast (Past limit) = Unit {0}
 IsEarlyLast (Run ending) = IsEarly ending
 
-abbrev pub LastEndsEarly : {T : Type 0} → Result T Last → Type 0
+abbrev pub LastEndsEarly : {T : Type 0} → Result T RunEnd → Type 0
 LastEndsEarly (Ok x) = Unit {0}
 LastEndsEarly (Err last) = IsEarlyLast last
 
-abbrev pub PolicySays : Inputs → Inputs → List ℕ → Result PolicyFile Last → Type 0
+abbrev pub PolicySays : Inputs → Inputs → List ℕ → Result PolicyFile RunEnd → Type 0
 PolicySays old new file_name (Ok p) = (holds : HoldsPolicy old file_name p) × OpensSince old new (read_whole file_name holds.bytes ∷ [])
 PolicySays old new file_name (Err last) = OpensAtMost old new [] file_name × StopsAtPolicy file_name old last
 
@@ -86,7 +86,7 @@ Told P None new = Unit {0}
 Told P (Some a) None = ⊥
 Told P (Some a) (Some b) = P a b
 
-pub record ReadsPolicy (old new : Outside) (file_name : List ℕ) (r : Result PolicyFile Last) : Type 0 where
+pub record ReadsPolicy (old new : Outside) (file_name : List ℕ) (r : Result PolicyFile RunEnd) : Type 0 where
   pub good : IfOk r IsGoodPolicy
   pub outputs : SameOutputs old new
   pub rises : LastRises old new r

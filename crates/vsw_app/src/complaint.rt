@@ -3,11 +3,11 @@
 ghost use Rattle.std.specs.Prelude.{◌≡◌, ◌++◌, codes, decimal};
 ghost use Rattle.vsw_jsonfile.specs.Path.{step_text, steps_text, path_text, kind_name};
 ghost use Rattle.vsw_pcap.specs.Fault.{trace_name};
-ghost use Rattle.vsw_app.specs.declared.ending.Last.TheVariants.{Bad};
+ghost use Rattle.vsw_app.specs.declared.ending.RunEnd.TheVariants.{Bad};
 ghost use Rattle.vsw_app.specs.Ending.{complaint, byte_text, limit_text, ending_text, name_text, Speaks};
 ghost use Rattle.vsw_replay.specs.declared.ending.Ending.TheVariants.{Refused};
 
-use crate::ending::{Last, Limit};
+use crate::ending::{RunEnd, Limit};
 use itoa::Buffer;
 use vsw_host::{Failed, Host};
 use vsw_jsonfile::{Kind, Step};
@@ -176,12 +176,12 @@ fn say_policy<H: Host>(host: &mut H, kind: Kind, path: &[Step]) -> Result<(), Fa
 }
 
 /// Complains the words of how a run ended, where it has any.
-pub fn say_last<H: Host>(host: &mut H, last: &Last) -> Result<(), Failed>
+pub fn say_last<H: Host>(host: &mut H, last: &RunEnd) -> Result<(), Failed>
     ensures { Speaks (H.outside host.old) (H.outside host.new) (complaint last.now) result }
 {
     match last {
-        Last::Bad { kind, path } => say_policy(host, *kind, path.as_slice()),
-        Last::Past(limit) => say_limit(host, *limit),
-        Last::Run(ending) => say_ending(host, *ending),
+        RunEnd::Bad { kind, path } => say_policy(host, *kind, path.as_slice()),
+        RunEnd::Past(limit) => say_limit(host, *limit),
+        RunEnd::Run(ending) => say_ending(host, *ending),
     }
 }

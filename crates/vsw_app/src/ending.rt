@@ -44,7 +44,7 @@ pub enum Limit {
 
 /// How a run ended, with what the complaint names.
 #[derive(Drop)]
-pub enum Last {
+pub enum RunEnd {
     /// The policy is refused. The innermost step of the path to its first fault stands first.
     Bad { kind: Kind, path: Items<Step> },
     /// The policy passes a limit.
@@ -54,25 +54,25 @@ pub enum Last {
 }
 
 /// The exit status of an ending.
-fn status_for(last: &Last) -> Status
+fn status_for(last: &RunEnd) -> Status
     ensures { result ≡ status_of last.now }
 {
     match last {
-        Last::Bad { .. } => Status::Refused,
-        Last::Past(_) => Status::Limit,
-        Last::Run(Ending::Done) => Status::Done,
-        Last::Run(Ending::Usage) => Status::Usage,
-        Last::Run(Ending::ReadFault) => Status::ReadFault,
-        Last::Run(Ending::WriteFault) => Status::WriteFault,
-        Last::Run(Ending::Refused(_)) => Status::Refused,
-        Last::Run(Ending::Records) => Status::Limit,
-        Last::Run(Ending::NotBuilt) => Status::NotBuilt,
-        Last::Run(Ending::Memory) => Status::Memory,
+        RunEnd::Bad { .. } => Status::Refused,
+        RunEnd::Past(_) => Status::Limit,
+        RunEnd::Run(Ending::Done) => Status::Done,
+        RunEnd::Run(Ending::Usage) => Status::Usage,
+        RunEnd::Run(Ending::ReadFault) => Status::ReadFault,
+        RunEnd::Run(Ending::WriteFault) => Status::WriteFault,
+        RunEnd::Run(Ending::Refused(_)) => Status::Refused,
+        RunEnd::Run(Ending::Records) => Status::Limit,
+        RunEnd::Run(Ending::NotBuilt) => Status::NotBuilt,
+        RunEnd::Run(Ending::Memory) => Status::Memory,
     }
 }
 
 /// Complains the words of an ending, and answers its status. A fault of the complaint changes nothing.
-pub fn finish<H: Host>(host: &mut H, last: &Last) -> Status
+pub fn finish<H: Host>(host: &mut H, last: &RunEnd) -> Status
     ensures status { result ≡ status_of last.now }
     ensures complains { Complains (H.outside host.old) (H.outside host.new) (complaint last.now) }
     ensures inputs { SameInputs (H.outside host.old) (H.outside host.new) }

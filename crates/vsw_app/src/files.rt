@@ -4,7 +4,7 @@ ghost use Rattle.std.specs.Prelude.{◌≡◌, IfOk};
 ghost use Rattle.vsw_policyfile.specs.Good.{IsGoodPolicy};
 ghost use Rattle.vsw_app.specs.Reads.{Judges, ReadsPolicy, ReadsCommands, ReadsTrace};
 
-use crate::ending::{Last, Limit};
+use crate::ending::{RunEnd, Limit};
 use std::alloc::Global;
 use vsw_host::{Host, ReadEnd, read_file};
 use vsw_policyfile::{ConfigFault, PolicyFile};
@@ -17,30 +17,30 @@ const POLICY_MAX: u64 = 4_194_304;
 const COMMANDS_MAX: u64 = 0;
 
 /// The policy in these bytes, or how the run ends.
-fn judged(alloc: Global, bytes: &[u8]) -> Result<PolicyFile, Last>
+fn judged(alloc: Global, bytes: &[u8]) -> Result<PolicyFile, RunEnd>
     ensures says { Judges bytes.now result }
     ensures good { IfOk result IsGoodPolicy }
 {
     match vsw_ports::read_file(alloc, bytes) {
         Ok(policy) => Ok(policy),
-        Err(ConfigFault::Bad { kind, path }) => Err(Last::Bad { kind, path }),
-        Err(ConfigFault::PolicyLimit) => Err(Last::Past(Limit::Policy)),
-        Err(ConfigFault::PortsLimit) => Err(Last::Past(Limit::Ports)),
-        Err(ConfigFault::ControllersLimit) => Err(Last::Past(Limit::Controllers)),
-        Err(ConfigFault::Memory) => Err(Last::Run(Ending::Memory)),
+        Err(ConfigFault::Bad { kind, path }) => Err(RunEnd::Bad { kind, path }),
+        Err(ConfigFault::PolicyLimit) => Err(RunEnd::Past(Limit::Policy)),
+        Err(ConfigFault::PortsLimit) => Err(RunEnd::Past(Limit::Ports)),
+        Err(ConfigFault::ControllersLimit) => Err(RunEnd::Past(Limit::Controllers)),
+        Err(ConfigFault::Memory) => Err(RunEnd::Run(Ending::Memory)),
     }
 }
 
 /// Reads the policy file of this name.
-pub fn open_policy<H: Host>(alloc: Global, host: &mut H, name: &str) -> Result<PolicyFile, Last>
+pub fn open_policy<H: Host>(alloc: Global, host: &mut H, name: &str) -> Result<PolicyFile, RunEnd>
     ensures { ReadsPolicy (H.outside host.old) (H.outside host.new) name.now result }
 {
     let mut bytes = Vec::new(alloc);
     match read_file(host, name, POLICY_MAX, &mut bytes) {
         ReadEnd::Whole => judged(alloc, &bytes),
-        ReadEnd::Fault => Err(Last::Run(Ending::ReadFault)),
-        ReadEnd::Long => Err(Last::Past(Limit::Policy)),
-        ReadEnd::Memory => Err(Last::Run(Ending::Memory)),
+        ReadEnd::Fault => Err(RunEnd::Run(Ending::ReadFault)),
+        ReadEnd::Long => Err(RunEnd::Past(Limit::Policy)),
+        ReadEnd::Memory => Err(RunEnd::Run(Ending::Memory)),
     }
 }
 

@@ -8,7 +8,7 @@ ghost use Rattle.vsw_app.specs.Words.{names_of};
 ghost use Rattle.vsw_app.specs.IsRun.{IsRun, IsComplete};
 ghost use Rattle.vsw_app.specs.Forward.{Forwards, Judged, Replays};
 
-use crate::ending::{Last, Status, finish};
+use crate::ending::{RunEnd, Status, finish};
 use crate::files::{open_commands, open_policy, open_trace};
 use crate::words::{Word, read_words};
 use std::alloc::Global;
@@ -23,7 +23,7 @@ fn judge<H: Host>(
     host: &mut H,
     policy_name: &str,
     commands_name: &str,
-) -> Result<PolicyFile, Last>
+) -> Result<PolicyFile, RunEnd>
     ensures { Judged (H.outside host.old) (H.outside host.new) policy_name.now commands_name.now result }
 {
     let policy = match open_policy(alloc, host, policy_name) {
@@ -32,7 +32,7 @@ fn judge<H: Host>(
     };
     match open_commands(alloc, host, commands_name) {
         Ok(()) => Ok(policy),
-        Err(ending) => Err(Last::Run(ending)),
+        Err(ending) => Err(RunEnd::Run(ending)),
     }
 }
 
@@ -65,11 +65,11 @@ fn forward<H: Host>(
     policy_name: &str,
     commands_name: &str,
     trace_name: &str,
-) -> Last
+) -> RunEnd
     ensures { Forwards (H.outside host.old) (H.outside host.new) (record { policy = policy_name.now; commands = commands_name.now; trace = trace_name.now }) result }
 {
     match judge(alloc, host, policy_name, commands_name) {
-        Ok(policy) => Last::Run(start(alloc, host, &policy, trace_name)),
+        Ok(policy) => RunEnd::Run(start(alloc, host, &policy, trace_name)),
         Err(last) => last,
     }
 }
@@ -82,7 +82,7 @@ fn run<H: Host>(alloc: Global, words: &[Word], host: &mut H) -> Status
     ensures write_fault { result ≡ Status.WriteFault → Rose (H.outside host.old).put_faults (H.outside host.new).put_faults }
 {
     match read_words(words) {
-        None => finish(host, &Last::Run(Ending::Usage)),
+        None => finish(host, &RunEnd::Run(Ending::Usage)),
         Some(names) => {
             let last = forward(alloc, host, names.policy, names.commands, names.trace);
             finish(host, &last)

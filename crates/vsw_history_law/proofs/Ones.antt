@@ -13,7 +13,7 @@ use Rattle.vsw_history.specs.History.{Opening, after, after_all, replay, IsRight
 use Rattle.vsw_history.specs.Calls.{Deed, Carried, Asked, Call, job_of, entries_of, event_of, next_count, Reads, Wants, Shows, ShowsAt, HasBytes, IsCall, Entry, Read, Short, InOrder}
 use Rattle.vsw_history.specs.Next.{IsDone, Enters, Reading, Wanting, IsNext}
 use Rattle.vsw_promise.specs.Told.{what_of}
-use Rattle.vsw_promise.specs.Trace.{tells_short}
+use Rattle.vsw_report.specs.Short.{tells_short}
 use Rattle.vsw_promise.specs.Alone.{shown, deed_at, enters_at, call_at, calls_from}
 use Rattle.vsw_history.proofs.Calls.{entries_append}
 use Rattle.vsw_history.proofs.Next.{take_front}

@@ -34,7 +34,7 @@ use Rattle.vsw_promise.specs.Agree.{lines_at}
 use Rattle.vsw_promise.specs.Jobs.{Setting, jobs_of, aimed_at, packet_jobs, before_jobs, during_jobs, crossing_by, worker_of, macs_of, packets_between}
 use Rattle.vsw_promise.specs.Rounds.{opening_of, end_before, AreHistories}
 use Rattle.vsw_promise.specs.Told.{callers, line_of, line_doer, what_of}
-use Rattle.vsw_promise.specs.Trace.{tells_short, is_short_port, is_short_round, are_short}
+use Rattle.vsw_report.specs.Short.{tells_short, is_short_port, is_short_round, are_short}
 use Rattle.vsw_history.proofs.Calls.{each_append}
 use Rattle.vsw_history.proofs.Fronts.{append_end}
 use Rattle.vsw_history_law.specs.Law.{AreServed, RunsRepliesAlone, all_jobs, asked_by, answers_alone, is_told, lines_by, orders_of, replies_told, reply_among, reply_by}
@@ -208,13 +208,13 @@ each_at P [] i e = tt
 each_at P (x ∷ xs) zero e = (e.0, tt)
 each_at P (x ∷ xs) (suc i) e = each_at P xs i e.1
 
-ports_plenty : (ps : List PortRound) → Each (λ p. is_short_port p ≡ false) ps → Each (λ l. tells_short l.what ≡ false) (flat_map (λ p. p.told) ps)
+ports_plenty : (ps : List PortRound) → Each (λ p. is_short_port p ≡ false) ps → Each (λ l. tells_short l.what ≡ false) (flat_map (λ p. p.lines) ps)
 ports_plenty [] e = tt
-ports_plenty (p ∷ ps) e = each_append (λ l. tells_short l.what ≡ false) p.told (flat_map (λ p. p.told) ps) (any_none (λ l. tells_short l.what) p.told e.0) (ports_plenty ps e.1)
+ports_plenty (p ∷ ps) e = each_append (λ l. tells_short l.what ≡ false) p.lines (flat_map (λ p. p.lines) ps) (any_none (λ l. tells_short l.what) p.lines e.0) (ports_plenty ps e.1)
 
 lines_plenty : (place : ℕ) (rounds : List Round) → Each (λ r. is_short_round r ≡ false) rounds → Each (λ l. tells_short l.what ≡ false) (lines_at place rounds)
 lines_plenty place [] e = tt
-lines_plenty place (r ∷ rs) e = each_append (λ l. tells_short l.what ≡ false) (flat_map (λ p. p.told) (option_to_list (slice_get r.ports place))) (lines_at place rs)
+lines_plenty place (r ∷ rs) e = each_append (λ l. tells_short l.what ≡ false) (flat_map (λ p. p.lines) (option_to_list (slice_get r.ports place))) (lines_at place rs)
     (ports_plenty (option_to_list (slice_get r.ports place)) (each_at (λ p. is_short_port p ≡ false) r.ports place (any_none is_short_port r.ports e.0))) (lines_plenty place rs e.1)
 
 -- ---- a run

@@ -59,7 +59,7 @@ lines_are_calls workers p h jobs r k i once =
     let low : length (take r.before h) ≡ r.before = take_length r.before h (omega (arith, i.low, i.high)) in
     let high : length (take r.after h) ≡ r.before + (r.after - r.before) = take_length r.after h i.high ∙ omega (arith, i.low) in
     let order : InOrder r.before (calls_of ns k calls) (r.before + (r.after - r.before)) = subst (λ n. InOrder n (calls_of ns k calls) (r.before + (r.after - r.before))) low (subst (λ n. InOrder (length (take r.before h)) (calls_of ns k calls) n) high (i.shares k).in_order) in
-    ap (lines_by ns k) i.told ∙ read_off ns calls r.before (r.after - r.before) k once order
+    ap (lines_by ns k) i.lines ∙ read_off ns calls r.before (r.after - r.before) k once order
 
 pub one_line_each : OneLineEach
 one_line_each workers p h jobs r k i once =
@@ -128,7 +128,7 @@ no_other_lines workers p h jobs r i =
     let P : ℕ → Type 0 = λ n. list_any (λ j. job_doer ns j == n) (jobs.first ++ jobs.later) ≡ true in
     let each : Each (λ j. P (job_doer ns j)) (map (λ c. job_of c.deed) calls) = subst (Each (λ j. P (job_doer ns j))) (sym (round_jobs workers p h jobs r i)) (each_among ns [] (jobs.first ++ jobs.later)) in
     let of : Each (λ c. P (line_doer ns (line_of c))) calls = lines_as P ns calls (map_each (λ j. P (job_doer ns j)) (λ c. job_of c.deed) calls each) in
-    subst (Each (λ l. P (line_doer ns l))) (sym i.told) (each_map (λ l. P (line_doer ns l)) line_of (in_told_order ns calls r.before (r.after - r.before)) (each_told (λ c. P (line_doer ns (line_of c))) ns calls r.before (r.after - r.before) of))
+    subst (Each (λ l. P (line_doer ns l))) (sym i.lines) (each_map (λ l. P (line_doer ns l)) line_of (in_told_order ns calls r.before (r.after - r.before)) (each_told (λ c. P (line_doer ns (line_of c))) ns calls r.before (r.after - r.before) of))
 
 -- ---- runs
 
@@ -179,10 +179,10 @@ lines_append ns k (x ∷ xs) ys = by (line_doer ns x == k) (lines_append ns k xs
     by false ih = ih
 
 -- the lines of a port over rounds are those of the first and of the others
-lines_more : (ns : List ℕ) (k i : ℕ) (r : Round) (rs : List Round) (q : PortRound) → slice_get r.ports i ≡ Some q → lines_by ns k (lines_at i (r ∷ rs)) ≡ lines_by ns k q.told ++ lines_by ns k (lines_at i rs)
+lines_more : (ns : List ℕ) (k i : ℕ) (r : Round) (rs : List Round) (q : PortRound) → slice_get r.ports i ≡ Some q → lines_by ns k (lines_at i (r ∷ rs)) ≡ lines_by ns k q.lines ++ lines_by ns k (lines_at i rs)
 lines_more ns k i r rs q e =
-    ap (λ o. lines_by ns k (flat_map (λ p. p.told) (option_to_list o) ++ lines_at i rs)) e
-    ∙ (ap (λ w. lines_by ns k (w ++ lines_at i rs)) (append_end q.told) ∙ lines_append ns k q.told (lines_at i rs))
+    ap (λ o. lines_by ns k (flat_map (λ p. p.lines) (option_to_list o) ++ lines_at i rs)) e
+    ∙ (ap (λ w. lines_by ns k (w ++ lines_at i rs)) (append_end q.lines) ∙ lines_append ns k q.lines (lines_at i rs))
 
 spans_of : (s : Setting) (records : List Record) (hs : List (List Event)) (i : ℕ) (p : PortSeen) (h : List Event) → slice_get (ports_of s.policy) i ≡ Some p → slice_get hs i ≡ Some h
     → (cuts : List ℕ) (rounds : List Round) (counts last : List ℕ) (low high : ℕ) → AreRoundsAt s records hs cuts rounds → AreChained counts rounds last → slice_get counts i ≡ Some low → slice_get last i ≡ Some high → Spans s records cuts rounds i p h low high

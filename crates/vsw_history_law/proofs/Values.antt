@@ -25,7 +25,7 @@ use Rattle.vsw_pcap.proofs.Unique.{captures_are_unique}
 use Rattle.vsw_report.specs.Print.{report_text}
 use Rattle.vsw_promise.specs.Rounds.{opening_of, IsPortRound, ArePortRounds, AreRoundsAt, AreChained, AreHistories, end_before}
 use Rattle.vsw_promise.specs.Told.{callers, line_of, what_of, in_told_order, lines_of}
-use Rattle.vsw_promise.specs.Trace.{tells_short, is_short_port, is_short_round}
+use Rattle.vsw_report.specs.Short.{tells_short, is_short_port, is_short_round}
 use Rattle.vsw_promise.specs.Alone.{calls_from, history_from, port_round_from, all_of, port_rounds_from, histories_from, rounds_from, rounds_alone}
 use Rattle.vsw_history_law.specs.Law.{AreServed, OneValue, OneText}
 use Rattle.vsw_history.proofs.Fronts.{prefix_take, take_prefix}
@@ -77,7 +77,7 @@ pub plenty : (workers : ℕ) (p : PortSeen) (h : List Event) (jobs : Jobs) (r : 
 plenty workers p h jobs r i stand short =
     let ns = p.controllers in
     let calls = i.first ++ i.later in
-    let told : Each (λ c. tells_short (what_of c.deed) ≡ false) (in_told_order ns calls r.before (r.after - r.before)) = map_each (λ l. tells_short l.what ≡ false) line_of (in_told_order ns calls r.before (r.after - r.before)) (subst (Each (λ l. tells_short l.what ≡ false)) i.told (any_none (λ l. tells_short l.what) r.told short)) in
+    let told : Each (λ c. tells_short (what_of c.deed) ≡ false) (in_told_order ns calls r.before (r.after - r.before)) = map_each (λ l. tells_short l.what ≡ false) line_of (in_told_order ns calls r.before (r.after - r.before)) (subst (Each (λ l. tells_short l.what ≡ false)) i.lines (any_none (λ l. tells_short l.what) r.lines short)) in
     each_doer (λ c. tells_short (what_of c.deed) ≡ false) ns calls (doers_stand ns calls (subst (AreCallers ns) (sym (round_jobs workers p h jobs r i)) stand))
     (λ n t. subst (Each (λ c. tells_short (what_of c.deed) ≡ false)) (told_calls ns calls r.before (r.after - r.before) n t (order_at workers p h jobs r i n)) (each_filter (λ c. tells_short (what_of c.deed) ≡ false) (λ c. doer ns c.deed == n) (in_told_order ns calls r.before (r.after - r.before)) told))
 
@@ -112,7 +112,7 @@ port_value p h jobs r i right stand short =
         port = i.port j;
         before = low j;
         after = high j;
-        told = (i.told ∙ λ m. lines_of p.controllers (are m) (low m) (high m - low m)) j;
+        lines = (i.lines ∙ λ m. lines_of p.controllers (are m) (low m) (high m - low m)) j;
       },
       grown,
     )

@@ -13,7 +13,7 @@ use Rattle.vsw_report.specs.declared.told.ToldLine.{ToldLine}
 use Rattle.vsw_report.specs.declared.told.What.{What}
 use Rattle.vsw_report.specs.declared.told.What.TheVariants as what
 use Rattle.vsw_report.specs.Print.{by_text, what_text, line_text, port_text, round_text, report_text}
-use Rattle.vsw_promise.specs.Trace.{tells_short, is_short_port, is_short_round, are_short}
+use Rattle.vsw_report.specs.Short.{tells_short, is_short_port, is_short_round, are_short}
 use Rattle.vsw_history_law.specs.Law.{TellsWant}
 
 -- what stands in a text stands in a longer one
@@ -84,7 +84,7 @@ line_wants l (what.Reply (reply.Refused refusal.ManyRules)) e = absurd (cc e)
 -- ---- a report
 
 port_wants : (p : PortRound) → is_short_port p ≡ true → TellsWant (port_text p)
-port_wants p e = in_front (port_line p) (flat_map line_text p.told) (among line_text (λ l. tells_short l.what) p.told (λ l. line_wants l l.what) e)
+port_wants p e = in_front (port_line p) (flat_map line_text p.lines) (among line_text (λ l. tells_short l.what) p.lines (λ l. line_wants l l.what) e)
 
 round_wants : (r : Round) → is_short_round r ≡ true → TellsWant (round_text r)
 round_wants r e =

@@ -26,7 +26,8 @@ use Rattle.vsw_promise.specs.IsRun.{IsRun}
 use Rattle.vsw_promise.specs.Words.{Request, request_in}
 use Rattle.vsw_promise.specs.Agree.{lines_at}
 use Rattle.vsw_promise.specs.Alone.{rounds_alone}
-use Rattle.vsw_promise.specs.Trace.{Trace, TellsAll, are_short}
+use Rattle.vsw_promise.specs.Trace.{Trace, TellsAll}
+use Rattle.vsw_report.specs.Short.{are_short}
 use Rattle.vsw_promise.specs.Jobs.{Setting, Jobs, jobs_of}
 use Rattle.vsw_history.specs.Order.{StandsOnce}
 use Rattle.vsw_promise.specs.Rounds.{opening_of, IsPortRound, AreRounds, end_before}
@@ -45,17 +46,17 @@ HasLines cs jobs lines k = map (λ l. l.item) (lines_by cs k lines) ≡ map job_
 
 -- this is so of each caller of a round
 abbrev pub OneLineEach : Type 0
-OneLineEach = (workers : ℕ) (p : PortSeen) (h : List Event) (jobs : Jobs) (r : PortRound) (k : ℕ) → IsPortRound workers p h jobs r → StandsOnce k (callers p.controllers) → HasLines p.controllers (jobs.first ++ jobs.later) r.told k
+OneLineEach = (workers : ℕ) (p : PortSeen) (h : List Event) (jobs : Jobs) (r : PortRound) (k : ℕ) → IsPortRound workers p h jobs r → StandsOnce k (callers p.controllers) → HasLines p.controllers (jobs.first ++ jobs.later) r.lines k
 
 -- the lines of a caller are those of its calls: each has its number, its count, whether it is the entry of it, and what became of it
 abbrev pub LinesAreCalls : Type 0
 LinesAreCalls = (workers : ℕ) (p : PortSeen) (h : List Event) (jobs : Jobs) (r : PortRound) (k : ℕ) (i : IsPortRound workers p h jobs r) → StandsOnce k (callers p.controllers)
-    → lines_by p.controllers k r.told ≡ map line_of (calls_of p.controllers k (i.first ++ i.later))
+    → lines_by p.controllers k r.lines ≡ map line_of (calls_of p.controllers k (i.first ++ i.later))
 
 -- and no line is another's
 abbrev pub NoOtherLines : Type 0
 NoOtherLines = (workers : ℕ) (p : PortSeen) (h : List Event) (jobs : Jobs) (r : PortRound) → IsPortRound workers p h jobs r
-    → Each (λ l. list_any (λ j. job_doer p.controllers j == line_doer p.controllers l) (jobs.first ++ jobs.later) ≡ true) r.told
+    → Each (λ l. list_any (λ j. job_doer p.controllers j == line_doer p.controllers l) (jobs.first ++ jobs.later) ≡ true) r.lines
 
 -- ---- whole runs
 

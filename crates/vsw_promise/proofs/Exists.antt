@@ -81,7 +81,7 @@ port_exists workers p g jobs right =
     let h = history_from o g (all_of jobs) in
     let go : Goes o g h (calls_from o g (all_of jobs)) = goes_from o g g [] (all_of jobs) (goes_none o g right) in (
       round_of_goes workers p g h first later jobs (port_round_from p g (all_of jobs)) (subst (λ w. Goes o g h w) split go) (jobs_back o g jobs.first) (jobs_back o (history_from o g jobs.first) jobs.later)
-          (ap (λ w. record { port = p.number; before = length g; after = length h; told = lines_of p.controllers w (length g) (length h - length g) }) split),
+          (ap (λ w. record { port = p.number; before = length g; after = length h; lines = lines_of p.controllers w (length g) (length h - length g) }) split),
       go.right,
     )
 

@@ -42,7 +42,7 @@ drop_front (x ∷ xs) ys = drop_front xs ys
 
 -- calls one after the other, first the "before" commands and then all else, are the round of a port, for one worker and so for any number
 pub round_of_goes : (workers : ℕ) (seen : PortSeen) (before h : List Event) (first later : List Call) (jobs : Jobs) (r : PortRound) → Goes (opening_of seen) before h (first ++ later) → map (λ c. job_of c.deed) first ≡ jobs.first → map (λ c. job_of c.deed) later ≡ jobs.later
-    → r ≡ record { port = seen.number; before = length before; after = length h; told = lines_of seen.controllers (first ++ later) (length before) (length h - length before) } → IsPortRound workers seen h jobs r
+    → r ≡ record { port = seen.number; before = length before; after = length h; lines = lines_of seen.controllers (first ++ later) (length before) (length h - length before) } → IsPortRound workers seen h jobs r
 round_of_goes workers seen before h first later jobs r g f l e = subst (λ r. IsPortRound workers seen h jobs r) (sym e) here
   where
     grows : length before + length (entries_of (first ++ later)) ≡ length h
@@ -57,7 +57,7 @@ round_of_goes workers seen before h first later jobs r g f l e = subst (λ r. Is
     firsts : take (length before + length (entries_of first)) h ≡ take (length before) h ++ entries_of first
     firsts = ap (λ n. take n h) (sym (length-append before (entries_of first))) ∙ (ap (take (length (before ++ entries_of first))) entered ∙ (take_front (before ++ entries_of first) (entries_of later) ∙ ap (λ w. w ++ entries_of first) (sym start)))
 
-    here : IsPortRound workers seen h jobs (record { port = seen.number; before = length before; after = length h; told = lines_of seen.controllers (first ++ later) (length before) (length h - length before) })
+    here : IsPortRound workers seen h jobs (record { port = seen.number; before = length before; after = length h; lines = lines_of seen.controllers (first ++ later) (length before) (length h - length before) })
     here = record {
       port = refl;
       low = omega (arith, grows);
@@ -71,7 +71,7 @@ round_of_goes workers seen before h first later jobs r g f l e = subst (λ r. Is
       first_entries = firsts;
       later_counts = each_low (length before + length (entries_of first)) (length h) later (order_after (length before) (length h) first later g.in_order);
       one = λ e. subst (λ w. IsOneOrder w (take (length h) h) (first ++ later)) (sym start) (subst (λ w. IsOneOrder before w (first ++ later)) (sym (take_whole h)) (record { entries = g.grown; in_order = g.in_order }));
-      told = refl;
+      lines = refl;
     }
 
 pub take_length : {A : Type 0} (n : ℕ) (xs : List A) → n ≤ length xs → length (take n xs) ≡ n
@@ -100,7 +100,7 @@ port_round_later workers p h k jobs r q i = record {
   first_entries = prefix_take h k (r.before + length (entries_of i.first)) q reached ∙ (i.first_entries ∙ ap (λ w. w ++ entries_of i.first) (sym start));
   later_counts = i.later_counts;
   one = λ e. subst (λ w. IsOneOrder w (take r.after k) (i.first ++ i.later)) (sym start) (subst (λ w. IsOneOrder (take r.before h) w (i.first ++ i.later)) (sym end) (i.one e));
-  told = i.told;
+  lines = i.lines;
 }
   where
     start : take r.before k ≡ take r.before h

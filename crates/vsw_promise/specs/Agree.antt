@@ -59,7 +59,7 @@ fates_in n lines = map (λ l. l.what) (filter (is_packet n) lines)
 
 -- the lines of the port at this place in all rounds
 abbrev pub lines_at : ℕ → List Round → List ToldLine
-lines_at place rounds = flat_map (λ r. flat_map (λ p. p.told) (option_to_list (slice_get r.ports place))) rounds
+lines_at place rounds = flat_map (λ r. flat_map (λ p. p.lines) (option_to_list (slice_get r.ports place))) rounds
 
 -- at each of this many ports, the one and the other rounds tell the same fate and bytes of each packet
 abbrev pub AgreeOnPackets : ℕ → List Round → List Round → Type 0

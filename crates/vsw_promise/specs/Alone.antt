@@ -56,7 +56,7 @@ port_round_from p h js = record {
   port = p.number;
   before = length h;
   after = length (history_from (opening_of p) h js);
-  told = lines_of p.controllers (calls_from (opening_of p) h js) (length h) (length (history_from (opening_of p) h js) - length h);
+  lines = lines_of p.controllers (calls_from (opening_of p) h js) (length h) (length (history_from (opening_of p) h js) - length h);
 }
 
 abbrev pub all_of : Jobs → List Job

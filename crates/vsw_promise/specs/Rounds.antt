@@ -35,7 +35,7 @@ pub record IsPortRound (workers : ℕ) (p : PortSeen) (h : List Event) (jobs : J
   pub later_counts : Each (λ c. r.before + length (entries_of first) ≤ c.count) later
   -- with one worker this is the order of all calls
   pub one : workers ≡ 1 → IsOneOrder (take r.before h) (take r.after h) (first ++ later)
-  pub told : r.told ≡ lines_of p.controllers (first ++ later) r.before (r.after - r.before)
+  pub lines : r.lines ≡ lines_of p.controllers (first ++ later) r.before (r.after - r.before)
 
 -- the same of several ports, from the one at this place on
 abbrev pub ArePortRounds : Setting → List Record → ℕ → ℕ → ℕ → List PortSeen → List (List Event) → List PortRound → Type 0

@@ -1,45 +1,22 @@
 -- What a run puts of its trace.
 use Rattle.std.specs.Prelude.{◌≡◌, ◌<◌, ◌≤◌, ◌⊎◌, ℕ, List, [], length, Bool, true, false, Some, None}
-use Rattle.std.specs.List.{list_any}
-use Rattle.vsw_base.specs.declared.fate.Cause.TheVariants.{Memory}
-use Rattle.vsw_base.specs.declared.fate.Fate.TheVariants.{Drop}
 use Rattle.vsw_pcap.specs.Capture.{Stops, IsCapture}
 use Rattle.vsw_pcap.specs.declared.capture.Front.{Front}
 use Rattle.vsw_pcap.specs.declared.capture.Front.TheVariants.{Part}
 use Rattle.vsw_pcap.specs.declared.capture.Record.{Record}
 use Rattle.vsw_pcap.specs.declared.fault.BadTrace.{BadTrace}
 use Rattle.vsw_pcap.specs.declared.fault.BadTrace.TheVariants.{NotPcap, Version, LinkType, Cut, Huge}
-use Rattle.vsw_policy.specs.declared.refusal.Refusal.TheVariants as refusal
-use Rattle.vsw_policy.specs.declared.refusal.Reply.TheVariants.{Refused}
 use Rattle.vsw_promise.specs.declared.ending.Ending.{Ending}
 use Rattle.vsw_promise.specs.declared.ending.Ending.TheVariants as ending
-use Rattle.vsw_report.specs.declared.round.PortRound.{PortRound}
 use Rattle.vsw_report.specs.declared.round.Round.{Round}
-use Rattle.vsw_report.specs.declared.told.What.{What}
-use Rattle.vsw_report.specs.declared.told.What.TheVariants as what
 use Rattle.vsw_promise.specs.Jobs.{Setting, cuts, cuts_within}
 use Rattle.vsw_report.specs.Print.{report_text}
+use Rattle.vsw_report.specs.Short.{are_short}
 use Rattle.vsw_promise.specs.Rounds.{AreRounds}
 
 -- the most records of a trace
 abbrev pub most_records : ℕ
 most_records = 1048576
-
--- a line tells of want of memory: its packet was dropped for it, or its command refused
-abbrev pub tells_short : What → Bool
-tells_short (what.Fate (Drop Memory) bytes) = true
-tells_short (what.Reply (Refused refusal.Memory)) = true
-tells_short _ = false
-
--- so does a line of a port's round, of a round, of one of these rounds
-abbrev pub is_short_port : PortRound → Bool
-is_short_port p = list_any (λ line. tells_short line.what) p.told
-
-abbrev pub is_short_round : Round → Bool
-is_short_round r = list_any is_short_port r.ports
-
-abbrev pub are_short : List Round → Bool
-are_short rounds = list_any is_short_round rounds
 
 -- where the reading of a file ended: at the file's end, at a fault of the host, or where the run stopped by itself
 pub data Reach : Type 0 where

@@ -19,7 +19,8 @@ use Rattle.vsw_rounds.specs.declared.round.RoundRead.{RoundRead}
 use Rattle.vsw_rounds.specs.declared.round.Stop.{Stop}
 use Rattle.vsw_rounds.specs.declared.round.Stop.TheVariants as stop
 use Rattle.vsw_report.specs.declared.round.Round.{Round}
-use Rattle.vsw_rounds.specs.Rounds.{are_short, report}
+use Rattle.vsw_rounds.specs.Rounds.{report}
+use Rattle.vsw_report.specs.Short.{are_short}
 use Rattle.vsw_rounds.specs.Round.{StopSays, ReadsRound}
 use Rattle.vsw_replay.specs.Trace.{most_records, ShowsAll, Reports, Puts, PutsFront}
 use Rattle.vsw_replay.specs.Unheaded.{StandsIn, clean_end, unheaded_of}

@@ -13,7 +13,8 @@ use Rattle.vsw_rounds.specs.declared.round.RoundRead.{RoundRead}
 use Rattle.vsw_rounds.specs.declared.round.Stop.{Stop}
 use Rattle.vsw_rounds.specs.declared.round.Stop.TheVariants as stop
 use Rattle.vsw_rounds.specs.Round.{ReadsRound}
-use Rattle.vsw_rounds.specs.Rounds.{are_short, report}
+use Rattle.vsw_rounds.specs.Rounds.{report}
+use Rattle.vsw_report.specs.Short.{are_short}
 use Rattle.vsw_replay.specs.Trace.{Shows, Puts, PutsFront}
 use Rattle.vsw_replay.specs.Unheaded.{text_put, short_put}
 use Rattle.vsw_replay.specs.Going.{Going, GoesOn, IsNear, Follows, PutsText}

@@ -21,7 +21,8 @@ use Rattle.vsw_replay.specs.declared.ending.Ending.TheVariants.{ReadFault, Refus
 use Rattle.vsw_rounds.specs.declared.round.RoundRead.{RoundRead}
 use Rattle.vsw_rounds.specs.declared.round.Stop.{Stop}
 use Rattle.vsw_rounds.specs.declared.round.Stop.TheVariants as stop
-use Rattle.vsw_rounds.specs.Rounds.{IsRound, AreRounds, AreAllRounds, are_short, is_short_round, round_size, report}
+use Rattle.vsw_rounds.specs.Rounds.{IsRound, AreRounds, AreAllRounds, round_size, report}
+use Rattle.vsw_report.specs.Short.{are_short, is_short_round}
 use Rattle.vsw_rounds.specs.Round.{StopSays}
 use Rattle.vsw_replay.specs.Trace.{most_records, Shows, ShowsAll, ShowsRefused, ShowsLimit, ShowsRead, Reports}
 use Rattle.vsw_replay.specs.Unheaded.{clean_end, ended, is_end, is_put_of, text_put, short_put}

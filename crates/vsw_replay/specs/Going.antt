@@ -12,7 +12,8 @@ use Rattle.vsw_report.specs.declared.round.Round.{Round}
 use Rattle.vsw_replay.specs.declared.ending.Ending.{Ending}
 use Rattle.vsw_replay.specs.declared.ending.Ending.TheVariants.{Done, Usage, ReadFault, WriteFault, Refused, Records, NotBuilt, Memory}
 use Rattle.vsw_rounds.specs.declared.round.RoundRead.{RoundRead}
-use Rattle.vsw_rounds.specs.Rounds.{AreRounds, are_short, round_size, report}
+use Rattle.vsw_rounds.specs.Rounds.{AreRounds, round_size, report}
+use Rattle.vsw_report.specs.Short.{are_short}
 use Rattle.vsw_rounds.specs.Round.{ReadsRound}
 use Rattle.vsw_replay.specs.Trace.{Puts}
 use Rattle.vsw_switch.specs.Switch.{SwitchNow}

@@ -10,7 +10,8 @@ use Rattle.vsw_pcap.specs.declared.fault.BadTrace.TheVariants.{NotPcap, Version,
 use Rattle.vsw_report.specs.declared.round.Round.{Round}
 use Rattle.vsw_replay.specs.declared.ending.Ending.{Ending}
 use Rattle.vsw_replay.specs.declared.ending.Ending.TheVariants.{Done, Usage, ReadFault, WriteFault, Refused, Records, NotBuilt, Memory}
-use Rattle.vsw_rounds.specs.Rounds.{AreRounds, AreAllRounds, are_short, report}
+use Rattle.vsw_rounds.specs.Rounds.{AreRounds, AreAllRounds, report}
+use Rattle.vsw_report.specs.Short.{are_short}
 use Rattle.vsw_switch.specs.Switch.{SwitchNow}
 
 -- the most records of a trace

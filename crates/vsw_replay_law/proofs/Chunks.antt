@@ -123,7 +123,7 @@ cuts_are n total e = ap (λ k. ascending (0 ∷ chunk_cuts 0 k)) e ∙ ap (λ w.
 
 starts_at : (n : ℕ) (macs : List ℕ) (ss : List PortSeen) → AllGo n macs [] ss (map (λ p. []) ss) (map port_at_first ss)
 starts_at n macs [] = tt
-starts_at n macs (p ∷ ps) = (record { number = refl; mac = refl; history = []; calls = []; goes = goes_none (opening_of p) [] tt; layers = refl; before_is = refl; count_is = refl; told = refl; jobs_are = refl; alone = tt }, starts_at (suc n) macs ps)
+starts_at n macs (p ∷ ps) = (record { number = refl; mac = refl; history = []; calls = []; goes = goes_none (opening_of p) [] tt; layers = refl; before_is = refl; count_is = refl; lines = refl; jobs_are = refl; alone = tt }, starts_at (suc n) macs ps)
 
 start_midst : (policy : PolicyFile) → Midst policy (map (λ p. []) (ports_of policy)) [] (switch_of policy)
 start_midst policy = record { goes = starts_at 0 (macs_of policy) (ports_of policy); loose = refl }

@@ -66,15 +66,15 @@ first_stays s t (r ∷ rs) f = first_stays f.0 t rs f.2 ∙ (next_is s f.0 r f.1
 
 -- the round of a port that one worker made, call after call
 pub round_of_one : (seen : PortSeen) (before h : List Event) (calls : List Call) (jobs : List Job) (r : PortRound) → Goes (opening_of seen) before h calls → map (λ c. job_of c.deed) calls ≡ jobs → Each (λ c. doer seen.controllers c.deed ≡ 0) calls
-    → r ≡ record { port = seen.number; before = length before; after = length h; told = map line_of calls } → IsPortRound 1 seen h (record { first = []; later = jobs }) r
+    → r ≡ record { port = seen.number; before = length before; after = length h; lines = map line_of calls } → IsPortRound 1 seen h (record { first = []; later = jobs }) r
 round_of_one seen before h calls jobs r g j alone e =
     let grows : length before + length (entries_of calls) ≡ length h = sym (ap length g.grown ∙ length-append before (entries_of calls)) in
     let spans : length before + (length h - length before) ≡ length h = omega (arith, grows) in
     let order : lines_of seen.controllers calls (length before) (length h - length before) ≡ map line_of calls = ap (map line_of) (alone_order seen.controllers calls (length before) (length h - length before) 0 (zero_once seen.controllers) alone (subst (λ n. InOrder (length before) calls n) (sym spans) g.in_order)) in
-    round_of_goes 1 seen before h [] calls (record { first = []; later = jobs }) r g refl j (e ∙ ap (λ w. record { port = seen.number; before = length before; after = length h; told = w }) (sym order))
+    round_of_goes 1 seen before h [] calls (record { first = []; later = jobs }) r g refl j (e ∙ ap (λ w. record { port = seen.number; before = length before; after = length h; lines = w }) (sym order))
 
-port_is : (seen : PortSeen) (before : List Event) (jobs : List Job) (p : PortNow) (g : PortGoes seen before jobs p) → port_round p ≡ record { port = seen.number; before = length before; after = length g.history; told = map line_of g.calls }
-port_is seen before jobs p g = λ i. record { port = g.number i; before = g.before_is i; after = g.count_is i; told = g.told i }
+port_is : (seen : PortSeen) (before : List Event) (jobs : List Job) (p : PortNow) (g : PortGoes seen before jobs p) → port_round p ≡ record { port = seen.number; before = length before; after = length g.history; lines = map line_of g.calls }
+port_is seen before jobs p g = λ i. record { port = g.number i; before = g.before_is i; after = g.count_is i; lines = g.lines i }
 
 ends_as : (seen : PortSeen) (before : List Event) (jobs : List Job) (p : PortNow) (g : PortGoes seen before jobs p) → IsPortRound 1 seen g.history (record { first = []; later = jobs }) (port_round p)
 ends_as seen before jobs p g = round_of_one seen before g.history g.calls jobs (port_round p) g.goes g.jobs_are g.alone (port_is seen before jobs p g)
@@ -89,7 +89,7 @@ begins_as seen before jobs p g = record {
   layers = g.layers;
   before_is = g.count_is;
   count_is = g.count_is;
-  told = refl;
+  lines = refl;
   jobs_are = refl;
   alone = tt;
 }

@@ -113,7 +113,7 @@ pub record PortGoes (seen : PortSeen) (before : List Event) (jobs : List Job) (p
   pub layers : p.layers ≡ replay (opening_of seen) history
   pub before_is : p.before ≡ length before
   pub count_is : p.count ≡ length history
-  pub told : p.told ≡ map line_of calls
+  pub lines : p.lines ≡ map line_of calls
   pub jobs_are : map (λ c. job_of c.deed) calls ≡ jobs
   pub alone : Each (λ c. doer seen.controllers c.deed ≡ 0) calls
 
@@ -139,7 +139,7 @@ port_goes seen before jobs p short x parts bytes zero_is f of may g =
       layers = m.layers p.count;
       before_is = g.before_is;
       count_is = count_more p.count (met short p.layers x parts).entry h c g.count_is refl;
-      told = ap (λ w. w ++ line_by p.count (met short p.layers x parts) x.packet 0 ∷ []) g.told
+      lines = ap (λ w. w ++ line_by p.count (met short p.layers x parts) x.packet 0 ∷ []) g.lines
           ∙ (ap (λ n. map line_of g.calls ++ line_by p.count (met short p.layers x parts) x.packet n ∷ []) (sym zero_is)
           ∙ sym (map_append line_of g.calls (c ∷ [])));
       jobs_are = map_append (λ c. job_of c.deed) g.calls (c ∷ []) ∙ ap (λ w. w ++ Carry x parts ∷ []) g.jobs_are;

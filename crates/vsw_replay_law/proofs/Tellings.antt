@@ -21,38 +21,10 @@ use Rattle.vsw_switch.specs.Switch.{SwitchNow, switch_of}
 use Rattle.vsw_promise.specs.declared.ending.Ending.TheVariants as ending
 use Rattle.vsw_promise.specs.Jobs.{cuts_within}
 use Rattle.vsw_promise.specs.Rounds.{AreRounds}
-use Rattle.vsw_promise.specs.Trace.{All, Fault, Tells, TellsAll, TellsWithin, HasBadRecord, tells_short, is_short_port, is_short_round, are_short}
+use Rattle.vsw_promise.specs.Trace.{All, Fault, Tells, TellsAll, TellsWithin, HasBadRecord}
+use Rattle.vsw_report.specs.Short.{tells_short, is_short_port, is_short_round, are_short}
 use Rattle.vsw_replay_law.specs.Law.{alone, reach_of, RunsTell}
 use Rattle.vsw_replay_law.proofs.Chunks.{chunk_cuts, all_rounds, chunked, cuts_are, counts_rounds, rounds_by}
-
--- ---- want of memory
-
-any_same : {A : Type 0} (q p : A → Bool) → ((x : A) → p x ≡ q x) → (xs : List A) → list_any p xs ≡ list_any q xs
-any_same q p e [] = refl
-any_same q p e (x ∷ xs) = λ i. e x i || any_same q p e xs i
-
-what_same : (w : What) → switched.tells_short w ≡ tells_short w
-what_same (what.Fate (Pass len) bytes) = refl
-what_same (what.Fate (Drop (cause.Rule a b c d)) bytes) = refl
-what_same (what.Fate (Drop (cause.Default a b c)) bytes) = refl
-what_same (what.Fate (Drop cause.Long) bytes) = refl
-what_same (what.Fate (Drop (cause.Full a b)) bytes) = refl
-what_same (what.Fate (Drop (cause.Taken a b c)) bytes) = refl
-what_same (what.Fate (Drop cause.Memory) bytes) = refl
-what_same (what.Reply reply.Ok) = refl
-what_same (what.Reply (reply.Refused refusal.NoLayer)) = refl
-what_same (what.Reply (reply.Refused refusal.LayerExists)) = refl
-what_same (what.Reply (reply.Refused refusal.NoGroup)) = refl
-what_same (what.Reply (reply.Refused refusal.GroupExists)) = refl
-what_same (what.Reply (reply.Refused refusal.NoRule)) = refl
-what_same (what.Reply (reply.Refused refusal.RuleExists)) = refl
-what_same (what.Reply (reply.Refused refusal.ManyLayers)) = refl
-what_same (what.Reply (reply.Refused refusal.ManyGroups)) = refl
-what_same (what.Reply (reply.Refused refusal.ManyRules)) = refl
-what_same (what.Reply (reply.Refused refusal.Memory)) = refl
-
-short_same : (rounds : List Round) → switched.are_short rounds ≡ are_short rounds
-short_same = any_same is_short_round switched.is_short_round (λ r. any_same is_short_port switched.is_short_port (λ p. any_same (λ l. tells_short l.what) (λ l. switched.tells_short l.what) (λ l. what_same l.what) p.told) r.ports)
 
 -- ---- rounds of a trace that ends otherwise
 
@@ -86,7 +58,7 @@ tells_all policy bytes whole short text s = record {
   few = s.few;
   rounds = s.rounds;
   are = all_rounds policy s.records s.rounds s.after s.are;
-  short_is = sym (short_same s.rounds) ∙ s.short_is;
+  short_is = s.short_is;
   text_is = s.text_is;
 }
 

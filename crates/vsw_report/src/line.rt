@@ -260,7 +260,7 @@ pub fn loose_line(out: &mut Vec<u8>, loose: &Loose) -> Result<(), AllocError>
     ensures { OnOk result (out.new.items ≡ out.old.items ++ loose_text loose.now) }
 {
     number(out, loose.packet)?;
-    match loose.what {
+    match loose.cause {
         LooseCause::Snapped => word(out, b" snapped\n"),
         LooseCause::Malformed(why) => fault(out, why),
         LooseCause::NoPort => word(out, b" noport\n"),

@@ -48,7 +48,7 @@ fn port_part(out: &mut Vec<u8>, port: &PortRound) -> Result<(), AllocError>
     ensures { OnOk result (out.new.items ≡ out.old.items ++ port_text port.now) }
 {
     counts(out, port)?;
-    told_lines(out, port.told.as_slice())
+    told_lines(out, port.lines.as_slice())
 }
 
 fn port_parts(out: &mut Vec<u8>, ports: &[PortRound]) -> Result<(), AllocError>

@@ -23,14 +23,14 @@ pub struct PortRound {
     /// Entries after the round.
     pub after: u32,
     /// By count; at each count the reads first, by workers and then by controllers, each caller's in its order.
-    pub told: Items<ToldLine>,
+    pub lines: Items<ToldLine>,
 }
 
 /// A packet that reached no port.
 #[derive(Clone, Copy, Debug, PartialEq, Eq)]
 pub struct Loose {
     pub packet: u32,
-    pub what: LooseCause,
+    pub cause: LooseCause,
 }
 
 /// Why a packet reached no port. The tests are made in this order.

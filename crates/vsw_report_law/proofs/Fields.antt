@@ -69,7 +69,7 @@ words_of (of_round first) = codes "round" ∷ decimal first ∷ []
 words_of (of_port port before after) = codes "port" ∷ decimal port ∷ decimal before ∷ decimal after ∷ []
 words_of (of_told l) = by_word l.by ∷ decimal l.item ∷ (sign l.entry ∷ decimal l.count) ∷ what_words l.what
 words_of loose_begins = codes "loose" ∷ []
-words_of (of_loose l) = decimal l.packet ∷ loose_words l.what
+words_of (of_loose l) = decimal l.packet ∷ loose_words l.cause
 
 -- words with spaces between
 abbrev pub spaced : List (List ℕ) → List ℕ
@@ -143,4 +143,4 @@ text_is (of_round first) = refl
 text_is (of_port port before after) = simp append_assoc
 text_is (of_told l) = told_is l
 text_is loose_begins = refl
-text_is (of_loose l) = loose_is l.packet l.what
+text_is (of_loose l) = loose_is l.packet l.cause

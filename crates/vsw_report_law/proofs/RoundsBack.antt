@@ -17,7 +17,7 @@ use Rattle.vsw_report_law.proofs.TextsBack.{AreFitLines, texts_of, texts_law}
 -- ---- the lines of rounds
 
 abbrev pub port_lines : PortRound → List Line
-port_lines p = of_port p.port p.before p.after ∷ map of_told p.told
+port_lines p = of_port p.port p.before p.after ∷ map of_told p.lines
 
 abbrev pub ports_lines : List PortRound → List Line
 ports_lines [] = []
@@ -42,7 +42,7 @@ loose_texts (l ∷ ls) = ap (λ t. loose_text l ++ t) (loose_texts ls)
 
 port_texts : (p : PortRound) → texts_of (port_lines p) ≡ port_text p
 unfolding port_line
-port_texts p = ap (λ t. port_line p ++ t) (told_texts p.told)
+port_texts p = ap (λ t. port_line p ++ t) (told_texts p.lines)
 
 ports_texts : (ps : List PortRound) → texts_of (ports_lines ps) ≡ flat_map port_text ps
 ports_texts [] = refl
@@ -77,7 +77,7 @@ fit_loose (l ∷ ls) h = (h.0, fit_loose ls h.1)
 
 fit_ports : (ps : List PortRound) → AreProperPorts ps → AreFitLines (ports_lines ps)
 fit_ports [] h = tt
-fit_ports (p ∷ ps) h = fit_both (port_lines p) (ports_lines ps) ((h.0.0, h.0.1, h.0.2), fit_told p.told h.0.3) (fit_ports ps h.1)
+fit_ports (p ∷ ps) h = fit_both (port_lines p) (ports_lines ps) ((h.0.0, h.0.1, h.0.2), fit_told p.lines h.0.3) (fit_ports ps h.1)
 
 fit_round : (r : Round) → IsProper r → AreFitLines (round_lines r)
 fit_round r h = (h.0, fit_both (ports_lines r.ports) (loose_begins ∷ map of_loose r.loose) (fit_ports r.ports h.1) (tt, fit_loose r.loose h.2))
@@ -100,7 +100,7 @@ ports_law : (ps : List PortRound) (rest : List Line) (ls : List Loose) (rs : Lis
 ports_law [] rest ls rs e = e
 ports_law (p ∷ ps) rest ls rs e =
     ap tail_in (append_assoc (port_lines p) (ports_lines ps) rest)
-    ∙ ap (option_and_then (under_line (of_port p.port p.before p.after))) (told_law p.told (ports_lines ps ++ rest) ps ls rs (ports_law ps rest ls rs e))
+    ∙ ap (option_and_then (under_line (of_port p.port p.before p.after))) (told_law p.lines (ports_lines ps ++ rest) ps ls rs (ports_law ps rest ls rs e))
 
 rounds_law : (rs : List Round) → tail_in (rounds_lines rs) ≡ Some (in_loose [] rs)
 rounds_law [] = refl

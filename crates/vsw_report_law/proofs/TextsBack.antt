@@ -121,7 +121,7 @@ words_free c (of_port port before after) small h =
 words_free c (of_told l) small h =
     two (by_free c l.by l.what small h.2) (two (small_32 c l.item small h.0) (two (sign_free c l.entry (decimal l.count) small (small_32 c l.count small h.1)) (what_free c l.by l.what small h.2)))
 words_free c loose_begins small h = two (free_high c (codes "loose") small refl) refl
-words_free c (of_loose l) small h = two (small_32 c l.packet small h) (loose_free c l.what small)
+words_free c (of_loose l) small h = two (small_32 c l.packet small h) (loose_free c l.cause small)
 
 some_words : (l : Line) → 0 < length (words_of l)
 some_words (of_round first) = omega arith

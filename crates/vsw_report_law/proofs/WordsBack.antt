@@ -82,11 +82,11 @@ told_law (Controller n) (what.Reply r) item count entry h k t =
 port_eq : {a b c : Option ℕ} {x y z : ℕ} → a ≡ Some x → b ≡ Some y → c ≡ Some z → port_with a b c ≡ Some (of_port x y z)
 port_eq {a} {b} {c} {x} {y} {z} p q r = ap (λ o. port_with o b c) p ∙ (ap (λ o. port_with (Some x) o c) q ∙ ap (λ o. port_with (Some x) (Some y) o) r)
 
-loose_law : (n : ℕ) (w : LooseCause) → loose_in n (loose_words w) ≡ Some (of_loose (record { packet = n; what = w }))
+loose_law : (n : ℕ) (w : LooseCause) → loose_in n (loose_words w) ≡ Some (of_loose (record { packet = n; cause = w }))
 loose_law n Snapped = refl
 loose_law n (Malformed why) =
-    ap (λ o. option_map (λ why. of_loose (record { packet = n; what = Malformed why })) (option_and_then fault_of o)) (number_16 (fault_number why) (fault_small why))
-    ∙ ap (option_map (λ why. of_loose (record { packet = n; what = Malformed why }))) (fault_law why)
+    ap (λ o. option_map (λ why. of_loose (record { packet = n; cause = Malformed why })) (option_and_then fault_of o)) (number_16 (fault_number why) (fault_small why))
+    ∙ ap (option_map (λ why. of_loose (record { packet = n; cause = Malformed why }))) (fault_law why)
 loose_law n NoPort = refl
 
 -- what the words of a line say is the line
@@ -95,4 +95,4 @@ words_law (of_round first) h = ap (option_map of_round) (number_32 first h)
 words_law (of_port port before after) h = port_eq (number_16 port h.0) (number_32 before h.1) (number_32 after h.2)
 words_law (of_told l) h = told_law l.by l.what l.item l.count l.entry h.0 h.1 h.2
 words_law loose_begins h = refl
-words_law (of_loose l) h = ap (λ o. begun_in o (decimal l.packet) (loose_words l.what)) (number_32 l.packet h) ∙ loose_law l.packet l.what
+words_law (of_loose l) h = ap (λ o. begun_in o (decimal l.packet) (loose_words l.cause)) (number_32 l.packet h) ∙ loose_law l.packet l.cause

@@ -44,7 +44,7 @@ AreProperLines [] = Unit {0}
 AreProperLines (l ∷ ls) = IsProperLine l × AreProperLines ls
 
 abbrev pub IsProperPort : PortRound → Type 0
-IsProperPort p = (p.port < 2 ^ 16) × (p.before < 2 ^ 32) × (p.after < 2 ^ 32) × AreProperLines p.told
+IsProperPort p = (p.port < 2 ^ 16) × (p.before < 2 ^ 32) × (p.after < 2 ^ 32) × AreProperLines p.lines
 
 abbrev pub AreProperPorts : List PortRound → Type 0
 AreProperPorts [] = Unit {0}

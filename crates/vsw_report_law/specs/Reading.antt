@@ -29,7 +29,7 @@ abbrev pub under_line : Line → Tail → Option Tail
 under_line (of_loose l) (in_loose ls rs) = Some (in_loose (l ∷ ls) rs)
 under_line loose_begins (in_loose ls rs) = Some (in_ports [] [] ls rs)
 under_line (of_told t) (in_ports ts ps ls rs) = Some (in_ports (t ∷ ts) ps ls rs)
-under_line (of_port port before after) (in_ports ts ps ls rs) = Some (in_ports [] (record { port = port; before = before; after = after; told = ts } ∷ ps) ls rs)
+under_line (of_port port before after) (in_ports ts ps ls rs) = Some (in_ports [] (record { port = port; before = before; after = after; lines = ts } ∷ ps) ls rs)
 under_line (of_round first) (in_ports [] ps ls rs) = Some (in_loose [] (record { first = first; ports = ps; loose = ls } ∷ rs))
 under_line _ _ = None
 

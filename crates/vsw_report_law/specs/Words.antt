@@ -37,7 +37,7 @@ pub data Line : Type 0 where
 -- its text, as it is printed
 abbrev pub text_of : Line → List ℕ
 text_of (of_round first) = codes "round " ++ decimal first ++ codes "\n"
-text_of (of_port port before after) = port_line (record { port = port; before = before; after = after; told = [] })
+text_of (of_port port before after) = port_line (record { port = port; before = before; after = after; lines = [] })
 text_of (of_told l) = line_text l
 text_of loose_begins = codes "loose\n"
 text_of (of_loose l) = loose_text l
@@ -148,10 +148,10 @@ port_with _ _ _ = None
 
 abbrev pub loose_in : ℕ → List (List ℕ) → Option Line
 loose_in n (word ∷ []) =
-    if bytes_eq word (codes "snapped") then Some (of_loose (record { packet = n; what = Snapped }))
-    else (if bytes_eq word (codes "noport") then Some (of_loose (record { packet = n; what = NoPort })) else None)
+    if bytes_eq word (codes "snapped") then Some (of_loose (record { packet = n; cause = Snapped }))
+    else (if bytes_eq word (codes "noport") then Some (of_loose (record { packet = n; cause = NoPort })) else None)
 loose_in n (word ∷ number ∷ name ∷ []) =
-    if bytes_eq word (codes "malformed") then option_map (λ why. of_loose (record { packet = n; what = Malformed why })) (option_and_then fault_of (number_in (2 ^ 16) number)) else None
+    if bytes_eq word (codes "malformed") then option_map (λ why. of_loose (record { packet = n; cause = Malformed why })) (option_and_then fault_of (number_in (2 ^ 16) number)) else None
 loose_in n _ = None
 
 -- a line that begins with a word of its kind

@@ -144,7 +144,7 @@ fn each_reply_has_its_line(rt: HostRuntime) -> Result<(), Fail> {
 fn malformed(why: BadFrame) -> Loose {
     Loose {
         packet: 7,
-        what: LooseCause::Malformed(why),
+        cause: LooseCause::Malformed(why),
     }
 }
 
@@ -152,7 +152,7 @@ fn loose_packets(alloc: Global) -> Result<Items<Loose>, AllocError> {
     let loose = [
         Loose {
             packet: 6,
-            what: LooseCause::Snapped,
+            cause: LooseCause::Snapped,
         },
         malformed(BadFrame::ShortEther),
         malformed(BadFrame::ShortIp),
@@ -165,7 +165,7 @@ fn loose_packets(alloc: Global) -> Result<Items<Loose>, AllocError> {
         malformed(BadFrame::TooLong),
         Loose {
             packet: 10,
-            what: LooseCause::NoPort,
+            cause: LooseCause::NoPort,
         },
     ];
     Ok(Items::of(Vec::from_array(alloc, loose)?))
@@ -222,7 +222,7 @@ fn port_at(alloc: Global, small: u16, great: u32) -> Result<PortRound, AllocErro
         port: small,
         before: great,
         after: great,
-        told: Items::of(Vec::from_array(alloc, told)?),
+        lines: Items::of(Vec::from_array(alloc, told)?),
     })
 }
 
@@ -230,7 +230,7 @@ fn numbers(alloc: Global) -> Result<Round, AllocError> {
     let ports = [port_at(alloc, 0, 0)?, port_at(alloc, u16::MAX, u32::MAX)?];
     let loose = [Loose {
         packet: u32::MAX,
-        what: LooseCause::NoPort,
+        cause: LooseCause::NoPort,
     }];
     Ok(Round {
         first: u32::MAX,

@@ -41,14 +41,14 @@ pub fn replied(by: By, item: u32, entry: bool, count: u32, reply: Reply) -> Told
 /// A round of one port with these lines.
 pub fn round_of(
     alloc: Global,
-    told: Items<ToldLine>,
+    lines: Items<ToldLine>,
     loose: Items<Loose>,
 ) -> Result<Round, AllocError> {
     let port = PortRound {
         port: 9,
         before: 0,
         after: 2,
-        told,
+        lines,
     };
     Ok(Round {
         first: 3,

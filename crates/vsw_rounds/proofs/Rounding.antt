@@ -7,7 +7,8 @@ use Rattle.std.proofs.lemmas.List.Folds.{list_any-append}
 use Rattle.vsw_pcap.specs.declared.capture.Record.{Record}
 use Rattle.vsw_report.specs.declared.round.Round.{Round}
 use Rattle.vsw_report.specs.Print.{head_line, round_text}
-use Rattle.vsw_rounds.specs.Rounds.{IsRound, AreRounds, AreAllRounds, are_short, is_short_round, round_size, report}
+use Rattle.vsw_rounds.specs.Rounds.{IsRound, AreRounds, AreAllRounds, round_size, report}
+use Rattle.vsw_report.specs.Short.{are_short, is_short_round}
 use Rattle.vsw_rounds.proofs.Forwarding.{all_forwarded, round_is}
 use Rattle.vsw_switch.specs.Switch.{SwitchNow, next_round, round_of}
 

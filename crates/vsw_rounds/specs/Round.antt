@@ -5,7 +5,8 @@ use Rattle.vsw_pcap.specs.Decides.{Decides}
 use Rattle.vsw_pcap.specs.Progress.{Progress}
 use Rattle.vsw_pcap.specs.Reader.{Stands, Waits}
 use Rattle.vsw_pcap.specs.declared.capture.Record.{Record}
-use Rattle.vsw_rounds.specs.Rounds.{IsRound, is_short_round, round_size}
+use Rattle.vsw_rounds.specs.Rounds.{IsRound, round_size}
+use Rattle.vsw_report.specs.Short.{is_short_round}
 use Rattle.vsw_rounds.specs.declared.round.Stop.{Stop}
 use Rattle.vsw_rounds.specs.declared.round.Stop.TheVariants.{Full, End, More, Bad}
 use Rattle.vsw_rounds.specs.declared.round.RoundRead.{RoundRead}

@@ -1,16 +1,10 @@
 -- The rounds of a run, and its report.
-use Rattle.std.specs.Prelude.{◌≡◌, ◌<◌, ℕ, List, [], ◌∷◌, ◌++◌, length, take, drop, Bool, true, false}
-use Rattle.std.specs.List.{flat_map, list_any}
+use Rattle.std.specs.Prelude.{◌≡◌, ◌<◌, ℕ, List, [], ◌∷◌, ◌++◌, length, take, drop}
+use Rattle.std.specs.List.{flat_map}
 use Rattle.vsw_pcap.specs.declared.capture.Record.{Record}
-use Rattle.vsw_policy.specs.declared.refusal.Refusal.TheVariants as refusal
-use Rattle.vsw_policy.specs.declared.refusal.Reply.TheVariants.{Refused}
-use Rattle.vsw_report.specs.declared.round.PortRound.{PortRound}
 use Rattle.vsw_report.specs.declared.round.Round.{Round}
-use Rattle.vsw_report.specs.declared.told.What.{What}
-use Rattle.vsw_report.specs.declared.told.What.TheVariants as what
 use Rattle.vsw_report.specs.Print.{head_line, round_text}
 use Rattle.vsw_switch.specs.Switch.{SwitchNow, ForwardsAll, next_round, round_of}
-use Rattle.vsw_port.specs.Crossed.{is_short}
 
 -- packets of a whole round
 abbrev pub round_size : ℕ
@@ -36,19 +30,3 @@ AreAllRounds s (r ∷ rs) rounds t = AreRounds s (r ∷ rs) rounds t
 -- the report of these rounds
 abbrev pub report : List Round → List ℕ
 report rounds = head_line ++ flat_map round_text rounds
-
--- a packet was dropped, or a command refused, for want of memory
-abbrev pub tells_short : What → Bool
-tells_short (what.Fate fate bytes) = is_short fate
-tells_short (what.Reply (Refused refusal.Memory)) = true
-tells_short (what.Reply reply) = false
-
--- so it was at the port, in the round, in these rounds
-abbrev pub is_short_port : PortRound → Bool
-is_short_port p = list_any (λ line. tells_short line.what) p.told
-
-abbrev pub is_short_round : Round → Bool
-is_short_round r = list_any is_short_port r.ports
-
-abbrev pub are_short : List Round → Bool
-are_short rounds = list_any is_short_round rounds

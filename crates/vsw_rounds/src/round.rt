@@ -4,7 +4,7 @@ ghost use Rattle.std.specs.Prelude.{◌≡◌, ◌≤◌, ◌+◌, ◌^◌, ℕ,
 ghost use Rattle.std.specs.List.{list_any};
 ghost use Rattle.vsw_pcap.specs.Reader.{Stands};
 ghost use Rattle.vsw_pcap.specs.declared.capture.Record.{Record};
-ghost use Rattle.vsw_rounds.specs.Rounds.{is_short_port, tells_short};
+ghost use Rattle.vsw_report.specs.Short.{is_short_port, tells_short};
 ghost use Rattle.vsw_rounds.specs.Round.{ReadsPackets, ReadsRound};
 
 use std::alloc::Global;
@@ -66,7 +66,7 @@ fn have_short(ports: &[PortRound]) -> bool
 {
     match ports {
         [] => false,
-        [port, rest @ ..] => has_short(port.told.as_slice()) || have_short(rest),
+        [port, rest @ ..] => has_short(port.lines.as_slice()) || have_short(rest),
     }
 }
 

@@ -12,7 +12,7 @@ use Rattle.vsw_switch.specs.Switch.{MakesPair, PortNow, begun, aim_of, ports_aft
 use Rattle.vsw_port.specs.Core.{layers_of}
 
 abbrev pub live_seen : Live → PortNow
-live_seen l = record { number = l.number; mac = l.mac; controllers = l.core.opening.controllers; layers = layers_of l.core; before = l.before; count = length l.core.journal; told = l.told }
+live_seen l = record { number = l.number; mac = l.mac; controllers = l.core.opening.controllers; layers = layers_of l.core; before = l.before; count = length l.core.journal; lines = l.lines }
 
 -- a port with no more entries than so many
 abbrev pub IsAtMost : ℕ → PortNow → Type 0

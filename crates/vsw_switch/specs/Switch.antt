@@ -27,7 +27,7 @@ pub record PortNow : Type 0 where
   pub layers : List LayerSeen
   pub before : ℕ
   pub count : ℕ
-  pub told : List ToldLine
+  pub lines : List ToldLine
 
 -- the ports, the numbers of the round's first packet and of the next one, and the loose packets of the round so far
 pub record SwitchNow : Type 0 where
@@ -38,7 +38,7 @@ pub record SwitchNow : Type 0 where
 
 -- at first a port has the layers that the policy file gives it, and no entry
 abbrev pub port_at_first : PortSeen → PortNow
-port_at_first p = record { number = p.number; mac = p.mac; controllers = p.controllers; layers = p.layers; before = 0; count = 0; told = [] }
+port_at_first p = record { number = p.number; mac = p.mac; controllers = p.controllers; layers = p.layers; before = 0; count = 0; lines = [] }
 
 abbrev pub switch_of : PolicyFile → SwitchNow
 switch_of f = record { ports = map port_at_first (ports_of f); first = 0; next = 0; loose = [] }
@@ -64,7 +64,7 @@ abbrev pub line_of : ℕ → ℕ → Passage → ToldLine
 line_of n count m = record { by = Worker 0; item = n; entry = m.entry; count = count; what = what.Fate m.fate m.bytes }
 
 abbrev pub with_passage : ℕ → PortNow → Passage → PortNow
-with_passage n p m = record { number = p.number; mac = p.mac; controllers = p.controllers; layers = m.layers; before = p.before; count = if m.entry then p.count + 1 else p.count; told = p.told ++ line_of n p.count m ∷ [] }
+with_passage n p m = record { number = p.number; mac = p.mac; controllers = p.controllers; layers = m.layers; before = p.before; count = if m.entry then p.count + 1 else p.count; lines = p.lines ++ line_of n p.count m ∷ [] }
 
 -- a port that met a packet, for which memory was wanting or not
 abbrev pub with_packet : Bool → Crossing → Parts → PortNow → PortNow
@@ -88,7 +88,7 @@ ports_after short n moment (Err why) ps = ps
 ports_after short n moment (Ok a) ps = changed_at a.0.port (with_packet short (crossing_of n a.0 moment a.1) a.1) ps
 
 abbrev pub loose_after : ℕ → Result (Place × Parts) LooseCause → List Loose
-loose_after n (Err why) = record { packet = n; what = why } ∷ []
+loose_after n (Err why) = record { packet = n; cause = why } ∷ []
 loose_after n (Ok a) = []
 
 abbrev pub forwarded : Bool → ℕ → Result (Place × Parts) LooseCause → SwitchNow → SwitchNow
@@ -111,14 +111,14 @@ ForwardsAll s (r ∷ rs) t = (mid : SwitchNow) × Forwards s r mid × ForwardsAl
 
 -- the report of the round so far
 abbrev pub port_round : PortNow → PortRound
-port_round p = record { port = p.number; before = p.before; after = p.count; told = p.told }
+port_round p = record { port = p.number; before = p.before; after = p.count; lines = p.lines }
 
 abbrev pub round_of : SwitchNow → Round
 round_of s = record { first = s.first; ports = map port_round s.ports; loose = s.loose }
 
 -- the next round begins
 abbrev pub begun : PortNow → PortNow
-begun p = record { number = p.number; mac = p.mac; controllers = p.controllers; layers = p.layers; before = p.count; count = p.count; told = [] }
+begun p = record { number = p.number; mac = p.mac; controllers = p.controllers; layers = p.layers; before = p.count; count = p.count; lines = [] }
 
 abbrev pub next_round : SwitchNow → SwitchNow
 next_round s = record { ports = map begun s.ports; first = s.next; next = s.next; loose = [] }

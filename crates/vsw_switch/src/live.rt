@@ -25,7 +25,7 @@ pub(crate) struct Live {
     pub core: Core,
     /// Entries of its history when the round began.
     pub before: u32,
-    pub told: Items<ToldLine>,
+    pub lines: Items<ToldLine>,
 }
 
 /// Adds to a list.
@@ -65,7 +65,7 @@ impl Live {
             mac: port.mac,
             core,
             before: 0,
-            told: Items::new(alloc),
+            lines: Items::new(alloc),
         })
     }
 
@@ -89,7 +89,7 @@ impl Live {
         let outcome = transit(&mut self.core, crossing, frame, room);
         let bytes = taken(alloc, outcome.fate, room)?;
         push(
-            &mut self.told,
+            &mut self.lines,
             ToldLine {
                 by: By::Worker(0),
                 item: crossing.packet,
@@ -114,7 +114,7 @@ impl Live {
             port: self.number,
             before: replace(&mut self.before, after),
             after,
-            told: replace(&mut self.told, Items::new(alloc)),
+            lines: replace(&mut self.lines, Items::new(alloc)),
         }
     }
 }

@@ -175,7 +175,7 @@ impl Switch {
             &mut self.room,
         )? {
             None => Ok(()),
-            Some(what) => push(&mut self.loose, Loose { packet, what }),
+            Some(cause) => push(&mut self.loose, Loose { packet, cause }),
         }
     }
 

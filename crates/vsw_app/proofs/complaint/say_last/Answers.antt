@@ -1,5 +1,5 @@
 use Rattle.std.proofs.Common.{sym, ap, ◌∙◌}
-use Rattle.vsw_app.specs.declared.ending.Last.TheVariants.{Bad}
+use Rattle.vsw_app.specs.declared.ending.RunEnd.TheVariants.{Bad}
 use Rattle.vsw_app.proofs.Speaking.{speaks_last}
 use Rattle.vsw_app.proofs.complaint.say_last.Goals as goal
 

@@ -1,7 +1,7 @@
 use Rattle.std.proofs.Common.{sym}
 use Rattle.vsw_app.specs.Words.{names_of}
 use Rattle.vsw_replay.specs.declared.ending.Ending.TheVariants.{Usage}
-use Rattle.vsw_app.specs.declared.ending.Last.TheVariants.{Run}
+use Rattle.vsw_app.specs.declared.ending.RunEnd.TheVariants.{Run}
 use Rattle.vsw_app.proofs.Running.{unnamed}
 use Rattle.vsw_app.proofs.run.run.Goals as goal
 

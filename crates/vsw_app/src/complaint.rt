@@ -7,7 +7,7 @@ ghost use Rattle.vsw_app.specs.declared.ending.RunEnd.TheVariants.{Bad};
 ghost use Rattle.vsw_app.specs.Ending.{complaint, byte_text, limit_text, ending_text, name_text, Speaks};
 ghost use Rattle.vsw_replay.specs.declared.ending.Ending.TheVariants.{Refused};
 
-use crate::ending::{RunEnd, Limit};
+use crate::ending::{Limit, RunEnd};
 use itoa::Buffer;
 use vsw_host::{Failed, Host};
 use vsw_jsonfile::{Kind, Step};

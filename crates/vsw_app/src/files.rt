@@ -4,7 +4,7 @@ ghost use Rattle.std.specs.Prelude.{◌≡◌, IfOk};
 ghost use Rattle.vsw_policyfile.specs.Good.{IsGoodPolicy};
 ghost use Rattle.vsw_app.specs.Reads.{Judges, ReadsPolicy, ReadsCommands, ReadsTrace};
 
-use crate::ending::{RunEnd, Limit};
+use crate::ending::{Limit, RunEnd};
 use std::alloc::Global;
 use vsw_host::{Host, ReadEnd, read_file};
 use vsw_policyfile::{ConfigFault, PolicyFile};

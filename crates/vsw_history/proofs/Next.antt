@@ -97,7 +97,8 @@ pub bytes_later : (o : Opening) (h k : List Event) (cs : List Call) → IsPrefix
 bytes_later o h k [] p e b = tt
 bytes_later o h k (c ∷ cs) p e b = (subst (λ w. ShowsAt (replay o w) c.deed) (sym (prefix_take h k c.count p (count_within o h c e.0))) b.0, bytes_later o h k cs p e.1 b.1)
 
-right_more : (cs : List ℕ) (ls : List LayerSeen) (h : List Event) (e : Event) → AreRight cs ls h → IsRight cs (after_all cs ls h) e → AreRight cs ls (h ++ e ∷ [])
+-- one more right entry
+pub right_more : (cs : List ℕ) (ls : List LayerSeen) (h : List Event) (e : Event) → AreRight cs ls h → IsRight cs (after_all cs ls h) e → AreRight cs ls (h ++ e ∷ [])
 right_more cs ls [] e a r = (r, tt)
 right_more cs ls (x ∷ h) e a r = (a.0, right_more cs (after cs ls x) h e a.1 r)
 

@@ -12,9 +12,9 @@ use Rattle.vsw_commit.specs.Fate.{fate_at}
 use Rattle.vsw_history.specs.declared.event.Event.{Event}
 use Rattle.vsw_history.specs.declared.event.Event.TheVariants as event
 use Rattle.vsw_history.specs.Calls.{Asked, Carried}
-use Rattle.vsw_history.specs.History.{Opening, AreRight, IsRight, after, after_all, left_by, replay, reply_in}
+use Rattle.vsw_history.specs.History.{Opening, IsRight, after, after_all, left_by, replay, reply_in}
 use Rattle.vsw_history.specs.Next.{IsDone, Enters, Reading, Wanting}
-use Rattle.vsw_history.proofs.Next.{still}
+use Rattle.vsw_history.proofs.Next.{right_more, still}
 use Rattle.vsw_layer.specs.Layer.{LayerSeen}
 use Rattle.vsw_policy.specs.declared.command.Command.{Command}
 use Rattle.vsw_policy.specs.declared.refusal.Refusal.{Refusal}
@@ -29,10 +29,6 @@ use Rattle.vsw_port.proofs.Numbers.{crossed_grows, more_at_most, obeyed_at_most}
 after_more : (cs : List ℕ) (ls : List LayerSeen) (h : List Event) (e : Event) → after_all cs ls (h ++ e ∷ []) ≡ after cs (after_all cs ls h) e
 after_more cs ls [] e = refl
 after_more cs ls (x ∷ h) e = after_more cs (after cs ls x) h e
-
-right_more : (cs : List ℕ) (ls : List LayerSeen) (h : List Event) (e : Event) → AreRight cs ls h → IsRight cs (after_all cs ls h) e → AreRight cs ls (h ++ e ∷ [])
-right_more cs ls [] e a r = (r, tt)
-right_more cs ls (x ∷ h) e a r = (a.0, right_more cs (after cs ls x) h e a.1 r)
 
 one_longer : (h : List Event) (e : Event) → length (h ++ e ∷ []) ≡ length h + 1
 one_longer h e = length-append h (e ∷ [])

@@ -1,16 +1,19 @@
 -- A port's layers and its history under one owner.
 use Rattle.std.specs.Prelude.{◌≡◌, ◌≤◌, ℕ, List, [], ◌∷◌, length, Bool, true, false}
+use Rattle.vsw_base.specs.declared.header.Header.{Header}
 use Rattle.vsw_history.specs.declared.event.Event.{Event}
 use Rattle.vsw_history.specs.History.{Opening, AllRight, replay}
 use Rattle.vsw_layer.specs.Layer.{LayerSeen}
 use Rattle.vsw_policy.specs.Layers.{PolicySeen}
 use Rattle.vsw_policy.specs.Sound.{Each}
 
--- what a port began with, its history since, and for how many more entries its journal has room
+-- what a port began with, its history since, for how many more entries its journal has room, and the headers with which the walk of the
+-- last packet ended
 pub record CoreSeen : Type 0 where
   pub opening : Opening
   pub journal : List Event
   pub room : ℕ
+  pub edited : List Header
 
 -- the layers that stand: those that the history leaves
 abbrev pub layers_of : CoreSeen → List LayerSeen

@@ -1,16 +1,14 @@
 -- What a core makes of a packet, whatever its frame's bytes.
-use Rattle.std.specs.Prelude.{◌≡◌, List, Bool, true, false}
+use Rattle.std.specs.Prelude.{◌≡◌, ℕ, List, Bool, true, false}
 use Rattle.vsw_base.specs.declared.fate.Cause.TheVariants.{Memory}
 use Rattle.vsw_base.specs.declared.fate.Fate.{Fate}
 use Rattle.vsw_base.specs.declared.fate.Fate.TheVariants.{Pass, Drop}
 use Rattle.vsw_base.specs.declared.flow.Crossing.{Crossing}
+use Rattle.vsw_base.specs.declared.header.Header.{Header}
 use Rattle.vsw_commit.specs.Cross.{cross_of, made_by, makes}
 use Rattle.vsw_commit.specs.Fate.{fate_at}
 use Rattle.vsw_walk.specs.Walk.{walk_of}
 use Rattle.vsw_layer.specs.Layer.{LayerSeen}
-use Rattle.vsw_transpose.specs.declared.act.Act.{Act}
-use Rattle.vsw_transpose.specs.Apply.{apply}
-use Rattle.vsw_transpose.specs.Fits.{fits, kept}
 
 -- what became of a packet and of the layers, and whether it is an entry of the history, since it changed them
 pub record Crossed : Type 0 where
@@ -36,12 +34,11 @@ abbrev pub is_short : Fate → Bool
 is_short (Drop Memory) = true
 is_short fate = false
 
--- these acts edit a packet that passes as its walk over these layers does, and keep as many of its encapsulations
-pub record Edits (ls : List LayerSeen) (x : Crossing) (acts : List Act) : Type 0 where
-  pub fits : fits acts x.id.stack ≡ true
-  pub stack : apply acts x.id.stack ≡ (walk_of ls x).stack
-  pub kept : kept acts ≡ (walk_of ls x).kept
+-- a packet's walk over these layers ends with these headers, and so many of its encapsulations kept
+pub record Edits (ls : List LayerSeen) (x : Crossing) (hs : List Header) (left : ℕ) : Type 0 where
+  pub stack : hs ≡ (walk_of ls x).stack
+  pub kept : left ≡ (walk_of ls x).kept
 
-abbrev pub EditsPass : List LayerSeen → Crossing → List Act → Fate → Type 0
-EditsPass ls x acts (Pass len) = Edits ls x acts
-EditsPass ls x acts (Drop cause) = Unit {0}
+abbrev pub EditsPass : List LayerSeen → Crossing → List Header → ℕ → Fate → Type 0
+EditsPass ls x hs left (Pass len) = Edits ls x hs left
+EditsPass ls x hs left (Drop cause) = Unit {0}

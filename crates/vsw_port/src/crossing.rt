@@ -10,9 +10,8 @@ ghost use Rattle.vsw_port.specs.Crossed.{EditsPass, MayBeShort, crossed, is_shor
 use vsw_admit::outgoing_size;
 use vsw_base::{Cause, Crossing, Fate, Verdict};
 use vsw_commit::commit;
-use vsw_walk::{Scratch, Walked, walk};
 use vsw_policy::Policy;
-use vsw_transpose::Transposition;
+use vsw_walk::{Scratch, Walked, walk};
 
 /// What became of a packet at its port.
 #[derive(Clone, Copy, Debug, PartialEq, Eq)]
@@ -20,15 +19,18 @@ pub struct Outcome {
     pub fate: Fate,
     /// Whether it changed the layers, and so is an entry of the port's history.
     pub entry: bool,
+    /// How many encapsulations of its frame are kept, where it passes.
+    pub kept: u8,
 }
 
 /// The packet is dropped, and nothing is changed.
 fn dropped(cause: Cause) -> Outcome
-    ensures { result ≡ record { fate = Drop cause; entry = false } }
+    ensures { result ≡ record { fate = Drop cause; entry = false; kept = 0 } }
 {
     Outcome {
         fate: Fate::Drop(cause),
         entry: false,
+        kept: 0,
     }
 }
 
@@ -40,33 +42,29 @@ fn pass(policy: &mut Policy, crossing: &Crossing, walked: &Walked, scratch: &Scr
     ensures exact { record { fate = result.fate; layers = policy.new.layers; entry = result.entry } ≡ crossed (is_short result.fate) policy.old.layers crossing.now }
     ensures memory { MayBeShort (is_short result.fate) policy.old.layers crossing.now }
     ensures controllers { policy.new.controllers ≡ policy.old.controllers }
+    ensures edits { EditsPass policy.old.layers crossing.now scratch.now.stack result.kept result.fate }
 {
     match commit(policy, crossing, walked, scratch) {
         Ok(entry) => Outcome {
             fate: Fate::Pass {
-                len: outgoing_size(crossing, &walked.by),
+                len: outgoing_size(crossing, scratch.stack(), walked.kept),
             },
             entry,
+            kept: walked.kept,
         },
         Err(stop) => dropped(stop.cause()),
     }
 }
 
-/// A packet crosses the layers. Where it passes, `by` is how it is edited.
-pub fn cross(
-    policy: &mut Policy,
-    crossing: &Crossing,
-    scratch: &mut Scratch,
-    by: &mut Transposition,
-) -> Outcome
+/// A packet crosses the layers. Where it passes, the scratch holds its edited stack.
+pub fn cross(policy: &mut Policy, crossing: &Crossing, scratch: &mut Scratch) -> Outcome
     requires numbers { Each (λ l. l.next_pair < 2 ^ 32 - 1) policy.old.layers }
     ensures exact { record { fate = result.fate; layers = policy.new.layers; entry = result.entry } ≡ crossed (is_short result.fate) policy.old.layers crossing.now }
     ensures memory { MayBeShort (is_short result.fate) policy.old.layers crossing.now }
     ensures controllers { policy.new.controllers ≡ policy.old.controllers }
-    ensures edits { EditsPass policy.old.layers crossing.now by.new result.fate }
+    ensures edits { EditsPass policy.old.layers crossing.now scratch.new.stack result.kept result.fate }
 {
     let walked = walk(policy, crossing, scratch);
-    *by = walked.by;
     match walked.verdict {
         Verdict::Pass => pass(policy, crossing, &walked, scratch),
         Verdict::Rule {

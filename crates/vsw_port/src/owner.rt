@@ -17,11 +17,10 @@ use crate::crossing::{Outcome, cross};
 use std::alloc::Global;
 use std::marker::Model;
 use std::snapshot::Snapshot;
-use vsw_base::{Crossing, NoMemory};
-use vsw_walk::Scratch;
+use vsw_base::{Crossing, NoMemory, Stack, Ufid};
 use vsw_history::Event;
 use vsw_policy::{Command, Policy, Refusal, Reply};
-use vsw_transpose::Transposition;
+use vsw_walk::Scratch;
 
 /// A port's layers and its history. The layers are what the history leaves of those that the port began
 /// with; contracts see what it began with, and the history.
@@ -40,7 +39,7 @@ impl Model for Core {
 
     ghost Value = { CoreSeen };
 
-    ghost view = { λ c. record { opening = opening_of c.began.value; journal = c.journal.items; room = vec_capacity c.journal - length c.journal.items } };
+    ghost view = { λ c. record { opening = opening_of c.began.value; journal = c.journal.items; room = vec_capacity c.journal - length c.journal.items; edited = c.scratch.stack } };
 
     ghost invariant = { λ c. IsHeld (opening_of c.began.value) c.journal.items c.policy };
 }
@@ -99,20 +98,27 @@ impl Core {
         }
     }
 
-    /// A packet crosses the layers. It is an entry exactly where it changes them. Where it passes, `by` is how
-    /// it is edited. Memory is taken only to make a pair.
-    pub fn slow(&mut self, crossing: &Crossing, by: &mut Transposition) -> Outcome
+    /// The stack with which the last packet leaves that crossed the layers, where it passed.
+    pub fn edited(&self) -> &Stack
+        ensures { result.now ≡ self.now.edited }
+    {
+        self.scratch.stack()
+    }
+
+    /// A packet crosses the layers. It is an entry exactly where it changes them. Where it passes, `edited`
+    /// tells its headers. Memory is taken only to make a pair.
+    pub fn slow(&mut self, crossing: &Crossing) -> Outcome
         requires room { 1 ≤ self.old.room }
         requires few { length self.old.journal < 2 ^ 32 - 1 }
         ensures done { (p : Parts) (bytes : List ℕ) → IsDone self.old.opening self.old.journal (Carried crossing.now p result.fate bytes) result.entry }
         ensures exact { record { fate = result.fate; layers = layers_of self.new; entry = result.entry } ≡ crossed (is_short result.fate) (layers_of self.old) crossing.now }
         ensures memory { MayBeShort (is_short result.fate) (layers_of self.old) crossing.now }
-        ensures edits { EditsPass (layers_of self.old) crossing.now by.new result.fate }
+        ensures edits { EditsPass (layers_of self.old) crossing.now self.new.edited result.kept result.fate }
         ensures journal { self.new.journal ≡ self.old.journal ++ entered result.entry (event.Crossing crossing.now result.fate) }
         ensures opening { self.new.opening ≡ self.old.opening }
         ensures room { self.old.room ≤ self.new.room + 1 }
     {
-        let outcome = cross(&mut self.policy, crossing, &mut self.scratch, by);
+        let outcome = cross(&mut self.policy, crossing, &mut self.scratch);
         enter_crossing(&mut self.journal, crossing, outcome);
         outcome
     }
@@ -137,6 +143,23 @@ impl Core {
     }
 }
 
+/// The same packet once more, with a stack of its own, since a journal keeps it.
+fn copied(crossing: &Crossing) -> Crossing
+    ensures { result ≡ crossing.now }
+{
+    Crossing {
+        caller: crossing.caller,
+        packet: crossing.packet,
+        id: Ufid {
+            dir: crossing.id.dir,
+            stack: crossing.id.stack.copy(),
+        },
+        control: crossing.control,
+        moment: crossing.moment,
+        sizes: crossing.sizes,
+    }
+}
+
 /// Enters a packet that changed the layers.
 fn enter_crossing(journal: &mut Vec<Event>, crossing: &Crossing, outcome: Outcome)
     requires room { 1 + length journal.old.items ≤ vec_capacity journal.old }
@@ -145,7 +168,7 @@ fn enter_crossing(journal: &mut Vec<Event>, crossing: &Crossing, outcome: Outcom
 {
     if outcome.entry {
         journal.push_reserved(Event::Crossing {
-            crossing: *crossing,
+            crossing: copied(crossing),
             fate: outcome.fate,
         });
     }

@@ -4,6 +4,7 @@ use crate::commands::{add_group, add_layer, put_rule};
 use crate::packets::packet;
 use crate::trial::{Told, Trial};
 use std::alloc::Global;
+use std::process::Abort;
 use vsw_base::{Cause, Control, Dir, Fate, Moment};
 use vsw_policy::{Command, Refusal, Reply};
 use vsw_rule::Action;
@@ -53,59 +54,83 @@ const CONNECTED: [Told<Fate>; 6] = [
     Some((false, 7, PASS)),
 ];
 
-#[test]
-fn packets_that_move_a_connection_are_entries(rt: HostRuntime) {
-    let mut trial = port(rt.alloc(), true).expect(&rt, "memory");
-    let told = connection(&mut trial);
-    assert!(rt; told == CONNECTED);
-    assert!(rt; trial.next_pair() == Some((1, 1)));
+fn connects(trial: &mut Trial) -> bool {
+    connection(trial) == CONNECTED
+}
+
+/// Whether a packet passed, as the entry of this count or as a read at it.
+fn passed(told: Told<Fate>, entry: bool, count: usize) -> bool {
+    told == Some((entry, count, PASS))
+}
+
+/// Whether a command got this reply, as the entry of this count.
+fn replied(told: Told<Reply>, count: usize, reply: Reply) -> bool {
+    told == Some((true, count, reply))
+}
+
+fn check_connection(rt: &impl Abort, trial: &mut Trial) {
+    assert!(rt; connects(trial));
+    assert!(rt; trial.has_pairs(1, 1));
     // the closed pair is opened again: it leaves, and pair 1 comes in its place
-    let again = send(&mut trial, 6, Dir::Out, TCP, Control::Syn);
-    assert!(rt; again == Some((true, 7, PASS)));
-    assert!(rt; trial.next_pair() == Some((1, 2)));
+    let again = send(trial, 6, Dir::Out, TCP, Control::Syn);
+    assert!(rt; passed(again, true, 7));
+    assert!(rt; trial.has_pairs(1, 2));
 }
 
 #[test]
-fn sweep_is_an_entry_and_takes_the_closed_pair(rt: HostRuntime) {
+fn packets_that_move_a_connection_are_entries(rt: HostRuntime) {
     let mut trial = port(rt.alloc(), true).expect(&rt, "memory");
-    let told = connection(&mut trial);
-    assert!(rt; told == CONNECTED);
+    check_connection(&rt, &mut trial);
+}
+
+fn check_sweep(rt: &impl Abort, trial: &mut Trial) {
+    assert!(rt; connects(trial));
     let sweep = Command::Sweep {
         layer: 10,
         now: Moment::of(10_004_000),
     };
-    let swept = trial.ask(4, 1, &sweep);
-    assert!(rt; swept == Some((true, 7, Reply::Ok)));
-    assert!(rt; trial.next_pair() == Some((0, 1)));
-    let again = send(&mut trial, 6, Dir::Out, TCP, Control::Syn);
-    assert!(rt; again == Some((true, 8, PASS)));
+    assert!(rt; replied(trial.ask(4, 1, &sweep), 7, Reply::Ok));
+    assert!(rt; trial.has_pairs(0, 1));
+    let again = send(trial, 6, Dir::Out, TCP, Control::Syn);
+    assert!(rt; passed(again, true, 8));
     assert!(rt; trial.entry(7) == Some(4));
     assert!(rt; trial.entry(8) == Some(6));
 }
 
 #[test]
-fn command_between_packets_decides_the_second(rt: HostRuntime) {
-    let mut trial = port(rt.alloc(), false).expect(&rt, "memory");
-    let first = send(&mut trial, 0, Dir::Out, UDP, Control::None);
-    assert!(rt; first == Some((false, 3, PASS)));
-    let drop = put_rule(rt.alloc(), 5, Action::Drop, false).expect(&rt, "memory");
-    let put = trial.ask(7, 1, &drop);
-    assert!(rt; put == Some((true, 3, Reply::Ok)));
-    let second = send(&mut trial, 1, Dir::Out, UDP, Control::None);
-    let dropped = Fate::Drop(Cause::Rule {
+fn sweep_is_an_entry_and_takes_the_closed_pair(rt: HostRuntime) {
+    let mut trial = port(rt.alloc(), true).expect(&rt, "memory");
+    check_sweep(&rt, &mut trial);
+}
+
+/// Whether a packet was dropped by rule 5, as a read at count 4.
+fn dropped(told: Told<Fate>) -> bool {
+    let cause = Cause::Rule {
         controller: 1,
         layer: 10,
         group: 1,
         rule: 5,
-    });
-    assert!(rt; second == Some((false, 4, dropped)));
+    };
+    told == Some((false, 4, Fate::Drop(cause)))
+}
+
+fn check_between(rt: &impl Abort, trial: &mut Trial, drop: &Command) {
+    let first = send(trial, 0, Dir::Out, UDP, Control::None);
+    assert!(rt; passed(first, false, 3));
+    assert!(rt; replied(trial.ask(7, 1, drop), 3, Reply::Ok));
+    assert!(rt; dropped(send(trial, 1, Dir::Out, UDP, Control::None)));
 }
 
 #[test]
-fn refused_commands_are_entries(rt: HostRuntime) {
-    let mut trial = port(rt.alloc(), true).expect(&rt, "memory");
+fn command_between_packets_decides_the_second(rt: HostRuntime) {
+    let mut trial = port(rt.alloc(), false).expect(&rt, "memory");
+    let drop = put_rule(rt.alloc(), 5, Action::Drop, false).expect(&rt, "memory");
+    check_between(&rt, &mut trial, &drop);
+}
+
+fn check_refused(rt: &impl Abort, trial: &mut Trial) {
     let exists = trial.ask(4, 1, &add_layer(10));
-    assert!(rt; exists == Some((true, 3, Reply::Refused(Refusal::LayerExists))));
+    assert!(rt; replied(exists, 3, Reply::Refused(Refusal::LayerExists)));
     let absent = trial.ask(
         5,
         1,
@@ -114,9 +139,14 @@ fn refused_commands_are_entries(rt: HostRuntime) {
             group: 9,
         },
     );
-    assert!(rt; absent == Some((true, 4, Reply::Refused(Refusal::NoGroup))));
+    assert!(rt; replied(absent, 4, Reply::Refused(Refusal::NoGroup)));
     let other = trial.ask(6, 2, &Command::RemoveLayer { layer: 10 });
-    assert!(rt; other == Some((true, 5, Reply::Refused(Refusal::NoLayer))));
-    let own = trial.ask(7, 2, &add_layer(10));
-    assert!(rt; own == Some((true, 6, Reply::Ok)));
+    assert!(rt; replied(other, 5, Reply::Refused(Refusal::NoLayer)));
+    assert!(rt; replied(trial.ask(7, 2, &add_layer(10)), 6, Reply::Ok));
+}
+
+#[test]
+fn refused_commands_are_entries(rt: HostRuntime) {
+    let mut trial = port(rt.alloc(), true).expect(&rt, "memory");
+    check_refused(&rt, &mut trial);
 }

@@ -5,6 +5,7 @@ use crate::commands::{add_group, add_layer, add_rule, put_rules, remove_rule};
 use crate::packets::packet;
 use crate::trial::{Told, Trial};
 use std::alloc::Global;
+use std::process::Abort;
 use vsw_base::{Control, Dir, Fate};
 use vsw_policy::{Command, Refusal, Reply};
 
@@ -50,22 +51,27 @@ fn used(alloc: Global) -> Option<Trial> {
     Some(trial)
 }
 
-#[test]
-fn what_is_named_wrongly_is_refused(rt: HostRuntime) {
-    let mut trial = used(rt.alloc()).expect(&rt, "memory");
+/// Names what isn't there, or what is there already.
+fn check_names(rt: &impl Abort, alloc: Global, trial: &mut Trial) {
     let absent = Command::RemoveLayer { layer: 9 };
-    assert!(rt; is_refused(&mut trial, &absent, Refusal::NoLayer, 1));
-    assert!(rt; is_refused(&mut trial, &add_layer(10), Refusal::LayerExists, 2));
+    assert!(rt; is_refused(trial, &absent, Refusal::NoLayer, 1));
+    assert!(rt; is_refused(trial, &add_layer(10), Refusal::LayerExists, 2));
     let group = Command::RemoveGroup {
         layer: 10,
         group: 9,
     };
-    assert!(rt; is_refused(&mut trial, &group, Refusal::NoGroup, 3));
-    let again = add_group(rt.alloc(), 10, 1);
-    assert!(rt; is_refused(&mut trial, &again, Refusal::GroupExists, 4));
-    assert!(rt; is_refused(&mut trial, &remove_rule(1_024), Refusal::NoRule, 5));
-    let same = add_rule(rt.alloc(), 5);
-    assert!(rt; is_refused(&mut trial, &same, Refusal::RuleExists, 6));
+    assert!(rt; is_refused(trial, &group, Refusal::NoGroup, 3));
+    let again = add_group(alloc, 10, 1);
+    assert!(rt; is_refused(trial, &again, Refusal::GroupExists, 4));
+    assert!(rt; is_refused(trial, &remove_rule(1_024), Refusal::NoRule, 5));
+    let same = add_rule(alloc, 5);
+    assert!(rt; is_refused(trial, &same, Refusal::RuleExists, 6));
+}
+
+#[test]
+fn what_is_named_wrongly_is_refused(rt: HostRuntime) {
+    let mut trial = used(rt.alloc()).expect(&rt, "memory");
+    check_names(&rt, rt.alloc(), &mut trial);
 }
 
 /// Adds layers 11 to 25, and groups 2 to 32 of layer 10.
@@ -79,16 +85,24 @@ fn fill(alloc: Global, trial: &mut Trial) -> Option<()> {
     Some(())
 }
 
+/// Whether a command is refused for this cause, as the entry of this count.
+fn stops(told: Told<Reply>, count: usize, cause: Refusal) -> bool {
+    told == Some((true, count, Reply::Refused(cause)))
+}
+
+fn check_counts(rt: &impl Abort, alloc: Global, trial: &mut Trial, many: &Command) {
+    let more = add_rule(alloc, 1_024);
+    assert!(rt; is_refused(trial, &more, Refusal::ManyRules, 1));
+    assert!(rt; is_refused(trial, many, Refusal::ManyRules, 2));
+    assert!(rt; fill(alloc, trial).is_some());
+    assert!(rt; stops(trial.ask(9, 1, &add_layer(27)), 52, Refusal::ManyLayers));
+    let groups = add_group(alloc, 10, 33);
+    assert!(rt; stops(trial.ask(10, 1, &groups), 53, Refusal::ManyGroups));
+}
+
 #[test]
 fn what_is_too_many_is_refused(rt: HostRuntime) {
     let mut trial = used(rt.alloc()).expect(&rt, "memory");
-    let more = add_rule(rt.alloc(), 1_024);
-    assert!(rt; is_refused(&mut trial, &more, Refusal::ManyRules, 1));
     let many = put_rules(rt.alloc(), 1_025).expect(&rt, "memory");
-    assert!(rt; is_refused(&mut trial, &many, Refusal::ManyRules, 2));
-    assert!(rt; fill(rt.alloc(), &mut trial).is_some());
-    let full = trial.ask(9, 1, &add_layer(27));
-    assert!(rt; full == Some((true, 52, Reply::Refused(Refusal::ManyLayers))));
-    let groups = trial.ask(10, 1, &add_group(rt.alloc(), 10, 33));
-    assert!(rt; groups == Some((true, 53, Reply::Refused(Refusal::ManyGroups))));
+    check_counts(&rt, rt.alloc(), &mut trial, &many);
 }

@@ -10,7 +10,6 @@ use vsw_history::Event;
 use vsw_policy::{Command, Policy, Reply};
 use vsw_port::Core;
 use vsw_rule::Rule;
-use vsw_transpose::{Acts, Transposition};
 
 fn are_good(rules: &[Rule]) -> bool
     ensures { IsTrue result → Each IsGoodRule rules.now }
@@ -44,7 +43,6 @@ pub type Told<T> = Option<(bool, usize, T)>;
 #[derive(Drop)]
 pub struct Trial {
     core: Core,
-    by: Transposition,
 }
 
 impl Trial {
@@ -53,10 +51,7 @@ impl Trial {
             return None;
         };
         match Core::open(alloc, policy) {
-            Ok(core) => Some(Trial {
-                core,
-                by: Transposition::new(Acts::new()),
-            }),
+            Ok(core) => Some(Trial { core }),
             Err(_) => None,
         }
     }
@@ -67,7 +62,7 @@ impl Trial {
         if count >= 1_000 || self.core.reserve(1).is_err() {
             return None;
         }
-        let outcome = self.core.slow(crossing, &mut self.by);
+        let outcome = self.core.slow(crossing);
         Some((outcome.entry, count, outcome.fate))
     }
 
@@ -92,9 +87,11 @@ impl Trial {
         }
     }
 
-    /// The numbers of the pairs of the first layer, and of its next one.
-    pub fn next_pair(&self) -> Option<(u32, u32)> {
-        let layer = self.core.policy().layers().first()?;
-        Some((layer.flows.len(), layer.next_pair))
+    /// Whether the first layer holds so many pairs, and its next one gets this number.
+    pub fn has_pairs(&self, pairs: u32, next: u32) -> bool {
+        match self.core.policy().layers().first() {
+            None => false,
+            Some(layer) => layer.flows.len() == pairs && layer.next_pair == next,
+        }
     }
 }

@@ -1,28 +1,20 @@
 -- What one worker without commands puts of a trace is what vsw_promise says.
-use Rattle.std.proofs.Common.{◌≡◌, ◌<◌, ◌≤◌, ◌⊎◌, ℕ, zero, suc, ◌+◌, ◌*◌, ◌/◌, ◌||◌, Bool, true, false, nat_lt, List, [], ◌∷◌, length, filter, inl, inr, refl, ap, sym, ◌∙◌, subst, arith}
-use Rattle.std.specs.List.{list_any}
+use Rattle.std.proofs.Common.{◌≡◌, ◌<◌, ◌≤◌, ◌⊎◌, ℕ, zero, suc, ◌+◌, ◌*◌, ◌/◌, Bool, true, false, nat_lt, List, [], ◌∷◌, length, filter, inl, inr, refl, ap, sym, ◌∙◌, subst, arith}
 use Rattle.std.proofs.lemmas.Grind.{common_steps}
-use Rattle.vsw_base.specs.declared.fate.Cause.TheVariants as cause
-use Rattle.vsw_base.specs.declared.fate.Fate.TheVariants.{Pass, Drop}
 use Rattle.vsw_pcap.specs.declared.capture.Record.{Record}
 use Rattle.vsw_pcap.specs.declared.fault.BadTrace.{BadTrace}
 use Rattle.vsw_pcap.specs.declared.fault.BadTrace.TheVariants.{NotPcap, Version, LinkType, Cut, Huge}
-use Rattle.vsw_policy.specs.declared.refusal.Refusal.TheVariants as refusal
-use Rattle.vsw_policy.specs.declared.refusal.Reply.TheVariants as reply
 use Rattle.vsw_policy.specs.Sound.{Each}
 use Rattle.vsw_policyfile.specs.declared.file.PolicyFile.{PolicyFile}
 use Rattle.vsw_replay.specs.declared.ending.Ending.TheVariants as now
 use Rattle.vsw_replay.specs.Trace as trace
 use Rattle.vsw_report.specs.declared.round.Round.{Round}
-use Rattle.vsw_report.specs.declared.told.What.{What}
-use Rattle.vsw_report.specs.declared.told.What.TheVariants as what
 use Rattle.vsw_rounds.specs.Rounds as switched
 use Rattle.vsw_switch.specs.Switch.{SwitchNow, switch_of}
 use Rattle.vsw_promise.specs.declared.ending.Ending.TheVariants as ending
 use Rattle.vsw_promise.specs.Jobs.{cuts_within}
 use Rattle.vsw_promise.specs.Rounds.{AreRounds}
 use Rattle.vsw_promise.specs.Trace.{All, Fault, Tells, TellsAll, TellsWithin, HasBadRecord}
-use Rattle.vsw_report.specs.Short.{tells_short, is_short_port, is_short_round, are_short}
 use Rattle.vsw_replay_law.specs.Law.{alone, reach_of, RunsTell}
 use Rattle.vsw_replay_law.proofs.Chunks.{chunk_cuts, all_rounds, chunked, cuts_are, counts_rounds, rounds_by}
 

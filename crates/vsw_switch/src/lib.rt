@@ -4,5 +4,6 @@
 
 mod live;
 mod switch;
+mod worker;
 
 pub use switch::Switch;

@@ -11,17 +11,17 @@ ghost use Rattle.vsw_switch.specs.Seen.{AllAtMost, Arrives, Crosses, live_seen};
 ghost use Rattle.vsw_switch.specs.Switch.{Forwards, MakesPair, begun, next_round, port_at_first, port_round, ports_after, round_of, switch_of};
 
 use crate::live::{Live, push};
+use crate::worker::Worker;
 use std::alloc::Global;
 use std::marker::Model;
 use std::mem::replace;
-use vsw_base::{Crossing, Items, Mac, NoMemory, Place};
-use vsw_flowid::{choose_port, ufid};
+use vsw_base::{Items, Mac, NoMemory, Place};
+use vsw_flowid::choose_port;
 use vsw_frame::{Frame, read_frame};
 use vsw_pcap::Record;
 use vsw_policyfile::PolicyFile;
 use vsw_ports::{Port, macs, ports_of};
 use vsw_report::{Loose, LooseCause, PortRound, Round};
-use vsw_transit::Room;
 
 /// The ports of a switch in the midst of a run, and the round so far.
 #[derive(Drop)]
@@ -31,7 +31,7 @@ pub struct Switch {
     loose: Items<Loose>,
     first: u32,
     next: u32,
-    room: Room,
+    worker: Worker,
 }
 
 impl Model for Switch {
@@ -46,7 +46,7 @@ impl Model for Switch {
     ghost invariant = { λ s. (s.macs ≡ map (λ p. p.mac) (map live_seen s.ports.items)) × AllAtMost s.next (map live_seen s.ports.items) × (length s.macs ≤ 16) };
 }
 
-/// Packet `packet` crosses the layers of the port at its place.
+/// The worker brings packet `packet` to the port at its place.
 fn cross(
     alloc: Global,
     ports: &mut Vec<Live>,
@@ -54,7 +54,7 @@ fn cross(
     packet: u32,
     captured: &Record,
     frame: &Frame<'_>,
-    room: &mut Room,
+    worker: &mut Worker,
 ) -> Result<(), NoMemory>
     requires within { place.port < length ports.old.items }
     requires few { AllAtMost packet (map live_seen ports.old.items) }
@@ -63,15 +63,8 @@ fn cross(
     ensures few { AllAtMost (packet + 1) (map live_seen ports.new.items) }
     ensures macs { map (λ p. p.mac) (map live_seen ports.new.items) ≡ map (λ p. p.mac) (map live_seen ports.old.items) }
 {
-    let crossing = Crossing {
-        caller: 0,
-        packet,
-        id: ufid(place.dir, frame.stack()),
-        control: frame.control(),
-        moment: captured.moment,
-        sizes: frame.sizes(),
-    };
-    ports[place.port as usize].meet(alloc, &crossing, frame, room)
+    worker.bring(packet, place, captured.moment, frame);
+    ports[place.port as usize].meet(alloc, &worker.crossing, frame, &mut worker.room)
 }
 
 /// Packet `packet` arrives at its port. Ok tells why it is loose, where it is.
@@ -81,7 +74,7 @@ fn arrive(
     macs: &[Mac],
     packet: u32,
     captured: &Record,
-    room: &mut Room,
+    worker: &mut Worker,
 ) -> Result<Option<LooseCause>, NoMemory>
     requires macs { macs.now ≡ map (λ p. p.mac) (map live_seen ports.old.items) }
     requires count { length macs.now ≤ 16 }
@@ -101,7 +94,7 @@ fn arrive(
         Ok(frame) => match choose_port(macs, frame.stack()) {
             None => Ok(Some(LooseCause::NoPort)),
             Some(place) => {
-                cross(alloc, ports, place, packet, captured, frame, room)?;
+                cross(alloc, ports, place, packet, captured, frame, worker)?;
                 Ok(None)
             }
         },
@@ -155,7 +148,7 @@ impl Switch {
             loose: Items::new(alloc),
             first: 0,
             next: 0,
-            room: Room::new(alloc)?,
+            worker: Worker::new(alloc)?,
         })
     }
 
@@ -172,7 +165,7 @@ impl Switch {
             self.macs.as_slice(),
             packet,
             captured,
-            &mut self.room,
+            &mut self.worker,
         )? {
             None => Ok(()),
             Some(cause) => push(&mut self.loose, Loose { packet, cause }),

@@ -7,6 +7,7 @@ use Rattle.vsw_admit.specs.Admit.{on_pass, refusal, stop_of}
 use Rattle.vsw_admit.specs.Long as sizes
 use Rattle.vsw_admit.specs.Long.{is_long}
 use Rattle.vsw_admit.proofs.Alike.{long_alike, size_told}
+use Rattle.vsw_admit.proofs.Edits.{followed}
 use Rattle.vsw_base.specs.declared.fate.Cause.{Cause}
 use Rattle.vsw_base.specs.declared.fate.Fate.{Fate}
 use Rattle.vsw_base.specs.declared.fate.Fate.TheVariants.{Pass, Drop}
@@ -20,14 +21,11 @@ use Rattle.vsw_base.proofs.Stacks.{in_front}
 use Rattle.vsw_commit.specs.Cross.{Passing, cross_of, fate_after}
 use Rattle.vsw_commit.specs.Fate.{fate_at, fate_by}
 use Rattle.vsw_walk.specs.Walk.{Walk, walk_of}
-use Rattle.vsw_frame.specs.Bytes.{outer_total, outgoing, outgoing_size, pushes}
+use Rattle.vsw_frame.specs.Bytes.{IsEdit, outer_total, outgoing, outgoing_size, pushes}
 use Rattle.vsw_history.specs.Calls.{Shows}
 use Rattle.vsw_layer.specs.Layer.{LayerSeen}
 use Rattle.vsw_port.specs.Crossed.{Crossed, Edits, EditsPass, crossed, is_short}
 use Rattle.vsw_transit.specs.Transit.{CanLeave, HasLeft, Leaves, bytes_in, bytes_of, fate_of, len_of, met, passage_of, told}
-use Rattle.vsw_transpose.specs.declared.act.Act.{Act}
-use Rattle.vsw_transpose.specs.Apply.{apply}
-use Rattle.vsw_transpose.specs.Fits.{fits, kept}
 
 abbrev is_pass : Fate → Bool
 is_pass (Pass len) = true
@@ -67,19 +65,21 @@ told_fate ls new x n entry e = ap (λ (c : Crossed). c.fate) e
 free_at : (ls new : List LayerSeen) (x : Crossing) (n : ℕ) (entry : Bool) → record { fate = Pass n; layers = new; entry = entry } ≡ crossed false ls x → Free (walk_of ls x).verdict (stop_of ls x (walk_of ls x)) x (walk_of ls x).stack (walk_of ls x).kept n
 free_at ls new x n entry e = free_of (walk_of ls x).verdict (stop_of ls x (walk_of ls x)) x (walk_of ls x).stack (walk_of ls x).kept n (told_fate ls new x n entry e)
 
--- these acts make of the frame's headers what the walk makes of the packet's
-edited_same : (ls : List LayerSeen) (x : Crossing) (p : Parts) (acts : List Act) → Edits ls x acts → x.id.stack ≡ p.stack → apply acts p.stack ≡ (walk_of ls x).stack
-edited_same ls x p acts d e = ap (apply acts) (sym e) ∙ d.stack
+-- the stack that a core lends is its own
+pub lent : (ls : List LayerSeen) (x : Crossing) (hs gs : List Header) (left : ℕ) (fate : Fate) → gs ≡ hs → EditsPass ls x hs left fate → EditsPass ls x gs left fate
+lent ls x hs gs left fate e d = subst (λ (ks : List Header). EditsPass ls x ks left fate) (sym e) d
 
-pub can_leave : (ls new : List LayerSeen) (x : Crossing) (p : Parts) (acts : List Act) (fate : Fate) (entry : Bool) → record { fate = fate; layers = new; entry = entry } ≡ crossed (is_short fate) ls x → EditsPass ls x acts fate
-    → is_stack x.id.stack ≡ true → x.id.stack ≡ p.stack → x.sizes ≡ sizes_of p.levels → CanLeave p acts fate
-can_leave ls new x p acts (Drop cause) entry e d shape stack size = tt
-can_leave ls new x p acts (Pass n) entry e d shape stack size =
+pub can_leave : (ls new : List LayerSeen) (x : Crossing) (p : Parts) (hs : List Header) (left : ℕ) (fate : Fate) (entry : Bool) → record { fate = fate; layers = new; entry = entry } ≡ crossed (is_short fate) ls x → EditsPass ls x hs left fate
+    → is_stack x.id.stack ≡ true → x.id.stack ≡ p.stack → x.sizes ≡ sizes_of p.levels → CanLeave p hs left fate
+can_leave ls new x p hs left (Drop cause) entry e d shape stack size = tt
+can_leave ls new x p hs left (Pass n) entry e d shape stack size =
+    let w : Walk = walk_of ls x in
     let f = free_at ls new x n entry e in
-    let long : is_long x (walk_of ls x).stack (walk_of ls x).kept ≡ false = not_long ls x (walk_of ls x) f.passes f.free in
-    let alike = long_alike p x (walk_of ls x).stack (walk_of ls x).kept (ap is_stack (sym stack) ∙ shape) stack size in
-    let here : outer_total p (apply acts p.stack) (kept acts) ≡ outer_total p (walk_of ls x).stack (walk_of ls x).kept = rw (edited_same ls x p acts d stack, d.kept) refl in
-    (ap (fits acts) (sym stack) ∙ d.fits, ap (nat_lt 65535) here ∙ (ap (nat_lt 65535) (sym alike) ∙ long))
+    let long : is_long x w.stack w.kept ≡ false = not_long ls x w f.passes f.free in
+    let alike = long_alike p x w.stack w.kept (ap is_stack (sym stack) ∙ shape) stack size in
+    let short : nat_lt 65535 (outer_total p w.stack w.kept) ≡ false = ap (nat_lt 65535) (sym alike) ∙ long in
+    let edit : IsEdit p.stack w.stack w.kept = subst (λ (gs : List Header). IsEdit gs w.stack w.kept) stack (followed ls x shape) in
+    rw (d.stack, d.kept) (edit, short)
 
 -- what stands in the room after a frame passed: its bytes, as many as the fate tells
 record Written (ls : List LayerSeen) (x : Crossing) (p : Parts) (n : ℕ) (out : List ℕ) : Type 0 where
@@ -87,46 +87,42 @@ record Written (ls : List LayerSeen) (x : Crossing) (p : Parts) (n : ℕ) (out :
   length_is : n ≡ length (outgoing p (walk_of ls x).stack (walk_of ls x).kept)
   room : n ≤ 65700
 
-written : (ls new : List LayerSeen) (x : Crossing) (p : Parts) (acts : List Act) (n : ℕ) (entry : Bool) (out : List ℕ) → record { fate = Pass n; layers = new; entry = entry } ≡ crossed false ls x → Edits ls x acts
-    → is_stack x.id.stack ≡ true → x.id.stack ≡ p.stack → x.sizes ≡ sizes_of p.levels → HasLeft p acts out → Written ls x p n out
-written ls new x p acts n entry out e d shape stack size left =
-    let hs : List Header = (walk_of ls x).stack in
-    let k : ℕ = (walk_of ls x).kept in
-    let same : apply acts p.stack ≡ hs = edited_same ls x p acts d stack in
-    let told = size_told x p k (omega (arith, (in_front x.id.stack shape).0, ap encaps stack)) stack size in
-    let many : n ≡ outgoing_size p hs k = (free_at ls new x n entry e).size ∙ ap (λ (m : ℕ). m + 50 * pushes hs k) told in
-    let front : take (outgoing_size p hs k) out ≡ outgoing p hs k = subst (λ (gs : List Header). take (outgoing_size p gs k) out ≡ outgoing p gs k) same (subst (λ (m : ℕ). take (outgoing_size p (apply acts p.stack) m) out ≡ outgoing p (apply acts p.stack) m) d.kept left.bytes) in
-    let size_is : length (outgoing p hs k) ≡ outgoing_size p hs k = subst (λ (gs : List Header). length (outgoing p gs k) ≡ outgoing_size p gs k) same (subst (λ (m : ℕ). length (outgoing p (apply acts p.stack) m) ≡ outgoing_size p (apply acts p.stack) m) d.kept left.size) in
-    let small : outgoing_size p hs k ≤ 65700 = subst (λ (gs : List Header). outgoing_size p gs k ≤ 65700) same (subst (λ (m : ℕ). outgoing_size p (apply acts p.stack) m ≤ 65700) d.kept left.room) in
-    record { bytes = ap (λ m. take m out) many ∙ front; length_is = many ∙ sym size_is; room = omega (arith, many, small) }
+written : (ls new : List LayerSeen) (x : Crossing) (p : Parts) (hs : List Header) (left n : ℕ) (entry : Bool) (out : List ℕ) → record { fate = Pass n; layers = new; entry = entry } ≡ crossed false ls x → Edits ls x hs left
+    → is_stack x.id.stack ≡ true → x.id.stack ≡ p.stack → x.sizes ≡ sizes_of p.levels → HasLeft p hs left out → Written ls x p n out
+written ls new x p hs left n entry out e d shape stack size has =
+    let w : Walk = walk_of ls x in
+    let told = size_told x p w.kept (omega (arith, (in_front x.id.stack shape).0, ap encaps stack)) stack size in
+    let many : n ≡ outgoing_size p w.stack w.kept = (free_at ls new x n entry e).size ∙ ap (λ (m : ℕ). m + 50 * pushes w.stack w.kept) told in
+    let here : HasLeft p w.stack w.kept out = subst (λ (gs : List Header). HasLeft p gs w.kept out) d.stack (subst (λ (m : ℕ). HasLeft p hs m out) d.kept has) in
+    record { bytes = ap (λ m. take m out) many ∙ here.bytes; length_is = many ∙ sym here.size; room = omega (arith, many, here.room) }
 
-pub shows : (ls new : List LayerSeen) (x : Crossing) (p : Parts) (acts : List Act) (fate : Fate) (entry : Bool) (out : List ℕ) → record { fate = fate; layers = new; entry = entry } ≡ crossed (is_short fate) ls x → EditsPass ls x acts fate
-    → is_stack x.id.stack ≡ true → x.id.stack ≡ p.stack → x.sizes ≡ sizes_of p.levels → Leaves p acts fate out → Shows ls x p fate (bytes_in fate out)
-shows ls new x p acts (Drop cause) entry out e d shape stack size left = refl
-shows ls new x p acts (Pass n) entry out e d shape stack size left = (written ls new x p acts n entry out e d shape stack size left).bytes
+pub shows : (ls new : List LayerSeen) (x : Crossing) (p : Parts) (hs : List Header) (left : ℕ) (fate : Fate) (entry : Bool) (out : List ℕ) → record { fate = fate; layers = new; entry = entry } ≡ crossed (is_short fate) ls x → EditsPass ls x hs left fate
+    → is_stack x.id.stack ≡ true → x.id.stack ≡ p.stack → x.sizes ≡ sizes_of p.levels → Leaves p hs left fate out → Shows ls x p fate (bytes_in fate out)
+shows ls new x p hs left (Drop cause) entry out e d shape stack size has = refl
+shows ls new x p hs left (Pass n) entry out e d shape stack size has = (written ls new x p hs left n entry out e d shape stack size has).bytes
 
-pub short_enough : (ls new : List LayerSeen) (x : Crossing) (p : Parts) (acts : List Act) (fate : Fate) (entry : Bool) (out : List ℕ) → record { fate = fate; layers = new; entry = entry } ≡ crossed (is_short fate) ls x → EditsPass ls x acts fate
-    → is_stack x.id.stack ≡ true → x.id.stack ≡ p.stack → x.sizes ≡ sizes_of p.levels → Leaves p acts fate out → len_of fate ≤ 65700
-short_enough ls new x p acts (Drop cause) entry out e d shape stack size left = omega arith
-short_enough ls new x p acts (Pass n) entry out e d shape stack size left = (written ls new x p acts n entry out e d shape stack size left).room
+pub short_enough : (ls new : List LayerSeen) (x : Crossing) (p : Parts) (hs : List Header) (left : ℕ) (fate : Fate) (entry : Bool) (out : List ℕ) → record { fate = fate; layers = new; entry = entry } ≡ crossed (is_short fate) ls x → EditsPass ls x hs left fate
+    → is_stack x.id.stack ≡ true → x.id.stack ≡ p.stack → x.sizes ≡ sizes_of p.levels → Leaves p hs left fate out → len_of fate ≤ 65700
+short_enough ls new x p hs left (Drop cause) entry out e d shape stack size has = omega arith
+short_enough ls new x p hs left (Pass n) entry out e d shape stack size has = (written ls new x p hs left n entry out e d shape stack size has).room
 
 drop_is : (x : Crossing) (p : Parts) (cause : Cause) (r : Result Passing Cause) → Drop cause ≡ fate_by x r → (fate_of p r ≡ Drop cause) × (bytes_of p r ≡ [])
 drop_is x p cause (Ok passing) e = absurd (true≢false (sym (ap is_pass e)))
 drop_is x p cause (Err why) e = (sym e, refl)
 
 -- a frame that was told of by its packet
-pub passage : (ls new : List LayerSeen) (x : Crossing) (p : Parts) (acts : List Act) (fate : Fate) (entry : Bool) (out : List ℕ) → record { fate = fate; layers = new; entry = entry } ≡ crossed (is_short fate) ls x → EditsPass ls x acts fate
-    → is_stack x.id.stack ≡ true → x.id.stack ≡ p.stack → x.sizes ≡ sizes_of p.levels → Leaves p acts fate out → told fate entry out new ≡ met (is_short fate) ls x p
+pub passage : (ls new : List LayerSeen) (x : Crossing) (p : Parts) (hs : List Header) (left : ℕ) (fate : Fate) (entry : Bool) (out : List ℕ) → record { fate = fate; layers = new; entry = entry } ≡ crossed (is_short fate) ls x → EditsPass ls x hs left fate
+    → is_stack x.id.stack ≡ true → x.id.stack ≡ p.stack → x.sizes ≡ sizes_of p.levels → Leaves p hs left fate out → told fate entry out new ≡ met (is_short fate) ls x p
 unfolding passage_of
-passage ls new x p acts (Pass n) entry out e d shape stack size left =
+passage ls new x p hs left (Pass n) entry out e d shape stack size has =
     let f = free_at ls new x n entry e in
-    let w = written ls new x p acts n entry out e d shape stack size left in
+    let w = written ls new x p hs left n entry out e d shape stack size has in
     let ends : fate_after verdict.Pass None (walk_of ls x).stack (walk_of ls x).kept ≡ (cross_of ls x).fate =
     ap (λ v. fate_after v None (walk_of ls x).stack (walk_of ls x).kept) (sym f.passes) ∙ ap (λ o. fate_after (walk_of ls x).verdict o (walk_of ls x).stack (walk_of ls x).kept) (sym f.free) in
     let fate_is : Pass n ≡ fate_of p (cross_of ls x).fate = ap Pass w.length_is ∙ ap (fate_of p) ends in
     let bytes_are : take n out ≡ bytes_of p (cross_of ls x).fate = w.bytes ∙ ap (bytes_of p) ends in
     λ i. record { fate = fate_is i; bytes = bytes_are i; layers = (e i).layers; entry = (e i).entry }
-passage ls new x p acts (Drop cause) entry out e d shape stack size left = by (is_short (Drop cause)) e
+passage ls new x p hs left (Drop cause) entry out e d shape stack size has = by (is_short (Drop cause)) e
   where
     by : (b : Bool) → record { fate = Drop cause; layers = new; entry = entry } ≡ crossed b ls x → told (Drop cause) entry out new ≡ met b ls x p
     by true g = ap (λ (c : Crossed). record { fate = c.fate; bytes = []; layers = c.layers; entry = c.entry }) g

@@ -5,13 +5,11 @@ use Rattle.vsw_base.specs.declared.fate.Cause.TheVariants.{Memory}
 use Rattle.vsw_base.specs.declared.fate.Fate.{Fate}
 use Rattle.vsw_base.specs.declared.fate.Fate.TheVariants.{Pass, Drop}
 use Rattle.vsw_base.specs.declared.flow.Crossing.{Crossing}
+use Rattle.vsw_base.specs.declared.header.Header.{Header}
 use Rattle.vsw_base.specs.Frame.{Parts, sizes_of}
 use Rattle.vsw_commit.specs.Cross.{Passing, cross_of}
-use Rattle.vsw_frame.specs.Bytes.{outer_total, outgoing, outgoing_size}
+use Rattle.vsw_frame.specs.Bytes.{IsEdit, outer_total, outgoing, outgoing_size}
 use Rattle.vsw_layer.specs.Layer.{LayerSeen}
-use Rattle.vsw_transpose.specs.declared.act.Act.{Act}
-use Rattle.vsw_transpose.specs.Apply.{apply}
-use Rattle.vsw_transpose.specs.Fits.{fits, kept}
 
 -- the packet is the frame's
 pub record IsOfFrame (x : Crossing) (p : Parts) : Type 0 where
@@ -65,17 +63,17 @@ abbrev pub len_of : Fate → ℕ
 len_of (Pass len) = len
 len_of (Drop cause) = 0
 
--- a frame that passes can be written as these acts edit it
-abbrev pub CanLeave : Parts → List Act → Fate → Type 0
-CanLeave p acts (Pass len) = (fits acts p.stack ≡ true) × (nat_lt 65535 (outer_total p (apply acts p.stack) (kept acts)) ≡ false)
-CanLeave p acts (Drop cause) = Unit {0}
+-- a frame that passes can be written with these headers, so many of its encapsulations kept
+abbrev pub CanLeave : Parts → List Header → ℕ → Fate → Type 0
+CanLeave p hs kept (Pass len) = IsEdit p.stack hs kept × (nat_lt 65535 (outer_total p hs kept) ≡ false)
+CanLeave p hs kept (Drop cause) = Unit {0}
 
 -- its outgoing bytes stand at the front of a room, as many as the frame's sizes tell
-pub record HasLeft (p : Parts) (acts : List Act) (out : List ℕ) : Type 0 where
-  pub bytes : take (outgoing_size p (apply acts p.stack) (kept acts)) out ≡ outgoing p (apply acts p.stack) (kept acts)
-  pub size : length (outgoing p (apply acts p.stack) (kept acts)) ≡ outgoing_size p (apply acts p.stack) (kept acts)
-  pub room : outgoing_size p (apply acts p.stack) (kept acts) ≤ 65700
+pub record HasLeft (p : Parts) (hs : List Header) (kept : ℕ) (out : List ℕ) : Type 0 where
+  pub bytes : take (outgoing_size p hs kept) out ≡ outgoing p hs kept
+  pub size : length (outgoing p hs kept) ≡ outgoing_size p hs kept
+  pub room : outgoing_size p hs kept ≤ 65700
 
-abbrev pub Leaves : Parts → List Act → Fate → List ℕ → Type 0
-Leaves p acts (Pass len) out = HasLeft p acts out
-Leaves p acts (Drop cause) out = Unit {0}
+abbrev pub Leaves : Parts → List Header → ℕ → Fate → List ℕ → Type 0
+Leaves p hs kept (Pass len) out = HasLeft p hs kept out
+Leaves p hs kept (Drop cause) out = Unit {0}

@@ -10,20 +10,19 @@ ghost use Rattle.vsw_port.specs.Crossed.{MayBeShort, is_short};
 ghost use Rattle.vsw_transit.specs.Transit.{CanLeave, IsOfFrame, Leaves, bytes_in, len_of, met, told};
 
 use crate::room::Room;
-use vsw_base::{Crossing, Fate};
-use vsw_frame::{Frame, rewrite};
+use vsw_base::{Crossing, Fate, Stack};
+use vsw_frame::{Frame, rewrite_to};
 use vsw_port::{Core, Outcome};
-use vsw_transpose::Transposition;
 
 /// A frame that passes leaves with its outgoing bytes at the front of `out`.
-fn leave(frame: &Frame<'_>, by: &Transposition, fate: Fate, out: &mut Vec<u8>)
-    requires can { CanLeave (parts frame.now) by.now fate }
+fn leave(frame: &Frame<'_>, edited: &Stack, outcome: Outcome, out: &mut Vec<u8>)
+    requires can { CanLeave (parts frame.now) edited.now outcome.kept outcome.fate }
     requires room { length out.old.items ≡ 65700 }
-    ensures leaves { Leaves (parts frame.now) by.now fate out.new.items }
+    ensures leaves { Leaves (parts frame.now) edited.now outcome.kept outcome.fate out.new.items }
     ensures room { length out.new.items ≡ 65700 }
 {
-    if let Fate::Pass { .. } = fate {
-        let _ = rewrite(frame, by, out);
+    if let Fate::Pass { .. } = outcome.fate {
+        let _ = rewrite_to(frame, edited, outcome.kept, out);
     }
 }
 
@@ -43,7 +42,7 @@ pub fn transit(core: &mut Core, crossing: &Crossing, frame: &Frame<'_>, room: &m
 {
     // It tells the proof that the packet's headers are those of a frame.
     let _ = crossing.id.stack.headers();
-    let outcome = core.slow(crossing, &mut room.by);
-    leave(frame, &room.by, outcome.fate, &mut room.out);
+    let outcome = core.slow(crossing);
+    leave(frame, core.edited(), outcome, &mut room.out);
     outcome
 }

@@ -5,16 +5,13 @@ ghost use Rattle.std.specs.Prelude.{◌≡◌, ◌≤◌, IfOk, length, take};
 use std::alloc::Global;
 use std::marker::Model;
 use vsw_base::NoMemory;
-use vsw_transpose::{Acts, Transposition};
 
 /// Bytes of the longest outgoing frame: the longest that is read, with two encapsulations in front.
 const OUT_LEN: usize = 65_700;
 
-/// Room that a worker needs for one frame at a time: for how the layers edit it, and for the outgoing
-/// bytes. Contracts see these bytes.
+/// Room that a worker needs for the outgoing bytes of one frame at a time. Contracts see these bytes.
 #[derive(Drop)]
 pub struct Room {
-    pub(crate) by: Transposition,
     pub(crate) out: Vec<u8>,
 }
 
@@ -33,10 +30,9 @@ impl Room {
     pub fn new(alloc: Global) -> Result<Room, NoMemory>
         ensures { IfOk result (λ room. length room ≡ 65700) }
     {
-        let by = Transposition::new(Acts::new());
         let mut out = Vec::new(alloc);
         match out.resize(OUT_LEN, 0) {
-            Ok(()) => Ok(Room { by, out }),
+            Ok(()) => Ok(Room { out }),
             Err(_) => Err(NoMemory),
         }
     }

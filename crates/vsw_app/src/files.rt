@@ -7,7 +7,7 @@ ghost use Rattle.vsw_app.specs.Reads.{Judges, ReadsPolicy, ReadsCommands, ReadsT
 use crate::ending::{Limit, RunEnd};
 use std::alloc::Global;
 use vsw_host::{Host, ReadEnd, read_file};
-use vsw_policyfile::{ConfigFault, PolicyFile};
+use vsw_policyfile::{ConfigFault, PolicyFile, read_policy};
 use vsw_replay::{Ending, TraceBytes};
 
 /// Bytes of the longest policy file.
@@ -21,7 +21,7 @@ fn judged(alloc: Global, bytes: &[u8]) -> Result<PolicyFile, RunEnd>
     ensures says { Judges bytes.now result }
     ensures good { IfOk result IsGoodPolicy }
 {
-    match vsw_ports::read_file(alloc, bytes) {
+    match read_policy(alloc, bytes) {
         Ok(policy) => Ok(policy),
         Err(ConfigFault::Bad { kind, path }) => Err(RunEnd::Bad { kind, path }),
         Err(ConfigFault::PolicyLimit) => Err(RunEnd::Past(Limit::Policy)),

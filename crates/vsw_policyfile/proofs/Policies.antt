@@ -1,7 +1,7 @@
 -- Ports and policies that are read.
 use Rattle.std.proofs.Common.{◌≡◌, ◌≢◌, ◌==◌, ℕ, ◌≤◌, List, [], ◌∷◌, ◌++◌, length, Bool, true, false, nat_lt, nat_le, Result, Ok, Err, subst, if◌then◌else◌}
 use Rattle.std.specs.List.{list_any, AllPairs}
-use Rattle.std.specs.Prelude.{All}
+use Rattle.std.specs.Prelude.{All, IfOk}
 use Rattle.std.proofs.lemmas.List.Elements.{All-nil, All-push}
 use Rattle.serde_json.specs.Data.{Data}
 use Rattle.vsw_jsonfile.specs.declared.word.Word.{Word}
@@ -17,7 +17,7 @@ use Rattle.vsw_policyfile.specs.declared.file.ConfigFault.{ConfigFault}
 use Rattle.vsw_policyfile.specs.declared.file.ConfigFault.TheVariants.{PolicyLimit, PortsLimit, ControllersLimit}
 use Rattle.vsw_policyfile.specs.Layer.{layers_of}
 use Rattle.vsw_policyfile.specs.Port.{fresh_port, fresh_mac, rows_of, port_words, port_of}
-use Rattle.vsw_policyfile.specs.Policy.{of_part, few, few_in, controllers_in, ports_in, file_words, policy_of}
+use Rattle.vsw_policyfile.specs.Policy.{of_part, few, few_in, controllers_in, ports_in, file_words, policy_of, policy_file_of, Tells}
 use Rattle.vsw_policyfile.specs.Good.{AreGoodLayers, AreGoodPorts, IsGoodPolicy, EachIsGood}
 use Rattle.vsw_policyfile.proofs.Steps.{taken, same_value, from_under, from_part, read, passed, unless}
 use Rattle.vsw_policyfile.proofs.Lists.{kept, as_many, at_most, no_pairs, pairs_push, apart}
@@ -115,3 +115,8 @@ pub each_is_good : EachIsGood
 each_is_good bytes p h =
     taken (of_part (json_of bytes)) policy_of p (not_long (nat_lt 4194304 (length bytes)) _ p h) (λ d e h.
     policy_good d p h)
+
+-- what is told of the bytes is good, where it is a policy
+pub told_good : (bytes : List ℕ) (r : Result PolicyFile ConfigFault) → Tells r (policy_file_of bytes) → IfOk r IsGoodPolicy
+told_good bytes (Ok f) h = each_is_good bytes f h
+told_good bytes (Err e) h = tt

@@ -1,6 +1,8 @@
 //! Reading a policy file.
 
+ghost use Rattle.std.specs.Prelude.{IfOk};
 ghost use Rattle.serde_json.specs.View.{view};
+ghost use Rattle.vsw_policyfile.specs.Good.{IsGoodPolicy};
 ghost use Rattle.vsw_policyfile.specs.Policy.{Tells, policy_file_of, policy_of};
 ghost use Rattle.vsw_policyfile.specs.Policy as spec;
 
@@ -72,8 +74,7 @@ fn policy(alloc: Global, value: &Value) -> Result<PolicyFile, ConfigFault>
     Ok(PolicyFile { controllers, ports })
 }
 
-/// Reads a policy file: a JSON value of at most 4,194,304 bytes.
-pub fn read_policy(alloc: Global, bytes: &[u8]) -> Result<PolicyFile, ConfigFault>
+fn whole_file(alloc: Global, bytes: &[u8]) -> Result<PolicyFile, ConfigFault>
     ensures { Tells result (policy_file_of bytes.now) }
 {
     if bytes.len() > MOST_BYTES {
@@ -82,4 +83,12 @@ pub fn read_policy(alloc: Global, bytes: &[u8]) -> Result<PolicyFile, ConfigFaul
     let value = json(alloc, bytes)?;
     let policy = policy(alloc, &value)?;
     Ok(policy)
+}
+
+/// Reads a policy file: a JSON value of at most 4,194,304 bytes. What it answers is a good one.
+pub fn read_policy(alloc: Global, bytes: &[u8]) -> Result<PolicyFile, ConfigFault>
+    ensures exact { Tells result (policy_file_of bytes.now) }
+    ensures good { IfOk result IsGoodPolicy }
+{
+    whole_file(alloc, bytes)
 }

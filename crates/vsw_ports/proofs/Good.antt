@@ -1,6 +1,6 @@
 -- What a good policy file gives each of its ports.
 use Rattle.std.proofs.Common.{◌≡◌, ◌≢◌, ◌≤◌, suc, ℕ, ◌==◌, ◌&&◌, Bool, true, false, List, [], ◌∷◌, length, filter, map, refl, ap, sym, subst, ◌∙◌, arith}
-use Rattle.std.specs.Prelude.{All, IfOk, Result, Ok, Err}
+use Rattle.std.specs.Prelude.{All}
 use Rattle.std.specs.List.{AllPairs, list_any}
 use Rattle.std.proofs.lemmas.Bool.Decides.{nat_tests}
 use Rattle.vsw_rule.specs.Check.{bad_rule_of}
@@ -10,10 +10,7 @@ use Rattle.vsw_policyfile.specs.declared.file.LayerFile.{LayerFile}
 use Rattle.vsw_policyfile.specs.declared.file.PortFile.{PortFile}
 use Rattle.vsw_policyfile.specs.declared.file.PolicyFile.{PolicyFile}
 use Rattle.vsw_policyfile.specs.Layer.{count_by}
-use Rattle.vsw_policyfile.specs.declared.file.ConfigFault.{ConfigFault}
-use Rattle.vsw_policyfile.specs.Policy.{Tells, policy_file_of}
 use Rattle.vsw_policyfile.specs.Good as good
-use Rattle.vsw_policyfile.proofs.Policies.{each_is_good}
 use Rattle.vsw_policy.specs.Layers.{is_of}
 use Rattle.vsw_policy.specs.Sound.{Each, AreApart, IsGoodRule, IsGoodGroup, IsGoodLayer, same_layer, same_group, same_number, is_listed, are_distinct}
 use Rattle.vsw_ports.specs.File.{AreLayers, IsFile}
@@ -127,7 +124,3 @@ good-file f h = record {
   distinct = distinct f.controllers (apart-from (λ c d. c ≢ d) (λ c d. c == d) unequal f.controllers h.1);
   layers = good-ports f.controllers f.ports h.2;
 }
-
-pub told-good : (bytes : List ℕ) (r : Result PolicyFile ConfigFault) → Tells r (policy_file_of bytes) → IfOk r good.IsGoodPolicy
-told-good bytes (Ok f) h = each_is_good bytes f h
-told-good bytes (Err e) h = tt

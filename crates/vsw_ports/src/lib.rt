@@ -1,11 +1,9 @@
 //! The ports of a policy file, each with the layers that its controllers' commands make.
 #![tactic(auto)]
 
-mod file;
 mod law;
 mod layers;
 mod port;
 
-pub use file::read_file;
 pub use law::laws;
 pub use port::{Port, macs, ports_of};

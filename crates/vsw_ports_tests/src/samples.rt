@@ -3,7 +3,8 @@
 use std::alloc::Global;
 use vsw_base::Items;
 use vsw_layer::Layer;
-use vsw_ports::{Port, ports_of, read_file};
+use vsw_policyfile::read_policy;
+use vsw_ports::{Port, ports_of};
 use vsw_rule::Group;
 
 /// Controllers 30, 10 and 20. Port 7 has no layers. Port 1 has four, which the file names in another
@@ -33,7 +34,7 @@ pub const FILE: &str = concat!(
 
 /// The ports of a file; `None` where it is refused, or there is no memory.
 pub fn ports(alloc: Global, text: &str) -> Option<Items<Port>> {
-    match read_file(alloc, text.as_bytes()) {
+    match read_policy(alloc, text.as_bytes()) {
         Ok(file) => ports_of(alloc, &file).ok(),
         Err(_) => None,
     }

@@ -81,7 +81,6 @@ fn copied(acts: &[Act]) -> Acts
     copy
 }
 
-/// So many ignores.
 /// So many ignores, in a room.
 #[inline(always)]
 fn fill_ignores(acts: &mut Acts, count: usize)

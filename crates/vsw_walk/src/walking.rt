@@ -21,9 +21,10 @@ pub struct Walked {
     pub verdict: Verdict,
     /// How many of the frame's encapsulations are kept, where the packet passes.
     pub kept: u8,
-    /// The moment up to which this holds for later packets, where they have no control and want no pair: a
-    /// later one renews the last use of a pair. It is the greatest if no pair was found, or the packet is
-    /// dropped.
+    /// The moment up to which a packet of this identity without a control changes nothing, where it wants no
+    /// pair made. A walk at a later moment comes to the same, but wants the last use of a pair renewed; of a
+    /// packet that is then dropped as too long even that isn't done. It is the greatest if no pair was found,
+    /// or the packet is dropped.
     pub until: Moment,
 }
 

@@ -4,23 +4,8 @@ ghost use Rattle.std.specs.Prelude.{◌≡◌, IfOk};
 
 use std::alloc::Global;
 use vsw_base::NoMemory;
-use vsw_layer::{copy_conditions, copy_rules};
+use vsw_layer::{copy_conditions, copy_rule, copy_rules};
 use vsw_policy::Command;
-use vsw_rule::Rule;
-
-fn copy_rule(alloc: Global, rule: &Rule) -> Result<Rule, NoMemory>
-    ensures { IfOk result (λ copy. copy ≡ rule.now) }
-{
-    let when = copy_conditions(alloc, rule.when.as_slice())?;
-    Ok(Rule {
-        number: rule.number,
-        priority: rule.priority,
-        when,
-        action: rule.action,
-        stateful: rule.stateful,
-        last: rule.last,
-    })
-}
 
 /// The same command, with lists of its own.
 pub fn copy_command(alloc: Global, command: &Command) -> Result<Command, NoMemory>

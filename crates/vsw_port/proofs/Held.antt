@@ -1,19 +1,10 @@
 -- A core keeps its layers as its history leaves them.
 use Rattle.std.proofs.Common.{◌≡◌, ◌+◌, ℕ, Bool, true, false, not, true≢false, List, [], ◌∷◌, ◌++◌, length, Result, Ok, Err, refl, sym, ap, subst, ◌∙◌, arith, length-append, append-nil, OnErr}
-use Rattle.vsw_base.specs.declared.fate.Cause.TheVariants as cause
-use Rattle.vsw_base.specs.declared.fate.Cause.TheVariants.{Memory}
 use Rattle.vsw_base.specs.declared.fate.Fate.{Fate}
-use Rattle.vsw_base.specs.declared.fate.Fate.TheVariants.{Pass, Drop}
 use Rattle.vsw_base.specs.declared.flow.Crossing.{Crossing}
-use Rattle.vsw_base.specs.Frame.{Parts}
-use Rattle.vsw_commandfile.specs.declared.line.Line.{Line}
-use Rattle.vsw_commit.specs.Cross.{cross_of, made_by, makes}
-use Rattle.vsw_commit.specs.Fate.{fate_at}
 use Rattle.vsw_history.specs.declared.event.Event.{Event}
 use Rattle.vsw_history.specs.declared.event.Event.TheVariants as event
-use Rattle.vsw_history.specs.Calls.{Asked, Carried}
 use Rattle.vsw_history.specs.History.{Opening, IsRight, after, after_all, left_by, replay, reply_in}
-use Rattle.vsw_history.specs.Next.{IsDone, Enters, Reading, Wanting}
 use Rattle.vsw_history.proofs.Next.{right_more, still}
 use Rattle.vsw_layer.specs.Layer.{LayerSeen}
 use Rattle.vsw_policy.specs.declared.command.Command.{Command}
@@ -23,7 +14,7 @@ use Rattle.vsw_policy.specs.Layers.{PolicySeen}
 use Rattle.vsw_policy.specs.Obey.{is_memory, obey, told}
 use Rattle.vsw_policy.specs.Refusals.{reply_of}
 use Rattle.vsw_port.specs.Core.{AreAtMost, IsHeld, entered}
-use Rattle.vsw_port.specs.Crossed.{Crossed, MayBeShort, crossed, is_short}
+use Rattle.vsw_port.specs.Crossed.{Crossed, crossed, is_short}
 use Rattle.vsw_port.proofs.Numbers.{crossed_grows, more_at_most, obeyed_at_most}
 
 after_more : (cs : List ℕ) (ls : List LayerSeen) (h : List Event) (e : Event) → after_all cs ls (h ++ e ∷ []) ≡ after cs (after_all cs ls h) e
@@ -80,28 +71,6 @@ pub crossed_held : (o : Opening) (h g : List Event) (p q : PolicySeen) (x : Cros
 crossed_held o h g p q x fate entry before after e =
     subst (λ (ls : List LayerSeen). record { fate = fate; layers = ls; entry = entry } ≡ crossed (is_short fate) (replay o h) x) after.layers (subst (λ (ls : List LayerSeen). record { fate = fate; layers = q.layers; entry = entry } ≡ crossed (is_short fate) ls x) before.layers e)
 
-memory_is : (fate : Fate) → is_short fate ≡ true → fate ≡ Drop Memory
-memory_is (Drop Memory) e = refl
-memory_is (Pass len) e = absurd (true≢false (sym e))
-memory_is (Drop (cause.Rule controller layer group rule)) e = absurd (true≢false (sym e))
-memory_is (Drop (cause.Default controller layer dir)) e = absurd (true≢false (sym e))
-memory_is (Drop cause.Long) e = absurd (true≢false (sym e))
-memory_is (Drop (cause.Full controller layer)) e = absurd (true≢false (sym e))
-memory_is (Drop (cause.Taken controller layer pair)) e = absurd (true≢false (sym e))
-
--- what a packet was told stands at the end of the history
-pub done_crossing : (o : Opening) (h : List Event) (p : PolicySeen) (ls : List LayerSeen) (x : Crossing) (fate : Fate) (entry : Bool) → IsHeld o h p → record { fate = fate; layers = ls; entry = entry } ≡ crossed (is_short fate) p.layers x → MayBeShort (is_short fate) p.layers x
-    → (parts : Parts) (bytes : List ℕ) → IsDone o h (Carried x parts fate bytes) entry
-done_crossing o h p ls x fate entry held e may parts bytes = by (is_short fate) refl e may
-  where
-    by : (b : Bool) → is_short fate ≡ b → record { fate = fate; layers = ls; entry = entry } ≡ crossed b p.layers x → MayBeShort b p.layers x → IsDone o h (Carried x parts fate bytes) entry
-    by true s f m = Wanting (ap (λ (c : Crossed). c.entry) f) (subst (λ ms. (fate ≡ Drop Memory) × (makes (made_by ms x) ≡ true)) held.layers (memory_is fate s, m))
-    by false s f m = told_by entry refl
-      where
-        told_by : (b : Bool) → entry ≡ b → IsDone o h (Carried x parts fate bytes) entry
-        told_by true g = Enters g (subst (λ ms. IsRight o.controllers ms (event.Crossing x fate)) held.layers (ap (λ (c : Crossed). c.fate) f, sym (ap (λ (c : Crossed). c.entry) f) ∙ g))
-        told_by false g = Reading g (subst (λ ms. (fate ≡ fate_at ms x) × ((cross_of ms x).changed ≡ false)) held.layers (ap (λ (c : Crossed). c.fate) f, sym (ap (λ (c : Crossed). c.entry) f) ∙ g))
-
 memory_answer : (answer : Result (Unit {0}) Refusal) → is_memory answer ≡ true → answer ≡ Err refusal.Memory
 memory_answer (Err refusal.Memory) e = refl
 memory_answer (Ok done) e = absurd (true≢false (sym e))
@@ -143,14 +112,3 @@ held_asked o h p q line controller m answer held names same e = by (is_memory an
     by true is =
         let layers : q.layers ≡ p.layers = subst (λ a. OnErr a (q.layers ≡ p.layers)) (memory_answer answer is) same in
         subst (λ g. IsHeld o g q) (sym (append-nil h)) (record { layers = layers ∙ held.layers; controllers = names ∙ held.controllers; right = held.right; numbers = subst (AreAtMost (length h)) (sym layers) held.numbers })
-
--- what a controller was told stands at the end of the history
-pub done_asked : (o : Opening) (h : List Event) (p : PolicySeen) (new : List LayerSeen) (l : Line) (line controller : ℕ) (m : Command) (answer : Result (Unit {0}) Refusal) → IsHeld o h p → (is_memory answer ≡ false → told answer new ≡ obey p.controllers p.layers controller m)
-    → l.number ≡ line → l.controller ≡ controller → l.command ≡ m → IsDone o h (Asked l (reply_of answer)) (not (is_memory answer))
-done_asked o h p new l line controller m answer held e is_line is_controller is_command = by (is_memory answer) refl
-  where
-    by : (b : Bool) → is_memory answer ≡ b → IsDone o h (Asked l (reply_of answer)) (not b)
-    by true is = Wanting refl (ap reply_of (memory_answer answer is))
-    by false is =
-        let exact : told answer new ≡ obey o.controllers (replay o h) l.controller l.command = e is ∙ (ap (λ cs. obey cs p.layers controller m) held.controllers ∙ (ap (λ ls. obey o.controllers ls controller m) held.layers ∙ (ap (λ c. obey o.controllers (replay o h) c m) (sym is_controller) ∙ ap (λ k. obey o.controllers (replay o h) l.controller k) (sym is_command)))) in
-        Enters refl (sym (reply_told answer new) ∙ ap reply_in exact)

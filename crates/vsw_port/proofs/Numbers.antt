@@ -1,5 +1,5 @@
 -- The numbers of next pairs: a crossing raises each by one at most, and a command raises none.
-use Rattle.std.proofs.Common.{◌≡◌, ◌≤◌, ◌<◌, ◌+◌, ◌==◌, ◌⊎◌, inl, inr, ℕ, zero, suc, Bool, true, false, List, [], ◌∷◌, Option, Some, None, refl, sym, ap, subst, ◌∙◌, arith, true≢false}
+use Rattle.std.proofs.Common.{◌≡◌, ◌≤◌, ◌+◌, ◌==◌, ◌⊎◌, inl, inr, ℕ, zero, suc, Bool, true, false, List, [], ◌∷◌, Option, Some, None, refl, sym, ap, subst, ◌∙◌, arith, true≢false}
 use Rattle.vsw_base.specs.declared.fate.Verdict.{Verdict}
 use Rattle.vsw_base.specs.declared.fate.Verdict.TheVariants.{Pass, Rule, Default}
 use Rattle.vsw_base.specs.declared.flow.Crossing.{Crossing}
@@ -106,10 +106,6 @@ more_at_most m n [] e h = tt
 more_at_most m n (l ∷ ls) e h = (omega (arith, h.0, e), more_at_most m n ls e h.1)
 
 -- and it gives what a commit asks
-pub below : (m n : ℕ) (ls : List LayerSeen) → m < n → AreAtMost m ls → Each (λ l. l.next_pair < n) ls
-below m n [] e h = tt
-below m n (l ∷ ls) e h = (omega (arith, h.0, e), below m n ls e h.1)
-
 placed_at_most : (n : ℕ) (cs : List ℕ) (l : LayerSeen) (ls : List LayerSeen) → l.next_pair ≤ n → AreAtMost n ls → AreAtMost n (placed cs l ls)
 placed_at_most n cs l [] e h = (e, tt)
 placed_at_most n cs l (m ∷ ms) e h = by (is_before cs l m) (placed_at_most n cs l ms e h.1)

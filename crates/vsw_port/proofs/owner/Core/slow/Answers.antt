@@ -1,6 +1,5 @@
-use Rattle.std.proofs.Common.{◌≡◌, subst, sym}
-use Rattle.vsw_port.specs.Core.{CoreSeen, IsHeld, layers_of, opening_of}
-use Rattle.vsw_port.specs.Crossed.{Crossed, crossed, is_short}
+use Rattle.std.proofs.Common.{subst, sym}
+use Rattle.vsw_port.specs.Core.{IsHeld, opening_of}
 use Rattle.vsw_port.proofs.Held.{crossed_held, held_crossed}
 use Rattle.vsw_port.proofs.owner.Core.slow.Goals as goal
 

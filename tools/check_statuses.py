@@ -32,6 +32,7 @@ def record(captured, original):
 
 
 def run(words, output=subprocess.DEVNULL, program=os.path.join(TOP, "vsw"), limit=None):
+    """Runs the program, with at most `limit` KiB of memory, and gives its status and what it complained."""
     words = [program, *words]
     if limit:
         words = ["sh", "-c", f'ulimit -v {limit}; exec "$@"', "sh", *words]
@@ -60,9 +61,9 @@ def cases(folder):
         files = [POLICY, COMMANDS, TRACE]
         files[place] = os.path.join(folder, "missing")
         yield f"file {place} is missing", ["forward", *files], 3, b"vsw: read fault\n"
-    yield "a policy that is no JSON", of_policy("json", b"{"), 5, b"vsw: refused policy Json $\n"
-    yield "a policy without members", of_policy("shape", b"{}"), 5, b"vsw: refused policy Shape $.version\n"
-    yield "a number twice", of_policy("twice", policy([1], [1, 1])), 5, b"vsw: refused policy Twice $.ports[1].port\n"
+    yield "a policy that is no JSON", of_policy("json", b"{"), 5, b"vsw: refused policy Json /\n"
+    yield "a policy without members", of_policy("shape", b"{}"), 5, b"vsw: refused policy Shape /\n"
+    yield "a number twice", of_policy("twice", policy([1], [1, 1])), 5, b"vsw: refused policy Twice /ports/1/port\n"
     yield "a trace that is none", of_trace("none", bytes(24)), 5, b"vsw: refused trace NotPcap\n"
     yield "a trace that is cut", of_trace("cut", head() + record(9, 9)), 5, b"vsw: refused trace Cut 24\n"
     yield "a large policy", of_policy("large", b" " * 4_194_305), 6, b"vsw: limit policy\n"
@@ -85,9 +86,10 @@ def main():
     with tempfile.TemporaryDirectory() as folder:
         for what, words, status, complaint in cases(folder):
             look(what, run(words), status, complaint)
+        many = ["forward", POLICY, COMMANDS, os.path.join(folder, "records")]
+        look("little memory", run(many, program=os.path.join(TOP, "crates/vsw/out/vsw"), limit=16_384), 9, b"vsw: memory\n")
     with open("/dev/full", "wb") as full:
         look("a full disk", run(["forward", POLICY, COMMANDS, TRACE], full), 4, b"vsw: write fault\n")
-    look("little memory", run(["forward", POLICY, COMMANDS, TRACE], program=os.path.join(TOP, "crates/vsw/out/vsw"), limit=8_192), 9, b"vsw: memory\n")
     sys.exit(1 if wrong else print("each status came, with its words") or 0)
 
 

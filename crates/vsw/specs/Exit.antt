@@ -2,6 +2,8 @@
 use Rattle.std.specs.Prelude.{◌≡◌, ◌↔◌, ℕ, List, None}
 use Rattle.std.specs.Process.{exit_status}
 use Rattle.std.specs.declared.process.ExitCode.{ExitCode}
+use Rattle.std_io.specs.declared.io.kind.ErrorKind.{ErrorKind}
+use Rattle.std_io.specs.declared.io.kind.ErrorKind.TheVariants.{OutOfMemory}
 use Rattle.vsw_host.specs.Outside.{Outside, Rose}
 use Rattle.vsw_app.specs.Words.{names_of}
 use Rattle.vsw_app.specs.IsRun.{IsRun, IsComplete}
@@ -18,6 +20,11 @@ exit_of Refused = 5
 exit_of Limit = 6
 exit_of NotBuilt = 7
 exit_of Memory = 9
+
+-- how a run ends whose words can't be had: where there was no room for them, Memory; a word that isn't UTF-8 is of no grammar
+abbrev pub status_without : ErrorKind → Status
+status_without OutOfMemory = Memory
+status_without error = Usage
 
 -- a run of these words was made, with all that is promised of one, and the process ends with its status
 pub record Exits (words : List (List ℕ)) (old new : Outside) (code : ExitCode) : Type 0 where

@@ -3,7 +3,7 @@
 #![tactic(auto)]
 
 ghost use Rattle.std.specs.Prelude.{◌≡◌, ◌↔◌};
-ghost use Rattle.vsw.specs.Exit.{exit_of, Exits};
+ghost use Rattle.vsw.specs.Exit.{exit_of, status_without, Exits};
 
 use std::alloc::Global;
 use std::process::ExitCode;
@@ -12,7 +12,9 @@ use vsw_app::{Status, Word, run_words};
 use vsw_host::{Host, RealHost};
 
 /// How a run ends whose words can't be had: one that isn't UTF-8 is of no grammar.
-fn without_words(error: io::ErrorKind) -> Status {
+fn without_words(error: io::ErrorKind) -> Status
+    ensures { result ≡ status_without error }
+{
     match error {
         io::ErrorKind::OutOfMemory => Status::Memory,
         _ => Status::Usage,

@@ -1,6 +1,7 @@
 //! The words of a row, and its body read back from them.
 
 ghost use Rattle.std.specs.Prelude.{◌≡◌, ◌+◌, ◌*◌, ◌<◌, ◌≤◌, ◌^◌, IsTrue, List, [], ◌∷◌, length};
+ghost use Rattle.vsw_base.specs.declared.fate.Verdict.TheVariants.{Pass};
 ghost use Rattle.vsw_base.specs.Fits.{AreFit};
 ghost use Rattle.vsw_words.specs.Reading.{IsBody, IsVerdictFit, AreRanged};
 ghost use Rattle.vsw_words.specs.Row as spec;
@@ -22,7 +23,10 @@ pub struct Body {
 
 impl Body {
     /// A body to read others into. It clears room for the acts: make it once.
-    pub fn room() -> Body {
+    pub fn room() -> Body
+        ensures verdict { result.verdict ≡ Pass }
+        ensures until { result.until ≡ 0 }
+    {
         Body {
             verdict: Verdict::Pass,
             by: Transposition::room(),

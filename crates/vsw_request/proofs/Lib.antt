@@ -1,0 +1,5 @@
+pub mod Bounds
+pub mod Decimals
+pub mod Forwards
+pub mod Grammars
+pub mod Stops

@@ -1,0 +1,5 @@
+pub mod Grammar
+pub mod Law
+pub mod Plain
+pub mod Seen
+pub mod Words

@@ -37,7 +37,7 @@ SameOutputs-refl a = record { put = refl; complained = refl; put_faults = refl; 
 pub SameOutputs-trans : (a b c : Outside) → SameOutputs a b → SameOutputs b c → SameOutputs a c
 SameOutputs-trans a b c p q = record { put = q.put ∙ p.put; complained = q.complained ∙ p.complained; put_faults = q.put_faults ∙ p.put_faults; complain_faults = q.complain_faults ∙ p.complain_faults }
 
-all_told : (a b : Option Inputs) (name got : List ℕ) → TellsFile a b name got Whole → ReadsAll a b name got
+pub all_told : (a b : Option Inputs) (name got : List ℕ) → TellsFile a b name got Whole → ReadsAll a b name got
 all_told None b name got t = record { held = tt; since = tt }
 all_told (Some a) None name got t = absurd t
 all_told (Some a) (Some b) name got (inl none) = absurd (let e = none.fault in cc)

@@ -64,7 +64,7 @@ memory limit old now next name number got buffer n g short r =
       outputs = more.outputs;
     }
 
-told_whole : (a b c : Option Inputs) (name : List ℕ) (number : ℕ) (got buffer : List ℕ) → 0 < length buffer → TellsPartly a b name number got → TellsRead b c number buffer (Ok 0) → TellsFile a c name got Whole
+pub told_whole : (a b c : Option Inputs) (name : List ℕ) (number : ℕ) (got buffer : List ℕ) → 0 < length buffer → TellsPartly a b name number got → TellsRead b c number buffer (Ok 0) → TellsFile a c name got Whole
 told_whole None b c name number got buffer room g r = tt
 told_whole (Some a) None c name number got buffer room g r = absurd g
 told_whole (Some a) (Some b) None name number got buffer room g r = absurd r

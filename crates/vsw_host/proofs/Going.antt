@@ -74,7 +74,7 @@ partly_on a b c name number got buffer n le p r =
       front = joined ∙ ap (λ (k : ℕ). take k p.bytes) (sym longer);
     }
 
-told_on : (a b c : Option Inputs) (name : List ℕ) (number : ℕ) (got buffer : List ℕ) (n : ℕ) → n ≤ length buffer → TellsPartly a b name number got → TellsRead b c number buffer (Ok n) → TellsPartly a c name number (got ++ take n buffer)
+pub told_on : (a b c : Option Inputs) (name : List ℕ) (number : ℕ) (got buffer : List ℕ) (n : ℕ) → n ≤ length buffer → TellsPartly a b name number got → TellsRead b c number buffer (Ok n) → TellsPartly a c name number (got ++ take n buffer)
 told_on None b c name number got buffer n le g r = tt
 told_on (Some a) None c name number got buffer n le g r = absurd g
 told_on (Some a) (Some b) None name number got buffer n le g r = absurd r

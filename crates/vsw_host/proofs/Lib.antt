@@ -2,3 +2,4 @@ pub mod Going
 pub mod Ends
 pub mod Written
 pub mod CallerLemmas
+pub mod Pieces

@@ -2,3 +2,4 @@ pub mod Outside
 pub mod Reading
 pub mod Real
 pub mod Told
+pub mod Source

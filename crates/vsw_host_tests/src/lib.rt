@@ -4,3 +4,5 @@
 
 #[cfg(test)]
 mod memory_tests;
+#[cfg(test)]
+mod source_tests;

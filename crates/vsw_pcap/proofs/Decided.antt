@@ -4,7 +4,7 @@ use Rattle.std.proofs.lemmas.Grind.{common_steps}
 use Rattle.vsw_pcap.specs.Capture.{header_of, front_of}
 use Rattle.vsw_pcap.specs.Decides.{Decides}
 use Rattle.vsw_pcap.specs.Progress.{Progress}
-use Rattle.vsw_pcap.specs.Reader.{Stands, Gave, next_of, answer_at, pause_of, start_in, answer_from, after_header}
+use Rattle.vsw_pcap.specs.Reader.{Stands, Gave, next_of, answer_at, start_in, answer_from, after_header}
 use Rattle.vsw_pcap.specs.declared.capture.Form.{Form}
 use Rattle.vsw_pcap.specs.declared.capture.Front.{Front}
 use Rattle.vsw_pcap.specs.declared.capture.Front.TheVariants.{Whole, Part, Oversize}

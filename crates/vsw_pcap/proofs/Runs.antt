@@ -9,15 +9,8 @@ use Rattle.vsw_pcap.specs.declared.capture.Record.{Record}
 use Rattle.vsw_pcap.specs.declared.fault.BadTrace.{BadTrace}
 use Rattle.vsw_pcap.specs.declared.reader.Next.{Next}
 use Rattle.vsw_pcap.specs.declared.reader.Next.TheVariants as next
-use Rattle.vsw_pcap.proofs.Standing.{Stands_fed, moves, told, refused_fed}
+use Rattle.vsw_pcap.proofs.Standing.{Stands_fed, moves, told, same_end, refused_fed}
 use Rattle.vsw_pcap.proofs.Unique.{captures_are_unique}
-
--- no answer ends the bytes or takes their end back
-same_end : (p q : Progress) (answer : Next) → Moves p q answer → q.finished ≡ p.finished
-same_end p q (next.Record r) m = m.finished
-same_end p q next.More m = ap (λ (t : Progress). t.finished) m
-same_end p q next.End m = ap (λ (t : Progress). t.finished) m
-same_end p q (next.Bad bad) m = ap (λ (t : Progress). t.finished) m
 
 -- nothing is fed once the bytes are at their end
 fed_after_end : (calls : List Call) (p : Progress) → p.finished ≡ true → IsRun p calls → bytes_of calls ≡ []
@@ -48,10 +41,10 @@ ends bytes more rs fault e h =
 -- a capture that was refused is so with all that is fed
 refused : (p : Progress) (bytes : List ℕ) (rs : List Record) (bad : BadTrace) (calls : List Call) (finished : Bool) → p.finished ≡ finished
     → Stands p bytes rs → next.Bad bad ≡ next_of p → IsRun p calls → IsCapture (bytes ++ bytes_of calls) (rs ++ []) (Some bad)
-refused p bytes rs bad calls true f s e run = ends bytes (bytes_of calls) rs (Some bad) (fed_after_end calls p f run) (answered p bytes rs (next.Bad bad) s e).0
+refused p bytes rs bad calls true f s e run = ends bytes (bytes_of calls) rs (Some bad) (fed_after_end calls p f run) (answered p bytes rs (next.Bad bad) s e).0.0
 refused p bytes rs bad calls false f s e run =
     let more = bytes_of calls in
-    let told = (answered (fed_with more p) (bytes ++ more) rs (next.Bad bad) (Stands_fed p more bytes rs s) (sym (refused_fed p more bad f (sym e)))).0 in
+    let told = (answered (fed_with more p) (bytes ++ more) rs (next.Bad bad) (Stands_fed p more bytes rs s) (sym (refused_fed p more bad f (sym e)))).0.0 in
     let P : List Record → Type 0 = λ t. IsCapture (bytes ++ more) t (Some bad) in
     subst P (sym (append-nil rs)) told
 

@@ -4,6 +4,7 @@ use Rattle.std.proofs.lemmas.List.{drop-append-le, length-drop, length-append, d
 use Rattle.std.proofs.lemmas.Bool.Decides.{nat_tests}
 use Rattle.vsw_pcap.specs.Capture.{header_of, front_of, Splits, IsCapture}
 use Rattle.vsw_base.specs.declared.fault.NoMemory.{NoMemory}
+use Rattle.vsw_pcap.specs.Decides.{Decides}
 use Rattle.vsw_pcap.specs.Progress.{Progress}
 use Rattle.vsw_pcap.specs.Reader.{after_header, start_in, start_of, answer_at, answer_from, next_of, after_at, after_from, after_next, fed_with, finished_at, Gave, Stands, Moves, Tells}
 use Rattle.vsw_pcap.specs.declared.capture.Form.{Form}
@@ -16,6 +17,7 @@ use Rattle.vsw_pcap.specs.declared.reader.Start.{Start}
 use Rattle.vsw_pcap.specs.declared.reader.Start.TheVariants.{Records, Unknown, Refused}
 use Rattle.vsw_pcap.specs.declared.reader.Next.{Next}
 use Rattle.vsw_pcap.specs.declared.reader.Next.TheVariants as next
+use Rattle.vsw_pcap.proofs.Decided.{decides}
 use Rattle.vsw_pcap.proofs.Format.{not_cut, not_huge, whole_is, accepted_long, header_of-append, accepted-append, oversize-append, Splits-append, Splits-more}
 
 Gave-append : (form : Option Form) (bytes : List ℕ) (rs : List Record) (left piece : List ℕ) → Gave form bytes rs left → Gave form (bytes ++ piece) rs (left ++ piece)
@@ -37,9 +39,16 @@ record Place (p : Progress) (form : Form) (n : ℕ) (bytes : List ℕ) (rs : Lis
   splits : Splits form (drop 24 bytes) rs (drop n p.left)
   place : p.at + n + length (drop n p.left) ≡ length bytes
 
+-- what an answer says of the bytes, but for when a fault is told
+abbrev Shows : Progress → List ℕ → List Record → Next → Type 0
+Shows p bytes rs (next.Record r) = Tells p bytes rs (next.Record r)
+Shows p bytes rs next.More = Tells p bytes rs next.More
+Shows p bytes rs next.End = Tells p bytes rs next.End
+Shows p bytes rs (next.Bad bad) = IsCapture bytes rs (Some bad)
+
 told_part : (p : Progress) (form : Form) (n : ℕ) (bytes : List ℕ) (rs : List Record) (finished none : Bool)
     → Place p form n bytes rs → front_of form (drop n p.left) ≡ Part → p.finished ≡ finished → (length (drop n p.left) == 0) ≡ none
-    → Tells p bytes rs (cond (not finished) next.More (cond none next.End (next.Bad (Cut (p.at + n)))))
+    → Shows p bytes rs (cond (not finished) next.More (cond none next.End (next.Bad (Cut (p.at + n)))))
 told_part p form n bytes rs false none w f b e =
     (b, inr (p.at + n, record { form = form; rest = drop n p.left; header = w.header; splits = w.splits; place = w.place; begins = f }))
 told_part p form n bytes rs true true w f b e =
@@ -51,7 +60,7 @@ told_part p form n bytes rs true false w f b e =
 
 told_at : (p : Progress) (form : Form) (n : ℕ) (bytes : List ℕ) (rs : List Record) (f : Front)
     → Place p form n bytes rs → front_of form (drop n p.left) ≡ f
-    → Tells (after_at f form n p) bytes rs (answer_at f form (p.at + n) (drop n p.left) p.finished)
+    → Shows (after_at f form n p) bytes rs (answer_at f form (p.at + n) (drop n p.left) p.finished)
 told_at p form n bytes rs (Whole captured) w e =
     let fits = whole_is form (drop n p.left) captured e in
     let later : drop (16 + captured) (drop n p.left) ≡ drop (n + (16 + captured)) p.left = drop-drop (16 + captured) n p.left in
@@ -76,7 +85,7 @@ Knows p bytes rs (Records form n) = Place p form n bytes rs
 Knows p bytes rs Unknown = (p.finished ≡ false) × (length bytes < 24) × (rs ≡ [])
 Knows p bytes rs (Refused bad) = (header_of bytes ≡ Err bad) × (rs ≡ [])
 
-told_from : (p : Progress) (bytes : List ℕ) (rs : List Record) (start : Start) → Knows p bytes rs start → Tells (after_from start p) bytes rs (answer_from start p)
+told_from : (p : Progress) (bytes : List ℕ) (rs : List Record) (start : Start) → Knows p bytes rs start → Shows (after_from start p) bytes rs (answer_from start p)
 told_from p bytes rs (Records form n) k = told_at p form n bytes rs (front_of form (drop n p.left)) k refl
 told_from p bytes rs Unknown k = (k.0, inl (k.1, k.2))
 told_from p bytes rs (Refused bad) k = refused_is bytes rs bad k.0 k.1
@@ -97,9 +106,9 @@ knows : (p : Progress) (o : Option Form) (bytes : List ℕ) (rs : List Record) �
 knows p None bytes rs g a = knows_header p bytes rs (nat_lt (length p.left) 24 && not p.finished) (header_of p.left) g.0 g.1 a refl refl
 knows p (Some form) bytes rs g a = record { header = g.0; splits = g.1; place = omega (arith, a) }
 
-pub told : (p : Progress) (bytes : List ℕ) (rs : List Record) → Stands p bytes rs → Tells (after_next p) bytes rs (next_of p)
+shown : (p : Progress) (bytes : List ℕ) (rs : List Record) → Stands p bytes rs → Shows (after_next p) bytes rs (next_of p)
 unfolding next_of after_next
-told p bytes rs s = told_from p bytes rs (start_of p) (knows p p.form bytes rs s.gave s.place)
+shown p bytes rs s = told_from p bytes rs (start_of p) (knows p p.form bytes rs s.gave s.place)
 
 -- a record takes at least 16 bytes, and no other answer changes anything
 moves_at : (p : Progress) (form : Form) (n : ℕ) (f : Front) → front_of form (drop n p.left) ≡ f → Moves p (after_at f form n p) (answer_at f form (p.at + n) (drop n p.left) p.finished)
@@ -124,6 +133,23 @@ moves_from p (Refused bad) = refl
 pub moves : (p : Progress) → Moves p (after_next p) (next_of p)
 unfolding next_of after_next
 moves p = moves_from p (start_of p)
+
+-- no answer ends the bytes or takes their end back
+pub same_end : (p q : Progress) (answer : Next) → Moves p q answer → q.finished ≡ p.finished
+same_end p q (next.Record r) m = m.finished
+same_end p q next.More m = ap (λ (t : Progress). t.finished) m
+same_end p q next.End m = ap (λ (t : Progress). t.finished) m
+same_end p q (next.Bad bad) m = ap (λ (t : Progress). t.finished) m
+
+-- a fault is told as soon as the bytes show it
+told_shown : (p q : Progress) (bytes : List ℕ) (rs : List Record) (answer : Next) → answer ≡ next_of p → Moves p q answer → Stands p bytes rs → Shows q bytes rs answer → Tells q bytes rs answer
+told_shown p q bytes rs (next.Record r) e m s h = h
+told_shown p q bytes rs next.More e m s h = h
+told_shown p q bytes rs next.End e m s h = h
+told_shown p q bytes rs (next.Bad bad) e m s h = let P : Progress → Type 0 = λ t. Decides bad t.finished (length bytes) in (h, subst P (sym m) (decides p bytes rs bad s e))
+
+pub told : (p : Progress) (bytes : List ℕ) (rs : List Record) → Stands p bytes rs → Tells (after_next p) bytes rs (next_of p)
+told p bytes rs s = told_shown p (after_next p) bytes rs (next_of p) refl (moves p) s (shown p bytes rs s)
 
 -- more bytes, or the end, don't change what refuses the capture at this front
 refused_front : (form : Form) (at : ℕ) (left piece : List ℕ) (bad : BadTrace) (f : Front) → front_of form left ≡ f → answer_at f form at left false ≡ next.Bad bad

@@ -4,3 +4,5 @@ pub mod Cutting
 pub mod Progress
 pub mod Fault
 pub mod Decides
+pub mod Batch
+pub mod Marks

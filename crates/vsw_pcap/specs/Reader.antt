@@ -1,6 +1,7 @@
 -- What a reader holds, what it answers, and what that says of the bytes that it was fed.
 use Rattle.std.specs.Prelude.{◌≡◌, ◌<◌, ◌≤◌, ℕ, ◌+◌, ◌==◌, ◌&&◌, ◌⊎◌, Bool, true, false, not, List, [], ◌∷◌, ◌++◌, length, drop, nat_lt, if◌then◌else◌, Option, Some, None, Result, Ok, Err}
 use Rattle.vsw_pcap.specs.Capture.{header_of, front_of, record_of, Splits, Stops, IsCapture}
+use Rattle.vsw_pcap.specs.Decides.{Decides}
 use Rattle.vsw_pcap.specs.Progress.{Progress}
 use Rattle.vsw_pcap.specs.declared.capture.Form.{Form}
 use Rattle.vsw_pcap.specs.declared.capture.Front.{Front}
@@ -111,4 +112,4 @@ abbrev pub Tells : Progress → List ℕ → List Record → Next → Type 0
 Tells p bytes records (next.Record r) = Stands p bytes (records ++ r ∷ [])
 Tells p bytes records next.More = (p.finished ≡ false) × Waits bytes records
 Tells p bytes records next.End = (p.finished ≡ true) × IsCapture bytes records None
-Tells p bytes records (next.Bad bad) = IsCapture bytes records (Some bad)
+Tells p bytes records (next.Bad bad) = IsCapture bytes records (Some bad) × Decides bad p.finished (length bytes)

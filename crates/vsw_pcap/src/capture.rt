@@ -1,8 +1,9 @@
 //! Captures of libpcap's classic file format, version 2.4: their header and the record at the front.
 
-ghost use Rattle.std.specs.Prelude.{◌≡◌, ◌+◌, ◌≤◌, length, drop, Ok, Err, IfOk};
+ghost use Rattle.std.specs.Prelude.{◌≡◌, ◌+◌, ◌≤◌, ◌++◌, ◌∷◌, [], length, drop, Ok, Err, IfOk, OnOk, OnErr};
 ghost use Rattle.vsw_pcap.specs.Capture.{number, fraction_of, form_of, tested, header_of, captured_of, front_of, moment_of, record_of, FitsIn};
 
+use crate::batch::Batch;
 use crate::fault::BadTrace;
 use byteorder::{BigEndian, ByteOrder, LittleEndian};
 use std::alloc::Global;
@@ -183,4 +184,20 @@ pub fn read_record(
         original: word_at(form.order, bytes, 12),
         bytes: Items::of(copy),
     })
+}
+
+/// Copies the record at the front, which has so many captured bytes, to the end of a batch.
+pub fn copy_record(
+    form: Form,
+    bytes: &[u8],
+    captured: usize,
+    batch: &mut Batch,
+) -> Result<(), NoMemory>
+    requires { 16 + captured ≤ length bytes.now }
+    ensures ok { OnOk result (batch.new ≡ batch.old ++ record_of form bytes.now captured ∷ []) }
+    ensures err { OnErr result (batch.new ≡ batch.old) }
+{
+    let moment = read_moment(form, bytes);
+    let original = word_at(form.order, bytes, 12);
+    batch.push(moment, original, &bytes[RECORD_LEN..RECORD_LEN + captured])
 }

@@ -2,11 +2,13 @@
 //! pieces and gives their records one by one.
 #![tactic(auto)]
 
+mod batch;
 mod capture;
 mod cutting;
 mod fault;
 mod reader;
 
+pub use batch::{Batch, Captured, Found};
 pub use capture::Record;
 pub use cutting::cuttings_agree;
 pub use fault::BadTrace;

@@ -1,13 +1,15 @@
 //! The reader of a capture that comes in pieces.
 
-ghost use Rattle.std.specs.Prelude.{◌≡◌, ◌<◌, ◌≤◌, ◌^◌, ◌+◌, ℕ, List, length, drop, ◌++◌, [], false, true, Ok, OnOk, OnErr, IfOk};
+ghost use Rattle.std.specs.Prelude.{◌≡◌, ◌≤◌, ◌^◌, ◌+◌, nat_lt, ℕ, List, length, drop, ◌++◌, [], false, true, Some, Ok, OnOk, OnErr, IfOk};
 ghost use Rattle.vsw_pcap.specs.Capture.{front_of};
 ghost use Rattle.vsw_pcap.specs.Reader.{start_of, pause_of, answer_at, after_at, next_of, after_next, unfed, fed_with, finished_at, BeginsIn, Moves, Stands, Tells};
+ghost use Rattle.vsw_pcap.specs.Batch.{found_of, with_next, MovesTo, ReadsInto};
 ghost use Rattle.vsw_pcap.specs.declared.capture.Record.{Record};
 ghost use Rattle.vsw_pcap.specs.declared.fault.BadTrace.{BadTrace};
 
+use crate::batch::{Batch, Found, append};
 use crate::capture::{
-    Form, Front, HEADER_LEN, RECORD_LEN, Record, read_front, read_header, read_record,
+    Form, Front, HEADER_LEN, RECORD_LEN, Record, copy_record, read_front, read_header, read_record,
 };
 use crate::fault::BadTrace;
 use std::alloc::Global;
@@ -75,15 +77,11 @@ fn drop_front(buffer: &mut Vec<u8>, count: usize)
     buffer.truncate(left);
 }
 
-/// Appends a piece; where there is no memory for it, nothing changes.
-fn append(buffer: &mut Vec<u8>, piece: &[u8]) -> Result<(), NoMemory>
-    ensures ok { OnOk result (buffer.new.items ≡ buffer.old.items ++ piece.now) }
-    ensures err { OnErr result (buffer.new.items ≡ buffer.old.items) }
+/// Whether the place after so many bytes more can be told.
+fn has_place(at: u64, more: usize) -> bool
+    ensures { result ≡ nat_lt (at + more) (2 ^ 64) }
 {
-    match buffer.extend_from_slice(piece) {
-        Ok(()) => Ok(()),
-        Err(_) => Err(NoMemory),
-    }
+    at.checked_add(more as u64).is_some()
 }
 
 /// The answer where no whole record stands at the front of these bytes, which begin at byte `at`.
@@ -96,6 +94,18 @@ fn pause(at: u64, left: &[u8], finished: bool) -> Next
         Next::End
     } else {
         Next::Bad(BadTrace::Cut { at })
+    }
+}
+
+/// What is found where the reader answers this.
+fn found(answer: &Next) -> Found
+    ensures { result ≡ found_of answer.now }
+{
+    match answer {
+        Next::Record(_) => Found::Record,
+        Next::More => Found::More,
+        Next::End => Found::End,
+        Next::Bad(bad) => Found::Bad(*bad),
     }
 }
 
@@ -115,25 +125,9 @@ impl Reader {
         }
     }
 
-    /// A reader that was fed these bytes. It keeps them, and copies none.
-    pub fn over(alloc: Global, bytes: Vec<u8>) -> Reader
-        ensures value { result ≡ fed_with bytes.items unfed }
-        ensures stands { Stands result bytes.items [] }
-    {
-        Reader {
-            alloc,
-            buffer: bytes,
-            from: 0,
-            at: 0,
-            form: None,
-            finished: false,
-        }
-    }
-
-    /// Takes the next bytes of the capture.
+    /// Takes the next bytes of the capture. Bytes past 2^64 count as want of memory.
     pub fn feed(&mut self, piece: &[u8]) -> Result<(), NoMemory>
         requires open { self.old.finished ≡ false }
-        requires room { self.old.at + length self.old.left + length piece.now < 2 ^ 64 }
         ensures ok { OnOk result (self.new ≡ fed_with piece.now self.old) }
         ensures err { OnErr result (self.new ≡ self.old) }
 
@@ -143,6 +137,9 @@ impl Reader {
         // A refused capture stays refused.
         ensures refused { OnOk result ((bad : BadTrace) → next_of self.old ≡ Next.Bad bad → next_of self.new ≡ Next.Bad bad) }
     {
+        if !has_place(self.at + self.left() as u64, piece.len()) {
+            return Err(NoMemory);
+        }
         self.give_back();
         append(&mut self.buffer, piece)
     }
@@ -170,6 +167,23 @@ impl Reader {
         self.take_next()
     }
 
+    /// Reads the next record into a batch, behind those that it holds. Where there is no memory for it, nothing
+    /// changes, and the next call tries again.
+    pub fn read_into(&mut self, batch: &mut Batch) -> Result<Found, NoMemory>
+        ensures found { IfOk result (λ found. found ≡ found_of (next_of self.old)) }
+        ensures after { OnOk result (self.new ≡ after_next self.old) }
+        ensures batch { OnOk result (batch.new ≡ with_next (next_of self.old) batch.old) }
+        ensures err { OnErr result (self.new ≡ self.old) }
+        ensures same { OnErr result (batch.new ≡ batch.old) }
+
+        // The same in the words of the bytes fed and the records given.
+        ensures moves { IfOk result (λ found. MovesTo self.old self.new found) }
+        ensures finished { self.new.finished ≡ self.old.finished }
+        ensures reads { IfOk result (λ found. (bytes : List ℕ) (records : List Record) → Stands self.old bytes records → ReadsInto self.new bytes records batch.old batch.new found) }
+    {
+        self.take_into(batch)
+    }
+
     /// Bytes in hand that no record has taken.
     pub fn left(&self) -> usize
         ensures { result ≡ length self.now.left }
@@ -185,6 +199,24 @@ impl Reader {
             drop_front(&mut self.buffer, self.from);
             self.from = 0;
         }
+    }
+
+    /// The byte of the capture that stands after so many of those in hand.
+    fn place(&self, header: usize) -> u64
+        requires { header ≤ length self.now.left }
+        ensures { result ≡ self.now.at + header }
+    {
+        self.at + header as u64
+    }
+
+    /// Takes a record's bytes off those in hand, with what stands before it.
+    fn consume(&mut self, form: Form, len: usize)
+        requires { len ≤ length self.old.left }
+        ensures { self.new ≡ record self.old { form = Some form; at = self.old.at + len; left = drop len self.old.left } }
+    {
+        self.form = Some(form);
+        self.from += len;
+        self.at += len as u64;
     }
 
     /// Where the next record begins.
@@ -227,18 +259,58 @@ impl Reader {
         ensures err { OnErr result (self.new ≡ self.old) }
     {
         let left = &self.buffer[self.from + header..];
-        let at = self.at + header as u64;
+        let at = self.place(header);
         match read_front(form, left) {
             Front::Whole(captured) => {
                 let record = read_record(self.alloc, form, left, captured)?;
-                let len = header + RECORD_LEN + captured;
-                self.form = Some(form);
-                self.from += len;
-                self.at += len as u64;
+                self.consume(form, header + RECORD_LEN + captured);
                 Ok(Next::Record(record))
             }
             Front::Oversize => Ok(Next::Bad(BadTrace::Huge { at })),
             Front::Part => Ok(pause(at, left, self.finished)),
+        }
+    }
+
+    /// The next answer, by where the next record begins, which goes into a batch.
+    #[tactic(auto, unfolding(crate::specs::Reader::next_of, crate::specs::Reader::after_next))]
+    fn take_into(&mut self, batch: &mut Batch) -> Result<Found, NoMemory>
+        ensures found { IfOk result (λ found. found ≡ found_of (next_of self.old)) }
+        ensures after { OnOk result (self.new ≡ after_next self.old) }
+        ensures batch { OnOk result (batch.new ≡ with_next (next_of self.old) batch.old) }
+        ensures err { OnErr result (self.new ≡ self.old) }
+        ensures same { OnErr result (batch.new ≡ batch.old) }
+    {
+        match self.start() {
+            Start::Records(form, header) => self.front_into(form, header, batch),
+            Start::Unknown => Ok(Found::More),
+            Start::Refused(bad) => Ok(Found::Bad(bad)),
+        }
+    }
+
+    /// The next answer, by what stands at the front after so many bytes of header.
+    fn front_into(
+        &mut self,
+        form: Form,
+        header: usize,
+        batch: &mut Batch,
+    ) -> Result<Found, NoMemory>
+        requires { header ≤ length self.old.left }
+        ensures found { IfOk result (λ found. found ≡ found_of (answer_at (front_of form (drop header self.old.left)) form (self.old.at + header) (drop header self.old.left) self.old.finished)) }
+        ensures after { OnOk result (self.new ≡ after_at (front_of form (drop header self.old.left)) form header self.old) }
+        ensures batch { OnOk result (batch.new ≡ with_next (answer_at (front_of form (drop header self.old.left)) form (self.old.at + header) (drop header self.old.left) self.old.finished) batch.old) }
+        ensures err { OnErr result (self.new ≡ self.old) }
+        ensures same { OnErr result (batch.new ≡ batch.old) }
+    {
+        let left = &self.buffer[self.from + header..];
+        let at = self.place(header);
+        match read_front(form, left) {
+            Front::Whole(captured) => {
+                copy_record(form, left, captured, batch)?;
+                self.consume(form, header + RECORD_LEN + captured);
+                Ok(Found::Record)
+            }
+            Front::Oversize => Ok(Found::Bad(BadTrace::Huge { at })),
+            Front::Part => Ok(found(&pause(at, left, self.finished))),
         }
     }
 }

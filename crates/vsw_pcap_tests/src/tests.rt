@@ -1,11 +1,11 @@
 //! Captures as tcpdump writes them, read whole and byte by byte.
 
-ghost use Rattle.std.specs.Prelude.{◌≡◌, ◌+◌, ◌<◌, ◌≤◌, length, OnOk};
+ghost use Rattle.std.specs.Prelude.{◌≡◌, ◌<◌};
 
 use std::alloc::Global;
 use std::test::Fail;
 use vsw_base::Moment;
-use vsw_pcap::{BadTrace, Next, Reader, Record};
+use vsw_pcap::{BadTrace, Batch, Captured, Found, Next, Reader, Record};
 
 /// A header in little-endian order and microseconds: version 2.4, snap length 262,144, link type 1.
 const LITTLE: &[u8; 24] =
@@ -39,7 +39,6 @@ struct Transcript {
 /// Takes the records that are in hand, and answers what comes instead of the next one.
 fn drain(reader: &mut Reader, records: &mut Vec<Record>) -> Result<Next, Fail>
     ensures finished { reader.new.finished ≡ reader.old.finished }
-    ensures place { reader.new.at + length reader.new.left ≡ reader.old.at + length reader.old.left }
 {
     loop {
         match reader.next()? {
@@ -99,19 +98,62 @@ fn two_records_are_read_however_they_are_fed(rt: HostRuntime) -> Result<(), Fail
     Ok(())
 }
 
-#[test]
-fn a_capture_in_hand_is_read_alike(rt: HostRuntime) -> Result<(), Fail> {
-    let alloc = rt.alloc();
-    let capture = joined(alloc, &[LITTLE, AT_START, QUERY, &LITTLE[..3]])?;
-    let mut reader = Reader::over(alloc, capture);
-    let mut records = Vec::new(alloc);
-    let more = drain(&mut reader, &mut records)?;
-    assert!(rt; matches!(more, Next::More));
+/// Takes the records that are in hand into a batch, and answers what comes instead of the next one.
+fn drain_into(reader: &mut Reader, batch: &mut Batch) -> Result<Found, Fail>
+    ensures finished { reader.new.finished ≡ reader.old.finished }
+{
+    loop {
+        match reader.read_into(batch)? {
+            Found::Record => {}
+            other => return Ok(other),
+        }
+    }
+}
+
+/// Reads a capture that is fed in pieces of so many bytes into a batch, and answers what comes after its records.
+fn batch_by(alloc: Global, size: usize, capture: &[u8], batch: &mut Batch) -> Result<Found, Fail>
+    requires { 0 < size }
+{
+    let mut reader = Reader::new(alloc);
+    let mut at = 0;
+    while at < capture.len() {
+        let end = at + size.min(capture.len() - at);
+        reader.feed(&capture[at..end])?;
+        at = end;
+        drain_into(&mut reader, batch)?;
+    }
     reader.finish();
-    let end = drain(&mut reader, &mut records)?;
-    assert!(rt; matches!(end, Next::Bad(BadTrace::Cut { at: 84 })));
-    assert_eq!(rt; records.len(), 1);
-    assert!(rt; is_record(&records[0], 0, 44, QUERY));
+    drain_into(&mut reader, batch)
+}
+
+fn lends(record: &Captured<'_>, micros: u64, original: u32, bytes: &[u8]) -> bool {
+    record.moment.micros() == micros && record.original == original && record.bytes == bytes
+}
+
+#[test]
+fn a_batch_lends_each_record_before_and_after_it_is_cleared(rt: HostRuntime) -> Result<(), Fail> {
+    let alloc = rt.alloc();
+    let capture = joined(
+        alloc,
+        &[
+            LITTLE,
+            AT_START,
+            QUERY,
+            SNAPPED,
+            &QUERY[..12],
+            &SNAPPED[..3],
+        ],
+    )?;
+    let mut batch = Batch::new(alloc);
+    for size in [1, 7, 64] {
+        let end = batch_by(alloc, size, &capture, &mut batch)?;
+        assert!(rt; matches!(end, Found::Bad(BadTrace::Cut { at: 112 })));
+        assert_eq!(rt; batch.len(), 2);
+        assert!(rt; lends(&batch.at(0), 0, 44, QUERY));
+        assert!(rt; lends(&batch.at(1), 1_000, 94, &QUERY[..12]));
+        batch.clear();
+        assert_eq!(rt; batch.len(), 0);
+    }
     Ok(())
 }
 

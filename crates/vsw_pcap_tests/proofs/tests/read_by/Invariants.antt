@@ -1,11 +1,10 @@
-use Rattle.std.proofs.Common.{◌≡◌, ◌≤◌, ◌+◌, ◌-◌, length, false}
+use Rattle.std.proofs.Common.{◌≡◌, ◌≤◌, ◌-◌, length, false}
 use Rattle.vsw_pcap_tests.proofs.tests.read_by.Given as goal
 
 abbrev pub invariant-loop-at : goal.invariant-loop-at
 invariant-loop-at l = record {
   within : l.at ≤ length l.capture;
   not_finished : l.reader.finished ≡ false;
-  place : l.reader.at + length l.reader.left ≡ l.at;
 }
 
 abbrev pub decreases-loop-at : goal.decreases-loop-at

@@ -1,5 +1,5 @@
 -- Lists of 32.
-use Rattle.std.proofs.Common.{◌≡◌, ℕ, suc, ◌+◌, ◌/◌, ◌%◌, ◌<◌, ◌≤◌, ◌==◌, true, List, [], ◌∷◌, ◌++◌, map, length, take, drop, slice_index, refl, sym, ap, ap₂, ◌∙◌, arith, Fits, w8}
+use Rattle.std.proofs.Common.{◌≡◌, ℕ, suc, ◌+◌, ◌%◌, ◌<◌, ◌≤◌, ◌==◌, true, List, [], ◌∷◌, ◌++◌, map, length, take, drop, slice_index, refl, sym, ap, ap₂, ◌∙◌, arith, Fits, w8}
 use Rattle.std.proofs.lemmas.Bool.{agree_below_at, eqb-true}
 use Rattle.std.proofs.lemmas.Simd.{put_chunk_is}
 use Rattle.std.proofs.lemmas.List.{take_at, drop_at, drop-drop, length-drop, length-append, append_assoc}
@@ -80,14 +80,11 @@ stored_is t f b ef eb long =
     ∙ ap (λ (l : List ℕ). f ++ (b ++ l)) (drop-drop 32 32 t)
     ∙ sym (append_assoc f b (drop 64 t))
 
--- the digits by arithmetic are those of the table
-high_is : (b : ℕ) → b < 256 → high b ≡ slice_index lower_digits (b / 16)
-high_is b h = eqb-true _ _ (agree_below_at (λ b. high b == slice_index lower_digits (b / 16)) (λ b. true) 256 b refl h)
-
+-- the lower half of a byte is what is left by sixteen
 low_is : (b : ℕ) → b < 256 → low b ≡ slice_index lower_digits (b % 16)
 low_is b h = eqb-true _ _ (agree_below_at (λ b. low b == slice_index lower_digits (b % 16)) (λ b. true) 256 b refl h)
 
 pub zipped_is : (v : List ℕ) → Each1 (Fits w8) v → zipped (map high v) (map low v) ≡ encode_lower v
 unfolding encode_with
 zipped_is [] h = refl
-zipped_is (b ∷ bs) h = ap₂ (λ x r. x ∷ r) (high_is b h.0.fits) (ap₂ (λ x r. x ∷ r) (low_is b h.0.fits) (zipped_is bs h.1))
+zipped_is (b ∷ bs) h = ap (λ r. high b ∷ r) (ap₂ (λ x r. x ∷ r) (low_is b h.0.fits) (zipped_is bs h.1))

@@ -1,15 +1,13 @@
--- Digits by arithmetic.
-use Rattle.std.specs.Prelude.{ℕ, ◌+◌, ◌%◌, ◌/◌, List, [], ◌∷◌, nat_lt, bit_and, if◌then◌else◌}
+-- Digits by a table.
+use Rattle.std.specs.Prelude.{ℕ, ◌/◌, List, [], ◌∷◌, slice_index, bit_and}
+use Rattle.hex.specs.Hex.{lower_digits}
 
--- the wrapping arithmetic of a lane
-abbrev pub digit : ℕ → ℕ
-digit n = ((n + 48) % 256 + (if nat_lt 9 n then 39 else 0)) % 256
-
+-- the first digit of a byte, and its second
 abbrev pub high : ℕ → ℕ
-high b = digit (b / 16)
+high b = slice_index lower_digits (b / 16)
 
 abbrev pub low : ℕ → ℕ
-low b = digit (bit_and b 15)
+low b = slice_index lower_digits (bit_and b 15)
 
 abbrev pub zipped : List ℕ → List ℕ → List ℕ
 zipped [] ys = []

@@ -3,33 +3,25 @@
 ghost use Rattle.std.specs.Prelude.{◌≡◌, ◌+◌, ◌*◌, ◌<◌, ◌≤◌, ◌++◌, map, take, drop, length};
 ghost use Rattle.std.specs.Simd.Lanes.{Each1};
 ghost use Rattle.hex.specs.Hex.{encode_lower};
-ghost use Rattle.vsw_hex.specs.Digit.{digit, high, low, zipped};
+ghost use Rattle.vsw_hex.specs.Digit.{high, low, zipped};
 
 use std::simd::prelude::*;
 
-/// The digits of numbers below sixteen: `0` is 48, and 39 more for letters (`a` is 97).
-#[inline(always)]
-fn digits(v: u8x32) -> u8x32
-    ensures { result ≡ map digit v }
-{
-    let letters = v
-        .simd_gt(u8x32::splat(9))
-        .select(u8x32::splat(39), u8x32::splat(0));
-    v + u8x32::splat(48) + letters
-}
+/// The digits of numbers below sixteen, once for each half of a vector: a look-up reads the half that its lane is in.
+const DIGITS: [u8; 32] = *b"0123456789abcdef0123456789abcdef";
 
 #[inline(always)]
 fn highs(v: u8x32) -> u8x32
     ensures { result ≡ map high v }
 {
-    digits(v >> u8x32::splat(4))
+    u8x32::from_array(DIGITS).swizzle_dyn_within::<16>(v >> u8x32::splat(4))
 }
 
 #[inline(always)]
 fn lows(v: u8x32) -> u8x32
     ensures { result ≡ map low v }
 {
-    digits(v & u8x32::splat(15))
+    u8x32::from_array(DIGITS).swizzle_dyn_within::<16>(v & u8x32::splat(15))
 }
 
 /// The first 32 of the digits, high and low in turn.

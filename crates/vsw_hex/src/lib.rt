@@ -4,4 +4,4 @@
 mod block;
 mod text;
 
-pub use text::append_hex;
+pub use text::{append_hex, write_hex};

@@ -1,6 +1,6 @@
 //! Hexadecimal text at the end of a text.
 
-ghost use Rattle.std.specs.Prelude.{◌≡◌, ◌+◌, ◌*◌, ◌<◌, ◌≤◌, ◌++◌, OnOk, IfSome, take, drop, length};
+ghost use Rattle.std.specs.Prelude.{◌≡◌, ◌+◌, ◌*◌, ◌/◌, ◌<◌, ◌≤◌, ◌++◌, OnOk, IfSome, take, drop, length};
 ghost use Rattle.hex.specs.Hex.{encode_lower};
 
 use crate::block::write_lanes;
@@ -30,16 +30,28 @@ fn write_block(bytes: &[u8], i: usize, text: &mut [u8])
     write_lanes(bytes, 32 * i, &mut text[64 * i..]);
 }
 
+/// Writes the text of the last 32 bytes again, or that of the bytes that fill no block.
+fn write_rest(bytes: &[u8], text: &mut [u8])
+    requires long { length text.old ≡ 2 * length bytes.now }
+    requires front { take (64 * (length bytes.now / 32)) text.old ≡ encode_lower (take (32 * (length bytes.now / 32)) bytes.now) }
+    ensures { text.new ≡ encode_lower bytes.now }
+{
+    if bytes.len() < 32 {
+        return write_few(bytes, text);
+    }
+    let from = bytes.len() - 32;
+    write_lanes(bytes, from, &mut text[2 * from..]);
+}
+
 /// Writes two digits for each byte over a text of that length.
-fn write_hex(bytes: &[u8], text: &mut [u8])
+pub fn write_hex(bytes: &[u8], text: &mut [u8])
     requires { length text.old ≡ 2 * length bytes.now }
     ensures { text.new ≡ encode_lower bytes.now }
 {
-    let blocks = bytes.len() / 32;
-    for i in 0..blocks {
+    for i in 0..bytes.len() / 32 {
         write_block(bytes, i, text);
     }
-    write_few(&bytes[32 * blocks..], &mut text[64 * blocks..]);
+    write_rest(bytes, text);
 }
 
 /// How long a text is with two digits more for each of so many bytes.

@@ -5,10 +5,10 @@ use native.Mathlib.Decide.{ℕ_discrete}
 use Rattle.vsw_merge.specs.Order.{is_entry, is_read, reads_at, entry_at, rise_of}
 use Rattle.vsw_merge.specs.Steps.{first_entry, first_reads, past_entry, past_reads}
 use Rattle.vsw_merge.proofs.Fronts.{first_here, first_none, past_here, past_none}
-use Rattle.vsw_report.specs.declared.told.ToldLine.{ToldLine}
+use Rattle.vsw_merge.specs.Line.{TextLine}
 
 -- counts from n on that never fall, and rise after an entry
-abbrev pub Rises : ℕ → List ToldLine → Type 0
+abbrev pub Rises : ℕ → List TextLine → Type 0
 Rises n [] = Unit {0}
 Rises n (l ∷ ls) = (n ≤ l.count) × Rises (l.count + rise_of l.entry) ls
 
@@ -17,19 +17,19 @@ and_false true x e = e
 and_false false x e = refl
 
 -- at another count a line is neither
-pub not_read : (n : ℕ) (l : ToldLine) → l.count ≢ n → is_read n l ≡ false
+pub not_read : (n : ℕ) (l : TextLine) → l.count ≢ n → is_read n l ≡ false
 not_read n l ne = and_false (not l.entry) (l.count == n) (ne_eqb l.count n ne)
 
-pub not_entry : (n : ℕ) (l : ToldLine) → l.count ≢ n → is_entry n l ≡ false
+pub not_entry : (n : ℕ) (l : TextLine) → l.count ≢ n → is_entry n l ≡ false
 not_entry n l ne = and_false l.entry (l.count == n) (ne_eqb l.count n ne)
 
 -- a line of a count that isn't past: a read at it, its entry, or later
-pub data Stands (n : ℕ) (l : ToldLine) : Type 0 where
+pub data Stands (n : ℕ) (l : TextLine) : Type 0 where
   read_here : is_read n l ≡ true → is_entry n l ≡ false → l.count ≡ n → l.count + rise_of l.entry ≡ n → Stands n l
   entry_here : is_read n l ≡ false → is_entry n l ≡ true → l.count ≡ n → l.count + rise_of l.entry ≡ n + 1 → Stands n l
   later : n < l.count → Stands n l
 
-pub stands : (n : ℕ) (l : ToldLine) → n ≤ l.count → Stands n l
+pub stands : (n : ℕ) (l : TextLine) → n ≤ l.count → Stands n l
 stands n l le = by (ℕ_discrete l.count n) where
   here : (e : Bool) → l.entry ≡ e → l.count ≡ n → Stands n l
   here true e c = entry_here (ap (λ b. not b && (l.count == n)) e) (ap (λ b. b && (l.count == n)) e ∙ eq-eqb l.count n c) c (ap (λ b. l.count + rise_of b) e ∙ omega (arith, c))
@@ -39,39 +39,39 @@ stands n l le = by (ℕ_discrete l.count n) where
   by (yes c) = here l.entry refl c
   by (no ne) = later (omega (arith, le, ne))
 
-yes_filter : (p : ToldLine → Bool) (l : ToldLine) (ls : List ToldLine) → p l ≡ true → filter p (l ∷ ls) ≡ l ∷ filter p ls
+yes_filter : (p : TextLine → Bool) (l : TextLine) (ls : List TextLine) → p l ≡ true → filter p (l ∷ ls) ≡ l ∷ filter p ls
 yes_filter p l ls e = cond-true (p l) _ _ e
 
-no_filter : (p : ToldLine → Bool) (l : ToldLine) (ls : List ToldLine) → p l ≡ false → filter p (l ∷ ls) ≡ filter p ls
+no_filter : (p : TextLine → Bool) (l : TextLine) (ls : List TextLine) → p l ≡ false → filter p (l ∷ ls) ≡ filter p ls
 no_filter p l ls e = cond-false (p l) _ _ e
 
 -- nothing is of a count below all
-pub no_reads : (n low : ℕ) (ls : List ToldLine) → Rises low ls → n < low → reads_at n ls ≡ []
+pub no_reads : (n low : ℕ) (ls : List TextLine) → Rises low ls → n < low → reads_at n ls ≡ []
 no_reads n low [] r lt = refl
 no_reads n low (l ∷ ls) r lt =
     no_filter (is_read n) l ls (not_read n l (λ e. omega (arith, e, r.0, lt))) ∙ no_reads n (l.count + rise_of l.entry) ls r.1 (omega (arith, r.0, lt))
 
-pub no_entry : (n low : ℕ) (ls : List ToldLine) → Rises low ls → n < low → entry_at n ls ≡ []
+pub no_entry : (n low : ℕ) (ls : List TextLine) → Rises low ls → n < low → entry_at n ls ≡ []
 no_entry n low [] r lt = refl
 no_entry n low (l ∷ ls) r lt =
     no_filter (is_entry n) l ls (not_entry n l (λ e. omega (arith, e, r.0, lt))) ∙ no_entry n (l.count + rise_of l.entry) ls r.1 (omega (arith, r.0, lt))
 
-far : (n d : ℕ) (l : ToldLine) → l.count ≡ n → n < d → l.count ≢ d
+far : (n d : ℕ) (l : TextLine) → l.count ≡ n → n < d → l.count ≢ d
 far n d l c lt s = omega (arith, c, s, lt)
 
 -- a caller's lines behind a count
-abbrev pub rest_of : ℕ → List ToldLine → List ToldLine
+abbrev pub rest_of : ℕ → List TextLine → List TextLine
 rest_of n ls = past_entry n (past_reads n ls)
 
 -- what goes over at a count is what is of this count, and what is left rises from the next one and has all that is of later ones
-pub record Behind (n : ℕ) (ls : List ToldLine) : Type 0 where
+pub record Behind (n : ℕ) (ls : List TextLine) : Type 0 where
   pub reads : first_reads n ls ≡ reads_at n ls
   pub entry : first_entry n (past_reads n ls) ≡ entry_at n ls
   pub rises : Rises (n + 1) (rest_of n ls)
   pub later_reads : (d : ℕ) → n < d → reads_at d (rest_of n ls) ≡ reads_at d ls
   pub later_entry : (d : ℕ) → n < d → entry_at d (rest_of n ls) ≡ entry_at d ls
 
-over_read : (n : ℕ) (l : ToldLine) (ls : List ToldLine) → is_read n l ≡ true → is_entry n l ≡ false → l.count ≡ n → Behind n ls → Behind n (l ∷ ls)
+over_read : (n : ℕ) (l : TextLine) (ls : List TextLine) → is_read n l ≡ true → is_entry n l ≡ false → l.count ≡ n → Behind n ls → Behind n (l ∷ ls)
 over_read n l ls e f c b = record {
   reads = first_here n l ls e ∙ (ap (λ r. l ∷ r) b.reads ∙ sym (yes_filter (is_read n) l ls e));
   entry = ap (first_entry n) (past_here n l ls e) ∙ (b.entry ∙ sym (no_filter (is_entry n) l ls f));
@@ -80,7 +80,7 @@ over_read n l ls e f c b = record {
   later_entry = λ d lt. ap (λ r. entry_at d (past_entry n r)) (past_here n l ls e) ∙ (b.later_entry d lt ∙ sym (no_filter (is_entry d) l ls (not_entry d l (far n d l c lt))));
 }
 
-over_entry : (n : ℕ) (l : ToldLine) (ls : List ToldLine) → is_read n l ≡ false → is_entry n l ≡ true → l.count ≡ n → Rises (n + 1) ls → Behind n (l ∷ ls)
+over_entry : (n : ℕ) (l : TextLine) (ls : List TextLine) → is_read n l ≡ false → is_entry n l ≡ true → l.count ≡ n → Rises (n + 1) ls → Behind n (l ∷ ls)
 over_entry n l ls e f c r =
     let left : rest_of n (l ∷ ls) ≡ ls = ap (past_entry n) (past_none n l ls e) ∙ cond-true (is_entry n l) _ _ f in
     record {
@@ -91,7 +91,7 @@ over_entry n l ls e f c r =
       later_entry = λ d lt. ap (entry_at d) left ∙ sym (no_filter (is_entry d) l ls (not_entry d l (far n d l c lt)));
     }
 
-over_later : (n : ℕ) (l : ToldLine) (ls : List ToldLine) → n < l.count → Rises (l.count + rise_of l.entry) ls → Behind n (l ∷ ls)
+over_later : (n : ℕ) (l : TextLine) (ls : List TextLine) → n < l.count → Rises (l.count + rise_of l.entry) ls → Behind n (l ∷ ls)
 over_later n l ls lt r =
     let e = not_read n l (λ s. omega (arith, s, lt)) in
     let f = not_entry n l (λ s. omega (arith, s, lt)) in
@@ -105,7 +105,7 @@ over_later n l ls lt r =
       later_entry = λ d lt. ap (entry_at d) left;
     }
 
-pub behind : (n : ℕ) (ls : List ToldLine) → Rises n ls → Behind n ls
+pub behind : (n : ℕ) (ls : List TextLine) → Rises n ls → Behind n ls
 behind n [] r = record { reads = refl; entry = refl; rises = tt; later_reads = λ d lt. refl; later_entry = λ d lt. refl }
 behind n (l ∷ ls) r = by (stands n l r.0) (λ s. behind n ls s) where
   by : Stands n l → (Rises n ls → Behind n ls) → Behind n (l ∷ ls)

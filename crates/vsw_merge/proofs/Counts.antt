@@ -1,18 +1,18 @@
 -- Lines within their counts, and what is left of them.
-use Rattle.std.proofs.Common.{◌≡◌, ℕ, ◌+◌, ◌<◌, ◌≤◌, List, [], ◌∷◌, map, refl, sym, ap, ap₂, ◌∙◌, subst, arith}
+use Rattle.std.proofs.Common.{◌≡◌, ℕ, ◌+◌, ◌<◌, ◌≤◌, List, [], ◌∷◌, refl, sym, ap, ◌∙◌, subst, arith}
 use Rattle.std.proofs.lemmas.Bool.{cond-true, cond-false}
-use Rattle.vsw_merge.specs.Order.{InCounts, AllInCounts, emptied, is_entry, rise_of}
-use Rattle.vsw_merge.specs.Steps.{first_reads, past, past_entry, past_reads}
+use Rattle.vsw_merge.specs.Order.{InCounts, is_entry, rise_of}
+use Rattle.vsw_merge.specs.Steps.{first_reads, past_entry}
 use Rattle.vsw_merge.proofs.Behind.{Stands, read_here, entry_here, later, stands, not_read, not_entry, rest_of}
 use Rattle.vsw_merge.proofs.Fronts.{first_here, past_here, past_none}
-use Rattle.vsw_report.specs.declared.told.ToldLine.{ToldLine}
+use Rattle.vsw_merge.specs.Line.{TextLine}
 
-bounds : (low high : ℕ) (ls : List ToldLine) → InCounts low ls high → low ≤ high
+bounds : (low high : ℕ) (ls : List TextLine) → InCounts low ls high → low ≤ high
 bounds low high [] h = h
 bounds low high (l ∷ ls) h = let up = bounds (l.count + rise_of l.entry) high ls h.1 in omega (arith, h.0, up)
 
 -- behind a count the lines are of later ones
-pub within : (n high : ℕ) (ls : List ToldLine) → InCounts n ls high → n < high → InCounts (n + 1) (rest_of n ls) high
+pub within : (n high : ℕ) (ls : List TextLine) → InCounts n ls high → n < high → InCounts (n + 1) (rest_of n ls) high
 within n high [] h lt = omega (arith, lt)
 within n high (l ∷ ls) h lt = by (stands n l h.0) (λ k. within n high ls k lt) where
   by : Stands n l → (InCounts n ls high → InCounts (n + 1) (rest_of n ls) high) → InCounts (n + 1) (rest_of n (l ∷ ls)) high
@@ -25,32 +25,10 @@ within n high (l ∷ ls) h lt = by (stands n l h.0) (λ k. within n high ls k lt
       subst (λ r. InCounts (n + 1) r high) (sym left) (omega (arith, up), h.1)
 
 -- at the last count all are reads
-pub last_reads : (n : ℕ) (ls : List ToldLine) → InCounts n ls n → first_reads n ls ≡ ls
+pub last_reads : (n : ℕ) (ls : List TextLine) → InCounts n ls n → first_reads n ls ≡ ls
 last_reads n [] h = refl
 last_reads n (l ∷ ls) h = by (stands n l h.0) (λ k. last_reads n ls k) where
   by : Stands n l → (InCounts n ls n → first_reads n ls ≡ ls) → first_reads n (l ∷ ls) ≡ l ∷ ls
   by (read_here e f c m) go = first_here n l ls e ∙ ap (λ r. l ∷ r) (go (subst (λ k. InCounts k ls n) m h.1))
   by (entry_here e f c m) go = let up = bounds (l.count + rise_of l.entry) n ls h.1 in absurd (omega (arith, m, up))
   by (later up) go = let top = bounds (l.count + rise_of l.entry) n ls h.1 in absurd (omega (arith, up, top))
-
--- and none is left
-last_past : (n : ℕ) (ls : List ToldLine) → InCounts n ls n → past_reads n ls ≡ []
-last_past n [] h = refl
-last_past n (l ∷ ls) h = by (stands n l h.0) (λ k. last_past n ls k) where
-  by : Stands n l → (InCounts n ls n → past_reads n ls ≡ []) → past_reads n (l ∷ ls) ≡ []
-  by (read_here e f c m) go = past_here n l ls e ∙ go (subst (λ k. InCounts k ls n) m h.1)
-  by (entry_here e f c m) go = let up = bounds (l.count + rise_of l.entry) n ls h.1 in absurd (omega (arith, m, up))
-  by (later up) go = let top = bounds (l.count + rise_of l.entry) n ls h.1 in absurd (omega (arith, up, top))
-
--- the same of all callers
-pub all_within : (n high : ℕ) (callers : List (List ToldLine)) → AllInCounts n callers high → n < high → AllInCounts (n + 1) (past n callers) high
-all_within n high [] h lt = tt
-all_within n high (ls ∷ callers) h lt = (within n high ls h.0 lt, all_within n high callers h.1 lt)
-
-pub all_past : (n high : ℕ) (callers : List (List ToldLine)) → n ≡ high → AllInCounts n callers high → map (past_reads n) callers ≡ emptied callers
-all_past n high [] e h = refl
-all_past n high (ls ∷ callers) e h = ap₂ (λ x y. x ∷ y) (last_past n ls (subst (λ k. InCounts n ls k) (sym e) h.0)) (all_past n high callers e h.1)
-
-pub emptied_past : (n : ℕ) (callers : List (List ToldLine)) → emptied (past n callers) ≡ emptied callers
-emptied_past n [] = refl
-emptied_past n (ls ∷ callers) = ap (λ r. [] ∷ r) (emptied_past n callers)

@@ -1,3 +1,5 @@
 pub mod Order
 pub mod Law
 pub mod Steps
+pub mod Line
+pub mod Marks

@@ -3,6 +3,7 @@
 
 mod law;
 mod lines;
+mod marks;
 mod merging;
 
 pub use law::laws;

@@ -1,50 +1,54 @@
 //! The lines of one caller, which wait to be merged.
 
-ghost use Rattle.std.specs.Prelude.{◌≡◌, ◌++◌, ◌∷◌, [], OnOk, OnErr, take, drop};
-ghost use Rattle.vsw_merge.specs.Order.{is_entry, is_read};
-ghost use Rattle.vsw_merge.specs.Steps.{begins, first_entry, first_reads, past_entry, past_reads};
+ghost use Rattle.std.specs.Prelude.{◌≡◌, ◌++◌, ◌∷◌, [], OnOk, OnErr, IfOk};
+ghost use Rattle.vsw_merge.specs.Line.{are_short, text_of, texts};
+ghost use Rattle.vsw_merge.specs.Steps.{first_entry, first_reads, past_entry, past_reads};
+ghost use Rattle.vsw_report.specs.Short.{drops_short, tells_short};
+ghost use Rattle.vsw_report.specs.declared.told.By.TheVariants as by;
+ghost use Rattle.vsw_report.specs.declared.told.What.TheVariants as what;
 
+use crate::marks::{Mark, add_mark, copy, entry_from, reads_from};
 use std::alloc::Global;
-use std::collections::VecDeque;
 use std::marker::Model;
-use vsw_base::{Items, NoMemory};
-use vsw_report::ToldLine;
+use vsw_base::{Cause, Fate, NoMemory};
+use vsw_policy::{Refusal, Reply};
+use vsw_report::Page;
 
-/// The lines of a worker or a controller at a port in a round, in its order.
+/// The lines of a worker or a controller at a port in a round, in its order, as texts. Lines that go over pass a cursor;
+/// their text and marks stay until all have gone over.
 #[derive(Drop)]
 pub struct Caller {
-    lines: VecDeque<ToldLine>,
+    text: Page,
+    marks: Vec<Mark>,
+    /// Lines that have gone over, and where their text ends.
+    passed: usize,
+    from: usize,
 }
 
 impl Model for Caller {
-    ghost use Rattle.std.specs.Prelude.{List};
-    ghost use Rattle.vsw_report.specs.declared.told.ToldLine.{ToldLine};
+    ghost use Rattle.std.specs.Prelude.{◌≤◌, List, length, drop};
+    ghost use Rattle.vsw_merge.specs.Line.{TextLine};
+    ghost use Rattle.vsw_merge.specs.Marks.{AreEnds, lines_in};
 
-    ghost Value = { List ToldLine };
+    ghost Value = { List TextLine };
 
-    ghost view = { λ s. s.lines.items };
+    ghost invariant = { λ s. (s.passed ≤ length s.marks.items) × AreEnds s.from (drop s.passed s.marks.items) (length s.text) };
+
+    ghost view = { λ s. lines_in s.from (drop s.passed s.marks.items) s.text };
 }
 
-fn is_read_at(line: &ToldLine, count: u32) -> bool
-    ensures { result ≡ is_read count line.now }
+/// Whether a packet was dropped for want of memory.
+fn is_short_fate(fate: &Fate) -> bool
+    ensures { result ≡ drops_short fate.now }
 {
-    !line.entry && line.count == count
+    matches!(fate, Fate::Drop(Cause::Memory))
 }
 
-fn is_entry_at(line: &ToldLine, count: u32) -> bool
-    ensures { result ≡ is_entry count line.now }
+/// Whether a command was refused for want of memory.
+fn is_short_reply(reply: Reply) -> bool
+    ensures { result ≡ tells_short (what.Reply reply) }
 {
-    line.entry && line.count == count
-}
-
-/// Adds a line.
-fn push(list: &mut Items<ToldLine>, line: ToldLine) -> Result<(), NoMemory>
-    ensures { OnOk result (list.new ≡ list.old ++ line ∷ []) }
-{
-    match list.push(line) {
-        Ok(()) => Ok(()),
-        Err(_) => Err(NoMemory),
-    }
+    matches!(reply, Reply::Refused(Refusal::Memory))
 }
 
 impl Caller {
@@ -53,77 +57,85 @@ impl Caller {
         ensures { result ≡ [] }
     {
         Caller {
-            lines: VecDeque::new(alloc),
+            text: Page::new(alloc),
+            marks: Vec::new(alloc),
+            passed: 0,
+            from: 0,
         }
     }
 
-    /// Appends a line; where there is no memory for it, nothing changes.
-    pub fn push(&mut self, line: ToldLine) -> Result<(), NoMemory>
-        ensures ok { OnOk result (self.new ≡ self.old ++ line ∷ []) }
+    /// Tells what became of a packet that a worker brought: of a pass its outgoing bytes, and none of a drop. Where there
+    /// is no memory for the line, nothing changes.
+    pub fn tell_packet(
+        &mut self,
+        worker: u32,
+        packet: u32,
+        entry: bool,
+        count: u32,
+        fate: &Fate,
+        bytes: &[u8],
+    ) -> Result<(), NoMemory>
+        ensures ok { OnOk result (self.new ≡ self.old ++ text_of (record { by = by.Worker worker; item = packet; entry = entry; count = count; what = what.Fate fate.now bytes.now }) ∷ []) }
         ensures err { OnErr result (self.new ≡ self.old) }
     {
-        match self.lines.push_back(line) {
-            Ok(()) => Ok(()),
-            Err(_) => Err(NoMemory),
-        }
+        let len = self.text.as_slice().len();
+        let short = is_short_fate(fate);
+        self.text
+            .packet_line(worker, packet, entry, count, fate, bytes)?;
+        add_mark(&mut self.marks, &mut self.text, len, entry, count, short)
     }
 
-    fn begins_with_read(&self, count: u32) -> bool
-        ensures { result ≡ begins (is_read count) self.now }
-    {
-        match self.lines.front() {
-            Some(line) => is_read_at(line, count),
-            None => false,
-        }
-    }
-
-    fn begins_with_entry(&self, count: u32) -> bool
-        ensures { result ≡ begins (is_entry count) self.now }
-    {
-        match self.lines.front() {
-            Some(line) => is_entry_at(line, count),
-            None => false,
-        }
-    }
-
-    /// Moves the first line, if there is one.
-    fn move_first(&mut self, out: &mut Items<ToldLine>) -> Result<(), NoMemory>
-        ensures told { OnOk result (out.new ≡ out.old ++ take 1 self.old) }
-        ensures rest { self.new ≡ drop 1 self.old }
-    {
-        match self.lines.pop_front() {
-            Some(line) => push(out, line),
-            None => Ok(()),
-        }
-    }
-
-    /// Moves the reads at a count, with which its lines begin.
-    pub(crate) fn move_reads(
+    /// Tells the reply to a controller's command. Where there is no memory for the line, nothing changes.
+    pub fn tell_reply(
         &mut self,
+        controller: u16,
+        line: u32,
+        entry: bool,
         count: u32,
-        out: &mut Items<ToldLine>,
+        reply: Reply,
     ) -> Result<(), NoMemory>
-        ensures told { OnOk result (out.new ≡ out.old ++ first_reads count self.old) }
+        ensures ok { OnOk result (self.new ≡ self.old ++ text_of (record { by = by.Controller controller; item = line; entry = entry; count = count; what = what.Reply reply }) ∷ []) }
+        ensures err { OnErr result (self.new ≡ self.old) }
+    {
+        let len = self.text.as_slice().len();
+        let short = is_short_reply(reply);
+        self.text.reply_line(controller, line, entry, count, reply)?;
+        add_mark(&mut self.marks, &mut self.text, len, entry, count, short)
+    }
+
+    /// Appends the reads at a count, with which its lines begin, and answers whether one tells of want of memory.
+    pub(crate) fn move_reads(&mut self, count: u32, out: &mut Vec<u8>) -> Result<bool, NoMemory>
+        ensures text { OnOk result (out.new.items ≡ out.old.items ++ texts (first_reads count self.old)) }
+        ensures short { IfOk result (λ short. short ≡ are_short (first_reads count self.old)) }
         ensures rest { OnOk result (self.new ≡ past_reads count self.old) }
     {
-        while self.begins_with_read(count) {
-            self.move_first(out)?;
-        }
-        Ok(())
+        let run = reads_from(&self.marks, self.passed, self.from, count);
+        copy(out, self.text.as_slice(), self.from, run.end)?;
+        self.passed = run.passed;
+        self.from = run.end;
+        Ok(run.short)
     }
 
-    /// Moves the entry of a count, if its lines begin with it.
-    pub(crate) fn move_entry(
-        &mut self,
-        count: u32,
-        out: &mut Items<ToldLine>,
-    ) -> Result<(), NoMemory>
-        ensures told { OnOk result (out.new ≡ out.old ++ first_entry count self.old) }
+    /// Appends the entry of a count, if its lines begin with it.
+    pub(crate) fn move_entry(&mut self, count: u32, out: &mut Vec<u8>) -> Result<bool, NoMemory>
+        ensures text { OnOk result (out.new.items ≡ out.old.items ++ texts (first_entry count self.old)) }
+        ensures short { IfOk result (λ short. short ≡ are_short (first_entry count self.old)) }
         ensures rest { OnOk result (self.new ≡ past_entry count self.old) }
     {
-        if self.begins_with_entry(count) {
-            return self.move_first(out);
-        }
-        Ok(())
+        let run = entry_from(&self.marks, self.passed, self.from, count);
+        copy(out, self.text.as_slice(), self.from, run.end)?;
+        self.passed = run.passed;
+        self.from = run.end;
+        Ok(run.short)
+    }
+
+    /// No lines again. The rooms stay.
+    pub(crate) fn clear(&mut self)
+        ensures { self.new ≡ [] }
+    {
+        self.text.clear();
+        self.marks.clear();
+        self.passed = 0;
+        self.from = 0;
     }
 }

@@ -89,11 +89,11 @@ abbrev pub loose_text : Loose → List ℕ
 loose_text l = decimal l.packet ++ loose_cause_text l.cause
 
 -- a port's line: its number, and its counts of entries before and after the round
-unfoldable pub port_line : PortRound → List ℕ
-port_line p = codes "port " ++ decimal p.port ++ codes " " ++ decimal p.before ++ codes " " ++ decimal p.after ++ codes "\n"
+unfoldable pub port_line : ℕ → ℕ → ℕ → List ℕ
+port_line port before after = codes "port " ++ decimal port ++ codes " " ++ decimal before ++ codes " " ++ decimal after ++ codes "\n"
 
 abbrev pub port_text : PortRound → List ℕ
-port_text p = port_line p ++ flat_map line_text p.lines
+port_text p = port_line p.port p.before p.after ++ flat_map line_text p.lines
 
 -- a round: its first packet, its ports, and its loose packets
 abbrev pub round_text : Round → List ℕ

@@ -2,10 +2,13 @@
 #![tactic(auto)]
 
 mod line;
+mod page;
+mod piece;
 mod print;
 mod round;
 mod told;
 
-pub use print::{HEAD_LINE, print_round};
+pub use page::Page;
+pub use print::{HEAD_LINE, loose_part, port_line, print_round, round_line};
 pub use round::{Loose, LooseCause, PortRound, Round};
 pub use told::{By, ToldLine, What};

@@ -42,7 +42,7 @@ loose_texts (l ∷ ls) = ap (λ t. loose_text l ++ t) (loose_texts ls)
 
 port_texts : (p : PortRound) → texts_of (port_lines p) ≡ port_text p
 unfolding port_line
-port_texts p = ap (λ t. port_line p ++ t) (told_texts p.lines)
+port_texts p = ap (λ t. port_line p.port p.before p.after ++ t) (told_texts p.lines)
 
 ports_texts : (ps : List PortRound) → texts_of (ports_lines ps) ≡ flat_map port_text ps
 ports_texts [] = refl

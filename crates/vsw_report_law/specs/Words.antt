@@ -37,7 +37,7 @@ pub data Line : Type 0 where
 -- its text, as it is printed
 abbrev pub text_of : Line → List ℕ
 text_of (of_round first) = codes "round " ++ decimal first ++ codes "\n"
-text_of (of_port port before after) = port_line (record { port = port; before = before; after = after; lines = [] })
+text_of (of_port port before after) = port_line port before after
 text_of (of_told l) = line_text l
 text_of loose_begins = codes "loose\n"
 text_of (of_loose l) = loose_text l

@@ -1,17 +1,12 @@
 //! Lines and rounds for tests.
 
-ghost use Rattle.std.specs.Prelude.{◌≡◌, false};
-
 use std::alloc::{AllocError, Global};
 use vsw_base::{Cause, Fate, Items};
 use vsw_policy::Reply;
 use vsw_report::{By, Loose, PortRound, Round, ToldLine, What};
 
 /// A packet that was dropped.
-pub fn dropped(alloc: Global, by: By, item: u32, entry: bool, count: u32, why: Cause) -> ToldLine
-    ensures entry { result.entry ≡ entry }
-    ensures count { result.count ≡ count }
-{
+pub fn dropped(alloc: Global, by: By, item: u32, entry: bool, count: u32, why: Cause) -> ToldLine {
     ToldLine {
         by,
         item,
@@ -25,10 +20,7 @@ pub fn dropped(alloc: Global, by: By, item: u32, entry: bool, count: u32, why: C
 }
 
 /// A command.
-pub fn replied(by: By, item: u32, entry: bool, count: u32, reply: Reply) -> ToldLine
-    ensures entry { result.entry ≡ entry }
-    ensures count { result.count ≡ count }
-{
+pub fn replied(by: By, item: u32, entry: bool, count: u32, reply: Reply) -> ToldLine {
     ToldLine {
         by,
         item,

@@ -1,9 +1,13 @@
-use Rattle.std.proofs.Common.{map, ap, ◌∙◌, bit_and}
-use Rattle.std.proofs.lemmas.Simd.{zip2_splat, map-map}
-use Rattle.vsw_hex.specs.Digit.{digit}
+use Rattle.std.proofs.Common.{bit_and, arith}
+use Rattle.std.proofs.lemmas.Nat.{and_le_r}
+use Rattle.std.proofs.lemmas.Simd.{zip2_splat}
+use Rattle.vsw_hex.proofs.Lanes.{low_ok, looked_up}
 use Rattle.vsw_hex.proofs.block.lows.Goals as goal
+
+pub swizzle : goal.swizzle
+swizzle c = low_ok c.args.v c.fits-v
 
 pub returns : goal.returns
 returns c =
     let v = c.args.v in
-    c.digits.ensures ∙ (ap (map digit) (zip2_splat bit_and v 32 15 c.fits-v.0) ∙ map-map digit (λ b. bit_and b 15) v)
+    looked_up (λ x. bit_and x 15) v _ c.fits-v (zip2_splat bit_and v 32 15 c.fits-v.0) (λ x h. omega (arith, and_le_r x 15))

@@ -1,6 +1,6 @@
-use Rattle.std.proofs.Common.{◌≡◌, List, ℕ, ◌≤◌, ◌+◌, ◌*◌, ◌-◌, ◌/◌, ◌++◌, ◌∙◌, ap, refl, subst, arith, take, drop, length}
+use Rattle.std.proofs.Common.{◌≡◌, List, ℕ, ◌≤◌, ◌+◌, ◌*◌, ◌/◌, ◌++◌, ◌∙◌, ap, refl, subst, arith, take, drop, length}
 use Rattle.hex.specs.Hex.{encode_lower}
-use Rattle.vsw_hex.proofs.Next.{next_block, both_parts, no_digits}
+use Rattle.vsw_hex.proofs.Next.{next_block, no_digits}
 use Rattle.vsw_hex.proofs.text.write_hex.Goals as goal
 
 pub loop-i-init : goal.loop-i-init
@@ -16,9 +16,7 @@ loop-i-preserved c =
       long = c.write_block.ensures.long ∙ c.loop-i.invariant.long;
     }
 
-pub returns : goal.returns
-returns c =
-    let blocks : ℕ = length c.args.bytes.now / 32 in
-    let last : c.loop-i.i ≡ blocks = omega arith in
-    let Front : ℕ → Type 0 = λ n. take (64 * n) c.loop-i.text ≡ encode_lower (take (32 * n) c.args.bytes.now) in
-    both_parts (64 * blocks) (32 * blocks) (length c.loop-i.text - 64 * blocks) c.args.bytes.now c.loop-i.text c.write_few.new.text (subst Front last c.loop-i.invariant.front) c.write_few.ensures (omega arith)
+pub write_rest-requires-clause-front : goal.write_rest-requires-clause-front
+write_rest-requires-clause-front c =
+    let last : c.loop-i.i ≡ length c.args.bytes.now / 32 = omega (arith, c.loop-i-test.false, c.loop-i.auto.i-end) in
+    subst (λ (n : ℕ). take (64 * n) c.loop-i.text ≡ encode_lower (take (32 * n) c.args.bytes.now)) last c.loop-i.invariant.front

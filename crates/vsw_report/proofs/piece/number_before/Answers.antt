@@ -1,6 +1,6 @@
 use Rattle.std.proofs.Common.{arith}
 use Rattle.vsw_report.proofs.Digits.{ten_digits}
-use Rattle.vsw_report.proofs.line.number_before.Goals as goal
+use Rattle.vsw_report.proofs.piece.number_before.Goals as goal
 
 pub write_digits-requires : goal.write_digits-requires
 write_digits-requires c =

@@ -1,6 +1,8 @@
 //! The rule that a packet meets.
 
-ghost use Rattle.std.specs.Prelude.{◌≡◌, ◌≤◌, option_copied, option_map};
+ghost use Rattle.std.specs.Prelude.{◌≡◌, ◌≤◌, ◌||◌, List, Option, None, false, drop, is_none, length, option_copied, option_map, if◌then◌else◌};
+ghost use Rattle.vsw_base.specs.declared.header.Header.{Header};
+ghost use Rattle.vsw_choice.specs.Choice.{Chosen};
 ghost use Rattle.vsw_choice.specs.Choice as spec;
 ghost use Rattle.vsw_choice.specs.ChoiceSeen.{seen};
 
@@ -52,43 +54,87 @@ fn least<'a>(rules: &'a [Rule], packet: &Packet<'_>) -> Option<&'a Rule>
 fn applies(group: &Group, dir: Dir, packet: &Packet<'_>) -> bool
     ensures { result ≡ spec.applies dir packet.now group.now }
 {
-    group.dir == dir && all_hold(group.when.as_slice(), packet)
+    group.dir == dir && (group.when.is_empty() || all_hold(group.when.as_slice(), packet))
 }
 
-/// A pick marked last is chosen at once; any other gives way to what later groups choose.
-fn decided<'a>(
-    group: u16,
-    picked: Option<&'a Rule>,
-    later: Option<Choice<'a>>,
-) -> Option<Choice<'a>>
-    ensures { option_map seen result ≡ spec.after group (option_copied picked.entry) (option_map seen later.entry) }
+/// Whether a packet of this direction can meet a rule of the group.
+#[inline(always)]
+fn asks(group: &Group, dir: Dir) -> bool
+    ensures { (hs : List Header) (later : Option Chosen) → result ≡ false → (if spec.applies dir hs group.now then spec.after group.now.number (spec.pick group.now.rules hs) later else later) ≡ later }
 {
-    match picked {
-        None => later,
-        Some(rule) => {
-            if rule.last || later.is_none() {
-                Some(Choice { group, rule })
-            } else {
-                later
+    group.dir == dir && !group.rules.is_empty()
+}
+
+/// How many groups are left without those at the end that no packet of this direction meets a rule of.
+#[inline(always)]
+fn asked(dir: Dir, groups: &[Group]) -> usize
+    ensures within { result ≤ length groups.now }
+    ensures rest { (hs : List Header) → spec.choose dir (drop result groups.now) hs ≡ None }
+{
+    let mut left = groups.len();
+    while left > 0 {
+        if asks(&groups[left - 1], dir) {
+            return left;
+        }
+        left -= 1;
+    }
+    0
+}
+
+/// Whether a pick is chosen, where later groups choose this: one marked last is, at once; any other gives
+/// way to what later groups choose.
+#[inline(always)]
+fn wins(picked: &Rule, later: Option<&Rule>) -> bool
+    ensures { result ≡ (picked.now.last || is_none (option_copied later.entry)) }
+{
+    picked.last || later.is_none()
+}
+
+/// The choice among so many groups, behind which none chooses.
+fn choose_among<'a>(
+    dir: Dir,
+    groups: &'a [Group],
+    count: usize,
+    stack: &Stack,
+) -> Option<Choice<'a>>
+    requires within { count ≤ length groups.now }
+    requires rest { spec.choose dir (drop count groups.now) stack.now ≡ None }
+    ensures { option_map seen result ≡ spec.choose dir groups.now stack.now }
+{
+    let packet = Packet::of(stack);
+    let mut found: Option<&'a Rule> = None;
+    let mut number = 0;
+    let mut left = count;
+    while left > 0 {
+        left -= 1;
+        let group = &groups[left];
+        if applies(group, dir, &packet) {
+            if let Some(rule) = pick(group.rules.as_slice(), &packet) {
+                if wins(rule, found) {
+                    found = Some(rule);
+                    number = group.number;
+                }
             }
         }
+    }
+    match found {
+        None => None,
+        Some(rule) => Some(Choice {
+            group: number,
+            rule,
+        }),
     }
 }
 
 /// The choice among a layer's groups: over those of the packet's direction whose conditions hold, in
 /// order, the first pick marked last, else the last pick.
+#[inline(always)]
 pub fn choose<'a>(dir: Dir, groups: &'a [Group], stack: &Stack) -> Option<Choice<'a>>
     ensures { option_map seen result ≡ spec.choose dir groups.now stack.now }
 {
-    let packet = Packet::of(stack);
-    let mut found: Option<Choice<'a>> = None;
-    let mut left = groups.len();
-    while left > 0 {
-        left -= 1;
-        let group = &groups[left];
-        if applies(group, dir, &packet) {
-            found = decided(group.number, pick(group.rules.as_slice(), &packet), found);
-        }
+    let count = asked(dir, groups);
+    if count == 0 {
+        return None;
     }
-    found
+    choose_among(dir, groups, count, stack)
 }

@@ -128,7 +128,7 @@ headers_stay : (hs : List Header) → map (written nothing) hs ≡ hs
 headers_stay [] = refl
 headers_stay (h ∷ hs) = rw (header_stays h, headers_stay hs) refl
 
-stack_stays : (hs : List Header) → with_set nothing hs ≡ hs
+pub stack_stays : (hs : List Header) → with_set nothing hs ≡ hs
 stack_stays hs = ap (λ (ks : List Header). take (outer hs) hs ++ ks) (headers_stay (inner hs)) ∙ take-append-drop (outer hs) hs
 
 action_turned : (action : Action) (hs ks : List Header) → is_stack hs ≡ true → is_stateless action ≡ false → is_stack ks ≡ true → alike (inner ks) (inner hs) → key_from ks ≡ mirror_of (key_from (edited action hs)) → key_from (with_set (reverse_set_of (set_of action) hs) ks) ≡ mirror_of (key_from hs)

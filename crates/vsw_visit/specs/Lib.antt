@@ -1,4 +1,5 @@
 pub mod Visit
+pub mod Decision
 pub mod Known
 pub mod Wanted
 pub mod Law

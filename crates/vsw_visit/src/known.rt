@@ -1,13 +1,12 @@
 //! A packet of a pair.
 
-ghost use Rattle.std.specs.Prelude.{◌≡◌};
+ghost use Rattle.std.specs.Prelude.{◌≡◌, option_map};
 ghost use Rattle.vsw_visit.specs.Known as spec;
+ghost use Rattle.vsw_visit.specs.declared.outcome.Want.TheVariants.{Touch};
 
-use crate::outcome::{Visit, Want};
 use vsw_base::{Dir, Moment, Set, Track};
 use vsw_layer::LayerSpec;
 use vsw_layerflow::{Pair, due};
-use vsw_rule::Action;
 
 fn is_same_state(a: Track, b: Track) -> bool
     ensures { result ≡ spec.same_state a b }
@@ -23,49 +22,29 @@ fn is_same_state(a: Track, b: Track) -> bool
 }
 
 /// What the pair writes into packets of this direction.
-fn set_towards(pair: &Pair, dir: Dir) -> Set
-    ensures { result ≡ spec.set_towards dir pair.now }
+#[inline(always)]
+pub fn set_towards(pair: &Pair, dir: Dir) -> &Set
+    ensures { result.now ≡ spec.set_towards dir pair.now }
 {
     if dir == pair.dir {
-        pair.forward_set
+        &pair.forward_set
     } else {
-        pair.reverse_set
+        &pair.reverse_set
     }
 }
 
-/// What is wanted of the pair, where a packet of this moment moves it to this state.
-fn touch(times: &LayerSpec, pair: &Pair, state: Track, moment: Moment) -> Option<Want>
-    ensures { result ≡ spec.touch times.now state moment pair.now }
+/// The last use that a packet of this moment leaves the pair, where it changes the pair by moving it to
+/// this state.
+#[inline(always)]
+pub fn last_use(times: &LayerSpec, pair: &Pair, state: Track, moment: Moment) -> Option<Moment>
+    ensures { option_map (Touch pair.now.number state) result ≡ spec.touch times.now state moment pair.now }
 {
     let due = due(pair.last_use, state, times.idle, times.linger);
     if moment.micros() > due.micros() {
-        return Some(Want::Touch {
-            number: pair.number,
-            state,
-            last: moment,
-        });
+        return Some(moment);
     }
     if is_same_state(pair.state, state) {
         return None;
     }
-    Some(Want::Touch {
-        number: pair.number,
-        state,
-        last: pair.last_use,
-    })
-}
-
-/// The packet goes on with what the pair writes in its direction.
-pub fn go_with(times: &LayerSpec, pair: &Pair, state: Track, dir: Dir, moment: Moment) -> Visit
-    ensures { result ≡ spec.goes_with times.now dir moment state pair.now }
-{
-    Visit::Goes {
-        action: Action::Edit {
-            decap: false,
-            set: set_towards(pair, dir),
-            encap: None,
-        },
-        leaves: None,
-        wants: touch(times, pair, state, moment),
-    }
+    Some(pair.last_use)
 }

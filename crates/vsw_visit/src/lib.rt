@@ -2,14 +2,16 @@
 //! wanted of the layer's pairs. Nothing is changed here.
 #![tactic(auto)]
 
-mod asked;
+mod deciding;
 mod known;
 mod law;
 mod outcome;
 mod visiting;
 mod wanted;
 
+pub use deciding::decide;
+pub use known::{last_use, set_towards};
 pub use law::laws;
-pub use outcome::{Visit, Want};
-pub use visiting::{visit, visit_with};
-pub use wanted::reverse_set;
+pub use outcome::{Decision, Visit, Want};
+pub use visiting::visit;
+pub use wanted::{reverse_set, set_of, wanted_pair};

@@ -1,15 +1,14 @@
 //! The pair that a stateful rule wants.
 
-ghost use Rattle.std.specs.Prelude.{◌≡◌, IsTrue};
+ghost use Rattle.std.specs.Prelude.{◌≡◌, List};
 ghost use Rattle.vsw_compose.specs.Edit.{edited};
 ghost use Rattle.vsw_flowid.specs.Key.{key_from};
 ghost use Rattle.vsw_rule.specs.Field as field;
-ghost use Rattle.vsw_rule.specs.Match.{can_do};
+ghost use Rattle.vsw_base.specs.declared.header.Header.{Header};
 ghost use Rattle.vsw_visit.specs.Wanted as spec;
 
 use vsw_base::{Control, Dir, Header, Ip4, LayerKey, Mac, Moment, Set, Stack, Track};
-use vsw_compose::edit_stack;
-use vsw_flowid::{key_of, mirror};
+use vsw_flowid::mirror;
 use vsw_layerflow::Pair;
 use vsw_rule::{Action, Rule};
 use vsw_tcp::opening;
@@ -49,6 +48,7 @@ fn ports(headers: &[Header]) -> (Option<u16>, Option<u16>)
 
 /// What replies get written, where `set` is written into this stack: for each field that is set and is
 /// there, the mirrored field gets the value from before.
+#[inline(always)]
 pub fn reverse_set(set: &Set, stack: &Stack) -> Set
     ensures { result ≡ spec.reverse_set_of set.now stack.now }
 {
@@ -67,7 +67,8 @@ pub fn reverse_set(set: &Set, stack: &Stack) -> Set
 }
 
 /// What the action writes into inner headers.
-fn set_of(action: &Action) -> Set
+#[inline(always)]
+pub fn set_of(action: &Action) -> Set
     ensures { result ≡ spec.set_of action.now }
 {
     match action {
@@ -83,21 +84,6 @@ fn set_of(action: &Action) -> Set
     }
 }
 
-/// The key of the stack after the action.
-fn key_after(action: &Action, stack: &Stack) -> LayerKey
-    requires can { IsTrue (can_do action.now stack.now) }
-    ensures { result ≡ key_from (edited action.now stack.now) }
-{
-    match action {
-        Action::Edit { decap, set, encap } => {
-            let mut after = Stack::room();
-            edit_stack(*decap, set, encap, stack, &mut after);
-            key_of(&after)
-        }
-        Action::Allow | Action::Drop => key_of(stack),
-    }
-}
-
 /// The state of a pair that a packet of this key makes: fragments and other protocols than TCP have none
 /// that moves.
 fn first_state(key: &LayerKey, control: Control, dir: Dir) -> Track
@@ -110,7 +96,9 @@ fn first_state(key: &LayerKey, control: Control, dir: Dir) -> Track
     }
 }
 
-/// The pair of this number that a stateful rule of a group wants for a packet.
+/// The pair of this number that a stateful rule of a group wants for a packet: of its key as it meets the
+/// layer, what replies get written, and its key as it goes on.
+#[inline(always)]
 pub fn wanted_pair(
     number: u32,
     group: u16,
@@ -118,26 +106,22 @@ pub fn wanted_pair(
     dir: Dir,
     control: Control,
     moment: Moment,
-    stack: &Stack,
+    met: &LayerKey,
+    back: &Set,
+    left: &LayerKey,
 ) -> Pair
-    requires can { IsTrue (can_do rule.now.action stack.now) }
-    ensures { result ≡ spec.wanted_pair number dir control moment stack.now group rule.now }
+    ensures { (hs : List Header) → met.now ≡ key_from hs → back.now ≡ spec.reverse_set_of (spec.set_of rule.now.action) hs → left.now ≡ key_from (edited rule.now.action hs) → result ≡ spec.wanted_pair number dir control moment hs group rule.now }
 {
-    let forward = key_of(stack);
-    let forward_set = set_of(&rule.action);
-    let reverse = mirror(&key_after(&rule.action, stack));
-    let reverse_set = reverse_set(&forward_set, stack);
-    let state = first_state(&forward, control, dir);
     Pair {
         number,
         group,
         rule: rule.number,
         dir,
-        forward,
-        forward_set,
-        reverse,
-        reverse_set,
-        state,
+        forward: *met,
+        forward_set: set_of(&rule.action),
+        reverse: mirror(left),
+        reverse_set: *back,
+        state: first_state(met, control, dir),
         last_use: moment,
     }
 }

@@ -1,4 +1,5 @@
 pub mod Places
+pub mod Going
 pub mod Held
 pub mod Made
 pub mod Goes

@@ -1,4 +1,5 @@
 pub mod Walk
 pub mod Met
 pub mod Made
+pub mod Going
 pub mod Law

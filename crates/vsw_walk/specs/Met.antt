@@ -1,5 +1,5 @@
 -- A packet that meets a layer, and one that a layer made something of.
-use Rattle.std.specs.Prelude.{ℕ, List, Option, Some, None}
+use Rattle.std.specs.Prelude.{ℕ, List, Bool, true, false, Option, Some, None}
 use Rattle.vsw_base.specs.declared.fate.Verdict.{Verdict}
 use Rattle.vsw_base.specs.declared.flow.Crossing.{Crossing}
 use Rattle.vsw_base.specs.declared.header.Header.{Header}
@@ -18,6 +18,11 @@ from x told kept ls = after told (along x.id.dir x.control x.moment ls told.stac
 -- a walk that ended so
 abbrev pub ended_with : Verdict → Told → ℕ → Walk
 ended_with verdict told kept = record { verdict = verdict; stack = told.stack; kept = kept; changes = told.changes; looked = told.looked; due = told.due }
+
+-- the verdict of a layer from which the packet doesn't go on
+abbrev pub stopped : Bool → Verdict → Option Verdict
+stopped true verdict = None
+stopped false verdict = Some verdict
 
 -- a walk that a layer ended, if it dropped the packet, and that else goes on
 abbrev pub stepped : Option Verdict → Told → ℕ → (List Header → ℕ → Walk) → Walk

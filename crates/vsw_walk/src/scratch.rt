@@ -1,24 +1,28 @@
 //! What a walk tells: the changes that it wants, what it looked for, and what it made of the stack.
 
-ghost use Rattle.std.specs.Prelude.{◌≡◌, ◌≤◌, ◌<◌, ◌+◌, ◌∷◌, ◌++◌, [], Option, None, IfOk, IsTrue, length, option_copied, option_map};
+ghost use Rattle.std.specs.Prelude.{◌≡◌, ◌≤◌, ◌<◌, ◌+◌, ◌∷◌, ◌++◌, [], Option, None, Some, false, IfOk, IsTrue, length, option_copied, option_map};
 ghost use Rattle.vsw_base.specs.declared.flow.Outer.{Outer};
 ghost use Rattle.vsw_base.specs.declared.flow.Set.{Set};
-ghost use Rattle.vsw_compose.specs.Edit.{edited, kept_after};
-ghost use Rattle.vsw_layerflow.specs.Pairs.{number_of};
+ghost use Rattle.vsw_compose.specs.Edit.{kept_after};
+ghost use Rattle.vsw_flowid.specs.Key.{key_from};
+ghost use Rattle.vsw_layer.specs.Layer.{seen};
+ghost use Rattle.vsw_layerflow.specs.Pairs.{number_of, pair_of};
 ghost use Rattle.vsw_rule.specs.declared.rule.Action.TheVariants.{Edit};
 ghost use Rattle.vsw_rule.specs.Match.{can_do};
+ghost use Rattle.vsw_visit.specs.Wanted.{nothing, wanted_pair};
+ghost use Rattle.vsw_walk.specs.Going.{GoesOn, Looks};
 ghost use Rattle.vsw_walk.specs.Walk as spec;
-ghost use Rattle.vsw_walk.specs.Walk.{due_of, leaving, wanting};
-ghost use Rattle.vsw_walk.specs.Made.{editing};
+ghost use Rattle.vsw_walk.specs.Walk.{due_of, leaving};
+ghost use Rattle.vsw_walk.specs.declared.scratch.Wanted.TheVariants.{Make, Touch};
 
 use crate::turns::Turns;
 use std::alloc::Global;
 use std::marker::Model;
-use vsw_base::{Dir, LayerKey, Moment, NoMemory, Outer, Set, Stack, Track};
-use vsw_layer::LayerSpec;
+use vsw_base::{Control, Dir, LayerKey, Mac, Moment, NoMemory, Outer, Set, Stack, Track};
+use vsw_layer::{Layer, LayerSpec};
 use vsw_layerflow::{Pair, due};
-use vsw_rule::Action;
-use vsw_visit::Want;
+use vsw_rule::{Action, Rule};
+use vsw_visit::{reverse_set, set_of, wanted_pair};
 
 /// The most changes that a walk can want: two of each of 128 layers.
 const ROOM: usize = 256;
@@ -53,10 +57,10 @@ pub enum Wanted {
 /// that holds them, if one does. The layer is told by its place among those of the policy.
 #[derive(Clone, Copy, Debug, PartialEq, Eq)]
 pub struct Looked {
-    pub layer: u32,
-    pub dir: Dir,
     pub key: LayerKey,
     pub found: Option<u32>,
+    pub layer: u32,
+    pub dir: Dir,
 }
 
 /// Room for what a walk tells, kept from packet to packet.
@@ -155,39 +159,57 @@ impl Scratch {
         self.due = None;
     }
 
-    /// Tells what is looked for in a layer, and when the pair that was found there is due.
-    pub(crate) fn look(
-        &mut self,
-        layer: u32,
-        dir: Dir,
-        key: &LayerKey,
-        found: Option<&Pair>,
-        times: &LayerSpec,
-    )
+    /// Looks in the layer at a place for the pair of the packet, and tells the look and when the pair is due.
+    #[inline(always)]
+    pub(crate) fn look<'a>(&mut self, layer: &'a Layer, place: u32, dir: Dir) -> Option<&'a Pair>
         requires { length self.old.looked + 1 ≤ 128 }
-        ensures stack { self.new.stack ≡ self.old.stack }
-        ensures edits { self.new.edits ≡ self.old.edits }
+        ensures found { option_copied result ≡ pair_of dir (key_from self.old.stack) (seen layer.now).pairs }
+        ensures looks { Looks place (seen layer.now) dir self.old self.new }
         ensures room { length self.new.edits < length self.new.looked }
-        ensures changes { self.new.changes ≡ self.old.changes }
-        ensures looked { self.new.looked ≡ self.old.looked ++ (record { layer = layer; dir = dir; key = key.now; found = option_map number_of (option_copied found.entry) }) ∷ [] }
-        ensures due { self.new.due ≡ spec.sooner self.old.due (due_of times.now (option_copied found.entry)) }
     {
-        let _ = self.looked.push(Looked {
+        let found = self.stack.look(&layer.flows, place, dir, &mut self.looked);
+        if let Some(pair) = found {
+            self.due = sooner(self.due, due_in(pair, &layer.spec));
+        }
+        found
+    }
+
+    /// Tells that a pair leaves a layer, if one does.
+    #[inline(always)]
+    pub(crate) fn leave(&mut self, layer: u32, leaves: Option<&Pair>)
+        requires { length self.old.changes + 1 ≤ 256 }
+        ensures { self.new ≡ record self.old { changes = self.old.changes ++ leaving layer (option_map number_of (option_copied leaves.entry)) } }
+    {
+        if let Some(pair) = leaves {
+            self.wanted.push_reserved(Wanted::Leave {
+                layer,
+                number: pair.number,
+            });
+        }
+    }
+
+    /// Tells that a pair gets this state and last use.
+    pub(crate) fn touch(&mut self, layer: u32, pair: &Pair, state: Track, last: Moment)
+        requires { length self.old.changes + 1 ≤ 256 }
+        ensures { self.new ≡ record self.old { changes = self.old.changes ++ Touch layer pair.now.number state last ∷ [] } }
+    {
+        // The check finds the types within a pair only where one of them is named beside the push.
+        let _mac: &Option<Mac> = &pair.forward_set.dst_mac;
+        self.wanted.push_reserved(Wanted::Touch {
             layer,
-            dir,
-            key: *key,
-            found: number_in(found),
+            number: pair.number,
+            state,
+            last,
         });
-        self.due = sooner(self.due, due_in(found, times));
     }
 
     /// The packet goes on from a layer as its action leaves it. How many encapsulations are kept of so many.
+    #[inline(always)]
     pub(crate) fn go_on(&mut self, action: &Action, kept: u8) -> u8
         requires can { IsTrue (can_do action.now self.old.stack) }
         requires few { length self.old.looked ≤ 128 }
         requires room { length self.old.edits < length self.old.looked }
-        ensures told { self.new ≡ record self.old { stack = edited action.now self.old.stack; edits = self.old.edits ++ editing action.now } }
-        ensures kept { result ≡ kept_after action.now self.old.stack kept }
+        ensures { GoesOn action.now [] self.old self.new kept result }
     {
         match action {
             Action::Edit { decap, set, encap } => self.edit(*decap, set, encap, kept),
@@ -195,15 +217,26 @@ impl Scratch {
         }
     }
 
+    /// The packet goes on with this written into its inner headers. Where that is nothing it isn't edited.
+    pub(crate) fn write(&mut self, set: &Set, kept: u8) -> u8
+        requires few { length self.old.looked ≤ 128 }
+        requires room { length self.old.edits < length self.old.looked }
+        ensures { GoesOn (Edit false set.now None) [] self.old self.new kept result }
+    {
+        if is_nothing(set) {
+            return kept;
+        }
+        self.edit(false, set, &None, kept)
+    }
+
     /// The packet goes on edited. How many encapsulations are kept of so many.
     fn edit(&mut self, decap: bool, set: &Set, encap: &Option<Outer>, kept: u8) -> u8
         requires can { IsTrue (can_do (Edit decap set.now encap.now) self.old.stack) }
         requires few { length self.old.looked ≤ 128 }
         requires room { length self.old.edits < length self.old.looked }
-        ensures told { self.new ≡ record self.old { stack = edited (Edit decap set.now encap.now) self.old.stack; edits = self.old.edits ++ Edit decap set.now encap.now ∷ [] } }
-        ensures kept { result ≡ kept_after (Edit decap set.now encap.now) self.old.stack kept }
+        ensures { GoesOn (Edit decap set.now encap.now) [] self.old self.new kept result }
     {
-        let _ = self.edits.push(Action::Edit {
+        self.edits.push_reserved(Action::Edit {
             decap,
             set: *set,
             encap: *encap,
@@ -213,35 +246,50 @@ impl Scratch {
         left
     }
 
-    /// Tells what is wanted of a layer: first the pair that leaves, if one does.
-    pub(crate) fn tell(&mut self, layer: u32, leaves: Option<u32>, wants: &Option<Want>)
-        requires { length self.old.changes + 2 ≤ 256 }
-        ensures { self.new ≡ record self.old { changes = self.old.changes ++ (leaving layer leaves ++ wanting layer wants.now) } }
+    /// The packet goes on by a stateful rule of a group, which wants a pair of this number. How many
+    /// encapsulations are kept of so many.
+    pub(crate) fn make(
+        &mut self,
+        layer: u32,
+        number: u32,
+        group: u16,
+        rule: &Rule,
+        dir: Dir,
+        control: Control,
+        moment: Moment,
+        kept: u8,
+    ) -> u8
+        requires can { IsTrue (can_do rule.now.action self.old.stack) }
+        requires few { length self.old.looked ≤ 128 }
+        requires room { length self.old.edits < length self.old.looked }
+        requires changes { length self.old.changes + 1 ≤ 256 }
+        ensures { GoesOn rule.now.action (Make layer (wanted_pair number dir control moment self.old.stack group rule.now) ∷ []) self.old self.new kept result }
     {
-        if let Some(number) = leaves {
-            let _ = self.wanted.push(Wanted::Leave { layer, number });
-        }
-        match wants {
-            None => {}
-            Some(Want::Make(pair)) => {
-                let _ = self.wanted.push(Wanted::Make { layer, pair: *pair });
-            }
-            Some(
-                Want::Touch {
-                    number,
-                    state,
-                    last,
-                },
-            ) => {
-                let _ = self.wanted.push(Wanted::Touch {
-                    layer,
-                    number: *number,
-                    state: *state,
-                    last: *last,
-                });
-            }
-        }
+        let met = self.stack.key();
+        let back = reverse_set(&set_of(&rule.action), self.stack.stack());
+        let left = self.go_on(&rule.action, kept);
+        let after = self.stack.key();
+        self.wanted.push_reserved(Wanted::Make {
+            layer,
+            pair: wanted_pair(
+                number, group, rule, dir, control, moment, &met, &back, &after,
+            ),
+        });
+        left
     }
+}
+
+/// Whether nothing is written.
+#[inline(always)]
+fn is_nothing(set: &Set) -> bool
+    ensures { IsTrue result → set.now ≡ nothing }
+{
+    set.dst_mac.is_none()
+        && set.src_mac.is_none()
+        && set.src_ip.is_none()
+        && set.dst_ip.is_none()
+        && set.src_port.is_none()
+        && set.dst_port.is_none()
 }
 
 /// How many encapsulations are kept of so many, where the first of the stack goes.
@@ -255,33 +303,19 @@ fn left_of(kept: u8, decap: bool, stack: &Stack) -> u8
     }
 }
 
-/// The lesser of two moments, where there are two.
-fn sooner(a: Option<Moment>, b: Option<Moment>) -> Option<Moment>
-    ensures { result ≡ spec.sooner a b }
+/// The lesser of a moment, where there is one, and another.
+fn sooner(a: Option<Moment>, b: Moment) -> Option<Moment>
+    ensures { result ≡ spec.sooner a (Some b) }
 {
-    match (a, b) {
-        (a, None) => a,
-        (None, b) => b,
-        (Some(a), Some(b)) => Some(Moment::of(a.micros().min(b.micros()))),
-    }
-}
-
-/// The number of the pair that was found.
-fn number_in(found: Option<&Pair>) -> Option<u32>
-    ensures { result ≡ option_map number_of (option_copied found.entry) }
-{
-    match found {
-        None => None,
-        Some(pair) => Some(pair.number),
+    match a {
+        None => Some(b),
+        Some(a) => Some(Moment::of(a.micros().min(b.micros()))),
     }
 }
 
 /// When the pair that was found is due.
-fn due_in(found: Option<&Pair>, times: &LayerSpec) -> Option<Moment>
-    ensures { result ≡ due_of times.now (option_copied found.entry) }
+fn due_in(pair: &Pair, times: &LayerSpec) -> Moment
+    ensures { Some result ≡ due_of times.now (Some pair.now) }
 {
-    match found {
-        None => None,
-        Some(pair) => Some(due(pair.last_use, pair.state, times.idle, times.linger)),
-    }
+    due(pair.last_use, pair.state, times.idle, times.linger)
 }

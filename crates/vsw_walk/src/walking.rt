@@ -1,19 +1,26 @@
 //! The walk over the layers.
 
-ghost use Rattle.std.specs.Prelude.{◌≡◌, ◌≤◌, ◌+◌, ◌*◌, ℕ, List, length, map, reverse};
+ghost use Rattle.std.specs.Prelude.{◌≡◌, ◌≤◌, ◌<◌, ◌+◌, ◌++◌, ◌*◌, ℕ, List, None, IsTrue, true, false, length, map, option_copied, option_map, reverse};
 ghost use Rattle.vsw_base.specs.declared.fate.Verdict.TheVariants.{Pass};
 ghost use Rattle.vsw_base.specs.declared.header.Header.{Header};
-ghost use Rattle.vsw_walk.specs.Met.{ended_with, from, met, stepped};
-ghost use Rattle.vsw_walk.specs.Walk.{Walk, after, crossed, placed, until_after, until_of, walk_of};
+ghost use Rattle.vsw_walk.specs.Met.{ended_with, from, met, stepped, stopped};
+ghost use Rattle.vsw_walk.specs.Walk.{Walk, after, crossed, leaving, placed, until_after, until_of, walk_of, wanting};
+ghost use Rattle.vsw_walk.specs.Going.{GoesOn};
 ghost use Rattle.vsw_walk.specs.Made.{Leads};
 ghost use Rattle.vsw_layer.specs.Layer.{seen};
+ghost use Rattle.vsw_layerflow.specs.Pairs.{number_of};
+ghost use Rattle.vsw_rule.specs.declared.rule.Action.TheVariants.{Edit};
+ghost use Rattle.vsw_rule.specs.Match.{can_do};
+ghost use Rattle.vsw_visit.specs.Known as known;
+ghost use Rattle.vsw_visit.specs.Visit as visit;
 
 use crate::scratch::Scratch;
-use vsw_base::{Crossing, Dir, Moment, Verdict};
-use vsw_flowid::key_of;
+use vsw_base::{Crossing, Dir, Moment, Track, Verdict};
 use vsw_layer::Layer;
+use vsw_layerflow::Pair;
 use vsw_policy::Policy;
-use vsw_visit::{Visit, visit_with};
+use vsw_rule::Rule;
+use vsw_visit::{Decision, decide, last_use, set_towards};
 
 /// What a walk comes to. The stack with which a packet passes is in the scratch.
 #[derive(Clone, Copy, Debug, PartialEq, Eq)]
@@ -28,42 +35,117 @@ pub struct Walked {
     pub until: Moment,
 }
 
-/// The packet meets the layer at this place. Where it is dropped there, the verdict.
+/// The packet goes on by a rule of a group. How many encapsulations are kept of so many.
+#[inline(always)]
+fn go_by_rule(
+    layer: &Layer,
+    place: u32,
+    group: u16,
+    rule: &Rule,
+    leaves: Option<&Pair>,
+    crossing: &Crossing,
+    kept: u8,
+    scratch: &mut Scratch,
+) -> u8
+    requires can { IsTrue (can_do rule.now.action scratch.old.stack) }
+    requires room { length scratch.old.changes + 2 ≤ 256 }
+    requires few { length scratch.old.looked ≤ 128 }
+    requires edits { length scratch.old.edits < length scratch.old.looked }
+    ensures { GoesOn rule.now.action (leaving place (option_map number_of (option_copied leaves.entry)) ++ wanting place (visit.wanted layer.now.next_pair crossing.now.id.dir crossing.now.control crossing.now.moment scratch.old.stack group rule.now)) scratch.old scratch.new kept result }
+{
+    scratch.leave(place, leaves);
+    if !rule.stateful {
+        return scratch.go_on(&rule.action, kept);
+    }
+    scratch.make(
+        place,
+        layer.next_pair,
+        group,
+        rule,
+        crossing.id.dir,
+        crossing.control,
+        crossing.moment,
+        kept,
+    )
+}
+
+/// The packet goes on by a pair of the layer, which gets this state. How many encapsulations are kept of
+/// so many.
+#[inline(never)]
+fn go_by_pair(
+    layer: &Layer,
+    place: u32,
+    pair: &Pair,
+    state: Track,
+    crossing: &Crossing,
+    kept: u8,
+    scratch: &mut Scratch,
+) -> u8
+    requires room { length scratch.old.changes + 2 ≤ 256 }
+    requires few { length scratch.old.looked ≤ 128 }
+    requires edits { length scratch.old.edits < length scratch.old.looked }
+    ensures { GoesOn (Edit false (known.set_towards crossing.now.id.dir pair.now) None) (wanting place (known.touch layer.now.spec state crossing.now.moment pair.now)) scratch.old scratch.new kept result }
+{
+    if let Some(last) = last_use(&layer.spec, pair, state, crossing.moment) {
+        scratch.touch(place, pair, state, last);
+    }
+    scratch.write(set_towards(pair, crossing.id.dir), kept)
+}
+
+/// The packet meets the layer at this place. Whether it goes on; where it is dropped, the verdict is told.
+#[inline(always)]
 fn step(
     layer: &Layer,
     place: u32,
     crossing: &Crossing,
-    kept: &mut u8,
+    walked: &mut Walked,
     scratch: &mut Scratch,
-) -> Option<Verdict>
-    requires leads { Leads crossing.now.id.stack scratch.old kept.old }
+) -> bool
+    requires leads { Leads crossing.now.id.stack scratch.old walked.old.kept }
     requires room { length scratch.old.changes + 2 ≤ 256 }
     requires looks { length scratch.old.looked + 1 ≤ 128 }
-    ensures leads { Leads crossing.now.id.stack scratch.new kept.new }
+    ensures leads { Leads crossing.now.id.stack scratch.new walked.new.kept }
     ensures room { length scratch.new.changes ≤ length scratch.old.changes + 2 }
     ensures looks { length scratch.new.looked ≤ length scratch.old.looked + 1 }
-    ensures value { (next : List Header → ℕ → Walk) → after scratch.old (met crossing.now place (seen layer.now) scratch.old.stack kept.old next) ≡ stepped result scratch.new kept.new next }
+    ensures verdict { result ≡ true → walked.new.verdict ≡ walked.old.verdict }
+    ensures value { (next : List Header → ℕ → Walk) → after scratch.old (met crossing.now place (seen layer.now) scratch.old.stack walked.old.kept next) ≡ stepped (stopped result walked.new.verdict) scratch.new walked.new.kept next }
 {
-    let key = key_of(scratch.stack());
-    let found = layer.flows.find(crossing.id.dir, &key);
-    scratch.look(place, crossing.id.dir, &key, found, &layer.spec);
-    match visit_with(
+    let found = scratch.look(layer, place, crossing.id.dir);
+    match decide(
         layer,
         found,
         crossing.id.dir,
         crossing.control,
-        crossing.moment,
         scratch.stack(),
     ) {
-        Visit::Stops(verdict) => Some(verdict),
-        Visit::Goes {
-            action,
+        Decision::Drops(verdict) => {
+            walked.verdict = verdict;
+            false
+        }
+        Decision::Allows { leaves } => {
+            scratch.leave(place, leaves);
+            true
+        }
+        Decision::ByRule {
+            group,
+            rule,
             leaves,
-            wants,
         } => {
-            scratch.tell(place, leaves, &wants);
-            *kept = scratch.go_on(&action, *kept);
-            None
+            walked.kept = go_by_rule(
+                layer,
+                place,
+                group,
+                rule,
+                leaves,
+                crossing,
+                walked.kept,
+                scratch,
+            );
+            true
+        }
+        Decision::ByPair { pair, state } => {
+            walked.kept = go_by_pair(layer, place, pair, state, crossing, walked.kept, scratch);
+            true
         }
     }
 }
@@ -73,57 +155,57 @@ fn go_out(
     layers: &[Layer],
     place: u32,
     crossing: &Crossing,
-    kept: &mut u8,
+    walked: &mut Walked,
     scratch: &mut Scratch,
-) -> Verdict
-    requires leads { Leads crossing.now.id.stack scratch.old kept.old }
+)
+    requires leads { Leads crossing.now.id.stack scratch.old walked.old.kept }
+    requires passes { walked.old.verdict ≡ Pass }
     requires places { place + length layers.now ≤ 128 }
     requires room { length scratch.old.changes + 2 * length layers.now ≤ 256 }
     requires looks { length scratch.old.looked + length layers.now ≤ 128 }
-    ensures leads { Leads crossing.now.id.stack scratch.new kept.new }
-    ensures value { from crossing.now scratch.old kept.old (placed place (map seen layers.now)) ≡ ended_with result scratch.new kept.new }
+    ensures leads { Leads crossing.now.id.stack scratch.new walked.new.kept }
+    ensures value { from crossing.now scratch.old walked.old.kept (placed place (map seen layers.now)) ≡ ended_with walked.new.verdict scratch.new walked.new.kept }
 {
     let [layer, rest @ ..] = layers else {
-        return Verdict::Pass;
+        return;
     };
-    if let Some(verdict) = step(layer, place, crossing, kept, scratch) {
-        return verdict;
+    if step(layer, place, crossing, walked, scratch) {
+        go_out(rest, place + 1, crossing, walked, scratch);
     }
-    go_out(rest, place + 1, crossing, kept, scratch)
 }
 
 /// The packet crosses these layers in reverse, of which the first has place 0.
 #[tactic(auto, using(crate::proofs::Places::last_first))]
-fn go_in(layers: &[Layer], crossing: &Crossing, kept: &mut u8, scratch: &mut Scratch) -> Verdict
-    requires leads { Leads crossing.now.id.stack scratch.old kept.old }
+fn go_in(layers: &[Layer], crossing: &Crossing, walked: &mut Walked, scratch: &mut Scratch)
+    requires leads { Leads crossing.now.id.stack scratch.old walked.old.kept }
+    requires passes { walked.old.verdict ≡ Pass }
     requires few { length layers.now ≤ 128 }
     requires room { length scratch.old.changes + 2 * length layers.now ≤ 256 }
     requires looks { length scratch.old.looked + length layers.now ≤ 128 }
-    ensures leads { Leads crossing.now.id.stack scratch.new kept.new }
-    ensures value { from crossing.now scratch.old kept.old (reverse (placed 0 (map seen layers.now))) ≡ ended_with result scratch.new kept.new }
+    ensures leads { Leads crossing.now.id.stack scratch.new walked.new.kept }
+    ensures value { from crossing.now scratch.old walked.old.kept (reverse (placed 0 (map seen layers.now))) ≡ ended_with walked.new.verdict scratch.new walked.new.kept }
 {
     let Some((layer, rest)) = layers.split_last() else {
-        return Verdict::Pass;
+        return;
     };
-    let place = rest.len() as u32;
-    if let Some(verdict) = step(layer, place, crossing, kept, scratch) {
-        return verdict;
+    if step(layer, rest.len() as u32, crossing, walked, scratch) {
+        go_in(rest, crossing, walked, scratch);
     }
-    go_in(rest, crossing, kept, scratch)
 }
 
 /// The packet crosses these layers, of which the first has place 0, in the order of its direction.
-fn cross(layers: &[Layer], crossing: &Crossing, kept: &mut u8, scratch: &mut Scratch) -> Verdict
-    requires leads { Leads crossing.now.id.stack scratch.old kept.old }
+fn cross(layers: &[Layer], crossing: &Crossing, walked: &mut Walked, scratch: &mut Scratch)
+    requires leads { Leads crossing.now.id.stack scratch.old walked.old.kept }
+    requires passes { walked.old.verdict ≡ Pass }
     requires few { length layers.now ≤ 128 }
     requires room { length scratch.old.changes + 2 * length layers.now ≤ 256 }
     requires looks { length scratch.old.looked + length layers.now ≤ 128 }
-    ensures leads { Leads crossing.now.id.stack scratch.new kept.new }
-    ensures value { from crossing.now scratch.old kept.old (crossed crossing.now.id.dir (placed 0 (map seen layers.now))) ≡ ended_with result scratch.new kept.new }
+    ensures leads { Leads crossing.now.id.stack scratch.new walked.new.kept }
+    ensures value { from crossing.now scratch.old walked.old.kept (crossed crossing.now.id.dir (placed 0 (map seen layers.now))) ≡ ended_with walked.new.verdict scratch.new walked.new.kept }
 {
     match crossing.id.dir {
-        Dir::Out => go_out(layers, 0, crossing, kept, scratch),
-        Dir::In => go_in(layers, crossing, kept, scratch),
+        Dir::Out => go_out(layers, 0, crossing, walked, scratch),
+        Dir::In => go_in(layers, crossing, walked, scratch),
     }
 }
 
@@ -141,13 +223,14 @@ pub fn walk(policy: &Policy, crossing: &Crossing, scratch: &mut Scratch) -> Walk
 {
     let first = &crossing.id.stack;
     scratch.begin(first);
-    let mut kept = first.encaps();
-    let verdict = cross(policy.layers(), crossing, &mut kept, scratch);
-    Walked {
-        verdict,
-        kept,
-        until: until(verdict, scratch.due()),
-    }
+    let mut walked = Walked {
+        verdict: Verdict::Pass,
+        kept: first.encaps(),
+        until: Moment::of(u64::MAX),
+    };
+    cross(policy.layers(), crossing, &mut walked, scratch);
+    walked.until = until(walked.verdict, scratch.due());
+    walked
 }
 
 /// Until when a walk holds that ends with this verdict, and of whose pairs the first is due at `due`.

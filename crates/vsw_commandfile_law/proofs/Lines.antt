@@ -62,7 +62,8 @@ line_good policy n d l h =
     read word.Port d (port_number policy.ports) port there (λ place_of_port number_of_port.
     let who = listed policy.controllers controller (known_listed policy.controllers place controller number) in
     let whose = port_there policy.ports place_of_port port number_of_port in
-    subst (Asks policy n) (same_value _ l h) (refl, (who, whose, command_good verb o command asked)))))))))))
+    let may = command_good verb o command asked in
+    subst (Asks policy n) (same_value _ l h) (refl, (who, whose, may.0, may.1)))))))))))
 
 from_line : {A : Type 0} (n : ℕ) (r : Result A Fault) (x : A) → of_line n r ≡ Ok x → r ≡ Ok x
 from_line n (Ok y) x h = cc

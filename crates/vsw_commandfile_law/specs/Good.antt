@@ -1,17 +1,33 @@
 -- What holds of every commands file that is read.
 use Rattle.std.specs.Prelude.{◌≡◌, ◌≢◌, ◌⊎◌, ℕ, ◌≤◌, ◌<◌, List, [], ◌∷◌, ◌++◌, true, length, Ok, All}
 use Rattle.std.specs.List.{AllPairs}
+use Rattle.vsw_layer.specs.Numbers.{IsGoodSpec}
+use Rattle.vsw_policy.specs.declared.command.Command.{Command}
+use Rattle.vsw_policy.specs.declared.command.Command.TheVariants.{AddLayer, RemoveLayer, AddGroup, RemoveGroup, PutRules, AddRule, RemoveRule, SetDefault, Sweep}
 use Rattle.vsw_policy.specs.Obey.{rules_given}
 use Rattle.vsw_policy.specs.Sound.{Each, IsGoodRule, is_listed}
 use Rattle.vsw_policyfile.specs.declared.file.PolicyFile.{PolicyFile}
+use Rattle.vsw_policyfile.specs.Good.{AreGoodConds}
 use Rattle.vsw_commandfile.specs.declared.line.Line.{Line}
 use Rattle.vsw_commandfile.specs.Line.{is_port}
 use Rattle.vsw_commandfile.specs.Lines.{lines_of}
 use Rattle.vsw_commandfile.specs.Commands.{commands_file_of}
 
--- what a line asks may be asked: the controller is listed, the port is one of the policy's, and nothing is wrong with the rules
+-- numbers of a new layer and conditions are those that a policy may have
+abbrev pub IsWithin : Command → Type 0
+IsWithin (AddLayer s) = IsGoodSpec s
+IsWithin (RemoveLayer n) = Unit {0}
+IsWithin (AddGroup n g dir when) = AreGoodConds when
+IsWithin (RemoveGroup n g) = Unit {0}
+IsWithin (PutRules n g rs) = Each (λ r. AreGoodConds r.when) rs
+IsWithin (AddRule n g r) = AreGoodConds r.when
+IsWithin (RemoveRule n g k) = Unit {0}
+IsWithin (SetDefault n dir allow) = Unit {0}
+IsWithin (Sweep n now) = Unit {0}
+
+-- what a line asks may be asked: the controller is listed, the port is one of the policy's, nothing is wrong with the rules, and all is within its bounds
 abbrev pub CanAsk : PolicyFile → Line → Type 0
-CanAsk policy l = (is_listed policy.controllers l.controller ≡ true) × (is_port l.port policy.ports ≡ true) × Each IsGoodRule (rules_given l.command)
+CanAsk policy l = (is_listed policy.controllers l.controller ≡ true) × (is_port l.port policy.ports ≡ true) × Each IsGoodRule (rules_given l.command) × IsWithin l.command
 
 -- at most 65,536 lines, with ascending numbers
 pub record AreGood (policy : PolicyFile) (lines : List Line) : Type 0 where

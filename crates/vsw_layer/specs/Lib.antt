@@ -1,3 +1,4 @@
 pub mod Layer
 pub mod Groups
 pub mod Staying
+pub mod Numbers

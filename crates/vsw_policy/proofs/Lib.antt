@@ -4,3 +4,4 @@ pub mod Keeps
 pub mod Counts
 pub mod Alone
 pub mod At
+pub mod Ascending

@@ -3,3 +3,4 @@ pub mod Layers
 pub mod Sound
 pub mod Own
 pub mod Refusals
+pub mod Law

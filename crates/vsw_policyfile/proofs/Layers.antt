@@ -7,6 +7,7 @@ use Rattle.std.proofs.lemmas.Bool.Decides.{nat_tests}
 use Rattle.std.proofs.lemmas.List.Elements.{All-nil, All-push}
 use Rattle.serde_json.specs.Data.{Data}
 use Rattle.vsw_layer.specs.declared.layer.LayerSpec.{LayerSpec}
+use Rattle.vsw_layer.specs.Numbers.{IsGoodSpec}
 use Rattle.vsw_jsonfile.specs.declared.word.Word.TheVariants as word
 use Rattle.vsw_jsonfile.specs.Object.{object_among, read_in}
 use Rattle.vsw_jsonfile.specs.Value.{short_of}
@@ -16,7 +17,7 @@ use Rattle.vsw_policyfile.specs.declared.file.LayerFile.{LayerFile}
 use Rattle.vsw_policyfile.specs.Layer.{listed_number, count_by, room_for, fresh_layer, allows_of, pairs_of, seconds_of, spec_in, layer_words, layer_of, layers_of}
 use Rattle.vsw_policyfile.specs.Good.{AreGoodGroups, IsGoodLayer, AreApart, AreGoodLayers}
 use Rattle.vsw_policyfile.proofs.Steps.{taken, same_value, read, passed, unless}
-use Rattle.vsw_policyfile.proofs.Lists.{kept, no_pairs, pairs_push}
+use Rattle.vsw_policyfile.proofs.Lists.{kept, no_pairs, pairs_push, between}
 use Rattle.vsw_policyfile.proofs.Rules.{groups_good}
 
 spec_layer : (layer : ℕ) (o : Data) (s : LayerSpec) → spec_in layer o ≡ Ok s → s.layer ≡ layer
@@ -29,6 +30,24 @@ spec_layer layer o s h =
     taken (read_in word.Idle o seconds_of) _ s h (λ idle e h.
     taken (read_in word.Linger o seconds_of) _ s h (λ linger e h.
     sym (ap (λ (s : LayerSpec). s.layer) (same_value _ s h))))))))
+
+-- the numbers of a layer that is read are within their bounds
+pub spec_good : (layer : ℕ) (o : Data) (s : LayerSpec) → spec_in layer o ≡ Ok s → IsGoodSpec s
+unfolding spec_in
+spec_good layer o s h =
+    taken (read_in word.Order o short_of) _ s h (λ order e h.
+    taken (read_in word.DefaultOut o allows_of) _ s h (λ allow_out e h.
+    taken (read_in word.DefaultIn o allows_of) _ s h (λ allow_in e h.
+    taken (read_in word.Pairs o pairs_of) _ s h (λ pairs some h.
+    taken (read_in word.Idle o seconds_of) _ s h (λ idle time h.
+    taken (read_in word.Linger o seconds_of) _ s h (λ linger rest h.
+    read word.Pairs o pairs_of pairs some (λ d number.
+    read word.Idle o seconds_of idle time (λ d seconds.
+    read word.Linger o seconds_of linger rest (λ d after.
+    let few = between 0 65536 _ pairs number in
+    let live = between 1 86400 _ idle seconds in
+    let stay = between 1 86400 _ linger after in
+    subst IsGoodSpec (same_value _ s h) (record { pairs = few.1; idle_from = live.0; idle_to = live.1; linger_from = stay.0; linger_to = stay.1 }))))))))))
 
 pub known_listed : (known : List ℕ) (d : Data) (c : ℕ) → listed_number known d ≡ Ok c → list_any (λ m. m == c) known ≡ true
 unfolding listed_number
@@ -70,9 +89,9 @@ counts_kept done l few room c = rw (count_push c done l) (one_more c done l few 
 abbrev LayersKept : List ℕ → List LayerFile → Type 0
 LayersKept known ls = ((c : ℕ) → count_by c ls ≤ 16) × AllPairs AreApart ls × All (IsGoodLayer known) ls
 
-good_layer : (known : List ℕ) (l : LayerFile) → list_any (λ c. c == l.controller) known ≡ true → AreGoodGroups l.groups → IsGoodLayer known l
+good_layer : (known : List ℕ) (l : LayerFile) → list_any (λ c. c == l.controller) known ≡ true → AreGoodGroups l.groups → IsGoodSpec l.spec → IsGoodLayer known l
 unfolding IsGoodLayer
-good_layer known l found groups = (found, groups)
+good_layer known l found groups spec = (found, groups, spec)
 
 push_layer : (known : List ℕ) (done : List LayerFile) (l : LayerFile) → LayersKept known done → count_by l.controller done < 16 → list_any (λ m. (m.controller == l.controller) && (m.spec.layer == l.spec.layer)) done ≡ false → IsGoodLayer known l → LayersKept known (done ++ l ∷ [])
 push_layer known done l q room none good = (
@@ -97,7 +116,7 @@ layer_kept known done d l q h =
     subst (λ (m : LayerFile). LayersKept known (done ++ m ∷ [])) (same_value _ l h)
     (push_layer known done (record { controller = controller; spec = spec; groups = groups }) q (room_left controller done u room)
     (rw (spec_layer layer o spec part) none)
-    (good_layer known (record { controller = controller; spec = spec; groups = groups }) (known_listed known _ controller number) (groups_good _ groups value))))))))))))
+    (good_layer known (record { controller = controller; spec = spec; groups = groups }) (known_listed known _ controller number) (groups_good _ groups value) (spec_good layer o spec part))))))))))))
 
 none_yet : (c : ℕ) → count_by c [] ≤ 16
 none_yet c = omega arith

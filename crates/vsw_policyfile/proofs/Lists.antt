@@ -1,14 +1,16 @@
 -- Lists that are read item by item.
-use Rattle.std.proofs.Common.{◌≡◌, ◌≢◌, ◌==◌, ℕ, ◌+◌, ◌≤◌, ◌<◌, List, [], ◌∷◌, ◌++◌, length, Bool, true, false, nat_le, Result, Ok, refl, subst, arith, get_or, if◌then◌else◌}
+use Rattle.std.proofs.Common.{◌≡◌, ◌≢◌, ◌==◌, ◌&&◌, ℕ, ◌+◌, ◌≤◌, ◌<◌, List, [], ◌∷◌, ◌++◌, length, Bool, true, false, nat_le, Result, Ok, refl, subst, arith, get_or, if◌then◌else◌}
 use Rattle.std.specs.List.{list_any, AllPairs}
 use Rattle.std.proofs.lemmas.Bool.Decides.{nat_tests}
 use Rattle.std.proofs.lemmas.List.Folds.{list_any_at}
 use Rattle.std.proofs.lemmas.List.Quantifiers.{all_pairs_push}
 use Rattle.std.proofs.lemmas.List.{length_push}
 use Rattle.serde_json.specs.Data.{Data}
+use Rattle.vsw_base.proofs.Truths.{both}
 use Rattle.vsw_jsonfile.specs.declared.fault.Step.TheVariants.{Place}
 use Rattle.vsw_jsonfile.specs.declared.fault.Fault.{Fault}
 use Rattle.vsw_jsonfile.specs.Fault.{◌>>=◌, under}
+use Rattle.vsw_jsonfile.specs.Value.{whole_of, number_from}
 use Rattle.vsw_jsonfile.specs.List.{items_in, items_to, items_after}
 use Rattle.vsw_policyfile.proofs.Steps.{taken, same_value, from_under, passed}
 
@@ -33,6 +35,19 @@ as_many f ds xs h = let count = counted f [] ds xs h in omega (arith, count)
 
 pub at_most : (n most : ℕ) → nat_le n most ≡ true → n ≤ most
 at_most n most h = grind (arith, nat_tests)
+
+within_both : (low n high : ℕ) → nat_le low n && nat_le n high ≡ true → (low ≤ n) × (n ≤ high)
+within_both low n high h =
+    let (from, to) = both (nat_le low n) (nat_le n high) h in
+    (at_most low n from, at_most n high to)
+
+-- a number between two
+pub between : (low high : ℕ) (d : Data) (n : ℕ) → number_from low high d ≡ Ok n → (low ≤ n) × (n ≤ high)
+unfolding number_from
+between low high d n h =
+    taken (whole_of d) _ n h (λ m e h.
+    let (fits, same) = passed (nat_le low m && nat_le m high) m n _ h in
+    subst (λ k. (low ≤ k) × (k ≤ high)) same (within_both low m high fits))
 
 -- a list of so many items at most
 pub limited : {A : Type 0} (most : ℕ) (d : Data) (f : List A → Data → Result A Fault) (xs : List A) → (items_to most d >>= items_after f []) ≡ Ok xs → length xs ≤ most

@@ -20,7 +20,7 @@ use Rattle.vsw_policyfile.specs.Port.{fresh_port, fresh_mac, rows_of, port_words
 use Rattle.vsw_policyfile.specs.Policy.{of_part, few, few_in, controllers_in, ports_in, file_words, policy_of, policy_file_of, Tells}
 use Rattle.vsw_policyfile.specs.Good.{AreGoodLayers, AreGoodPorts, IsGoodPolicy, EachIsGood}
 use Rattle.vsw_policyfile.proofs.Steps.{taken, same_value, from_under, from_part, read, passed, unless}
-use Rattle.vsw_policyfile.proofs.Lists.{kept, as_many, at_most, no_pairs, pairs_push, apart}
+use Rattle.vsw_policyfile.proofs.Lists.{kept, as_many, at_most, no_pairs, pairs_push, apart, between}
 use Rattle.vsw_policyfile.proofs.Layers.{layers_good}
 
 fresh_port_apart : (done : List PortFile) (d : Data) (n : ℕ) → fresh_port done d ≡ Ok n → list_any (λ p. p.port == n) done ≡ false
@@ -37,8 +37,11 @@ fresh_mac_apart done d n h =
     let (none, same) = unless (list_any (λ p. p.mac == m) done) m n _ h in
     rw (← same) none)
 
+abbrev HasRows : PortFile → Type 0
+HasRows p = (8 ≤ p.rows) × (p.rows ≤ 16384)
+
 abbrev PortsKept : List ℕ → List PortFile → Type 0
-PortsKept known ps = AllPairs (λ p q. p.port ≢ q.port) ps × AllPairs (λ p q. p.mac ≢ q.mac) ps × All (λ p. AreGoodLayers known p.layers) ps
+PortsKept known ps = AllPairs (λ p q. p.port ≢ q.port) ps × AllPairs (λ p q. p.mac ≢ q.mac) ps × All (λ p. AreGoodLayers known p.layers) ps × All HasRows ps
 
 port_kept : (known : List ℕ) (done : List PortFile) (d : Data) (p : PortFile) → PortsKept known done → port_of known done d ≡ Ok p → PortsKept known (done ++ p ∷ [])
 unfolding port_of
@@ -46,10 +49,11 @@ port_kept known done d p q h =
     taken (object_among port_words d) _ p h (λ o e h.
     taken (read_in word.Port o (fresh_port done)) _ p h (λ number here h.
     taken (read_in word.Mac o (fresh_mac done)) _ p h (λ mac there h.
-    taken (read_in word.Rows o rows_of) _ p h (λ rows e h.
+    taken (read_in word.Rows o rows_of) _ p h (λ rows some h.
     taken (read_in word.Layers o (layers_of known)) _ p h (λ layers list h.
     read word.Port o (fresh_port done) number here (λ place fresh.
     read word.Mac o (fresh_mac done) mac there (λ place new.
+    read word.Rows o rows_of rows some (λ place within.
     read word.Layers o (layers_of known) layers list (λ place value.
     let none = fresh_port_apart done _ number fresh in
     let no_mac = fresh_mac_apart done _ mac new in
@@ -57,7 +61,8 @@ port_kept known done d p q h =
       pairs_push (λ p q. p.port ≢ q.port) (λ s. s.port == number) done _ (λ s t. apart s.port number t) q.0 none,
       pairs_push (λ p q. p.mac ≢ q.mac) (λ s. s.mac == mac) done _ (λ s t. apart s.mac mac t) q.1 no_mac,
       All-push (λ p. AreGoodLayers known p.layers) done _ q.2 (layers_good known _ layers value),
-    )))))))))
+      All-push HasRows done _ q.3 (between 8 16384 _ rows within),
+    ))))))))))
 
 -- a member's items are no more than the limit
 few_there : (limit : ConfigFault) (most : ℕ) (w : Word) (o : Data) (ds : List Data) → few_in limit most w o ≡ Ok ds → length ds ≤ most
@@ -93,8 +98,8 @@ ports_good known o ps h =
     taken (few_in PortsLimit 16 word.Ports o) _ ps h (λ ds e h.
     let items = from_under (Member word.Ports) (items_after (port_of known) [] ds) ps (from_part _ ps h) in
     let count = as_many (port_of known) ds ps items in
-    let all = kept (PortsKept known) (port_of known) (port_kept known) [] ds ps (no_pairs (λ p q. p.port ≢ q.port), no_pairs (λ p q. p.mac ≢ q.mac), All-nil (λ p. AreGoodLayers known p.layers)) items in
-    (rw count (few_there PortsLimit 16 word.Ports o ds e), all.0, all.1, all.2))
+    let all = kept (PortsKept known) (port_of known) (port_kept known) [] ds ps (no_pairs (λ p q. p.port ≢ q.port), no_pairs (λ p q. p.mac ≢ q.mac), All-nil (λ p. AreGoodLayers known p.layers), All-nil HasRows) items in
+    (rw count (few_there PortsLimit 16 word.Ports o ds e), all.0, all.1, all.2, all.3))
 
 policy_good : (d : Data) (p : PolicyFile) → policy_of d ≡ Ok p → IsGoodPolicy p
 unfolding policy_of IsGoodPolicy

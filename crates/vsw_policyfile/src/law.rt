@@ -2,8 +2,9 @@
 
 ghost use Rattle.vsw_policyfile.specs.Good.{EachIsGood};
 
-/// Of every policy that is read, counts are within the limits, what is named by a number is named by one
-/// of its own, each layer's controller is listed, and each rule may be so.
+/// Of every policy that is read, counts, rows and the numbers of layers are within the limits, what is
+/// named by a number is named by one of its own, each layer's controller is listed, and each rule may be
+/// so.
 pub fn laws()
     ensures { EachIsGood }
 {}

@@ -1,5 +1,5 @@
 #!/usr/bin/env python3
-"""Makes the captures of the guide's examples (docs/GUIDE.md), the same bytes each time.
+"""Makes the captures of the guide's examples (docs/GUIDE.md) and of `flows`, the same bytes each time.
 
     examples/make_traces.py
 
@@ -166,6 +166,24 @@ def drops():
     ]
 
 
+def commanded():
+    page = "93.184.215.14"
+    return [
+        ask(NAMES),
+        told(NAMES),
+        ask(NAMES),
+        told(NAMES),
+        told(NAMES),
+        connect(page, HTTP),
+    ]
+
+
+def flows():
+    """Four datagrams of each of a hundred flows."""
+    ends = [f"10.0.1.{number}" for number in range(1, 101)]
+    return [going(ONE, ipv4(ONE[1], end, 17, udp(ONE[1], end, 1_234, 53, b"hi"))) for _ in range(4) for end in ends]
+
+
 TRACES = {
     "1-addresses": addresses,
     "2-two-controllers": two_controllers,
@@ -173,7 +191,9 @@ TRACES = {
     "4-vxlan": tunnel,
     "5-groups": groups,
     "6-drops": drops,
-    "7-bad-policies": lambda: [ask(NAMES)],
+    "7-commands": commanded,
+    "8-bad-files": lambda: [ask(NAMES)],
+    "flows": flows,
 }
 
 # The moment of a packet, where it isn't its number of hundredths of a second.

@@ -3,13 +3,16 @@
 #![tactic(auto)]
 
 ghost use Rattle.std.specs.Prelude.{◌≡◌, ◌↔◌};
-ghost use Rattle.vsw.specs.Exit.{exit_of, status_without, Exits};
+ghost use Rattle.vsw_promise.specs.Complaint.{number_of};
+ghost use Rattle.vsw.specs.Exit.{status_without, Exits};
 
 use std::alloc::Global;
 use std::process::ExitCode;
 use std::{env, io};
-use vsw_app::{Status, Word, run_words};
+use vsw_app::run_words;
 use vsw_host::{Host, RealHost};
+use vsw_promise::Status;
+use vsw_request::Word;
 
 /// How a run ends whose words can't be had: one that isn't UTF-8 is of no grammar.
 fn without_words(error: io::ErrorKind) -> Status
@@ -34,7 +37,7 @@ fn words(rt: &HostRuntime) -> Result<Vec<Word>, Status> {
 
 /// The exit status of how a run ended (docs/FORMATS.md).
 fn exit_code(status: Status) -> u8
-    ensures number { result ≡ exit_of status }
+    ensures number { result ≡ number_of status }
     ensures done { (result ≡ 0) ↔ (status ≡ Status.Done) }
 {
     match status {
@@ -44,7 +47,6 @@ fn exit_code(status: Status) -> u8
         Status::WriteFault => 4,
         Status::Refused => 5,
         Status::Limit => 6,
-        Status::NotBuilt => 7,
         Status::Memory => 9,
     }
 }
@@ -77,8 +79,8 @@ mod tests {
     use crate::{exit_code, run};
     use std::process::ExitCode;
     use std::test::Fail;
-    use vsw_app::Status;
     use vsw_memory_host::MemoryHost;
+    use vsw_promise::Status;
 
     #[test]
     fn every_status_has_its_number(rt: HostRuntime) {
@@ -89,7 +91,6 @@ mod tests {
             (Status::WriteFault, 4),
             (Status::Refused, 5),
             (Status::Limit, 6),
-            (Status::NotBuilt, 7),
             (Status::Memory, 9),
         ] {
             assert_eq!(rt; exit_code(status), number);

@@ -12,7 +12,6 @@ use Rattle.vsw_pcap.specs.declared.capture.Record.{Record}
 use Rattle.vsw_policy.specs.Sound.{Each}
 use Rattle.vsw_ports.specs.Ports.{PortSeen}
 use Rattle.vsw_report.specs.declared.round.LooseCause.{LooseCause}
-use Rattle.vsw_switch.specs.Switch.{aim_of}
 use Rattle.vsw_history.specs.declared.event.Event.{Event}
 use Rattle.vsw_history.specs.Calls.{Job, Carry, Ask, Deed, Carried, Asked, Call, job_of, job_doer, doer, calls_of, InOrder}
 use Rattle.vsw_history.specs.Order.{numbered, StandsOnce}
@@ -21,7 +20,7 @@ use Rattle.vsw_report.specs.declared.told.ToldLine.{ToldLine}
 use Rattle.vsw_report.specs.declared.told.What.{What}
 use Rattle.vsw_report.specs.declared.told.What.TheVariants as what
 use Rattle.vsw_promise.specs.Agree.{is_packet, fates_in}
-use Rattle.vsw_promise.specs.Jobs.{Setting, Jobs, jobs_of, aimed_at, packet_jobs, crossing_by, worker_of, macs_of, packets_between, during_jobs, before_jobs}
+use Rattle.vsw_promise.specs.Jobs.{aim_of, Setting, Jobs, jobs_of, aimed_at, packet_jobs, crossing_by, worker_of, macs_of, packets_between, during_jobs, before_jobs}
 use Rattle.vsw_promise.specs.Rounds.{IsPortRound}
 use Rattle.vsw_promise.specs.Told.{callers, line_of, what_of, in_told_order, lines_of}
 use Rattle.vsw_history.proofs.Calls.{each_append}

@@ -14,7 +14,6 @@ use Rattle.vsw_policy.specs.Obey.{obey}
 use Rattle.vsw_policy.specs.Sound.{Each}
 use Rattle.vsw_ports.specs.Ports.{PortSeen}
 use Rattle.vsw_report.specs.declared.round.LooseCause.{LooseCause}
-use Rattle.vsw_switch.specs.Switch.{aim_of}
 use Rattle.vsw_history.specs.declared.event.Event.{Event}
 use Rattle.vsw_history.specs.declared.event.Event.TheVariants as event
 use Rattle.vsw_report.specs.declared.round.PortRound.{PortRound}
@@ -22,7 +21,7 @@ use Rattle.vsw_promise.specs.Alone.{shown, deed_at}
 use Rattle.vsw_history.specs.Calls.{Job, Carry, Deed, Carried, Asked, Call, job_of, event_of, entries_of, Reads, Wants, Shows, ShowsAt, HasBytes, IsCall, Entry, Read, Short}
 use Rattle.vsw_history.specs.History.{Opening, replay, after, after_all, left_by, IsRight, AreRight, AllRight}
 use Rattle.vsw_commit.specs.Fate.{fate_at}
-use Rattle.vsw_promise.specs.Jobs.{Jobs, crossing_by, worker_of, aimed_at, packet_jobs}
+use Rattle.vsw_promise.specs.Jobs.{aim_of, Jobs, crossing_by, worker_of, aimed_at, packet_jobs}
 use Rattle.vsw_promise.specs.Rounds.{opening_of, IsPortRound}
 use Rattle.vsw_promise.specs.Told.{what_of}
 use Rattle.vsw_report.specs.Short.{tells_short}

@@ -14,14 +14,13 @@ use Rattle.vsw_policy.specs.Sound.{Each, is_listed}
 use Rattle.vsw_policyfile.specs.declared.file.PortFile.{PortFile}
 use Rattle.vsw_ports.specs.Ports.{PortSeen, port_of, ports_of}
 use Rattle.vsw_report.specs.declared.round.LooseCause.{LooseCause}
-use Rattle.vsw_switch.specs.Switch.{aim_of}
 use Rattle.vsw_history.specs.declared.event.Event.{Event}
 use Rattle.vsw_report.specs.declared.round.PortRound.{PortRound}
 use Rattle.vsw_report.specs.declared.round.Round.{Round}
 use Rattle.vsw_promise.specs.Alone.{deed_at, rounds_alone}
 use Rattle.vsw_history.specs.Calls.{Job, Carry, Ask, Deed, Carried, Asked, Call, job_of, doer, named, event_of, entries_of, entries_naming, calls_of, InOrder, AreShares, Legal}
 use Rattle.vsw_history.specs.History.{Opening, replay, AllRight}
-use Rattle.vsw_promise.specs.Jobs.{Setting, Jobs, jobs_of, during_jobs, packet_jobs, aimed_at, worker_of, crossing_by, macs_of, packets_between}
+use Rattle.vsw_promise.specs.Jobs.{aim_of, Setting, Jobs, jobs_of, during_jobs, packet_jobs, aimed_at, worker_of, crossing_by, macs_of, packets_between}
 use Rattle.vsw_history_law.specs.Law.{all_jobs}
 use Rattle.vsw_history.specs.Order.{StandsOnce}
 use Rattle.vsw_promise.specs.Rounds.{opening_of, IsPortRound, AreRoundsAt, AreChained, AreHistories, AreRounds, end_before}

@@ -1,144 +1,178 @@
--- A run over files of the form that is built ends well, but for faults and want of memory.
-use Rattle.std.proofs.Common.{◌≡◌, ℕ, ◌+◌, ◌≤◌, ◌⊎◌, inl, inr, List, [], ◌∷◌, Bool, true, false, Option, Some, None, Ok, Err, length, take, drop, refl, sym, ◌∙◌, ap, subst, arith}
+-- A run over good files ends well, but for faults and want of memory.
+use Rattle.std.proofs.Common.{◌≡◌, ◌<◌, ◌≤◌, ◌⊎◌, inl, inr, ℕ, zero, suc, ◌+◌, List, [], ◌∷◌, ◌++◌, length, take, drop, Option, Some, None, Result, Ok, Err, refl, ap, sym, ◌∙◌, subst, arith}
 use Rattle.std.proofs.Math.Seq.{take-length}
-use Rattle.vsw_host.specs.Outside.{Inputs, Outside, Rose}
-use Rattle.vsw_policyfile.specs.declared.file.PolicyFile.{PolicyFile}
-use Rattle.vsw_policyfile.specs.declared.file.ConfigFault.{ConfigFault}
-use Rattle.vsw_policyfile.specs.declared.file.ConfigFault.TheVariants as fault
-use Rattle.vsw_policyfile.specs.Policy.{policy_file_of}
-use Rattle.vsw_switch.specs.Switch.{SwitchNow, switch_of}
-use Rattle.vsw_app.specs.declared.ending.RunEnd.{RunEnd}
-use Rattle.vsw_app.specs.declared.ending.RunEnd.TheVariants.{Bad, Past, Run}
-use Rattle.vsw_pcap.specs.Capture.{header_of, front_of, Splits, IsCapture}
+use Rattle.std.proofs.lemmas.List.{length-append, drop-append-le, take-append-drop}
+use Rattle.vsw_commandfile.specs.Commands.{commands_file_of}
+use Rattle.vsw_commandfile.specs.declared.fault.CommandsFault.{CommandsFault}
+use Rattle.vsw_commandfile.specs.declared.line.Line.{Line}
+use Rattle.vsw_host.specs.Outside.{Inputs, Opened, Outside, Rose}
+use Rattle.vsw_host.specs.Told.{TellsHeld}
+use Rattle.vsw_pcap.specs.Capture.{header_of, front_of, Splits, Stops, IsCapture}
 use Rattle.vsw_pcap.specs.declared.capture.Form.{Form}
+use Rattle.vsw_pcap.specs.declared.capture.Front.TheVariants.{Oversize}
 use Rattle.vsw_pcap.specs.declared.capture.Record.{Record}
 use Rattle.vsw_pcap.specs.declared.fault.BadTrace.{BadTrace}
 use Rattle.vsw_pcap.specs.declared.fault.BadTrace.TheVariants.{NotPcap, Version, LinkType, Cut, Huge}
-use Rattle.vsw_app.specs.declared.ending.Status.{Status}
-use Rattle.vsw_app.specs.declared.ending.Status.TheVariants as status
+use Rattle.vsw_pcap.proofs.Format.{whole_is, accepted_long, accepted-append, header_of-append, oversize-append, Splits-append}
 use Rattle.vsw_pcap.proofs.Unique.{captures_are_unique}
-use Rattle.vsw_replay.specs.declared.ending.Ending.{Ending}
-use Rattle.vsw_replay.specs.declared.ending.Ending.TheVariants.{Done, Usage, ReadFault, WriteFault, Refused, Records, NotBuilt, Memory}
-use Rattle.vsw_app.specs.Words.{Names}
-use Rattle.vsw_app.specs.Ending.{status_of}
-use Rattle.vsw_app.specs.Files.{limit_fault, HoldsPolicy, HoldsBadPolicy, StopsAtPolicy, StopsAtCommands, StopsAtTrace}
-use Rattle.vsw_replay.specs.Trace.{ShowsRefused, ShowsLimit, Puts, most_records}
-use Rattle.vsw_app.specs.IsRun.{Leaves, LeavesFiles, LeavesTold, EndsByTrace, IsRun, IsComplete, AtPolicy, AtCommands, BeforeTrace, ByTrace, judged}
-use Rattle.vsw_replay.proofs.Splitting.{one_whole}
+use Rattle.vsw_policy.specs.Sound.{Each}
+use Rattle.vsw_policyfile.specs.Policy.{policy_file_of}
+use Rattle.vsw_policyfile.specs.declared.file.ConfigFault.{ConfigFault}
+use Rattle.vsw_policyfile.specs.declared.file.PolicyFile.{PolicyFile}
+use Rattle.vsw_promise.specs.Complaint.{status_of}
+use Rattle.vsw_promise.specs.Files.{InTurn, HasBadPolicy, HasBadCommands, Reaches}
+use Rattle.vsw_promise.specs.IsRun.{AreAdmitted, EndsByTrace, IsComplete, IsRun, Runs, RunsBy, TraceRead}
+use Rattle.vsw_promise.specs.Jobs.{Setting}
+use Rattle.vsw_promise.specs.Trace.{All, Trace, IsRefused, HasBadHeader, HasBadRecord, HasMore, most_records}
+use Rattle.vsw_promise.specs.declared.ending.Ending.{Ending}
+use Rattle.vsw_promise.specs.declared.ending.Ending.TheVariants as ending
+use Rattle.vsw_promise.specs.declared.ending.Status.{Status}
+use Rattle.vsw_promise.specs.declared.ending.Status.TheVariants as status
+use Rattle.vsw_request.specs.Words.{Request, request_in}
 
--- nothing follows as many records as a capture has that ends cleanly
-clean_end : (form : Form) (bytes : List ℕ) (rs qs : List Record) (rest : List ℕ) → Splits form bytes rs [] → Splits form bytes qs rest → length rs ≤ length qs → rest ≡ []
-clean_end form bytes [] [] rest s t h = sym t ∙ s
-clean_end form bytes [] (q ∷ qs) rest s t h = absurd (let e = ap (front_of form) (sym s) ∙ t.1 in cc)
-clean_end form bytes (r ∷ rs) [] rest s t h = absurd (omega (arith, h))
-clean_end form bytes (r ∷ rs) (q ∷ qs) rest s t h =
-    let e : t.0 ≡ s.0 = one_whole t.0 s.0 (sym t.1 ∙ s.1) in
-    let P : ℕ → Type 0 = λ n. Splits form (drop (16 + n) bytes) qs rest in
-    clean_end form (drop (16 + s.0) bytes) rs qs rest s.3 (subst P e t.3) (omega (arith, h))
+-- ---- a file that is a capture, of which a trace was read
 
-one_form : (form form' : Form) (bytes : List ℕ) → header_of bytes ≡ Ok form → header_of bytes ≡ Ok form' → form ≡ form'
-one_form form form' bytes h k = cc
+-- more bytes follow, but none if the file's end was reached
+record IsOf (file : List ℕ) (t : Trace) : Type 0 where
+  more : List ℕ
+  is : file ≡ t.bytes ++ more
+  all : t.reach ≡ All → file ≡ t.bytes
 
--- a capture that ends cleanly is refused nowhere
-unrefused : (bytes : List ℕ) (rs qs : List Record) (bad : BadTrace) → IsCapture bytes rs None → IsCapture bytes qs (Some bad) → ⊥
-unrefused bytes rs qs bad c i = let e = (captures_are_unique bytes rs qs None (Some bad) c i).1 in cc
+one_form : (file : List ℕ) (f g : Form) → header_of file ≡ Ok f → header_of file ≡ Ok g → f ≡ g
+one_form file f g a b = cc
 
-not_refused : (start : SwitchNow) (bytes : List ℕ) (bad : BadTrace) (text : List ℕ) (records : List Record) → IsCapture bytes records None → ShowsRefused start bytes true bad text → ⊥
-not_refused start bytes NotPcap text records c s = unrefused bytes records [] NotPcap c s.refused
-not_refused start bytes Version text records c s = unrefused bytes records [] Version c s.refused
-not_refused start bytes LinkType text records c s = unrefused bytes records [] LinkType c s.refused
-not_refused start bytes (Cut at) text records c s = unrefused bytes records s.1.records (Cut at) c s.1.refused
-not_refused start bytes (Huge at) text records c s = unrefused bytes records s.records (Huge at) c s.refused
+-- a good capture is refused nowhere
+good_or_bad : (file : List ℕ) (rs qs : List Record) (bad : BadTrace) → IsCapture file rs None → IsCapture file qs (Some bad) → ⊥
+good_or_bad file rs qs bad c d = let t = (captures_are_unique file rs qs None (Some bad) c d).1 in cc t
 
-not_limit : (start : SwitchNow) (bytes text : List ℕ) (records : List Record) → IsCapture bytes records None → length records ≤ most_records → ShowsLimit start bytes text → ⊥
-not_limit start bytes text records c few s =
-    let e : s.stops.form ≡ c.0 = one_form s.stops.form c.0 bytes s.stops.header c.1 in
-    let P : Form → Type 0 = λ f. Splits f (drop 24 bytes) s.records s.stops.rest in
-    let none = clean_end c.0 (drop 24 bytes) records s.records s.stops.rest c.2 (subst P e s.stops.splits) (omega (arith, few, s.full)) in
-    let l = ap length none in
-    omega (arith, s.stops.place, l, s.more)
+-- a header that was refused is the file's
+header_longer : (file : List ℕ) (t : Trace) (bad : BadTrace) → IsOf file t → header_of t.bytes ≡ Err bad → (t.reach ≡ All) ⊎ (24 ≤ length t.bytes) → header_of file ≡ Err bad
+header_longer file t bad i h (inl all) = ap header_of (i.all all) ∙ h
+header_longer file t bad i h (inr long) = ap header_of i.is ∙ (header_of-append t.bytes i.more long ∙ h)
 
-by_trace : (start : SwitchNow) (bytes : List ℕ) (records : List Record) (old new : Outside) (e : Ending) (s : Status) → s ≡ status_of (Run e) → (s ≡ status.ReadFault → Rose old.input_faults new.input_faults) → (s ≡ status.WriteFault → Rose old.put_faults new.put_faults) → IsCapture bytes records None → length records ≤ most_records → ¬ (Rose old.input_faults new.input_faults) → ¬ (Rose old.put_faults new.put_faults) → Puts start bytes true old.put new.put e → (s ≡ status.Done) ⊎ (s ≡ status.Memory)
-by_trace start bytes records old new Done s i r w c few n m p = inl i
-by_trace start bytes records old new Memory s i r w c few n m p = inr i
-by_trace start bytes records old new ReadFault s i r w c few n m p = absurd (n (r i))
-by_trace start bytes records old new WriteFault s i r w c few n m p = absurd (m (w i))
-by_trace start bytes records old new (Refused bad) s i r w c few n m p = absurd (not_refused start bytes bad p.text records c p.shows)
-by_trace start bytes records old new Records s i r w c few n m p = absurd (not_limit start bytes p.text records c few p.shows)
-by_trace start bytes records old new Usage s i r w c few n m p = absurd p
-by_trace start bytes records old new NotBuilt s i r w c few n m p = absurd p
+good_header : (file : List ℕ) (rs : List Record) (t : Trace) (bad : BadTrace) → IsCapture file rs None → IsOf file t → header_of t.bytes ≡ Err bad → (t.reach ≡ All) ⊎ (24 ≤ length t.bytes) → ⊥
+good_header file rs t bad c i h shown = let e = header_longer file t bad i h shown in let f = c.1 in cc (e, f)
 
-one_some : (a b : List ℕ) (o : Option (List ℕ)) → o ≡ Some a → o ≡ Some b → a ≡ b
-one_some a b o h k = cc
+longer : (bytes more : List ℕ) (rs : List Record) (form : Form) (rest : List ℕ) → header_of bytes ≡ Ok form → Splits form (drop 24 bytes) rs rest → Splits form (drop 24 (bytes ++ more)) rs (rest ++ more)
+longer bytes more rs form rest h s = rw (drop-append-le 24 bytes more (accepted_long bytes form h)) (Splits-append form (drop 24 bytes) rs rest more s)
 
--- a good policy isn't a bad one
-both_ways : (bytes : List ℕ) (p : PolicyFile) (why : ConfigFault) → policy_file_of bytes ≡ Ok p → policy_file_of bytes ≡ Err why → ⊥
-both_ways bytes p why h k = let e = sym h ∙ k in cc
+-- so is a record that was too long
+huge_longer : (bytes more : List ℕ) (rs : List Record) (at : ℕ) → Stops bytes rs at Oversize → Stops (bytes ++ more) rs at Oversize
+huge_longer bytes more rs at s = record {
+  form = s.form;
+  rest = s.rest ++ more;
+  header = accepted-append bytes more s.form s.header;
+  splits = longer bytes more rs s.form s.rest s.header s.splits;
+  place = omega (arith, s.place, length-append s.rest more, length-append bytes more);
+  begins = oversize-append s.form s.rest more s.begins;
+}
 
-not_bad : (files : Inputs) (name : List ℕ) (p : PolicyFile) (why : ConfigFault) → HoldsPolicy files name p → HoldsBadPolicy files name why → ⊥
-not_bad files name p why h w = both_ways w.bytes p why (subst (λ (t : List ℕ). policy_file_of t ≡ Ok p) (one_some h.bytes w.bytes (files.files name) h.held w.held) h.is_policy) w.is_bad
+not_refused : (s : Setting) (file : List ℕ) (rs : List Record) (t : Trace) (bad : BadTrace) (text : List ℕ) → IsCapture file rs None → IsOf file t → IsRefused s t bad text → ⊥
+not_refused s file rs t NotPcap text c i r = good_header file rs t NotPcap c i r.refused.0 r.shown
+not_refused s file rs t Version text c i r = good_header file rs t Version c i r.refused.0 r.shown
+not_refused s file rs t LinkType text c i r = good_header file rs t LinkType c i r.refused.0 r.shown
+not_refused s file rs t (Cut at) text c i r = good_or_bad file rs r.1.records (Cut at) c (subst (λ w. IsCapture w r.1.records (Some (Cut at))) (sym (i.all r.0)) r.1.refused)
+not_refused s file rs t (Huge at) text c i r = good_or_bad file rs r.records (Huge at) c (subst (λ w. Stops w r.records at Oversize) (sym i.is) (huge_longer t.bytes i.more r.records at r.refused))
 
-at_policy : (old new : Outside) (files : Inputs) (name : List ℕ) (e : Ending) (s : Status) → s ≡ status_of (Run e) → (s ≡ status.ReadFault → Rose old.input_faults new.input_faults) → ¬ (Rose old.input_faults new.input_faults) → StopsAtPolicy name files (Run e) → (s ≡ status.Done) ⊎ (s ≡ status.Memory)
-at_policy old new files name ReadFault s i r n w = absurd (n (r i))
-at_policy old new files name Memory s i r n w = inr i
-at_policy old new files name NotBuilt s i r n w = absurd w
-at_policy old new files name Done s i r n w = absurd w
-at_policy old new files name Usage s i r n w = absurd w
-at_policy old new files name WriteFault s i r n w = absurd w
-at_policy old new files name (Refused bad) s i r n w = absurd w
-at_policy old new files name Records s i r n w = absurd w
+-- fewer records are split off if bytes are left
+fewer : (form : Form) (bytes : List ℕ) (qs rs : List Record) (tail : List ℕ) → Splits form bytes qs tail → Splits form bytes rs [] → 0 < length tail → length qs < length rs
+fewer form bytes [] [] tail s t some = absurd (omega (arith, some, ap length s, ap length t))
+fewer form bytes [] (r ∷ rs) tail s t some = omega arith
+fewer form bytes (q ∷ qs) [] tail s t some = absurd (omega (arith, (whole_is form bytes s.0 s.1).0, ap length t))
+fewer form bytes (q ∷ qs) (r ∷ rs) tail s t some =
+    let one = s.1 in
+    let two = t.1 in
+    let same : t.0 ≡ s.0 = cc in
+    let moved = subst (λ n. Splits form (drop (16 + n) bytes) rs []) same t.3 in omega (arith, fewer form (drop (16 + s.0) bytes) qs rs tail s.3 moved some)
 
-at_commands : (old new : Outside) (files : Inputs) (name : List ℕ) (e : Ending) (s : Status) → s ≡ status_of (Run e) → (s ≡ status.ReadFault → Rose old.input_faults new.input_faults) → ¬ (Rose old.input_faults new.input_faults) → files.files name ≡ Some [] → StopsAtCommands name files e → (s ≡ status.Done) ⊎ (s ≡ status.Memory)
-at_commands old new files name NotBuilt s i r n h w = absurd (omega (arith, w.some, ap length (one_some [] w.bytes (files.files name) h w.held)))
-at_commands old new files name ReadFault s i r n h w = absurd (n (r i))
-at_commands old new files name Memory s i r n h w = inr i
-at_commands old new files name Done s i r n h w = absurd w
-at_commands old new files name Usage s i r n h w = absurd w
-at_commands old new files name WriteFault s i r n h w = absurd w
-at_commands old new files name (Refused bad) s i r n h w = absurd w
-at_commands old new files name Records s i r n h w = absurd w
+not_over : (s : Setting) (file : List ℕ) (rs : List Record) (t : Trace) (text : List ℕ) → IsCapture file rs None → length rs ≤ most_records → IsOf file t → HasMore s t text → ⊥
+not_over s file rs t text c few i r =
+    let rest = r.stops.rest ++ i.more in
+    let header : header_of file ≡ Ok r.stops.form = ap header_of i.is ∙ accepted-append t.bytes i.more r.stops.form r.stops.header in
+    let splits : Splits r.stops.form (drop 24 file) r.records rest = subst (λ w. Splits r.stops.form (drop 24 w) r.records rest) (sym i.is) (longer t.bytes i.more r.records r.stops.form r.stops.rest r.stops.header r.stops.splits) in
+    let whole : Splits r.stops.form (drop 24 file) rs [] = subst (λ f. Splits f (drop 24 file) rs []) (one_form file c.0 r.stops.form c.1 header) c.2 in
+    omega (arith, few, r.full, fewer r.stops.form (drop 24 file) r.records rs rest splits whole (omega (arith, r.more, r.stops.place, length-append r.stops.rest i.more)))
 
-before_trace : (old new : Outside) (a b : Inputs) (names : Names) (pb : List ℕ) (e : Ending) (s : Status) → s ≡ status_of (Run e) → (s ≡ status.ReadFault → Rose old.input_faults new.input_faults) → ¬ (Rose old.input_faults new.input_faults) → StopsAtTrace a b (judged names pb) names.trace e → (s ≡ status.Done) ⊎ (s ≡ status.Memory)
-before_trace old new a b names pb ReadFault s i r n w = absurd (n (r i))
-before_trace old new a b names pb Memory s i r n w = inr i
-before_trace old new a b names pb NotBuilt s i r n w = absurd w
-before_trace old new a b names pb Done s i r n w = absurd w
-before_trace old new a b names pb Usage s i r n w = absurd w
-before_trace old new a b names pb WriteFault s i r n w = absurd w
-before_trace old new a b names pb (Refused bad) s i r n w = absurd w
-before_trace old new a b names pb Records s i r n w = absurd w
+-- ---- the files that a run found
 
-whole_is : (w : Bool) (R : Type 0) → (w ≡ false → R) → ¬ R → w ≡ true
-whole_is true R f n = refl
-whole_is false R f n = absurd (n (f refl))
+some_is : {A : Type 0} (x y : A) (o : Option A) → o ≡ Some x → o ≡ Some y → x ≡ y
+some_is x y o e f = cc
 
-whole_trace : (names : Names) (a b : Inputs) (old new : Outside) (trace_bytes : List ℕ) (records : List Record) (e : Ending) (s : Status) → s ≡ status_of (Run e) → (s ≡ status.ReadFault → Rose old.input_faults new.input_faults) → (s ≡ status.WriteFault → Rose old.put_faults new.put_faults) → IsCapture trace_bytes records None → length records ≤ most_records → ¬ (Rose old.input_faults new.input_faults) → ¬ (Rose old.put_faults new.put_faults) → a.files names.trace ≡ Some trace_bytes → EndsByTrace names a b old.put new.put old.input_faults new.input_faults e → (s ≡ status.Done) ⊎ (s ≡ status.Memory)
-whole_trace names a b old new trace_bytes records e s i r w c few n m held t =
-    let all : t.whole ≡ true = whole_is t.whole (Rose old.input_faults new.input_faults) t.part n in
-    let same : t.trace_bytes ≡ trace_bytes = one_some t.trace_bytes trace_bytes (a.files names.trace) t.held held in
-    let bytes : take t.read t.trace_bytes ≡ trace_bytes = ap (λ (k : ℕ). take k t.trace_bytes) (t.all all) ∙ take-length t.trace_bytes ∙ same in
-    let P : List ℕ → Type 0 = λ l. Puts (switch_of t.policy) l t.whole old.put new.put e in
-    let Q : Bool → Type 0 = λ x. Puts (switch_of t.policy) trace_bytes x old.put new.put e in
-    by_trace (switch_of t.policy) trace_bytes records old new e s i r w c few n m (subst Q all (subst P bytes t.puts))
+ok_is : {A E : Type 0} (x y : A) (r : Result A E) → r ≡ Ok x → r ≡ Ok y → x ≡ y
+ok_is x y r e f = cc
 
-completes_by : (names : Names) (a b : Inputs) (old new : Outside) (policy : PolicyFile) (trace_bytes : List ℕ) (records : List Record) (e : Ending) (s : Status) → s ≡ status_of (Run e) → (s ≡ status.ReadFault → Rose old.input_faults new.input_faults) → (s ≡ status.WriteFault → Rose old.put_faults new.put_faults) → HoldsPolicy a names.policy policy → a.files names.commands ≡ Some [] → a.files names.trace ≡ Some trace_bytes → IsCapture trace_bytes records None → length records ≤ most_records → ¬ (Rose old.input_faults new.input_faults) → ¬ (Rose old.put_faults new.put_faults) → Leaves names a b old.put new.put old.input_faults new.input_faults e → (s ≡ status.Done) ⊎ (s ≡ status.Memory)
-completes_by names a b old new policy trace_bytes records e s i r w h none held c few n m (AtPolicy t) = at_policy old new a names.policy e s i r n t.why
-completes_by names a b old new policy trace_bytes records e s i r w h none held c few n m (AtCommands t) = at_commands old new a names.commands e s i r n none t.why
-completes_by names a b old new policy trace_bytes records e s i r w h none held c few n m (BeforeTrace t) = before_trace old new a b names t.holds.bytes e s i r n t.why
-completes_by names a b old new policy trace_bytes records e s i r w h none held c few n m (ByTrace t) = whole_trace names a b old new trace_bytes records e s i r w c few n m held t
+not_both : {A E : Type 0} (x : A) (y : E) (r : Result A E) → r ≡ Ok x → r ≡ Err y → ⊥
+not_both x y r e f = cc
 
-completes_as : (names : Names) (a b : Inputs) (old new : Outside) (policy : PolicyFile) (trace_bytes : List ℕ) (records : List Record) (last : RunEnd) (s : Status) → s ≡ status_of last → (s ≡ status.ReadFault → Rose old.input_faults new.input_faults) → (s ≡ status.WriteFault → Rose old.put_faults new.put_faults) → HoldsPolicy a names.policy policy → a.files names.commands ≡ Some [] → a.files names.trace ≡ Some trace_bytes → IsCapture trace_bytes records None → length records ≤ most_records → ¬ (Rose old.input_faults new.input_faults) → ¬ (Rose old.put_faults new.put_faults) → LeavesFiles names a b old.put new.put old.input_faults new.input_faults last → (s ≡ status.Done) ⊎ (s ≡ status.Memory)
-completes_as names a b old new policy trace_bytes records (Bad kind path) s i r w h none held c few n m l = absurd (not_bad a names.policy policy (fault.Bad kind path) h l.why)
-completes_as names a b old new policy trace_bytes records (Past limit) s i r w h none held c few n m l = absurd (not_bad a names.policy policy (limit_fault limit) h l.why)
-completes_as names a b old new policy trace_bytes records (Run e) s i r w h none held c few n m l = completes_by names a b old new policy trace_bytes records e s i r w h none held c few n m l
+-- all is said of the files that the words name, and the host counted no fault
+record IsClean (words : List (List ℕ)) (old new : Outside) : Type 0 where
+  admitted : AreAdmitted words old.inputs
+  no_read : ¬ (Rose old.input_faults new.input_faults)
+  no_put : ¬ (Rose old.put_faults new.put_faults)
 
-told_by : (names : Names) (a : Inputs) (new_inputs : Option Inputs) (old new : Outside) (policy : PolicyFile) (trace_bytes : List ℕ) (records : List Record) (last : RunEnd) (s : Status) → s ≡ status_of last → (s ≡ status.ReadFault → Rose old.input_faults new.input_faults) → (s ≡ status.WriteFault → Rose old.put_faults new.put_faults) → HoldsPolicy a names.policy policy → a.files names.commands ≡ Some [] → a.files names.trace ≡ Some trace_bytes → IsCapture trace_bytes records None → length records ≤ most_records → ¬ (Rose old.input_faults new.input_faults) → ¬ (Rose old.put_faults new.put_faults) → LeavesTold (Some names) (Some a) new_inputs old.put new.put old.input_faults new.input_faults last → (s ≡ status.Done) ⊎ (s ≡ status.Memory)
-told_by names a None old new policy trace_bytes records last s i r w h none held c few n m l = absurd l
-told_by names a (Some b) old new policy trace_bytes records last s i r w h none held c few n m l = completes_as names a b old new policy trace_bytes records last s i r w h none held c few n m l
+-- a file that was opened by a name holds what the host told
+found : (inputs : Option Inputs) (a : Inputs) (name other bytes held : List ℕ) → inputs ≡ Some a → name ≡ other → TellsHeld inputs name bytes → a.files other ≡ Some held → bytes ≡ held
+found inputs a name other bytes held e n t h = some_is bytes held (a.files other) (ap a.files (sym n) ∙ subst (λ i. TellsHeld i name bytes) e t) h
+
+good_policy : (q : Request) (old new : Outside) (end : Ending) (why : ConfigFault) (a : Inputs) (bytes : List ℕ) (p : PolicyFile) (r : Runs q old new end) → old.inputs ≡ Some a → a.files q.policy ≡ Some bytes → policy_file_of bytes ≡ Ok p → HasBadPolicy r.files why → ⊥
+good_policy q old new end why a bytes p r told held good b =
+    let turn : InTurn q (b.policy ∷ []) = subst (InTurn q) b.only r.opens.in_turn in
+    let holds : Each (λ f. TellsHeld old.inputs f.name f.bytes) (b.policy ∷ []) = subst (Each (λ f. TellsHeld old.inputs f.name f.bytes)) b.only r.opens.held in
+    let same = found old.inputs a b.policy.name q.policy b.policy.bytes bytes told turn holds.0 held in
+    not_both p why (policy_file_of bytes) good (subst (λ w. policy_file_of w ≡ Err why) same b.bad)
+
+good_commands : (q : Request) (old new : Outside) (end : Ending) (why : CommandsFault) (a : Inputs) (bytes text : List ℕ) (p : PolicyFile) (lines : List Line) (r : Runs q old new end) → old.inputs ≡ Some a → a.files q.policy ≡ Some bytes → policy_file_of bytes ≡ Ok p → a.files q.commands ≡ Some text → commands_file_of p text ≡ Ok lines → HasBadCommands r.files why → ⊥
+good_commands q old new end why a bytes text p lines r told held good holding right b =
+    let turn : InTurn q (b.policy ∷ b.commands ∷ []) = subst (InTurn q) b.only r.opens.in_turn in
+    let holds : Each (λ f. TellsHeld old.inputs f.name f.bytes) (b.policy ∷ b.commands ∷ []) = subst (Each (λ f. TellsHeld old.inputs f.name f.bytes)) b.only r.opens.held in
+    let same = found old.inputs a b.policy.name q.policy b.policy.bytes bytes told turn.1.named holds.0 held in
+    let alike = found old.inputs a b.commands.name q.commands b.commands.bytes text told turn.2 holds.1.0 holding in
+    let given : b.given ≡ p = ok_is b.given p (policy_file_of bytes) (subst (λ w. policy_file_of w ≡ Ok b.given) same b.good) good in
+    not_both lines why (commands_file_of p text) right (subst (λ g. commands_file_of g text ≡ Err why) given (subst (λ w. commands_file_of b.given w ≡ Err why) alike b.bad))
+
+-- the trace that was read is of the file that the host holds
+of_file : (q : Request) (old new : Outside) (files : List Opened) (file : List ℕ) (r : TraceRead q old new files) → r.file.bytes ≡ file → IsOf file r.trace
+of_file q old new files file r same = subst (λ w. IsOf w r.trace) same (record {
+  more = drop r.file.read r.file.bytes;
+  is = sym (take-append-drop r.file.read r.file.bytes) ∙ ap (λ w. w ++ drop r.file.read r.file.bytes) (sym r.read.bytes);
+  all = λ e. sym (r.read.bytes ∙ (ap (λ n. take n r.file.bytes) (subst (Reaches old new r.file) e r.read.reaches) ∙ take-length r.file.bytes));
+})
+
+trace_found : (q : Request) (old new : Outside) (end e : Ending) (a : Inputs) (file : List ℕ) (r : Runs q old new end) (ends : EndsByTrace q old new r.files e) → old.inputs ≡ Some a → a.files q.trace ≡ Some file → IsOf file ends.reads.trace
+trace_found q old new end e a file r ends told held =
+    let o = ends.reads.opened in
+    let three = o.policy ∷ o.commands ∷ ends.reads.file ∷ [] in
+    let turn : InTurn q three = subst (InTurn q) o.all r.opens.in_turn in
+    let holds : Each (λ f. TellsHeld old.inputs f.name f.bytes) three = subst (Each (λ f. TellsHeld old.inputs f.name f.bytes)) o.all r.opens.held in
+    of_file q old new r.files file ends.reads (found old.inputs a ends.reads.file.name q.trace ends.reads.file.bytes file told turn.4 holds.1.1.0 held)
+
+-- ---- the run
+
+ends_well : (words : List (List ℕ)) (q : Request) (old new : Outside) (end : Ending) (c : IsClean words old new) → c.admitted.request ≡ q → Runs q old new end → (status_of end ≡ status.Done) ⊎ (status_of end ≡ status.Memory)
+ends_well words q old new ending.Done c same r = inl refl
+ends_well words q old new ending.Memory c same r = inr refl
+ends_well words q old new ending.ReadFault c same r = absurd (c.no_read r.ends.0)
+ends_well words q old new ending.WriteFault c same r = absurd (c.no_put r.ends.0)
+ends_well words q old new ending.Usage c same r = absurd r.ends
+ends_well words q old new (ending.Policy why) c same r =
+    let d = c.admitted in
+    absurd (good_policy q old new (ending.Policy why) why d.files d.policy d.setting.policy r d.told (subst (λ k. d.files.files k.policy ≡ Some d.policy) same d.policy_held) d.policy_good r.ends.0)
+ends_well words q old new (ending.Commands why) c same r =
+    let d = c.admitted in
+    absurd (good_commands q old new (ending.Commands why) why d.files d.policy d.commands d.setting.policy d.setting.commands r d.told (subst (λ k. d.files.files k.policy ≡ Some d.policy) same d.policy_held) d.policy_good (subst (λ k. d.files.files k.commands ≡ Some d.commands) same d.commands_held) d.commands_good r.ends.0)
+ends_well words q old new (ending.Trace bad) c same r =
+    let d = c.admitted in
+    let ends : EndsByTrace q old new r.files (ending.Trace bad) = r.ends in
+    let of = trace_found q old new (ending.Trace bad) (ending.Trace bad) d.files d.trace r ends d.told (subst (λ k. d.files.files k.trace ≡ Some d.trace) same d.trace_held) in
+    absurd (not_refused ends.reads.setting d.trace d.records ends.reads.trace bad ends.text d.trace_good of ends.tells)
+ends_well words q old new ending.Records c same r =
+    let d = c.admitted in
+    let ends : EndsByTrace q old new r.files ending.Records = r.ends in
+    let of = trace_found q old new ending.Records ending.Records d.files d.trace r ends d.told (subst (λ k. d.files.files k.trace ≡ Some d.trace) same d.trace_held) in
+    absurd (not_over ends.reads.setting d.trace d.records ends.reads.trace ends.text d.trace_good d.few of ends.tells)
 
 -- a run is complete
-pub complete_is : (words : List (List ℕ)) (old new : Outside) (s : Status) → IsRun words old new s → (s ≡ status.ReadFault → Rose old.input_faults new.input_faults) → (s ≡ status.WriteFault → Rose old.put_faults new.put_faults) → IsComplete words old new s
-complete_is words old new s run r w admitted n m =
-    let P : Option Names → Type 0 = λ o. LeavesTold o old.inputs new.inputs old.put new.put old.input_faults new.input_faults run.last in
-    let Q : Option Inputs → Type 0 = λ o. LeavesTold (Some admitted.names) o new.inputs old.put new.put old.input_faults new.input_faults run.last in
-    told_by admitted.names admitted.files new.inputs old new admitted.policy admitted.trace_bytes admitted.records run.last s run.status_is r w admitted.holds admitted.no_commands admitted.held admitted.capture admitted.few n m (subst Q admitted.told (subst P admitted.named run.leaves))
+pub complete_is : (words : List (List ℕ)) (old new : Outside) (s : Status) → IsRun words old new s → IsComplete words old new s
+complete_is words old new s run admitted n m =
+    let asked : RunsBy (Some admitted.request) old new run.end = subst (λ o. RunsBy o old new run.end) admitted.asked run.runs in
+    subst (λ t. (t ≡ status.Done) ⊎ (t ≡ status.Memory)) (sym run.status_is) (ends_well words admitted.request old new run.end (record { admitted = admitted; no_read = n; no_put = m }) refl asked)

@@ -1,80 +1,196 @@
--- What was read of a file, and what was opened.
-use Rattle.std.proofs.Common.{◌≡◌, ℕ, List, [], ◌∷◌, inl, inr, Option, Some, None, Result, Ok, Err, ◌<◌, length, take, true, nat_lt, refl, sym, subst, arith}
-use Rattle.std.proofs.lemmas.Bool.{lt-ltb}
-use Rattle.std.proofs.lemmas.List.{length-take}
-use Rattle.std.specs.Prelude.{IfOk}
-use Rattle.vsw_host.specs.Outside.{Opened, Inputs, Outside, OpensSince}
-use Rattle.vsw_host.specs.Reading.{ReadsFile, ReadsOne, TellsFile}
-use Rattle.vsw_host.specs.declared.reading.ReadEnd.TheVariants as ends
-use Rattle.vsw_policyfile.specs.Good.{IsGoodPolicy}
-use Rattle.vsw_policyfile.specs.declared.file.PolicyFile.{PolicyFile}
-use Rattle.vsw_policyfile.specs.declared.file.ConfigFault.TheVariants as fault
+-- The files of a run, one after another, and how a run ends before its trace.
+use Rattle.std.proofs.Common.{◌≡◌, ◌<◌, ◌≤◌, ◌⊎◌, ◌+◌, ℕ, inl, inr, List, [], ◌∷◌, ◌++◌, Result, Ok, Err, length, refl, sym, ◌∙◌, ap, subst, arith, append-nil}
+use Rattle.vsw_commandfile.specs.Commands.{commands_file_of}
+use Rattle.vsw_commandfile.specs.declared.fault.CommandsFault.{CommandsFault}
+use Rattle.vsw_commandfile.specs.declared.fault.CommandsFault.TheVariants as commands
+use Rattle.vsw_commandfile.specs.declared.line.Line.{Line}
+use Rattle.vsw_host.specs.Outside.{Opened, Inputs, Outside, SameOutputs, Rose}
+use Rattle.vsw_host.specs.Reading.{piece, ReadsFile}
+use Rattle.vsw_host.specs.Told.{TellsHeld, TellsSince}
+use Rattle.vsw_host.specs.declared.reading.ReadEnd.TheVariants.{Whole, Fault, Long, Memory}
+use Rattle.vsw_host.proofs.CallerLemmas.{TellsSince-refl, TellsSince-trans, TellsHeld-before, SameOutputs-refl, SameOutputs-trans}
+use Rattle.vsw_history.proofs.Calls.{each_append}
+use Rattle.vsw_policy.specs.Sound.{Each}
 use Rattle.vsw_policyfile.specs.Policy.{policy_file_of}
-use Rattle.vsw_app.specs.declared.ending.Limit.TheVariants as limit
-use Rattle.vsw_app.specs.declared.ending.RunEnd.{RunEnd}
-use Rattle.vsw_app.specs.declared.ending.RunEnd.TheVariants.{Bad, Past, Run}
-use Rattle.vsw_replay.specs.declared.ending.Ending.{Ending}
-use Rattle.vsw_replay.specs.declared.ending.Ending.TheVariants.{Memory}
-use Rattle.vsw_app.specs.Files.{read_whole, limit_fault, OpensAtMost, StopsAtPolicy}
-use Rattle.vsw_app.specs.Reads.{Told, Judges, PolicySays, ReadsPolicy, LastRises, LastEndsEarly, IsEarly}
+use Rattle.vsw_policyfile.specs.declared.file.ConfigFault.{ConfigFault}
+use Rattle.vsw_policyfile.specs.declared.file.ConfigFault.TheVariants as policy
+use Rattle.vsw_policyfile.specs.declared.file.PolicyFile.{PolicyFile}
+use Rattle.vsw_promise.specs.Files.{InTurn, IsPolicy, IsWhole, Opens, ShowsPolicy, ShowsCommands, most_policy, most_commands}
+use Rattle.vsw_promise.specs.IsRun.{Ends, Runs}
+use Rattle.vsw_promise.specs.declared.ending.Ending.{Ending}
+use Rattle.vsw_promise.specs.declared.ending.Ending.TheVariants as ending
+use Rattle.vsw_request.specs.Words.{Request}
+use Rattle.vsw_app.specs.Stages.{JudgesPolicy, JudgesCommands, HasRead, HasPolicy, HasCommands, HasEnded, ReadsPolicy, ReadsCommands}
+use Rattle.vsw_app.proofs.Growing.{grows_same, rose_from}
+use Rattle.vsw_app.proofs.Limits.{policy_over, policy_long, commands_over, commands_long}
+use Rattle.vsw_app.proofs.Reading.{OpensOne, OpensFew, IsLong, got_of, whole_read, long_read, fault_read, memory_read}
 
-at_most_one : (a b : Inputs) (file_name : List ℕ) (file : Opened) → file.name ≡ file_name → OpensSince a b (file ∷ []) → OpensAtMost a b [] file_name
-at_most_one a b file_name file e s = record { more = file ∷ []; since = s; last = inr (file, e, refl) }
+-- ---- files one after another
 
-same_read : (a b : Inputs) (name bytes : List ℕ) (read : ℕ) → read ≡ length bytes → OpensSince a b (record { name = name; bytes = bytes; read = read } ∷ []) → OpensSince a b (read_whole name bytes ∷ [])
-same_read a b name bytes read e s = let P : ℕ → Type 0 = λ n. OpensSince a b (record { name = name; bytes = bytes; read = n } ∷ []) in subst P e s
+pub opens_none : (q : Request) (old : Outside) → Opens old old q []
+opens_none q old = record { since = TellsSince-refl old.inputs; held = tt; within = tt; in_turn = tt }
 
-same_bytes : (P : List ℕ → Type 0) (xs ys : List ℕ) → xs ≡ ys → P xs → P ys
-same_bytes P xs ys e p = subst P e p
+-- one more file
+pub opens_more : (q : Request) (old now new : Outside) (xs : List Opened) (name : List ℕ) (f : Opened) → Opens old now q xs → OpensOne now.inputs new.inputs name f → InTurn q (xs ++ f ∷ []) → Opens old new q (xs ++ f ∷ [])
+opens_more q old now new xs name f p one turn = record {
+  since = TellsSince-trans old.inputs now.inputs new.inputs xs (f ∷ []) p.since one.since;
+  held = each_append (λ g. TellsHeld old.inputs g.name g.bytes) xs (f ∷ []) p.held (TellsHeld-before old.inputs now.inputs xs f.name f.bytes p.since one.held, tt);
+  within = each_append (λ (g : Opened). g.read ≤ length g.bytes) xs (f ∷ []) p.within (one.within, tt);
+  in_turn = turn;
+}
 
-stops_so : (P : Ending → Type 0) (e : Ending) → e ≡ Memory → P Memory → P e
-stops_so P e i p = subst P (sym i) p
+-- or none
+pub opens_same : (q : Request) (old now new : Outside) (xs : List Opened) → Opens old now q xs → TellsSince now.inputs new.inputs [] → Opens old new q xs
+opens_same q old now new xs p none = record {
+  since = subst (λ l. TellsSince old.inputs new.inputs l) (append-nil xs) (TellsSince-trans old.inputs now.inputs new.inputs xs [] p.since none);
+  held = p.held;
+  within = p.within;
+  in_turn = p.in_turn;
+}
 
-policy_says : (a b : Inputs) (name got : List ℕ) (r : Result PolicyFile RunEnd) → ReadsOne a b name got ends.Whole → Judges got r → PolicySays a b name r
-policy_says a b name got (Ok p) one j = (record { bytes = one.bytes; held = one.held; is_policy = same_bytes (λ t. policy_file_of t ≡ Ok p) got one.bytes one.gets.0 j }, same_read a b name one.bytes one.read one.gets.1 one.since)
-policy_says a b name got (Err (Bad kind path)) one j = (at_most_one a b name (record { name = name; bytes = one.bytes; read = one.read }) refl one.since, record { bytes = one.bytes; held = one.held; is_bad = same_bytes (λ t. policy_file_of t ≡ Err (fault.Bad kind path)) got one.bytes one.gets.0 j })
-policy_says a b name got (Err (Past l)) one j = (at_most_one a b name (record { name = name; bytes = one.bytes; read = one.read }) refl one.since, record { bytes = one.bytes; held = one.held; is_bad = same_bytes (λ t. policy_file_of t ≡ Err (limit_fault l)) got one.bytes one.gets.0 j })
-policy_says a b name got (Err (Run e)) one j = (at_most_one a b name (record { name = name; bytes = one.bytes; read = one.read }) refl one.since, stops_so (λ e. StopsAtPolicy name a (Run e)) e j tt)
+-- ---- the ends of a run before its trace
 
-policy_told : (a b : Option Inputs) (name got : List ℕ) (r : Result PolicyFile RunEnd) → TellsFile a b name got ends.Whole → Judges got r → Told (λ x y. PolicySays x y name r) a b
-policy_told None b name got r t j = tt
-policy_told (Some a) None name got r t j = absurd t
-policy_told (Some a) (Some b) name got r (inl none) j = absurd (let e = none.fault in cc)
-policy_told (Some a) (Some b) name got r (inr one) j = policy_says a b name got r one j
+-- nothing was put, and nothing complained
+pub ended : (q : Request) (old new : Outside) (end : Ending) (files : List Opened) → SameOutputs old new → Opens old new q files → Ends q old new files end → HasEnded q old new end
+ended q old new end files same opens ends = record { runs = record { files = files; opens = opens; ends = ends }; complained = same.complained; complain_faults = same.complain_faults }
 
-judged_rises : (old new : Outside) (got : List ℕ) (r : Result PolicyFile RunEnd) → Judges got r → LastRises old new r
-judged_rises old new got (Ok p) j = tt
-judged_rises old new got (Err (Bad kind path)) j = λ e. absurd (cc)
-judged_rises old new got (Err (Past l)) j = λ e. absurd (cc)
-judged_rises old new got (Err (Run ending)) j = λ e. absurd (cc)
+-- the files before the one that ended the run, and what this one did
+record IsStage (q : Request) (old now : Outside) (files : List Opened) : Type 0 where
+  opens : Opens old now q files
+  outputs : SameOutputs old now
+  later : old.input_faults ≤ now.input_faults
 
-judged_early : (got : List ℕ) (r : Result PolicyFile RunEnd) → Judges got r → LastEndsEarly r
-judged_early got (Ok p) j = tt
-judged_early got (Err (Bad kind path)) j = tt
-judged_early got (Err (Past l)) j = tt
-judged_early got (Err (Run e)) j = stops_so IsEarly e j tt
+stage_none : (q : Request) (old : Outside) → IsStage q old old []
+stage_none q old = record { opens = opens_none q old; outputs = SameOutputs-refl old; later = omega arith }
 
--- a policy file that was read whole and judged
-pub policy_whole : (limit : ℕ) (old new : Outside) (name got bytes : List ℕ) (r : Result PolicyFile RunEnd) → ReadsFile limit old new name got ends.Whole → bytes ≡ got → Judges bytes r → IfOk r IsGoodPolicy → ReadsPolicy old new name r
-policy_whole limit old new name got bytes r reads e j good =
-    let k : Judges got r = same_bytes (λ t. Judges t r) bytes got e j in
-    record { good = good; outputs = reads.outputs; rises = judged_rises old new got r k; early = judged_early got r k; later = reads.later; told = policy_told old.inputs new.inputs name got r reads.told k }
+stage_policy : (q : Request) (old now : Outside) (p : PolicyFile) (h : HasPolicy q old now p) → IsStage q old now (h.file ∷ [])
+stage_policy q old now p h = record { opens = h.read.opens; outputs = h.read.outputs; later = h.read.later }
 
--- a file of which more was read than a policy may have
-long_take : (n : ℕ) (xs : List ℕ) → 4194304 < length (take n xs) → nat_lt 4194304 (length xs) ≡ true
-long_take n xs h = let k = length-take n xs in lt-ltb 4194304 (length xs) (omega (arith, h, k))
+-- memory was wanting for a file, or for what it says
+memory_end : (q : Request) (old now new : Outside) (files : List Opened) (name : List ℕ) → IsStage q old now files → SameOutputs now new → ((f : Opened) → f.name ≡ name → InTurn q (files ++ f ∷ [])) → OpensFew now.inputs new.inputs name (λ f. Unit {0}) → HasEnded q old new ending.Memory
+memory_end q old now new files name s same turn (inl none) =
+    let outputs = SameOutputs-trans old now new s.outputs same in
+    ended q old new ending.Memory files outputs (opens_same q old now new files s.opens none) (inl (grows_same old.put new.put outputs.put))
+memory_end q old now new files name s same turn (inr (f, one, u)) =
+    let outputs = SameOutputs-trans old now new s.outputs same in
+    ended q old new ending.Memory (files ++ f ∷ []) outputs (opens_more q old now new files name f s.opens one (turn f one.named)) (inl (grows_same old.put new.put outputs.put))
 
-too_long : (n : ℕ) (bytes : List ℕ) → 4194304 < length (take n bytes) → policy_file_of bytes ≡ Err (limit_fault limit.Policy)
-too_long n bytes h = rw (long_take n bytes h) refl
+-- ---- the policy
 
-long_says : (a b : Inputs) (name got : List ℕ) → ReadsOne a b name got ends.Long → 4194304 < length got → PolicySays a b name (Err (Past limit.Policy))
-long_says a b name got one h = (at_most_one a b name (record { name = name; bytes = one.bytes; read = one.read }) refl one.since, record { bytes = one.bytes; held = one.held; is_bad = too_long one.read one.bytes (same_bytes (λ t. 4194304 < length t) got (take one.read one.bytes) one.gets h) })
+pub policy_read : (q : Request) (old new : Outside) (name got bytes : List ℕ) (r : Result PolicyFile Ending) → q.policy ≡ name → ReadsFile 4194304 old new name got Whole → bytes ≡ got → JudgesPolicy bytes r → ReadsPolicy q old new r
+policy_read q old new name got bytes r named reads same j =
+    by r (subst (λ (t : List ℕ). JudgesPolicy t r) same j)
+  where
+    file : Opened
+    file = got_of name got
 
-long_told : (a b : Option Inputs) (name got : List ℕ) → TellsFile a b name got ends.Long → 4194304 < length got → Told (λ x y. PolicySays x y name (Err (Past limit.Policy))) a b
-long_told None b name got t h = tt
-long_told (Some a) None name got t h = absurd t
-long_told (Some a) (Some b) name got (inl none) h = absurd (let e = none.fault in cc)
-long_told (Some a) (Some b) name got (inr one) h = long_says a b name got one h
+    one : OpensOne old.inputs new.inputs name file
+    one = whole_read 4194304 old new name got reads
 
-pub policy_long : (old new : Outside) (name got : List ℕ) → ReadsFile 4194304 old new name got ends.Long → ReadsPolicy old new name (Err (Past limit.Policy))
-policy_long old new name got reads = record { good = tt; outputs = reads.outputs; rises = λ e. absurd (cc); early = tt; later = reads.later; told = long_told old.inputs new.inputs name got reads.told reads.sized.0 }
+    opens : Opens old new q (file ∷ [])
+    opens = opens_more q old old new [] name file (opens_none q old) one (sym named)
+
+    shown : (why : ConfigFault) → policy_file_of got ≡ Err why → ShowsPolicy why file
+    shown policy.PolicyLimit e = absurd (let over = policy_over got e in omega (arith, over, reads.sized))
+    shown (policy.Bad kind path) e = refl
+    shown policy.PortsLimit e = refl
+    shown policy.ControllersLimit e = refl
+    shown policy.Memory e = refl
+
+    by : (r : Result PolicyFile Ending) → JudgesPolicy got r → ReadsPolicy q old new r
+    by (Ok p) e = record {
+      file = file;
+      read = record { opens = opens; short = omega (arith, reads.sized); outputs = reads.outputs; later = reads.later };
+      is = record { named = sym named; whole = refl; good = e };
+    }
+    by (Err (ending.Policy why)) e = ended q old new (ending.Policy why) (file ∷ []) reads.outputs opens (record { policy = file; only = refl; shown = shown why e; bad = e }, grows_same old.put new.put reads.outputs.put)
+    by (Err ending.Memory) e = ended q old new ending.Memory (file ∷ []) reads.outputs opens (inl (grows_same old.put new.put reads.outputs.put))
+    by (Err ending.Done) e = absurd e
+    by (Err ending.Usage) e = absurd e
+    by (Err ending.ReadFault) e = absurd e
+    by (Err ending.WriteFault) e = absurd e
+    by (Err (ending.Commands why)) e = absurd e
+    by (Err (ending.Trace bad)) e = absurd e
+    by (Err ending.Records) e = absurd e
+
+pub policy_fault : (q : Request) (old new : Outside) (name got : List ℕ) → q.policy ≡ name → ReadsFile 4194304 old new name got Fault → HasEnded q old new ending.ReadFault
+policy_fault q old new name got named reads = by (fault_read 4194304 old new name got reads)
+  where
+    by : OpensFew old.inputs new.inputs name (λ f. f.read ≤ 4194304) → HasEnded q old new ending.ReadFault
+    by (inl none) = ended q old new ending.ReadFault [] reads.outputs (opens_same q old old new [] (opens_none q old) none) (reads.fault refl, inl (record { few = omega arith; cut_short = tt }, grows_same old.put new.put reads.outputs.put))
+    by (inr (f, one, few)) = ended q old new ending.ReadFault (f ∷ []) reads.outputs (opens_more q old old new [] name f (opens_none q old) one (one.named ∙ sym named)) (reads.fault refl, inl (record { few = omega arith; cut_short = omega (arith, few) }, grows_same old.put new.put reads.outputs.put))
+
+pub policy_too_long : (q : Request) (old new : Outside) (name got : List ℕ) → q.policy ≡ name → ReadsFile 4194304 old new name got Long → HasEnded q old new (ending.Policy policy.PolicyLimit)
+policy_too_long q old new name got named reads =
+    let l : IsLong 4194304 old.inputs new.inputs name = long_read 4194304 old new name got reads in
+    ended q old new (ending.Policy policy.PolicyLimit) (l.file ∷ []) reads.outputs (opens_more q old old new [] name l.file (opens_none q old) l.opens (l.opens.named ∙ sym named))
+    (record { policy = l.file; only = refl; shown = (l.over, l.short); bad = policy_long l.file.bytes (omega (arith, l.over, l.opens.within)) }, grows_same old.put new.put reads.outputs.put)
+
+pub policy_memory : (q : Request) (old new : Outside) (name got : List ℕ) → q.policy ≡ name → ReadsFile 4194304 old new name got Memory → HasEnded q old new ending.Memory
+policy_memory q old new name got named reads = memory_end q old old new [] name (stage_none q old) reads.outputs (λ f e. e ∙ sym named) (memory_read 4194304 old new name got reads)
+
+-- ---- the commands
+
+-- they stand behind the policy
+behind : (q : Request) (old now : Outside) (p : PolicyFile) (h : HasPolicy q old now p) (name : List ℕ) (f : Opened) → q.commands ≡ name → f.name ≡ name → InTurn q (h.file ∷ f ∷ [])
+behind q old now p h name f named e = (p, h.is, e ∙ sym named)
+
+pub commands_read : (q : Request) (old now new : Outside) (p : PolicyFile) (name got bytes : List ℕ) (r : Result (List Line) Ending) → q.commands ≡ name → HasPolicy q old now p → ReadsFile 16777216 now new name got Whole → bytes ≡ got → JudgesCommands p bytes r → ReadsCommands q old new p r
+commands_read q old now new p name got bytes r named h reads same j =
+    by r (subst (λ (t : List ℕ). JudgesCommands p t r) same j)
+  where
+    file : Opened
+    file = got_of name got
+
+    opens : Opens old new q (h.file ∷ file ∷ [])
+    opens = opens_more q old now new (h.file ∷ []) name file h.read.opens (whole_read 16777216 now new name got reads) (behind q old now p h name file named refl)
+
+    outputs : SameOutputs old new
+    outputs = SameOutputs-trans old now new h.read.outputs reads.outputs
+
+    shown : (why : CommandsFault) → commands_file_of p got ≡ Err why → ShowsCommands why file
+    shown commands.CommandsLimit e = absurd (let over = commands_over p got e in omega (arith, over, reads.sized))
+    shown (commands.Bad line kind path) e = refl
+    shown commands.LinesLimit e = refl
+    shown commands.Memory e = refl
+
+    by : (r : Result (List Line) Ending) → JudgesCommands p got r → ReadsCommands q old new p r
+    by (Ok lines) e = record {
+      policy_file = h.file;
+      file = file;
+      read = record { opens = opens; short = (h.read.short, omega (arith, reads.sized)); outputs = outputs; later = omega (arith, h.read.later, reads.later) };
+      policy_is = h.is;
+      are = record { named = sym named; whole = refl; good = e };
+    }
+    by (Err (ending.Commands why)) e = ended q old new (ending.Commands why) (h.file ∷ file ∷ []) outputs opens (record { policy = h.file; commands = file; only = refl; shown = shown why e; given = p; good = h.is.good; bad = e }, grows_same old.put new.put outputs.put)
+    by (Err ending.Memory) e = ended q old new ending.Memory (h.file ∷ file ∷ []) outputs opens (inl (grows_same old.put new.put outputs.put))
+    by (Err ending.Done) e = absurd e
+    by (Err ending.Usage) e = absurd e
+    by (Err ending.ReadFault) e = absurd e
+    by (Err ending.WriteFault) e = absurd e
+    by (Err (ending.Policy why)) e = absurd e
+    by (Err (ending.Trace bad)) e = absurd e
+    by (Err ending.Records) e = absurd e
+
+pub commands_fault : (q : Request) (old now new : Outside) (p : PolicyFile) (name got : List ℕ) → q.commands ≡ name → HasPolicy q old now p → ReadsFile 16777216 now new name got Fault → HasEnded q old new ending.ReadFault
+commands_fault q old now new p name got named h reads = by (fault_read 16777216 now new name got reads)
+  where
+    outputs : SameOutputs old new
+    outputs = SameOutputs-trans old now new h.read.outputs reads.outputs
+
+    rises : Rose old.input_faults new.input_faults
+    rises = rose_from old.input_faults now.input_faults new.input_faults h.read.later (reads.fault refl)
+
+    by : OpensFew now.inputs new.inputs name (λ f. f.read ≤ 16777216) → HasEnded q old new ending.ReadFault
+    by (inl none) = ended q old new ending.ReadFault (h.file ∷ []) outputs (opens_same q old now new (h.file ∷ []) h.read.opens none) (rises, inl (record { few = omega arith; cut_short = h.read.short }, grows_same old.put new.put outputs.put))
+    by (inr (f, one, few)) = ended q old new ending.ReadFault (h.file ∷ f ∷ []) outputs (opens_more q old now new (h.file ∷ []) name f h.read.opens one (behind q old now p h name f named one.named)) (rises, inl (record { few = omega arith; cut_short = (h.read.short, omega (arith, few)) }, grows_same old.put new.put outputs.put))
+
+pub commands_too_long : (q : Request) (old now new : Outside) (p : PolicyFile) (name got : List ℕ) → q.commands ≡ name → HasPolicy q old now p → ReadsFile 16777216 now new name got Long → HasEnded q old new (ending.Commands commands.CommandsLimit)
+commands_too_long q old now new p name got named h reads =
+    let l : IsLong 16777216 now.inputs new.inputs name = long_read 16777216 now new name got reads in
+    let outputs = SameOutputs-trans old now new h.read.outputs reads.outputs in
+    ended q old new (ending.Commands commands.CommandsLimit) (h.file ∷ l.file ∷ []) outputs (opens_more q old now new (h.file ∷ []) name l.file h.read.opens l.opens (behind q old now p h name l.file named l.opens.named))
+    (record { policy = h.file; commands = l.file; only = refl; shown = (l.over, l.short); given = p; good = h.is.good; bad = commands_long p l.file.bytes (omega (arith, l.over, l.opens.within)) }, grows_same old.put new.put outputs.put)
+
+pub commands_memory : (q : Request) (old now new : Outside) (p : PolicyFile) (name got : List ℕ) → q.commands ≡ name → HasPolicy q old now p → ReadsFile 16777216 now new name got Memory → HasEnded q old new ending.Memory
+commands_memory q old now new p name got named h reads = memory_end q old now new (h.file ∷ []) name (stage_policy q old now p h) reads.outputs (λ f e. behind q old now p h name f named e) (memory_read 16777216 now new name got reads)

@@ -1,18 +1,14 @@
 -- Words that are complained piece by piece.
-use Rattle.std.proofs.Common.{refl, ◌≡◌, ◌+◌, ◌≤◌, inl, inr, List, ℕ, ◌++◌, Result, Ok, Err, length, min, sym, ◌∙◌, subst, arith}
+use Rattle.std.proofs.Common.{refl, ◌≡◌, ◌+◌, ◌≤◌, inl, inr, List, ℕ, ◌++◌, Result, Ok, Err, length, min, sym, ◌∙◌, subst, arith, append_assoc}
 use Rattle.std.specs.Prelude.{⊤, codes}
 use Rattle.vsw_host.specs.Outside.{Outside, Grows, Rose, SameInputs}
 use Rattle.vsw_host.specs.declared.host.Failed.{Failed}
-use Rattle.vsw_replay.specs.declared.ending.Ending.{Ending}
-use Rattle.vsw_app.specs.Ending.{Says, Speaks, KeepsPut, Complains, complaint, ending_text, name_text}
-use Rattle.vsw_app.specs.declared.ending.RunEnd.{RunEnd}
 use Rattle.vsw_jsonfile.specs.Path.{step_text}
 use Rattle.vsw_jsonfile.specs.declared.fault.Step.{Step}
 use Rattle.vsw_jsonfile.specs.declared.fault.Step.TheVariants.{Member, Place}
-use Rattle.vsw_replay.proofs.Growing.{grows_then, front_then, front_more}
-
-pub rose_from : (a b c : ℕ) → a ≤ b → Rose b c → Rose a c
-rose_from a b c h r = omega (arith, h, r)
+use Rattle.vsw_promise.specs.Complaint.{Complains}
+use Rattle.vsw_app.specs.Speaks.{Says, Speaks, KeepsPut, name_text}
+use Rattle.vsw_app.proofs.Growing.{grows_then, front_then, front_more, rose_from}
 
 same_inputs : (a b c : Outside) → SameInputs a b → SameInputs b c → SameInputs a c
 same_inputs a b c p q = record { inputs = q.inputs ∙ p.inputs; opens = q.opens ∙ p.opens; input_faults = q.input_faults ∙ p.input_faults }
@@ -42,14 +38,16 @@ speaks_part a b xs ys e f p = record {
   put = p.put;
 }
 
-pub speaks_of : (a b : Outside) (e f : Ending) (r : Result ⊤ Failed) → e ≡ f → Speaks a b (ending_text f) r → Speaks a b (ending_text e) r
-speaks_of a b e f r same s = let P : Ending → Type 0 = λ g. Speaks a b (ending_text g) r in subst P (sym same) s
-
-pub speaks_last : (a b : Outside) (e f : RunEnd) (r : Result ⊤ Failed) → e ≡ f → Speaks a b (complaint f) r → Speaks a b (complaint e) r
-speaks_last a b e f r same s = let P : RunEnd → Type 0 = λ g. Speaks a b (complaint g) r in subst P (sym same) s
-
 pub speaks_is : (a b : Outside) (xs ys : List ℕ) (r : Result ⊤ Failed) → xs ≡ ys → Speaks a b xs r → Speaks a b ys r
 speaks_is a b xs ys r same s = let P : List ℕ → Type 0 = λ t. Speaks a b t r in subst P same s
+
+-- texts that were said from the last of four on
+pub four : (xs ys zs ws : List ℕ) → xs ++ (ys ++ (zs ++ ws)) ≡ xs ++ ys ++ zs ++ ws
+four xs ys zs ws = sym (append_assoc (xs ++ ys) zs ws ∙ append_assoc xs ys (zs ++ ws))
+
+-- the text of a value, which is known by its kind
+pub speaks_of : (A : Type 0) (text : A → List ℕ) (a b : Outside) (e f : A) (r : Result ⊤ Failed) → e ≡ f → Speaks a b (text f) r → Speaks a b (text e) r
+speaks_of A text a b e f r same s = let P : A → Type 0 = λ g. Speaks a b (text g) r in subst P (sym same) s
 
 -- the words of a complaint were said, or a front of them
 pub complains_of : (a b : Outside) (xs : List ℕ) (r : Result ⊤ Failed) → Speaks a b xs r → Complains a b xs

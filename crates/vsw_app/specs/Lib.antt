@@ -1,6 +1,3 @@
-pub mod IsRun
-pub mod Words
+pub mod Stages
 pub mod Ending
-pub mod Files
-pub mod Reads
-pub mod Forward
+pub mod Speaks

@@ -1,18 +1,18 @@
 //! The words that are complained. They are said in pieces, and take no memory.
 
 ghost use Rattle.std.specs.Prelude.{◌≡◌, ◌++◌, codes, decimal};
-ghost use Rattle.vsw_jsonfile.specs.Path.{step_text, steps_text, path_text, kind_name};
+ghost use Rattle.vsw_jsonfile.specs.Path.{step_text, steps_text, path_text};
 ghost use Rattle.vsw_pcap.specs.Fault.{trace_name};
-ghost use Rattle.vsw_app.specs.declared.ending.RunEnd.TheVariants.{Bad};
-ghost use Rattle.vsw_app.specs.Ending.{complaint, byte_text, limit_text, ending_text, name_text, Speaks};
-ghost use Rattle.vsw_replay.specs.declared.ending.Ending.TheVariants.{Refused};
+ghost use Rattle.vsw_promise.specs.Complaint.{byte_text, fault_text, policy_text, commands_text, complaint};
+ghost use Rattle.vsw_app.specs.Speaks.{name_text, Speaks};
 
-use crate::ending::{Limit, RunEnd};
 use itoa::Buffer;
+use vsw_commandfile::CommandsFault;
 use vsw_host::{Failed, Host};
 use vsw_jsonfile::{Kind, Step};
 use vsw_pcap::BadTrace;
-use vsw_replay::Ending;
+use vsw_policyfile::ConfigFault;
+use vsw_promise::Ending;
 
 /// Complains a piece of the words.
 fn say<H: Host>(host: &mut H, words: &[u8]) -> Result<(), Failed>
@@ -21,12 +21,20 @@ fn say<H: Host>(host: &mut H, words: &[u8]) -> Result<(), Failed>
     host.complain(words)
 }
 
+fn say_number<H: Host>(host: &mut H, number: u64) -> Result<(), Failed>
+    ensures { Speaks (H.outside host.old) (H.outside host.new) (decimal number) result }
+{
+    let mut buffer = Buffer::new();
+    say(host, buffer.format(number).as_bytes())
+}
+
 fn say_byte<H: Host>(host: &mut H, at: u64) -> Result<(), Failed>
     ensures { Speaks (H.outside host.old) (H.outside host.new) (codes " " ++ decimal at) result }
 {
-    say(host, b" ")?;
-    let mut buffer = Buffer::new();
-    say(host, buffer.format(at).as_bytes())
+    match say(host, b" ") {
+        Ok(()) => say_number(host, at),
+        Err(failed) => Err(failed),
+    }
 }
 
 fn say_place<H: Host>(host: &mut H, bad: BadTrace) -> Result<(), Failed>
@@ -38,7 +46,7 @@ fn say_place<H: Host>(host: &mut H, bad: BadTrace) -> Result<(), Failed>
     }
 }
 
-fn say_end<H: Host>(host: &mut H, bad: BadTrace) -> Result<(), Failed>
+fn say_place_end<H: Host>(host: &mut H, bad: BadTrace) -> Result<(), Failed>
     ensures { Speaks (H.outside host.old) (H.outside host.new) (byte_text bad ++ codes "\n") result }
 {
     match say_place(host, bad) {
@@ -51,45 +59,18 @@ fn say_bad<H: Host>(host: &mut H, bad: BadTrace) -> Result<(), Failed>
     ensures { Speaks (H.outside host.old) (H.outside host.new) (trace_name bad ++ (byte_text bad ++ codes "\n")) result }
 {
     match say(host, bad.name().as_bytes()) {
-        Ok(()) => say_end(host, bad),
+        Ok(()) => say_place_end(host, bad),
         Err(failed) => Err(failed),
     }
 }
 
 /// Complains the words of a refused trace.
-fn say_refused<H: Host>(host: &mut H, bad: BadTrace) -> Result<(), Failed>
-    ensures { Speaks (H.outside host.old) (H.outside host.new) (ending_text (Refused bad)) result }
+fn say_bad_trace<H: Host>(host: &mut H, bad: BadTrace) -> Result<(), Failed>
+    ensures { Speaks (H.outside host.old) (H.outside host.new) (codes "vsw: refused trace " ++ (trace_name bad ++ (byte_text bad ++ codes "\n"))) result }
 {
     match say(host, b"vsw: refused trace ") {
         Ok(()) => say_bad(host, bad),
         Err(failed) => Err(failed),
-    }
-}
-
-/// Complains the words of an ending, where it has any.
-fn say_ending<H: Host>(host: &mut H, ending: Ending) -> Result<(), Failed>
-    ensures { Speaks (H.outside host.old) (H.outside host.new) (ending_text ending) result }
-{
-    match ending {
-        Ending::Done => say(host, b""),
-        Ending::Usage => say(host, b"vsw: usage\n"),
-        Ending::ReadFault => say(host, b"vsw: read fault\n"),
-        Ending::WriteFault => say(host, b"vsw: write fault\n"),
-        Ending::Refused(bad) => say_refused(host, bad),
-        Ending::Records => say(host, b"vsw: limit records\n"),
-        Ending::NotBuilt => say(host, b"vsw: not built\n"),
-        Ending::Memory => say(host, b"vsw: memory\n"),
-    }
-}
-
-/// Complains the words of a policy that passes a limit.
-fn say_limit<H: Host>(host: &mut H, limit: Limit) -> Result<(), Failed>
-    ensures { Speaks (H.outside host.old) (H.outside host.new) (limit_text limit) result }
-{
-    match limit {
-        Limit::Policy => say(host, b"vsw: limit policy\n"),
-        Limit::Ports => say(host, b"vsw: limit ports\n"),
-        Limit::Controllers => say(host, b"vsw: limit controllers\n"),
     }
 }
 
@@ -156,8 +137,9 @@ fn say_where<H: Host>(host: &mut H, path: &[Step]) -> Result<(), Failed>
     }
 }
 
+/// Complains the kind of a fault, and the path to it.
 fn say_fault<H: Host>(host: &mut H, kind: Kind, path: &[Step]) -> Result<(), Failed>
-    ensures { Speaks (H.outside host.old) (H.outside host.new) (kind_name kind ++ (codes " " ++ (path_text path.now ++ codes "\n"))) result }
+    ensures { Speaks (H.outside host.old) (H.outside host.new) (fault_text kind path.now) result }
 {
     match say(host, kind.name().as_bytes()) {
         Ok(()) => say_where(host, path),
@@ -165,9 +147,8 @@ fn say_fault<H: Host>(host: &mut H, kind: Kind, path: &[Step]) -> Result<(), Fai
     }
 }
 
-/// Complains the words of a refused policy.
-fn say_policy<H: Host>(host: &mut H, kind: Kind, path: &[Step]) -> Result<(), Failed>
-    ensures { Speaks (H.outside host.old) (H.outside host.new) (complaint (Bad kind path.now)) result }
+fn say_bad_policy<H: Host>(host: &mut H, kind: Kind, path: &[Step]) -> Result<(), Failed>
+    ensures { Speaks (H.outside host.old) (H.outside host.new) (codes "vsw: refused policy " ++ fault_text kind path.now) result }
 {
     match say(host, b"vsw: refused policy ") {
         Ok(()) => say_fault(host, kind, path),
@@ -175,13 +156,73 @@ fn say_policy<H: Host>(host: &mut H, kind: Kind, path: &[Step]) -> Result<(), Fa
     }
 }
 
-/// Complains the words of how a run ended, where it has any.
-pub fn say_last<H: Host>(host: &mut H, last: &RunEnd) -> Result<(), Failed>
-    ensures { Speaks (H.outside host.old) (H.outside host.new) (complaint last.now) result }
+fn say_fault_apart<H: Host>(host: &mut H, kind: Kind, path: &[Step]) -> Result<(), Failed>
+    ensures { Speaks (H.outside host.old) (H.outside host.new) (codes " " ++ fault_text kind path.now) result }
 {
-    match last {
-        RunEnd::Bad { kind, path } => say_policy(host, *kind, path.as_slice()),
-        RunEnd::Past(limit) => say_limit(host, *limit),
-        RunEnd::Run(ending) => say_ending(host, *ending),
+    match say(host, b" ") {
+        Ok(()) => say_fault(host, kind, path),
+        Err(failed) => Err(failed),
+    }
+}
+
+fn say_line<H: Host>(host: &mut H, line: u32, kind: Kind, path: &[Step]) -> Result<(), Failed>
+    ensures { Speaks (H.outside host.old) (H.outside host.new) (decimal line ++ (codes " " ++ fault_text kind path.now)) result }
+{
+    match say_number(host, u64::from(line)) {
+        Ok(()) => say_fault_apart(host, kind, path),
+        Err(failed) => Err(failed),
+    }
+}
+
+fn say_bad_line<H: Host>(host: &mut H, line: u32, kind: Kind, path: &[Step]) -> Result<(), Failed>
+    ensures { Speaks (H.outside host.old) (H.outside host.new) (codes "vsw: refused commands " ++ (decimal line ++ (codes " " ++ fault_text kind path.now))) result }
+{
+    match say(host, b"vsw: refused commands ") {
+        Ok(()) => say_line(host, line, kind, path),
+        Err(failed) => Err(failed),
+    }
+}
+
+/// Complains what is wrong with a policy.
+fn say_policy<H: Host>(host: &mut H, why: &ConfigFault) -> Result<(), Failed>
+    ensures { Speaks (H.outside host.old) (H.outside host.new) (policy_text why.now) result }
+{
+    match why {
+        ConfigFault::Bad { kind, path } => say_bad_policy(host, *kind, path.as_slice()),
+        ConfigFault::PolicyLimit => say(host, b"vsw: limit policy\n"),
+        ConfigFault::PortsLimit => say(host, b"vsw: limit ports\n"),
+        ConfigFault::ControllersLimit => say(host, b"vsw: limit controllers\n"),
+        ConfigFault::Memory => say(host, b"vsw: memory\n"),
+    }
+}
+
+/// Complains what is wrong with commands.
+fn say_commands<H: Host>(host: &mut H, why: &CommandsFault) -> Result<(), Failed>
+    ensures { Speaks (H.outside host.old) (H.outside host.new) (commands_text why.now) result }
+{
+    match why {
+        CommandsFault::Bad { line, kind, path } => {
+            say_bad_line(host, *line, *kind, path.as_slice())
+        }
+        CommandsFault::CommandsLimit => say(host, b"vsw: limit commands\n"),
+        CommandsFault::LinesLimit => say(host, b"vsw: limit lines\n"),
+        CommandsFault::Memory => say(host, b"vsw: memory\n"),
+    }
+}
+
+/// Complains the words of an ending, if it has any.
+pub fn say_ending<H: Host>(host: &mut H, end: &Ending) -> Result<(), Failed>
+    ensures { Speaks (H.outside host.old) (H.outside host.new) (complaint end.now) result }
+{
+    match end {
+        Ending::Done => say(host, b""),
+        Ending::Usage => say(host, b"vsw: usage\n"),
+        Ending::ReadFault => say(host, b"vsw: read fault\n"),
+        Ending::WriteFault => say(host, b"vsw: write fault\n"),
+        Ending::Policy(why) => say_policy(host, why),
+        Ending::Commands(why) => say_commands(host, why),
+        Ending::Trace(bad) => say_bad_trace(host, *bad),
+        Ending::Records => say(host, b"vsw: limit records\n"),
+        Ending::Memory => say(host, b"vsw: memory\n"),
     }
 }

@@ -1,83 +1,79 @@
-//! How a run ends, and its status.
+//! How a run ends: its status, and what is complained.
 
 ghost use Rattle.std.specs.Prelude.{◌≡◌};
 ghost use Rattle.vsw_host.specs.Outside.{SameInputs};
-ghost use Rattle.vsw_app.specs.Ending.{status_of, complaint, Complains, KeepsPut};
+ghost use Rattle.vsw_promise.specs.Complaint.{policy_status, commands_status, status_of, complaint, Complains};
+ghost use Rattle.vsw_app.specs.Ending.{ending_of};
+ghost use Rattle.vsw_app.specs.Speaks.{KeepsPut};
 
-use crate::complaint::say_last;
-use vsw_base::Items;
+use crate::complaint::say_ending;
+use vsw_commandfile::CommandsFault;
 use vsw_host::Host;
-use vsw_jsonfile::{Kind, Step};
-use vsw_replay::Ending;
+use vsw_policyfile::ConfigFault;
+use vsw_promise::{Ending, Status};
+use vsw_replay::TraceEnd;
 
-/// How a run ended. The program's exit status is the number of docs/FORMATS.md.
-#[derive(Clone, Copy, Debug, PartialEq, Eq)]
-pub enum Status {
-    /// 0: all files were read to their ends, and the whole report was put.
-    Done,
-    /// 2: the words aren't of the grammar.
-    Usage,
-    /// 3: a file couldn't be opened or read.
-    ReadFault,
-    /// 4: the report couldn't be put.
-    WriteFault,
-    /// 5: the policy or the trace is refused.
-    Refused,
-    /// 6: the policy passes a limit, or the trace has more records than may be.
-    Limit,
-    /// 7: the commands file has bytes, and no command is built yet.
-    NotBuilt,
-    /// 9: there was no memory.
-    Memory,
+/// The ending of a run by how its trace ended.
+pub fn ending_of(end: TraceEnd) -> Ending
+    ensures { result ≡ ending_of end }
+{
+    match end {
+        TraceEnd::Done => Ending::Done,
+        TraceEnd::ReadFault => Ending::ReadFault,
+        TraceEnd::WriteFault => Ending::WriteFault,
+        TraceEnd::Refused(bad) => Ending::Trace(bad),
+        TraceEnd::Records => Ending::Records,
+        TraceEnd::Memory => Ending::Memory,
+    }
 }
 
-/// A limit of the policy file.
-#[derive(Clone, Copy)]
-pub enum Limit {
-    /// 4,194,304 bytes.
-    Policy,
-    /// 16 ports.
-    Ports,
-    /// 8 controllers.
-    Controllers,
+fn policy_status(why: &ConfigFault) -> Status
+    ensures { result ≡ policy_status why.now }
+{
+    match why {
+        ConfigFault::Bad { .. } => Status::Refused,
+        ConfigFault::PolicyLimit => Status::Limit,
+        ConfigFault::PortsLimit => Status::Limit,
+        ConfigFault::ControllersLimit => Status::Limit,
+        ConfigFault::Memory => Status::Memory,
+    }
 }
 
-/// How a run ended, with what the complaint names.
-#[derive(Drop)]
-pub enum RunEnd {
-    /// The policy is refused. The innermost step of the path to its first fault stands first.
-    Bad { kind: Kind, path: Items<Step> },
-    /// The policy passes a limit.
-    Past(Limit),
-    /// It ended otherwise.
-    Run(Ending),
+fn commands_status(why: &CommandsFault) -> Status
+    ensures { result ≡ commands_status why.now }
+{
+    match why {
+        CommandsFault::Bad { .. } => Status::Refused,
+        CommandsFault::CommandsLimit => Status::Limit,
+        CommandsFault::LinesLimit => Status::Limit,
+        CommandsFault::Memory => Status::Memory,
+    }
 }
 
 /// The exit status of an ending.
-fn status_for(last: &RunEnd) -> Status
-    ensures { result ≡ status_of last.now }
+fn status_of(end: &Ending) -> Status
+    ensures { result ≡ status_of end.now }
 {
-    match last {
-        RunEnd::Bad { .. } => Status::Refused,
-        RunEnd::Past(_) => Status::Limit,
-        RunEnd::Run(Ending::Done) => Status::Done,
-        RunEnd::Run(Ending::Usage) => Status::Usage,
-        RunEnd::Run(Ending::ReadFault) => Status::ReadFault,
-        RunEnd::Run(Ending::WriteFault) => Status::WriteFault,
-        RunEnd::Run(Ending::Refused(_)) => Status::Refused,
-        RunEnd::Run(Ending::Records) => Status::Limit,
-        RunEnd::Run(Ending::NotBuilt) => Status::NotBuilt,
-        RunEnd::Run(Ending::Memory) => Status::Memory,
+    match end {
+        Ending::Done => Status::Done,
+        Ending::Usage => Status::Usage,
+        Ending::ReadFault => Status::ReadFault,
+        Ending::WriteFault => Status::WriteFault,
+        Ending::Policy(why) => policy_status(why),
+        Ending::Commands(why) => commands_status(why),
+        Ending::Trace(_) => Status::Refused,
+        Ending::Records => Status::Limit,
+        Ending::Memory => Status::Memory,
     }
 }
 
 /// Complains the words of an ending, and answers its status. A fault of the complaint changes nothing.
-pub fn finish<H: Host>(host: &mut H, last: &RunEnd) -> Status
-    ensures status { result ≡ status_of last.now }
-    ensures complains { Complains (H.outside host.old) (H.outside host.new) (complaint last.now) }
+pub fn finish<H: Host>(host: &mut H, end: &Ending) -> Status
+    ensures status { result ≡ status_of end.now }
+    ensures complains { Complains (H.outside host.old) (H.outside host.new) (complaint end.now) }
     ensures inputs { SameInputs (H.outside host.old) (H.outside host.new) }
     ensures put { KeepsPut (H.outside host.old) (H.outside host.new) }
 {
-    let _ = say_last(host, last);
-    status_for(last)
+    let _ = say_ending(host, end);
+    status_of(end)
 }

@@ -1,75 +1,72 @@
-//! Reading and judging the files of a run, in the order of the words.
+//! Reading and judging the policy and the commands, in the order of the words.
 
-ghost use Rattle.std.specs.Prelude.{◌≡◌, IfOk};
-ghost use Rattle.vsw_policyfile.specs.Good.{IsGoodPolicy};
-ghost use Rattle.vsw_app.specs.Reads.{Judges, ReadsPolicy, ReadsCommands, ReadsTrace};
+ghost use Rattle.std.specs.Prelude.{◌≡◌};
+ghost use Rattle.vsw_host.specs.Outside.{Outside};
+ghost use Rattle.vsw_request.specs.Words.{Request};
+ghost use Rattle.vsw_app.specs.Stages.{JudgesPolicy, JudgesCommands, HasPolicy, ReadsPolicy, ReadsCommands};
 
-use crate::ending::{Limit, RunEnd};
 use std::alloc::Global;
+use vsw_base::Items;
+use vsw_commandfile::{CommandsFault, Line, read_commands};
 use vsw_host::{Host, ReadEnd, read_file};
 use vsw_policyfile::{ConfigFault, PolicyFile, read_policy};
-use vsw_replay::{Ending, TraceBytes};
+use vsw_promise::Ending;
 
 /// Bytes of the longest policy file.
 const POLICY_MAX: u64 = 4_194_304;
 
-/// Bytes of the longest commands file: no command is built yet.
-const COMMANDS_MAX: u64 = 0;
+/// Bytes of the longest commands file.
+const COMMANDS_MAX: u64 = 16_777_216;
 
 /// The policy in these bytes, or how the run ends.
-fn judged(alloc: Global, bytes: &[u8]) -> Result<PolicyFile, RunEnd>
-    ensures says { Judges bytes.now result }
-    ensures good { IfOk result IsGoodPolicy }
+fn judged_policy(alloc: Global, bytes: &[u8]) -> Result<PolicyFile, Ending>
+    ensures { JudgesPolicy bytes.now result }
 {
     match read_policy(alloc, bytes) {
         Ok(policy) => Ok(policy),
-        Err(ConfigFault::Bad { kind, path }) => Err(RunEnd::Bad { kind, path }),
-        Err(ConfigFault::PolicyLimit) => Err(RunEnd::Past(Limit::Policy)),
-        Err(ConfigFault::PortsLimit) => Err(RunEnd::Past(Limit::Ports)),
-        Err(ConfigFault::ControllersLimit) => Err(RunEnd::Past(Limit::Controllers)),
-        Err(ConfigFault::Memory) => Err(RunEnd::Run(Ending::Memory)),
+        Err(ConfigFault::Memory) => Err(Ending::Memory),
+        Err(why) => Err(Ending::Policy(why)),
     }
 }
 
 /// Reads the policy file of this name.
-pub fn open_policy<H: Host>(alloc: Global, host: &mut H, name: &str) -> Result<PolicyFile, RunEnd>
-    ensures { ReadsPolicy (H.outside host.old) (H.outside host.new) name.now result }
+pub fn open_policy<H: Host>(alloc: Global, host: &mut H, name: &str) -> Result<PolicyFile, Ending>
+    ensures { (q : Request) → q.policy ≡ name.now → ReadsPolicy q (H.outside host.old) (H.outside host.new) result }
 {
     let mut bytes = Vec::new(alloc);
     match read_file(host, name, POLICY_MAX, &mut bytes) {
-        ReadEnd::Whole => judged(alloc, &bytes),
-        ReadEnd::Fault => Err(RunEnd::Run(Ending::ReadFault)),
-        ReadEnd::Long => Err(RunEnd::Past(Limit::Policy)),
-        ReadEnd::Memory => Err(RunEnd::Run(Ending::Memory)),
-    }
-}
-
-/// Reads the commands file of this name, which is to have no bytes.
-pub fn open_commands<H: Host>(alloc: Global, host: &mut H, name: &str) -> Result<(), Ending>
-    ensures { ReadsCommands (H.outside host.old) (H.outside host.new) name.now result }
-{
-    let mut bytes = Vec::new(alloc);
-    match read_file(host, name, COMMANDS_MAX, &mut bytes) {
-        ReadEnd::Whole => Ok(()),
+        ReadEnd::Whole => judged_policy(alloc, &bytes),
         ReadEnd::Fault => Err(Ending::ReadFault),
-        ReadEnd::Long => Err(Ending::NotBuilt),
+        ReadEnd::Long => Err(Ending::Policy(ConfigFault::PolicyLimit)),
         ReadEnd::Memory => Err(Ending::Memory),
     }
 }
 
-/// Reads the trace of this name, or as much of it as comes before a fault.
-pub fn open_trace<H: Host>(alloc: Global, host: &mut H, name: &str) -> Result<TraceBytes, Ending>
-    ensures { ReadsTrace (H.outside host.old) (H.outside host.new) name.now result }
+/// The commands in these bytes, under this policy, or how the run ends.
+fn judged_commands(alloc: Global, policy: &PolicyFile, bytes: &[u8]) -> Result<Items<Line>, Ending>
+    ensures { JudgesCommands policy.now bytes.now result }
+{
+    match read_commands(alloc, bytes, policy) {
+        Ok(lines) => Ok(lines),
+        Err(CommandsFault::Memory) => Err(Ending::Memory),
+        Err(why) => Err(Ending::Commands(why)),
+    }
+}
+
+/// Reads the commands file of this name, after the policy.
+pub fn open_commands<H: Host>(
+    alloc: Global,
+    host: &mut H,
+    policy: &PolicyFile,
+    name: &str,
+) -> Result<Items<Line>, Ending>
+    ensures { (q : Request) (start : Outside) → q.commands ≡ name.now → HasPolicy q start (H.outside host.old) policy.now → ReadsCommands q start (H.outside host.new) policy.now result }
 {
     let mut bytes = Vec::new(alloc);
-    match read_file(host, name, u64::MAX, &mut bytes) {
-        ReadEnd::Whole => Ok(TraceBytes { bytes, whole: true }),
-        ReadEnd::Fault if bytes.is_empty() => Err(Ending::ReadFault),
-        ReadEnd::Fault => Ok(TraceBytes {
-            bytes,
-            whole: false,
-        }),
-        // No list has as many bytes as the limit.
-        ReadEnd::Long | ReadEnd::Memory => Err(Ending::Memory),
+    match read_file(host, name, COMMANDS_MAX, &mut bytes) {
+        ReadEnd::Whole => judged_commands(alloc, policy, &bytes),
+        ReadEnd::Fault => Err(Ending::ReadFault),
+        ReadEnd::Long => Err(Ending::Commands(CommandsFault::CommandsLimit)),
+        ReadEnd::Memory => Err(Ending::Memory),
     }
 }

@@ -5,8 +5,5 @@ mod complaint;
 mod ending;
 mod files;
 mod run;
-mod words;
 
-pub use ending::Status;
 pub use run::run_words;
-pub use words::Word;

@@ -7,8 +7,9 @@ use crate::running::{
 use std::alloc::Global;
 use std::process::Abort;
 use std::test::Fail;
-use vsw_app::{Status, run_words};
+use vsw_app::run_words;
 use vsw_memory_host::{MemoryHost, are_distinct};
+use vsw_promise::Status;
 
 /// A host that holds this policy and this trace.
 fn host_with(
@@ -83,26 +84,48 @@ fn a_fault_is_named_and_what_was_put_stays(rt: HostRuntime) -> Result<(), Fail> 
     )
 }
 
-#[test]
-fn commands_are_not_built_yet(rt: HostRuntime) -> Result<(), Fail> {
-    let alloc = rt.alloc();
-    let wanted = (
-        Status::NotBuilt,
-        [].as_slice(),
-        b"vsw: not built\n".as_slice(),
-    );
-    let commands = Files {
+/// Runs over commands that end the run before the trace is opened, which is no capture.
+fn check_commands(
+    rt: &impl Abort,
+    alloc: Global,
+    commands: &[u8],
+    status: Status,
+    complaint: &[u8],
+) -> Result<(), Fail> {
+    let files = Files {
         rules: &[ALLOW],
-        commands: b"\n",
+        commands,
         trace: &[b"no capture"],
     };
-    check(
-        &rt,
-        alloc,
-        host_of(&rt, alloc, &commands, &[])?,
-        FORWARD,
-        wanted,
-    )
+    let host = host_of(rt, alloc, &files, &[])?;
+    check(rt, alloc, host, FORWARD, (status, &[], complaint))
+}
+
+#[test]
+fn commands_are_refused_by_line_kind_and_place(rt: HostRuntime) -> Result<(), Fail> {
+    let alloc = rt.alloc();
+    let nobody =
+        b"\n{\"at\":0,\"when\":\"before\",\"controller\":9,\"port\":1,\"do\":\"remove_layer\",\"layer\":10}\n";
+    let unknown = b"vsw: refused commands 2 Unknown /controller\n";
+    check_commands(&rt, alloc, nobody, Status::Refused, unknown)?;
+    let shape = b"vsw: refused commands 1 Shape /\n";
+    check_commands(&rt, alloc, b"{}", Status::Refused, shape)
+}
+
+/// So many line feeds.
+fn feeds(alloc: Global, count: usize) -> Result<Vec<u8>, Fail> {
+    Ok(vec![in alloc; b'\n'; count]?)
+}
+
+#[test]
+fn a_line_more_than_may_be_passes_the_limit(rt: HostRuntime) -> Result<(), Fail> {
+    let alloc = rt.alloc();
+    let many = feeds(alloc, 65_537)?;
+    let limit = b"vsw: limit lines\n";
+    check_commands(&rt, alloc, &many, Status::Limit, limit)?;
+    let most = feeds(alloc, 65_536)?;
+    let refused = b"vsw: refused trace NotPcap\n";
+    check_commands(&rt, alloc, &most, Status::Refused, refused)
 }
 
 #[test]

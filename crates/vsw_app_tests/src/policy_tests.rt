@@ -4,8 +4,9 @@ use crate::running::{FORWARD, file, joined, words_of};
 use std::alloc::{AllocError, Global};
 use std::process::Abort;
 use std::test::Fail;
-use vsw_app::{Status, run_words};
+use vsw_app::run_words;
 use vsw_memory_host::{MemoryHost, are_distinct};
+use vsw_promise::Status;
 
 /// The pieces of a policy file: up to the layers of the only port, up to the rules of the only group, a
 /// rule, the end of a layer, and the end of the file.

@@ -7,7 +7,7 @@ use crate::running::{
 use std::alloc::{AllocError, Global};
 use std::process::Abort;
 use std::test::Fail;
-use vsw_app::Status;
+use vsw_promise::Status;
 
 /// A trace of one packet, and its report: the lines of port 1, and the loose lines.
 fn check_packet(

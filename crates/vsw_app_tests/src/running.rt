@@ -3,9 +3,11 @@
 use std::alloc::{AllocError, Global};
 use std::process::Abort;
 use std::test::Fail;
-use vsw_app::{Status, Word, run_words};
+use vsw_app::run_words;
 use vsw_base::{Items, Text};
 use vsw_memory_host::{MemoryFile, MemoryHost, are_distinct};
+use vsw_promise::Status;
+use vsw_request::Word;
 
 /// A policy of port 1 with one group of outbound rules, which stand between these two.
 pub const POLICY_START: &[u8] =

@@ -1,55 +1,38 @@
-//! Runs the examples of docs/GUIDE.md, one after another, and prints what each run puts and complains: so the gate compares
-//! both. `data/` holds the files of examples/.
+//! Runs the README's example and those of docs/GUIDE.md, one after another, and prints what each puts and complains: so the
+//! gate compares both. `data/` holds the files of examples/.
 #![tactic(auto)]
 
 use std::alloc::Global;
 use std::process::ExitCode;
-use vsw_app::{Word, run_words};
+use vsw_app::run_words;
 use vsw_base::{Items, Text};
 use vsw_host::{Host, ReadEnd, RealHost, read_file};
 use vsw_memory_host::{MemoryFile, MemoryHost, are_distinct};
+use vsw_request::Word;
 
-/// The words of each run: a policy and a trace. Each has the same commands.
-const RUNS: &[[&str; 2]] = &[
-    ["1-addresses/policy.json", "1-addresses/trace.pcap"],
-    [
-        "2-two-controllers/policy.json",
-        "2-two-controllers/trace.pcap",
-    ],
-    ["3-translation/policy.json", "3-translation/trace.pcap"],
-    ["4-vxlan/policy.json", "4-vxlan/trace.pcap"],
-    ["5-groups/policy.json", "5-groups/trace.pcap"],
-    ["6-drops/policy.json", "6-drops/trace.pcap"],
-    [
-        "7-bad-policies/bad-address.json",
-        "7-bad-policies/trace.pcap",
-    ],
-    ["7-bad-policies/bad-range.json", "7-bad-policies/trace.pcap"],
-    ["7-bad-policies/comma.json", "7-bad-policies/trace.pcap"],
-    [
-        "7-bad-policies/missing-member.json",
-        "7-bad-policies/trace.pcap",
-    ],
-    [
-        "7-bad-policies/nine-controllers.json",
-        "7-bad-policies/trace.pcap",
-    ],
-    [
-        "7-bad-policies/same-rule-twice.json",
-        "7-bad-policies/trace.pcap",
-    ],
-    [
-        "7-bad-policies/stateful-drop.json",
-        "7-bad-policies/trace.pcap",
-    ],
-    [
-        "7-bad-policies/unknown-member.json",
-        "7-bad-policies/trace.pcap",
-    ],
-    [
-        "7-bad-policies/wrong-controller.json",
-        "7-bad-policies/trace.pcap",
-    ],
+/// The files of each run: a folder, with its trace, and in it a policy and commands.
+const RUNS: &[[&str; 3]] = &[
+    ["first", "policy.json", "commands.jsonl"],
+    ["1-addresses", "policy.json", "commands.jsonl"],
+    ["2-two-controllers", "policy.json", "commands.jsonl"],
+    ["3-translation", "policy.json", "commands.jsonl"],
+    ["4-vxlan", "policy.json", "commands.jsonl"],
+    ["5-groups", "policy.json", "commands.jsonl"],
+    ["6-drops", "policy.json", "commands.jsonl"],
+    ["7-commands", "policy.json", "commands.jsonl"],
+    ["8-bad-files", "bad-address.json", "commands.jsonl"],
+    ["8-bad-files", "bad-range.json", "commands.jsonl"],
+    ["8-bad-files", "comma.json", "commands.jsonl"],
+    ["8-bad-files", "missing-member.json", "commands.jsonl"],
+    ["8-bad-files", "policy.json", "moment-as-text.jsonl"],
+    ["8-bad-files", "nine-controllers.json", "commands.jsonl"],
+    ["8-bad-files", "policy.json", "not-json.jsonl"],
+    ["8-bad-files", "same-rule-twice.json", "commands.jsonl"],
+    ["8-bad-files", "stateful-drop.json", "commands.jsonl"],
+    ["8-bad-files", "policy.json", "unknown-controller.jsonl"],
+    ["8-bad-files", "unknown-member.json", "commands.jsonl"],
+    ["8-bad-files", "policy.json", "unknown-word.jsonl"],
+    ["8-bad-files", "wrong-controller.json", "commands.jsonl"],
 ];
 
 /// Bytes of a file, at most.
@@ -58,10 +41,17 @@ const LIMIT: u64 = 1_048_576;
 /// Bytes that a run puts, at most, and as many that it complains.
 const ROOM: usize = 1_048_576;
 
-/// The file of this path, as a host in memory holds it under this name.
-fn held(alloc: Global, host: &mut RealHost, path: &str, name: &str) -> Option<MemoryFile> {
+/// The file of this name in a folder, as a host in memory holds it under another name.
+fn held(
+    alloc: Global,
+    host: &mut RealHost,
+    folder: &str,
+    file: &str,
+    name: &str,
+) -> Option<MemoryFile> {
+    let path = format!(in alloc; "{folder}/{file}").ok()?;
     let mut bytes = Vec::new(alloc);
-    if read_file(host, path, LIMIT, &mut bytes) != ReadEnd::Whole {
+    if read_file(host, path.as_str(), LIMIT, &mut bytes) != ReadEnd::Whole {
         return None;
     }
     Some(MemoryFile {
@@ -71,13 +61,18 @@ fn held(alloc: Global, host: &mut RealHost, path: &str, name: &str) -> Option<Me
 }
 
 /// A host in memory with the files of a run.
-fn host_of(alloc: Global, host: &mut RealHost, policy: &str, trace: &str) -> Option<MemoryHost> {
+fn host_of(alloc: Global, host: &mut RealHost, run: &[&str; 3]) -> Option<MemoryHost> {
+    let [folder, policy, commands] = *run;
     let mut files = Vec::new(alloc);
-    files.push(held(alloc, host, policy, "policy")?).ok()?;
     files
-        .push(held(alloc, host, "commands.jsonl", "commands")?)
+        .push(held(alloc, host, folder, policy, "policy")?)
         .ok()?;
-    files.push(held(alloc, host, trace, "trace")?).ok()?;
+    files
+        .push(held(alloc, host, folder, commands, "commands")?)
+        .ok()?;
+    files
+        .push(held(alloc, host, folder, "trace.pcap", "trace")?)
+        .ok()?;
     if !are_distinct(&files) {
         return None;
     }
@@ -92,9 +87,9 @@ fn words(alloc: Global) -> Option<Vec<Word>> {
     Some(words)
 }
 
-/// Runs over the files of these paths, and puts what that puts and complains.
-fn show(alloc: Global, host: &mut RealHost, policy: &str, trace: &str) -> Option<()> {
-    let mut inner = host_of(alloc, host, policy, trace)?;
+/// Runs over these files, and puts what that puts and complains.
+fn show(alloc: Global, host: &mut RealHost, run: &[&str; 3]) -> Option<()> {
+    let mut inner = host_of(alloc, host, run)?;
     run_words(alloc, &words(alloc)?, &mut inner);
     host.put(inner.written()).ok()?;
     host.put(inner.complained()).ok()
@@ -103,8 +98,8 @@ fn show(alloc: Global, host: &mut RealHost, policy: &str, trace: &str) -> Option
 fn main(rt: HostRuntime) -> ExitCode {
     let alloc = rt.alloc();
     let mut host = RealHost::new(alloc, rt);
-    for [policy, trace] in RUNS {
-        if show(alloc, &mut host, policy, trace).is_none() {
+    for run in RUNS {
+        if show(alloc, &mut host, run).is_none() {
             return ExitCode::from(1);
         }
     }

@@ -18,7 +18,6 @@ use Rattle.vsw_policyfile.specs.declared.file.PortFile.{PortFile}
 use Rattle.vsw_ports.specs.Ports.{PortSeen, in_order, port_of, ports_of, whole}
 use Rattle.vsw_ports.proofs.Placing.{stand-in-order}
 use Rattle.vsw_report.specs.declared.round.LooseCause.{LooseCause}
-use Rattle.vsw_switch.specs.Switch.{aim_of}
 use Rattle.vsw_history.specs.declared.event.Event.{Event}
 use Rattle.vsw_history.specs.declared.event.Event.TheVariants as event
 use Rattle.vsw_history.specs.Calls.{Job, Carry, Ask, Deed, Carried, Asked, Call, job_of, job_doer, jobs_by, doer, controller_at, calls_of, named, entries_naming, entries_of, event_of, Reads, Wants, IsCall, Entry, Read, Short}
@@ -31,7 +30,7 @@ use Rattle.vsw_report.specs.declared.told.By.TheVariants.{Worker, Controller}
 use Rattle.vsw_report.specs.declared.told.ToldLine.{ToldLine}
 use Rattle.vsw_report.specs.declared.told.What.TheVariants as what
 use Rattle.vsw_promise.specs.Agree.{lines_at}
-use Rattle.vsw_promise.specs.Jobs.{Setting, jobs_of, aimed_at, packet_jobs, before_jobs, during_jobs, crossing_by, worker_of, macs_of, packets_between}
+use Rattle.vsw_promise.specs.Jobs.{aim_of, Setting, jobs_of, aimed_at, packet_jobs, before_jobs, during_jobs, crossing_by, worker_of, macs_of, packets_between}
 use Rattle.vsw_promise.specs.Rounds.{opening_of, end_before, AreHistories}
 use Rattle.vsw_promise.specs.Told.{callers, line_of, line_doer, what_of}
 use Rattle.vsw_report.specs.Short.{tells_short, is_short_port, is_short_round, are_short}

@@ -26,7 +26,7 @@ use Rattle.vsw_promise.specs.Jobs.{Setting, cuts, cuts_within}
 use Rattle.vsw_report.specs.Print.{report_text}
 use Rattle.vsw_promise.specs.Rounds.{AreRounds}
 use Rattle.vsw_promise.specs.Trace.{All as Whole, Trace, Tells}
-use Rattle.vsw_promise.specs.Words.{Request, request_in}
+use Rattle.vsw_request.specs.Words.{Request, request_in}
 use Rattle.vsw_history_law.specs.Law.{AreAsked, AreAlike, HasNoFault, OneStatus, OneRun, TellsWant}
 use Rattle.vsw_history_law.proofs.Endings.{Says, one_ending, IsOfFile, header_longer, says_cut, says_huge, says_more}
 use Rattle.vsw_history_law.proofs.Values.{one_value}

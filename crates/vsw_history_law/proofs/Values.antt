@@ -12,14 +12,13 @@ use Rattle.vsw_policy.specs.Sound.{Each, is_listed}
 use Rattle.vsw_policyfile.specs.declared.file.PortFile.{PortFile}
 use Rattle.vsw_ports.specs.Ports.{PortSeen, port_of, ports_of}
 use Rattle.vsw_report.specs.declared.round.LooseCause.{LooseCause}
-use Rattle.vsw_switch.specs.Switch.{aim_of}
 use Rattle.vsw_history.specs.declared.event.Event.{Event}
 use Rattle.vsw_report.specs.declared.round.PortRound.{PortRound}
 use Rattle.vsw_report.specs.declared.round.Round.{Round}
 use Rattle.vsw_history.specs.Calls.{Job, Carry, Ask, Call, job_of, job_doer, doer, calls_of, InOrder, IsCall, HasBytes, ShowsAt, entries_of, IsOneOrder}
 use Rattle.vsw_history.specs.History.{Opening, replay, after, AreRight, AllRight}
 use Rattle.vsw_layer.specs.Layer.{LayerSeen}
-use Rattle.vsw_promise.specs.Jobs.{Setting, Jobs, cuts, jobs_of, aimed_at, packet_jobs, worker_of, loose_among, macs_of, packets_between, crossing_by}
+use Rattle.vsw_promise.specs.Jobs.{aim_of, Setting, Jobs, cuts, jobs_of, aimed_at, packet_jobs, worker_of, loose_among, macs_of, packets_between, crossing_by}
 use Rattle.vsw_history.specs.Order.{StandsOnce}
 use Rattle.vsw_pcap.proofs.Unique.{captures_are_unique}
 use Rattle.vsw_report.specs.Print.{report_text}

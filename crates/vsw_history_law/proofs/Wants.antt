@@ -84,7 +84,7 @@ line_wants l (what.Reply (reply.Refused refusal.ManyRules)) e = absurd (cc e)
 -- ---- a report
 
 port_wants : (p : PortRound) → is_short_port p ≡ true → TellsWant (port_text p)
-port_wants p e = in_front (port_line p) (flat_map line_text p.lines) (among line_text (λ l. tells_short l.what) p.lines (λ l. line_wants l l.what) e)
+port_wants p e = in_front (port_line p.port p.before p.after) (flat_map line_text p.lines) (among line_text (λ l. tells_short l.what) p.lines (λ l. line_wants l l.what) e)
 
 round_wants : (r : Round) → is_short_round r ≡ true → TellsWant (round_text r)
 round_wants r e =

@@ -23,7 +23,7 @@ use Rattle.vsw_report.specs.declared.told.What.{What}
 use Rattle.vsw_report.specs.declared.told.What.TheVariants as what
 use Rattle.vsw_history.specs.Calls.{Job, Carry, Ask, Call, job_of, job_item, job_doer, jobs_by, calls_of, Legal, HasBytes}
 use Rattle.vsw_promise.specs.IsRun.{IsRun}
-use Rattle.vsw_promise.specs.Words.{Request, request_in}
+use Rattle.vsw_request.specs.Words.{Request, request_in}
 use Rattle.vsw_promise.specs.Agree.{lines_at}
 use Rattle.vsw_promise.specs.Alone.{rounds_alone}
 use Rattle.vsw_promise.specs.Trace.{Trace, TellsAll}

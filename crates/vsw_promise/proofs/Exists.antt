@@ -17,7 +17,7 @@ use Rattle.vsw_commit.specs.Fate.{fate_at}
 use Rattle.vsw_promise.specs.Jobs.{Setting, Jobs, jobs_of, cuts}
 use Rattle.vsw_history.specs.Next.{IsDone, Enters, Reading, IsNext, Goes}
 use Rattle.vsw_report.specs.Print.{report_text}
-use Rattle.vsw_promise.specs.Rounds.{opening_of, IsPortRound, ArePortRounds, AreRoundsAt, AreChained, AreHistories, end_before}
+use Rattle.vsw_promise.specs.Rounds.{opening_of, IsPortRound, ArePortRounds, AreRoundsAt, AreChained, AreHistories, AllBegin, end_before}
 use Rattle.vsw_promise.specs.Told.{lines_of}
 use Rattle.vsw_promise.specs.Alone.{shown, deed_at, enters_at, call_at, next_history, calls_from, history_from, port_round_from, all_of, port_rounds_from, histories_from, rounds_from, rounds_alone}
 use Rattle.vsw_promise.specs.Exist.{AlwaysRounds}
@@ -87,12 +87,6 @@ port_exists workers p g jobs right =
 
 -- ---- all ports
 
--- each history begins one of these
-abbrev pub AllBegin : List (List Event) → List (List Event) → Type 0
-AllBegin [] [] = Unit {0}
-AllBegin (g ∷ gs) (h ∷ hs) = IsPrefix g h × AllBegin gs hs
-AllBegin _ _ = ⊥
-
 pub begin_self : (hs : List (List Event)) → AllBegin hs hs
 begin_self [] = tt
 begin_self (h ∷ hs) = (prefix_self h, begin_self hs)
@@ -139,14 +133,15 @@ ports_exist s records first next n (p ∷ ps) [] a = absurd a
 
 -- ---- all rounds
 
-record RoundsExist (s : Setting) (records : List Record) (gs : List (List Event)) (cuts : List ℕ) : Type 0 where
-  histories : List (List Event)
-  right : AreHistories (ports_of s.policy) histories
-  begin : AllBegin gs histories
-  are : AreRoundsAt s records histories cuts (rounds_from s records gs cuts)
-  chained : AreChained (map length gs) (rounds_from s records gs cuts) (map length histories)
+-- rounds at these cuts that follow these histories
+pub record RoundsExist (s : Setting) (records : List Record) (gs : List (List Event)) (cuts : List ℕ) : Type 0 where
+  pub histories : List (List Event)
+  pub right : AreHistories (ports_of s.policy) histories
+  pub begin : AllBegin gs histories
+  pub are : AreRoundsAt s records histories cuts (rounds_from s records gs cuts)
+  pub chained : AreChained (map length gs) (rounds_from s records gs cuts) (map length histories)
 
-rounds_exist : (s : Setting) (records : List Record) (gs : List (List Event)) (cuts : List ℕ) → AreHistories (ports_of s.policy) gs → RoundsExist s records gs cuts
+pub rounds_exist : (s : Setting) (records : List Record) (gs : List (List Event)) (cuts : List ℕ) → AreHistories (ports_of s.policy) gs → RoundsExist s records gs cuts
 rounds_exist s records gs [] a = record { histories = gs; right = a; begin = begin_self gs; are = tt; chained = refl }
 rounds_exist s records gs (cut ∷ cuts) a =
     let next = end_before cuts (length records) in

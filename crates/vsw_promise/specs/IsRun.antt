@@ -14,7 +14,7 @@ use Rattle.vsw_promise.specs.declared.ending.Status.TheVariants as status
 use Rattle.vsw_promise.specs.Files.{Opens, HasBadPolicy, HasBadCommands, LacksTrace, HasTrace, IsReadOf}
 use Rattle.vsw_promise.specs.Jobs.{Setting}
 use Rattle.vsw_promise.specs.Trace.{Trace, Tells, MayTell, most_records}
-use Rattle.vsw_promise.specs.Words.{Request, request_in}
+use Rattle.vsw_request.specs.Words.{Request, request_in}
 
 -- a text was put, or a front of it, or nothing
 abbrev pub Puts : Outside → Outside → List ℕ → Type 0

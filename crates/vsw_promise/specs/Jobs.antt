@@ -1,17 +1,18 @@
 -- What is to be done in each round of a run, and who has to do it.
-use Rattle.std.specs.Prelude.{ℕ, ◌+◌, ◌-◌, ◌*◌, ◌/◌, ◌%◌, ◌==◌, ◌&&◌, not, List, [], ◌∷◌, ◌++◌, map, filter, take, drop, nat_lt, if◌then◌else◌, Result, Ok, Err}
+use Rattle.std.specs.Prelude.{ℕ, ◌+◌, ◌-◌, ◌*◌, ◌/◌, ◌%◌, ◌==◌, ◌&&◌, not, List, [], ◌∷◌, ◌++◌, length, map, filter, take, drop, nat_lt, Some, None, if◌then◌else◌, Result, Ok, Err}
 use Rattle.std.specs.List.{flat_map}
 use Rattle.vsw_base.specs.declared.flow.Crossing.{Crossing}
 use Rattle.vsw_base.specs.declared.flow.Place.{Place}
-use Rattle.vsw_base.specs.Frame.{Parts, sizes_of}
+use Rattle.vsw_base.specs.Frame.{Parts, frame_of, sizes_of}
 use Rattle.vsw_commandfile.specs.declared.line.Line.{Line}
+use Rattle.vsw_flowid.specs.Port.{choose}
 use Rattle.vsw_flowid.specs.Sum.{flow_sum_of}
 use Rattle.vsw_pcap.specs.declared.capture.Record.{Record}
 use Rattle.vsw_policyfile.specs.declared.file.PolicyFile.{PolicyFile}
 use Rattle.vsw_ports.specs.Ports.{ports_of}
 use Rattle.vsw_report.specs.declared.round.Loose.{Loose}
 use Rattle.vsw_report.specs.declared.round.LooseCause.{LooseCause}
-use Rattle.vsw_switch.specs.Switch.{aim_of, loose_after}
+use Rattle.vsw_report.specs.declared.round.LooseCause.TheVariants.{Snapped, Malformed, NoPort}
 use Rattle.vsw_policy.specs.Layers.{place_of}
 use Rattle.vsw_history.specs.Calls.{Job, Carry, Ask, job_doer}
 use Rattle.vsw_history.specs.Order.{ascending, counted, numbered}
@@ -37,6 +38,20 @@ cuts_within commands total = filter (λ n. nat_lt n total) (cuts commands total)
 -- the packets from one cut up to the next, with their numbers
 abbrev pub packets_between : List Record → ℕ → ℕ → List (ℕ × Record)
 packets_between records first next = take (next - first) (drop first (numbered 0 records))
+
+-- where a packet goes, or why it is loose: it is snapped where fewer bytes were captured than it had, else malformed where its bytes
+-- aren't a frame, else of no port where no address is a port's
+abbrev pub aim_of : List ℕ → Record → Result (Place × Parts) LooseCause
+aim_of macs r = if nat_lt (length r.bytes) r.original then Err Snapped
+    else elim (frame_of r.bytes) [
+      | Err fault ↦ Err (Malformed fault)
+      | Ok parts ↦ elim (choose macs parts.stack) [ None ↦ Err NoPort | Some place ↦ Ok (place, parts) ]
+    ]
+
+-- what is told of packet n, if it is loose
+abbrev pub loose_after : ℕ → Result (Place × Parts) LooseCause → List Loose
+loose_after n (Err why) = record { packet = n; cause = why } ∷ []
+loose_after n (Ok a) = []
 
 -- the addresses of the ports
 abbrev pub macs_of : PolicyFile → List ℕ

@@ -1,7 +1,6 @@
 pub mod IsRun
 pub mod Trace
 pub mod Files
-pub mod Words
 pub mod Complaint
 pub mod Rounds
 pub mod Jobs

@@ -1,5 +1,6 @@
 -- The rounds of a run.
 use Rattle.std.specs.Prelude.{◌≡◌, ◌≤◌, ◌+◌, ◌-◌, ℕ, suc, List, [], ◌∷◌, ◌++◌, length, map, take}
+use mathlib.Core.List.{IsPrefix}
 use Rattle.vsw_pcap.specs.declared.capture.Record.{Record}
 use Rattle.vsw_policy.specs.Sound.{Each}
 use Rattle.vsw_ports.specs.Ports.{PortSeen, ports_of}
@@ -64,6 +65,12 @@ AreRoundsAt s records hs _ _ = ⊥
 abbrev pub AreChained : List ℕ → List Round → List ℕ → Type 0
 AreChained counts [] last = last ≡ counts
 AreChained counts (r ∷ rs) last = (map (λ p. p.before) r.ports ≡ counts) × AreChained (map (λ p. p.after) r.ports) rs last
+
+-- each of these histories begins one of those
+abbrev pub AllBegin : List (List Event) → List (List Event) → Type 0
+AllBegin [] [] = Unit {0}
+AllBegin (g ∷ gs) (h ∷ hs) = IsPrefix g h × AllBegin gs hs
+AllBegin _ _ = ⊥
 
 -- each port has a history that is right
 abbrev pub AreHistories : List PortSeen → List (List Event) → Type 0

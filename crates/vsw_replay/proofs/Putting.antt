@@ -1,120 +1,277 @@
--- What is put, as the run goes on and where it ends.
-use Rattle.std.proofs.Common.{◌≡◌, ℕ, ◌+◌, ◌<◌, inl, inr, List, ◌++◌, Bool, ◌||◌, Option, Result, Ok, Err, length, take, take_all, min, sym, ◌∙◌, ap, subst, arith}
-use Rattle.std.specs.Result.{OnOk}
-use Rattle.std.proofs.Math.Seq.{take-append_seam}
-use Rattle.vsw_host.specs.Outside.{Outside, Grows}
-use Rattle.vsw_pcap.specs.Progress.{Progress}
-use Rattle.vsw_pcap.specs.Reader.{Stands}
+-- A round was put, or the run ended in it.
+use Rattle.std.proofs.Common.{◌≡◌, ◌<◌, ◌≤◌, inl, inr, ◌+◌, ◌||◌, ℕ, Bool, true, false, Some, None, Result, Ok, Err, List, [], ◌∷◌, ◌++◌, length, take, refl, sym, ◌∙◌, ap, subst, arith, length-append}
+use Rattle.std.specs.Bool.{⊤}
+use Rattle.vsw_history.specs.declared.event.Event.{Event}
+use Rattle.vsw_host.specs.Outside.{Outside, Grows, SameInputs, DoesPut}
+use Rattle.vsw_host.specs.Source.{IsReading}
+use Rattle.vsw_host.specs.declared.host.Failed.{Failed}
+use Rattle.vsw_pcap.specs.Capture.{header_of, IsCapture}
 use Rattle.vsw_pcap.specs.declared.capture.Record.{Record}
+use Rattle.vsw_pcap.specs.declared.fault.BadTrace.{BadTrace}
+use Rattle.vsw_pcap.specs.declared.fault.BadTrace.TheVariants.{NotPcap, Version, LinkType, Cut, Huge}
+use Rattle.vsw_promise.specs.Jobs.{Setting, cuts_within}
+use Rattle.vsw_promise.specs.Trace.{most_records, Trace, All, Fault, Stopped, TellsWithin, HasFront, Tells}
+use Rattle.vsw_promise.specs.declared.ending.Ending.TheVariants as ending
+use Rattle.vsw_report.specs.Print.{round_text, report_text}
+use Rattle.vsw_report.specs.Short.{are_short, is_short_round}
 use Rattle.vsw_report.specs.declared.round.Round.{Round}
-use Rattle.vsw_replay.specs.declared.ending.Ending.{Ending}
-use Rattle.vsw_replay.specs.declared.ending.Ending.TheVariants.{Done, Usage, ReadFault, WriteFault, Refused, Records, NotBuilt, Memory}
-use Rattle.vsw_rounds.specs.declared.round.RoundRead.{RoundRead}
-use Rattle.vsw_rounds.specs.declared.round.Stop.{Stop}
-use Rattle.vsw_rounds.specs.declared.round.Stop.TheVariants as stop
-use Rattle.vsw_rounds.specs.Round.{ReadsRound}
-use Rattle.vsw_rounds.specs.Rounds.{report}
-use Rattle.vsw_report.specs.Short.{are_short}
-use Rattle.vsw_replay.specs.Trace.{Shows, Puts, PutsFront}
-use Rattle.vsw_replay.specs.Unheaded.{text_put, short_put}
-use Rattle.vsw_replay.specs.Going.{Going, GoesOn, IsNear, Follows, PutsText}
-use Rattle.vsw_switch.specs.Switch.{SwitchNow}
-use Rattle.vsw_rounds.proofs.Forwarding.{next_after_round}
-use Rattle.vsw_replay.proofs.Growing.{grows_then, grows_is, front_then, front_more}
-use Rattle.vsw_replay.proofs.Showing.{Further, further, complete, shows_stop}
+use Rattle.vsw_schedule.specs.Schedule.{next_at}
+use Rattle.vsw_switch.specs.Switch.{SwitchNow, IsAt}
+use Rattle.vsw_replay.specs.declared.ending.TraceEnd.{TraceEnd}
+use Rattle.vsw_replay.specs.declared.ending.TraceEnd.TheVariants as end
+use Rattle.vsw_replay.specs.declared.reading.Reading.{Reading}
+use Rattle.vsw_replay.specs.declared.reading.Stop.{Stop}
+use Rattle.vsw_replay.specs.declared.reading.Stop.TheVariants as stop
+use Rattle.vsw_replay.specs.declared.trace.Run.{Run}
+use Rattle.vsw_replay.specs.declared.trace.Stretch.{Stretch}
+use Rattle.vsw_replay.specs.Cut.{IsCut, IsNextCut, cuts_until, AreBehind}
+use Rattle.vsw_replay.specs.Going.{Since, ShowsStop, IsAsLong, IsFilled, IsPast, AfterPut, PutsStretch, PutsRound, is_run_of}
+use Rattle.vsw_replay.specs.Passed.{IsPassed, Pauses}
+use Rattle.vsw_replay.specs.Runs.{Reads, RunsTrace}
+use Rattle.vsw_replay.specs.Sofar.{AreSoFar}
+use Rattle.vsw_replay.proofs.Cuts.{next_some}
+use Rattle.vsw_replay.proofs.Completing.{read_to, passed_first, Follows, follows_none, tells_within, front_follows, past_follows}
+use Rattle.vsw_replay.proofs.Growing.{grows_then, grows_is, front_then}
+use Rattle.vsw_replay.proofs.Sources.{reads_whole, reads_stopped, reads_fault, since_put, whole_put, reading_put, shows_put, runs_so, ends_so, breaks_off, breaks_after}
+use Rattle.vsw_replay.proofs.Turning.{RoundsFor, rounds_run, rounds_unrun, rounds_past, report_push, short_push}
 
--- such a text was put
-pub puts_all : (start : SwitchNow) (bytes : List ℕ) (whole : Bool) (before after : Option (List ℕ)) (e : Ending) (text : List ℕ) → Shows start bytes whole e text → Grows before after text → Puts start bytes whole before after e
-puts_all start bytes whole before after Done text s g = record { text = text; shows = s; grows = g }
-puts_all start bytes whole before after ReadFault text s g = record { text = text; shows = s; grows = g }
-puts_all start bytes whole before after (Refused bad) text s g = record { text = text; shows = s; grows = g }
-puts_all start bytes whole before after Records text s g = record { text = text; shows = s; grows = g }
-puts_all start bytes whole before after Usage text s g = absurd s
-puts_all start bytes whole before after WriteFault text s g = absurd s
-puts_all start bytes whole before after NotBuilt text s g = absurd s
-puts_all start bytes whole before after Memory text s g = record { ending = Memory; text = text; shows = s; count = length text; grows = grows_is before after text (take (length text) text) (sym (take_all (length text) text (omega arith))) g }
+-- ---- a text follows, whatever stopped the reading
 
--- the report so far was put
-pub front_so_far : (start : SwitchNow) (bytes : List ℕ) (p : Progress) (number : ℕ) (round : RoundRead) (switch : SwitchNow) (olds : List Round) (before after : Option (List ℕ)) → number < 1024 → (f : Further start bytes p number round switch olds) → Grows before after (report f.rounds) → PutsFront start bytes p.finished before after
-front_so_far start bytes p number round switch olds before after h f g =
-    let c = complete start bytes p number round switch olds h f in
-    record {
-      ending = c.ending;
-      text = report f.rounds ++ c.more;
-      shows = c.shows;
-      count = length (report f.rounds);
-      grows = grows_is before after (report f.rounds) (take (length (report f.rounds)) (report f.rounds ++ c.more)) (sym (take-append_seam (report f.rounds) c.more)) g;
-    }
+-- a trace of which this was read may have a text that begins so
+record Continues (s : Setting) (start now : Outside) (name front : List ℕ) : Type 0 where
+  trace : Trace
+  reads : Reads start now name trace
+  follows : Follows s trace front
 
--- or a front of it
-pub front_of_round : (start : SwitchNow) (bytes : List ℕ) (p : Progress) (number : ℕ) (round : RoundRead) (switch : SwitchNow) (olds : List Round) (before now after : Option (List ℕ)) (n : ℕ) → number < 1024 → (f : Further start bytes p number round switch olds) → Grows before now (report olds) → Grows now after (take n (text_put number round)) → PutsFront start bytes p.finished before after
-front_of_round start bytes p number round switch olds before now after n h f g t =
-    let c = complete start bytes p number round switch olds h f in
-    let k : ℕ = length (report olds) + n in
-    let part : Grows before after (take k (report f.rounds)) = grows_is before after (take k (report olds ++ text_put number round)) (take k (report f.rounds)) (ap (take k) (sym f.text_is)) (front_then before now after (report olds) (text_put number round) n g t) in
-    record {
-      ending = c.ending;
-      text = report f.rounds ++ c.more;
-      shows = c.shows;
-      count = min k (length (report f.rounds));
-      grows = front_more before after (report f.rounds) c.more k part;
-    }
+-- the records of a trace, and why the reading stopped after them
+record IsStopped (s : Setting) (start now : Outside) (name : List ℕ) (r : Reading) (bytes : List ℕ) (all : List Record) (first next : ℕ) (st : Stop) : Type 0 where
+  reading : IsReading start now name r.source.file bytes
+  passed : IsPassed bytes all
+  after : IsNextCut s.commands first next
+  long : IsAsLong st next (length all)
+  shows : ShowsStop start now name r bytes all st
 
-pub finished_as : (start : SwitchNow) (bytes : List ℕ) (a b : Bool) (before after : Option (List ℕ)) (e : Ending) → b ≡ a → Puts start bytes a before after e → Puts start bytes b before after e
-finished_as start bytes a b before after e same q = let P : Bool → Type 0 = λ x. Puts start bytes x before after e in subst P (sym same) q
+header_bad : (bytes : List ℕ) (all : List Record) (bad : BadTrace) → IsPassed bytes all → header_of bytes ≡ Err bad → ⊥
+header_bad bytes all bad p e = let h = p.header in cc (e, h)
 
--- a round more was read
-pub near_read : (s t : SwitchNow) (old new : Progress) (number more : ℕ) (next : RoundRead) → more ≡ number + 1 → IsNear old s number → ((bytes : List ℕ) (given : List Record) → Stands old bytes given → ReadsRound s t new bytes given next) → IsNear new t more
-near_read s t old new number more next e n reads =
-    let r = reads n.bytes n.given n.stands in
-    record { bytes = n.bytes; given = n.given ++ r.records; stands = r.stands; low = omega (arith, e, n.low, r.few, next_after_round s t r.records next.round r.round) }
+-- a refused trace tells the rounds before the fault
+bad_tells : (s : Setting) (start now : Outside) (name : List ℕ) (file : ℕ) (bytes : List ℕ) (all : List Record) (text : List ℕ) (bad : BadTrace) → IsReading start now name file bytes → IsPassed bytes all → ((at : ℕ) → bad ≡ Cut at → Reads start now name (read_to All bytes)) → IsCapture bytes all (Some bad) → length all < most_records → TellsWithin s all text
+    → (t : Trace) × Reads start now name t × Tells s t (ending.Trace bad) text
+bad_tells s start now name file bytes all text NotPcap r p whole c few w = absurd (header_bad bytes all NotPcap p c.0)
+bad_tells s start now name file bytes all text Version r p whole c few w = absurd (header_bad bytes all Version p c.0)
+bad_tells s start now name file bytes all text LinkType r p whole c few w = absurd (header_bad bytes all LinkType p c.0)
+bad_tells s start now name file bytes all text (Cut at) r p whole c few w = (read_to All bytes, whole at refl, (refl, record { records = all; refused = c; few = few; tells = w }))
+bad_tells s start now name file bytes all text (Huge at) r p whole c few w = (read_to Stopped bytes, reads_stopped start now name file bytes r, record { records = all; refused = c; few = few; tells = w })
 
--- where a round could not be put, or there was no memory for its text
-pub err_puts : (start : SwitchNow) (bytes : List ℕ) (p : Progress) (number : ℕ) (round : RoundRead) (switch : SwitchNow) (short : Bool) (before : Option (List ℕ)) (old new : Outside) (e : Ending) → number < 1024 → (g : Going start bytes before old.put p number round switch short) → PutsText old new (text_put number round) (Err e) → Puts start bytes p.finished before new.put e
-err_puts start bytes p number round switch short before old new WriteFault h g t = front_of_round start bytes p number round switch g.rounds before old.put new.put t.0 h (further start bytes before old.put p number round switch short g h) g.puts t.1
-err_puts start bytes p number round switch short before old new Memory h g t = front_of_round start bytes p number round switch g.rounds before old.put new.put t.0 h (further start bytes before old.put p number round switch short g h) g.puts t.1
-err_puts start bytes p number round switch short before old new ReadFault h g t = absurd t
-err_puts start bytes p number round switch short before old new Done h g t = absurd t
-err_puts start bytes p number round switch short before old new Usage h g t = absurd t
-err_puts start bytes p number round switch short before old new NotBuilt h g t = absurd t
-err_puts start bytes p number round switch short before old new (Refused bad) h g t = absurd t
-err_puts start bytes p number round switch short before old new Records h g t = absurd t
+pauses_front : (s : Setting) (t : Trace) (all : List Record) (text : List ℕ) → Pauses t.bytes all → length all ≤ most_records → TellsWithin s all text → HasFront s t text
+pauses_front s t all text p few w = record { records = all; at = p.at; stops = p.stops; few = few; last = p.last; tells = w }
 
-pub ok_puts : (start : SwitchNow) (bytes : List ℕ) (p : Progress) (number : ℕ) (round : RoundRead) (switch : SwitchNow) (short : Bool) (before now after : Option (List ℕ)) → (g : Going start bytes before now p number round switch short) → (f : Further start bytes p number round switch g.rounds) → Grows now after (text_put number round) → Grows before after (report f.rounds)
-ok_puts start bytes p number round switch short before now after g f t = grows_is before after (report g.rounds ++ text_put number round) (report f.rounds) (sym f.text_is) (grows_then before now after (report g.rounds) (text_put number round) g.puts t)
-
--- whether memory was wanting so far
-pub short_then : (start : SwitchNow) (bytes : List ℕ) (p : Progress) (number : ℕ) (round : RoundRead) (switch : SwitchNow) (old new : Bool) (before now : Option (List ℕ)) → (g : Going start bytes before now p number round switch old) → (f : Further start bytes p number round switch g.rounds) → new ≡ (old || short_put number round) → are_short f.rounds ≡ new
-short_then start bytes p number round switch old new before now g f e = f.short_is ∙ ap (λ (b : Bool). b || short_put number round) g.short_is ∙ sym e
-
-going_on : (start : SwitchNow) (bytes : List ℕ) (p q : Progress) (number : ℕ) (rr : Round) (c : ℕ) (s : Stop) (sh : Bool) (switch next_switch : SwitchNow) (short : Bool) (olds : List Round) (before after : Option (List ℕ)) (next : RoundRead) → (f : Further start bytes p number (record { round = rr; count = c; stop = s; short = sh }) switch olds) → Grows before after (report f.rounds) → are_short f.rounds ≡ short → Follows switch next_switch p q s short (Ok next) → Going start bytes before after q (number + 1) next next_switch short
-going_on start bytes p q number rr c stop.Full sh switch next_switch short olds before after next f g k follows = record {
-  form = f.form;
-  header = f.header;
-  given = f.all;
-  rounds = f.rounds;
-  mid = switch;
-  are = f.are;
-  count = f.long.1;
-  full = f.long.0;
-  short_is = k;
-  puts = g;
-  reads = follows.1 bytes f.all f.stands;
+continues_for : (s : Setting) (start now : Outside) (name : List ℕ) (r : Reading) (bytes : List ℕ) (all : List Record) (first next : ℕ) (rounds : List Round) (hs : List (List Event)) (st : Stop) → IsStopped s start now name r bytes all first next st → RoundsFor s first all rounds hs st → Continues s start now name (report_text rounds)
+continues_for s start now name r bytes all first next rounds hs stop.Full i so = record {
+  trace = read_to Stopped bytes;
+  reads = reads_stopped start now name r.source.file bytes i.reading;
+  follows = front_follows s bytes all rounds hs i.passed (omega (arith, i.long.0, i.long.1)) (subst (λ n. IsCut s.commands n) (sym i.long.0) i.after.is_cut) so;
 }
-going_on start bytes p q number rr c stop.End sh switch next_switch short olds before after next f g k follows = absurd (let e = follows.0 in cc)
-going_on start bytes p q number rr c stop.More sh switch next_switch short olds before after next f g k follows = absurd (let e = follows.0 in cc)
-going_on start bytes p q number rr c (stop.Bad bad) sh switch next_switch short olds before after next f g k follows = absurd (let e = follows.0 in cc)
+continues_for s start now name r bytes all first next rounds hs stop.End i so = record {
+  trace = read_to All bytes;
+  reads = reads_whole start now name bytes i.shows.0;
+  follows = past_follows s bytes all first rounds hs i.shows.1 i.shows.2 (λ n lt c. omega (arith, i.long, i.after.least n lt c)) so;
+}
+continues_for s start now name r bytes all first next rounds hs stop.Fault i so = record {
+  trace = read_to Stopped bytes;
+  reads = reads_stopped start now name r.source.file bytes i.reading;
+  follows = follows_none s (read_to Stopped bytes) (report_text rounds) (inr (refl, inr (pauses_front s (read_to Stopped bytes) all (report_text rounds) i.shows.1 i.shows.2 (tells_within s all rounds hs so))));
+}
+continues_for s start now name r bytes all first next rounds hs (stop.Bad bad) i so =
+    let t = bad_tells s start now name r.source.file bytes all (report_text rounds) bad i.reading i.passed (λ at e. reads_whole start now name bytes (i.shows.0 at e)) i.shows.1 i.shows.2 (tells_within s all rounds hs so) in record {
+      trace = t.0;
+      reads = t.1;
+      follows = follows_none s t.0 (report_text rounds) (inl (ending.Trace bad, t.2));
+    }
 
-memory_puts : (start : SwitchNow) (bytes : List ℕ) (whole : Bool) (before after : Option (List ℕ)) (e : Ending) → e ≡ Memory → PutsFront start bytes whole before after → Puts start bytes whole before after e
-memory_puts start bytes whole before after e same q = let P : Ending → Type 0 = Puts start bytes whole before after in subst P (sym same) q
+-- ---- after the round
 
--- the next round follows, or the run ends where this one stopped
-pub goes_on : (start : SwitchNow) (bytes : List ℕ) (p q : Progress) (number : ℕ) (round : RoundRead) (switch next_switch : SwitchNow) (short : Bool) (olds : List Round) (before after : Option (List ℕ)) (r : Result RoundRead Ending) → number < 1024 → (f : Further start bytes p number round switch olds) → Grows before after (report f.rounds) → are_short f.rounds ≡ short → q.finished ≡ p.finished → Follows switch next_switch p q round.stop short r → GoesOn start bytes before after q number next_switch short r
-goes_on start bytes p q number round switch next_switch short olds before after (Ok next) h f g k same follows = going_on start bytes p q number round.round round.count round.stop round.short switch next_switch short olds before after next f g k follows
-goes_on start bytes p q number round switch next_switch short olds before after (Err e) h f g k same (inl i) = finished_as start bytes p.finished q.finished before after e same (puts_all start bytes p.finished before after e (report f.rounds) (shows_stop start bytes p.finished f.form f.all f.rounds switch number f.says.0 round.stop short e f.header f.are k f.long f.says.1 i) g)
-goes_on start bytes p q number round switch next_switch short olds before after (Err e) h f g k same (inr i) = finished_as start bytes p.finished q.finished before after e same (memory_puts start bytes p.finished before after e i.1 (front_so_far start bytes p number round switch olds before after h f g))
+-- what was put, and by which rounds
+record IsPutBy (start now : Outside) (rounds : List Round) (short : Bool) : Type 0 where
+  since : Since start now
+  short_is : are_short rounds ≡ short
+  puts : Grows start.put now.put (report_text rounds)
 
--- the next round's packets can be numbered
-pub near_next : (s t : SwitchNow) (old new : Progress) (number : ℕ) (stop : Stop) (short : Bool) (r : Result RoundRead Ending) → IsNear old s (number + 1) → Follows s t old new stop short r → OnOk r (IsNear new t (number + 2))
-near_next s t old new number stop short (Ok next) n follows = near_read s t old new (number + 1) (number + 2) next (omega arith) n follows.1
-near_next s t old new number stop short (Err e) n follows = tt
+after_for : (s : Setting) (start now : Outside) (name : List ℕ) (run : Run) (switch : SwitchNow) (t : Stretch) (bytes : List ℕ) (all : List Record) (rounds : List Round) (hs : List (List Event)) (st : Stop) → IsStopped s start now name run.reading bytes all t.first t.next st → RoundsFor s t.first all rounds hs st → IsAt s hs switch → IsPutBy start now rounds run.short
+    → AfterPut s start now name run switch t st
+after_for s start now name run switch t bytes all rounds hs stop.Full i so at put = record {
+  bytes = bytes;
+  given = all;
+  rounds = rounds;
+  histories = hs;
+  since = put.since;
+  read = i.shows;
+  some = omega (arith, i.long.0, i.after.above);
+  count = i.long.0;
+  few = i.long.1;
+  cut = i.after.is_cut;
+  so = subst (λ n. AreSoFar s all (cuts_within s.commands n) rounds hs) i.long.0 so;
+  at = at;
+  short_is = put.short_is;
+  puts = put.puts;
+}
+after_for s start now name run switch t bytes all rounds hs stop.End i so at put = record {
+  bytes = bytes;
+  records = all;
+  rounds = rounds;
+  histories = hs;
+  since = put.since;
+  later = i.reading.later;
+  whole = i.shows.0;
+  capture = i.shows.1;
+  few = i.shows.2;
+  behind = λ n lt c. omega (arith, i.long, i.after.least n lt c);
+  so = so;
+  at = at;
+  short_is = put.short_is;
+  puts = put.puts;
+}
+after_for s start now name run switch t bytes all rounds hs stop.Fault i so at put =
+    runs_so s start now name end.ReadFault put.since i.reading.later
+    (i.shows.0, inr (ends_so s start now name ending.ReadFault (read_to Fault bytes) (report_text rounds) (reads_fault start now name run.reading.source.file bytes i.shows.0 i.reading) (refl, inr (pauses_front s (read_to Fault bytes) all (report_text rounds) i.shows.1 i.shows.2 (tells_within s all rounds hs so))) put.puts))
+after_for s start now name run switch t bytes all rounds hs (stop.Bad bad) i so at put =
+    let b = bad_tells s start now name run.reading.source.file bytes all (report_text rounds) bad i.reading i.passed (λ at e. reads_whole start now name bytes (i.shows.0 at e)) i.shows.1 i.shows.2 (tells_within s all rounds hs so) in
+    runs_so s start now name (end.Refused bad) put.since i.reading.later (ends_so s start now name (ending.Trace bad) b.0 (report_text rounds) b.1 b.2 put.puts)
+
+-- ---- the records of a filled stretch
+
+stopped_filled : (s : Setting) (start old now : Outside) (name : List ℕ) (run new : Run) (switch : SwitchNow) (t : Stretch) → new.reading ≡ run.reading → SameInputs old now → (f : IsFilled s start old name run switch t) → IsStopped s start now name new.reading (IsFilled.bytes f) (IsFilled.given f ++ run.reading.batch) t.first t.next t.stop
+stopped_filled s start old now name run new switch t same inputs f =
+    let all = f.given ++ run.reading.batch in
+    subst (λ r. IsStopped s start now name r f.bytes all t.first t.next t.stop) (sym same) (record {
+      reading = reading_put start old now name run.reading.source.file f.bytes inputs f.reading;
+      passed = f.passed;
+      after = f.next;
+      long = f.long;
+      shows = shows_put start old now name run.reading f.bytes all t.stop inputs f.shows;
+    })
+
+shows_few : (start now : Outside) (name : List ℕ) (r : Reading) (bytes : List ℕ) (all : List Record) (next : ℕ) (st : Stop) → IsAsLong st next (length all) → ShowsStop start now name r bytes all st → length all ≤ most_records
+shows_few start now name r bytes all next stop.Full long h = omega (arith, long.0, long.1)
+shows_few start now name r bytes all next stop.End long h = h.2
+shows_few start now name r bytes all next stop.Fault long h = h.2
+shows_few start now name r bytes all next (stop.Bad bad) long h = omega (arith, h.2)
+
+-- before the round was run
+continues_before : (s : Setting) (start now : Outside) (name : List ℕ) (run : Run) (switch : SwitchNow) (t : Stretch) → (f : IsFilled s start now name run switch t) → Continues s start now name (report_text (IsFilled.rounds f))
+continues_before s start now name run switch t f =
+    let few = shows_few start now name run.reading f.bytes (f.given ++ run.reading.batch) t.next t.stop f.long f.shows in record {
+      trace = read_to Stopped f.bytes;
+      reads = reads_stopped start now name run.reading.source.file f.bytes f.reading;
+      follows = front_follows s f.bytes f.given f.rounds f.histories (passed_first f.bytes f.given run.reading.batch f.passed) (omega (arith, few, length-append f.given run.reading.batch)) (subst (λ n. IsCut s.commands n) (sym f.count) f.cut)
+          (subst (λ n. AreSoFar s f.given (cuts_within s.commands n) f.rounds f.histories) (sym f.count) f.so);
+    }
+
+-- want of memory ends the run
+memory_ends : (s : Setting) (start now : Outside) (name : List ℕ) (rounds : List Round) → Since start now → start.input_faults ≤ now.input_faults → Continues s start now name (report_text rounds) → Grows start.put now.put (report_text rounds) → RunsTrace s start now name end.Memory
+memory_ends s start now name rounds since later c g = runs_so s start now name end.Memory since later (inr (inr (breaks_after s start now name c.trace (report_text rounds) c.reads c.follows g)))
+
+-- so does a put that failed within a round's text
+fault_ends : (s : Setting) (start old now : Outside) (name : List ℕ) (rounds : List Round) (r : Round) (text : List ℕ) (e : Failed) → Since start old → start.input_faults ≤ now.input_faults → text ≡ round_text r → Continues s start now name (report_text (rounds ++ r ∷ [])) → Grows start.put old.put (report_text rounds) → DoesPut old now text (Err e)
+    → RunsTrace s start now name end.WriteFault
+fault_ends s start old now name rounds r text e since later is c g d =
+    let whole : report_text rounds ++ text ≡ report_text (rounds ++ r ∷ []) = ap (λ t. report_text rounds ++ t) is ∙ sym (report_push rounds r) in
+    let n : ℕ = length (report_text rounds) + d.told.0 in
+    let put : Grows start.put now.put (take n (report_text (rounds ++ r ∷ []))) = grows_is start.put now.put (take n (report_text rounds ++ text)) (take n (report_text (rounds ++ r ∷ []))) (ap (take n) whole) (front_then start.put old.put now.put (report_text rounds) text d.told.0 g d.told.1) in
+    runs_so s start now name end.WriteFault (since_put start old now text (Err e) since d) later (omega (arith, since.puts_later, d.cause.failed), breaks_off s start now name c.trace (report_text (rounds ++ r ∷ [])) n c.reads c.follows put)
+
+put_by : (start old now : Outside) (rounds : List Round) (r : Round) (text : List ℕ) (u : ⊤) (was short is : Bool) → Since start old → are_short rounds ≡ was → Grows start.put old.put (report_text rounds) → text ≡ round_text r → short ≡ (was || is) → is ≡ is_short_round r → DoesPut old now text (Ok u) → IsPutBy start now (rounds ++ r ∷ []) short
+put_by start old now rounds r text u was short is since e g t f h d = record {
+  since = since_put start old now text (Ok u) since d;
+  short_is = short_push rounds r was short is e h f;
+  puts = grows_is start.put now.put (report_text rounds ++ text) (report_text (rounds ++ r ∷ [])) (ap (λ t. report_text rounds ++ t) t ∙ sym (report_push rounds r)) (grows_then start.put old.put now.put (report_text rounds) text g d.told);
+}
+
+-- ---- a stretch
+
+-- there was no round to run
+pub stretch_unrun : (s : Setting) (start now : Outside) (name : List ℕ) (run : Run) (switch : SwitchNow) (t : Stretch) → is_run_of s.commands (length run.reading.batch) t.first t.stop ≡ false → IsFilled s start now name run switch t → AfterPut s start now name run switch t t.stop
+stretch_unrun s start now name run switch t runs f =
+    after_for s start now name run switch t f.bytes (f.given ++ run.reading.batch) f.rounds f.histories t.stop
+    (record { reading = f.reading; passed = f.passed; after = f.next; long = f.long; shows = f.shows })
+    (rounds_unrun s t.first t.next f.given run.reading.batch f.rounds f.histories t.stop f.count f.next f.long runs f.so)
+    f.at
+    (record { since = f.since; short_is = f.short_is; puts = f.puts })
+
+-- the round was run, and put or not
+pub stretch_put : (s : Setting) (start old now : Outside) (name : List ℕ) (run new : Run) (switch after : SwitchNow) (t : Stretch) (r : Result ⊤ TraceEnd) → is_run_of s.commands (length run.reading.batch) t.first t.stop ≡ true → new.reading ≡ run.reading → SameInputs old now → ((hs : List (List Event)) → IsAt s hs switch → PutsRound s hs t.first run new after old now r)
+    → IsFilled s start old name run switch t → PutsStretch s start now name new after t r
+stretch_put s start old now name run new switch after t (Ok u) runs same inputs put f =
+    let p = put f.histories f.at in
+    let ran = p.0.ran in
+    let rounds = f.rounds ++ ran.round ∷ [] in
+    after_for s start now name new after t f.bytes (f.given ++ run.reading.batch) rounds ran.histories t.stop (stopped_filled s start old now name run new switch t same inputs f)
+    (rounds_run s t.first t.next f.given run.reading.batch f.rounds f.histories after p.0.short [] new.text.items t.stop f.count f.cut f.next f.long runs f.so ran)
+    ran.at
+    (put_by start old now f.rounds ran.round new.text.items u run.short new.short p.0.short f.since f.short_is f.puts ran.text p.0.short_is ran.short_is p.1)
+stretch_put s start old now name run new switch after t (Err end.WriteFault) runs same inputs put f =
+    let p = put f.histories f.at in
+    let ran = p.0.ran in
+    let all = f.given ++ run.reading.batch in
+    let stopped = stopped_filled s start old now name run new switch t same inputs f in
+    let so = rounds_run s t.first t.next f.given run.reading.batch f.rounds f.histories after p.0.short [] new.text.items t.stop f.count f.cut f.next f.long runs f.so ran in
+    fault_ends s start old now name f.rounds ran.round new.text.items p.1.0 f.since stopped.reading.later ran.text (continues_for s start now name new.reading f.bytes all t.first t.next (f.rounds ++ ran.round ∷ []) ran.histories t.stop stopped so) f.puts p.1.1
+stretch_put s start old now name run new switch after t (Err end.Memory) runs same inputs put f =
+    let here = memory_ends s start old name f.rounds f.since f.reading.later (continues_before s start old name run switch t f) f.puts in
+    subst (λ o. RunsTrace s start o name end.Memory) (sym (put f.histories f.at)) here
+stretch_put s start old now name run new switch after t (Err end.Done) runs same inputs put f = absurd (put f.histories f.at)
+stretch_put s start old now name run new switch after t (Err end.ReadFault) runs same inputs put f = absurd (put f.histories f.at)
+stretch_put s start old now name run new switch after t (Err (end.Refused bad)) runs same inputs put f = absurd (put f.histories f.at)
+stretch_put s start old now name run new switch after t (Err end.Records) runs same inputs put f = absurd (put f.histories f.at)
+
+-- ---- a round behind the trace
+
+continues_past : (s : Setting) (start now : Outside) (name bytes : List ℕ) (records : List Record) (first : ℕ) (rounds : List Round) (hs : List (List Event)) → Reads start now name (read_to All bytes) → IsCapture bytes records None → length records ≤ most_records → AreBehind s.commands first (length records) → AreSoFar s records (cuts_until s.commands (length records) (first + 1)) rounds hs
+    → Continues s start now name (report_text rounds)
+continues_past s start now name bytes records first rounds hs reads c few behind so = record { trace = read_to All bytes; reads = reads; follows = past_follows s bytes records first rounds hs c few behind so }
+
+behind_next : (s : Setting) (first next total : ℕ) → next_at (first + 1) s.commands ≡ Some next → AreBehind s.commands first total → AreBehind s.commands next total
+behind_next s first next total e behind = let is = next_some s.commands (first + 1) next e in λ n lt c. behind n (omega (arith, lt, is.from)) c
+
+-- a further round was run, and put
+pub next_put : (s : Setting) (start old now : Outside) (name : List ℕ) (run new : Run) (switch after : SwitchNow) (first next : ℕ) (u : ⊤) → run.reading.batch ≡ [] → next_at (first + 1) s.commands ≡ Some next → SameInputs old now → ((hs : List (List Event)) → IsAt s hs switch → PutsRound s hs next run new after old now (Ok u))
+    → IsPast s start old name run.short switch first → IsPast s start now name new.short after next
+next_put s start old now name run new switch after first next u none e inputs put f =
+    let p = put f.histories f.at in
+    let ran = p.0.ran in
+    let by = put_by start old now f.rounds ran.round new.text.items u run.short new.short p.0.short f.since f.short_is f.puts ran.text p.0.short_is ran.short_is p.1 in record {
+      bytes = f.bytes;
+      records = f.records;
+      rounds = f.rounds ++ ran.round ∷ [];
+      histories = ran.histories;
+      since = by.since;
+      later = omega (arith, f.later, inputs.input_faults);
+      whole = whole_put start old now name f.bytes inputs f.whole;
+      capture = f.capture;
+      few = f.few;
+      behind = behind_next s first next (length f.records) e f.behind;
+      so = rounds_past s first next f.records run.reading.batch f.rounds f.histories after p.0.short [] new.text.items none e f.behind f.so ran;
+      at = ran.at;
+      short_is = by.short_is;
+      puts = by.puts;
+    }
+
+-- or not
+pub next_unput : (s : Setting) (start old now : Outside) (name : List ℕ) (run new : Run) (switch after : SwitchNow) (first next : ℕ) (e : TraceEnd) → run.reading.batch ≡ [] → next_at (first + 1) s.commands ≡ Some next → SameInputs old now → ((hs : List (List Event)) → IsAt s hs switch → PutsRound s hs next run new after old now (Err e))
+    → IsPast s start old name run.short switch first → RunsTrace s start now name e
+next_unput s start old now name run new switch after first next end.WriteFault none e inputs put f =
+    let p = put f.histories f.at in
+    let ran = p.0.ran in
+    let rounds = f.rounds ++ ran.round ∷ [] in
+    let so = rounds_past s first next f.records run.reading.batch f.rounds f.histories after p.0.short [] new.text.items none e f.behind f.so ran in
+    fault_ends s start old now name f.rounds ran.round new.text.items p.1.0 f.since (omega (arith, f.later, inputs.input_faults)) ran.text
+    (continues_past s start now name f.bytes f.records next rounds ran.histories (reads_whole start now name f.bytes (whole_put start old now name f.bytes inputs f.whole)) f.capture f.few (behind_next s first next (length f.records) e f.behind) so)
+    f.puts
+    p.1.1
+next_unput s start old now name run new switch after first next end.Memory none e inputs put f =
+    let here = memory_ends s start old name f.rounds f.since f.later (continues_past s start old name f.bytes f.records first f.rounds f.histories (reads_whole start old name f.bytes f.whole) f.capture f.few f.behind f.so) f.puts in
+    subst (λ o. RunsTrace s start o name end.Memory) (sym (put f.histories f.at)) here
+next_unput s start old now name run new switch after first next end.Done none e inputs put f = absurd (put f.histories f.at)
+next_unput s start old now name run new switch after first next end.ReadFault none e inputs put f = absurd (put f.histories f.at)
+next_unput s start old now name run new switch after first next (end.Refused bad) none e inputs put f = absurd (put f.histories f.at)
+next_unput s start old now name run new switch after first next end.Records none e inputs put f = absurd (put f.histories f.at)

@@ -26,9 +26,6 @@ pub splits_shorter : (form : Form) (bytes : List ℕ) (rs : List Record) (rest :
 splits_shorter form bytes [] rest s = omega (arith, ap length s)
 splits_shorter form bytes (r ∷ rs) rest s = omega (arith, splits_shorter form (drop (16 + s.0) bytes) rs rest s.3, length-drop (16 + s.0) bytes)
 
-pub one_whole : (a b : ℕ) → Whole a ≡ Whole b → a ≡ b
-one_whole a b e = cc
-
 abbrev pub NotWhole : Front → Type 0
 NotWhole (Whole c) = ⊥
 NotWhole Part = Unit {0}

@@ -1,78 +1,204 @@
 -- A run in the midst of its rounds.
-use Rattle.std.specs.Prelude.{◌⊎◌, Some, None, ◌≡◌, ◌≤◌, ℕ, ◌+◌, ◌*◌, ◌^◌, Bool, List, length, Option, Result, Ok, Err, ⊤, take}
-use Rattle.vsw_host.specs.Outside.{Outside, SameInputs, Grows, Rose}
-use Rattle.vsw_pcap.specs.Capture.{header_of}
-use Rattle.vsw_pcap.specs.Progress.{Progress}
-use Rattle.vsw_pcap.specs.Reader.{Stands}
-use Rattle.vsw_replay.specs.Unheaded.{ended}
-use Rattle.vsw_rounds.specs.declared.round.Stop.{Stop}
-use Rattle.vsw_pcap.specs.declared.capture.Form.{Form}
+use Rattle.std.specs.Prelude.{◌≡◌, ◌<◌, ◌≤◌, ◌+◌, ◌||◌, ◌&&◌, ◌==◌, not, ℕ, Bool, true, false, List, [], ◌++◌, length, map, nat_lt, if◌then◌else◌, Option, Some, None, Result, Ok, Err, ⊤}
+use Rattle.vsw_commandfile.specs.declared.line.Line.{Line}
+use Rattle.vsw_history.specs.declared.event.Event.{Event}
+use Rattle.vsw_host.specs.Outside.{Outside, Grows, Rose, DoesPut}
+use Rattle.vsw_host.specs.Source.{IsReading}
+use Rattle.vsw_host.specs.Told.{ReadsAll}
+use Rattle.vsw_host.specs.declared.host.Failed.{Failed}
+use Rattle.vsw_pcap.specs.Capture.{IsCapture}
 use Rattle.vsw_pcap.specs.declared.capture.Record.{Record}
-use Rattle.vsw_report.specs.declared.round.Round.{Round}
-use Rattle.vsw_replay.specs.declared.ending.Ending.{Ending}
-use Rattle.vsw_replay.specs.declared.ending.Ending.TheVariants.{Done, Usage, ReadFault, WriteFault, Refused, Records, NotBuilt, Memory}
-use Rattle.vsw_rounds.specs.declared.round.RoundRead.{RoundRead}
-use Rattle.vsw_rounds.specs.Rounds.{AreRounds, round_size, report}
+use Rattle.vsw_pcap.specs.declared.fault.BadTrace.{BadTrace}
+use Rattle.vsw_pcap.specs.declared.fault.BadTrace.TheVariants.{NotPcap, Version, LinkType, Cut, Huge}
+use Rattle.vsw_ports.specs.Ports.{ports_of}
+use Rattle.vsw_promise.specs.Jobs.{Setting, cuts_within}
+use Rattle.vsw_promise.specs.Trace.{most_records}
+use Rattle.vsw_report.specs.Print.{report_text}
 use Rattle.vsw_report.specs.Short.{are_short}
-use Rattle.vsw_rounds.specs.Round.{ReadsRound}
-use Rattle.vsw_replay.specs.Trace.{Puts}
-use Rattle.vsw_switch.specs.Switch.{SwitchNow}
+use Rattle.vsw_report.specs.declared.round.Round.{Round}
+use Rattle.vsw_rounds.specs.Round.{RunsRound}
+use Rattle.vsw_switch.specs.Switch.{SwitchNow, IsAt}
+use Rattle.vsw_replay.specs.declared.ending.TraceEnd.{TraceEnd}
+use Rattle.vsw_replay.specs.declared.ending.TraceEnd.TheVariants as end
+use Rattle.vsw_replay.specs.declared.reading.Reading.{Reading}
+use Rattle.vsw_replay.specs.declared.reading.Stop.{Stop}
+use Rattle.vsw_replay.specs.declared.reading.Stop.TheVariants as stop
+use Rattle.vsw_replay.specs.declared.trace.Run.{Run}
+use Rattle.vsw_replay.specs.declared.trace.Stretch.{Stretch}
+use Rattle.vsw_replay.specs.Cut.{is_named_by, IsCut, IsNextCut, cuts_until, AreBehind}
+use Rattle.vsw_replay.specs.Passed.{IsPassed, Pauses}
+use Rattle.vsw_replay.specs.Reads.{IsRead, IsOpen, StopsSo}
+use Rattle.vsw_replay.specs.Runs.{RunsTrace}
+use Rattle.vsw_replay.specs.Sofar.{AreSoFar}
 
--- so many whole rounds were put, and the next was read; memory was wanting for a packet of those put, or for none
-pub record Going (start : SwitchNow) (bytes : List ℕ) (before now : Option (List ℕ)) (p : Progress) (number : ℕ) (round : RoundRead) (switch : SwitchNow) (short : Bool) : Type 0 where
-  pub form : Form
-  pub header : header_of bytes ≡ Ok form
-  pub given : List Record
-  pub rounds : List Round
-  -- the switch before the round that was read
-  pub mid : SwitchNow
-  pub are : AreRounds start given rounds mid
-  pub count : length rounds ≡ number
-  pub full : length given ≡ round_size * number
-  pub short_is : are_short rounds ≡ short
-  pub puts : Grows before now (report rounds)
-  pub reads : ReadsRound mid switch p bytes given round
+-- nothing was complained since, and the faults of puts only rose
+pub record Since (start now : Outside) : Type 0 where
+  pub complained : now.complained ≡ start.complained
+  pub complain_faults : now.complain_faults ≡ start.complain_faults
+  pub puts_later : start.put_faults ≤ now.put_faults
 
--- a further round was put and the next one read, or the run ended
-abbrev pub GoesOn : SwitchNow → List ℕ → Option (List ℕ) → Option (List ℕ) → Progress → ℕ → SwitchNow → Bool → Result RoundRead Ending → Type 0
-GoesOn start bytes before now p number switch short (Ok next) = Going start bytes before now p (number + 1) next switch short
-GoesOn start bytes before now p number switch short (Err ending) = Puts start bytes p.finished before now ending
+-- the end alone shows that a record is cut
+abbrev pub IsShown : Outside → Outside → List ℕ → List ℕ → BadTrace → Type 0
+IsShown start now name bytes bad = (at : ℕ) → bad ≡ Cut at → ReadsAll start.inputs now.inputs name bytes
 
--- some bytes were fed and some records given, and packets were numbered up to those of so many rounds, so further ones can be
-pub record IsNear (p : Progress) (switch : SwitchNow) (rounds : ℕ) : Type 0 where
+-- what shows why the reading stopped after these records
+abbrev pub ShowsStop : Outside → Outside → List ℕ → Reading → List ℕ → List Record → Stop → Type 0
+ShowsStop start now name r bytes records stop.Full = IsRead start now name r bytes records
+ShowsStop start now name r bytes records stop.End = ReadsAll start.inputs now.inputs name bytes × IsCapture bytes records None × (length records ≤ most_records)
+ShowsStop start now name r bytes records stop.Fault = Rose start.input_faults now.input_faults × Pauses bytes records × (length records ≤ most_records)
+ShowsStop start now name r bytes records (stop.Bad bad) = IsShown start now name bytes bad × IsCapture bytes records (Some bad) × (length records < most_records)
+
+-- a round that isn't whole ends before the next cut
+abbrev pub IsAsLong : Stop → ℕ → ℕ → Type 0
+IsAsLong stop.Full next total = (total ≡ next) × (next ≤ most_records)
+IsAsLong stop.End next total = total < next
+IsAsLong stop.Fault next total = total < next
+IsAsLong (stop.Bad bad) next total = total < next
+
+-- the rounds up to a cut were put, and the records of the round that begins there are in the batch
+pub record IsFilled (s : Setting) (start now : Outside) (name : List ℕ) (run : Run) (switch : SwitchNow) (t : Stretch) : Type 0 where
   pub bytes : List ℕ
   pub given : List Record
-  pub stands : Stands p bytes given
-  pub low : switch.next ≤ 2 ^ 29 + round_size * rounds
+  pub rounds : List Round
+  pub histories : List (List Event)
+  pub since : Since start now
+  pub reading : IsReading start now name run.reading.source.file bytes
+  pub passed : IsPassed bytes (given ++ run.reading.batch)
+  pub count : length given ≡ t.first
+  pub cut : IsCut s.commands t.first
+  pub next : IsNextCut s.commands t.first t.next
+  pub long : IsAsLong t.stop t.next (length (given ++ run.reading.batch))
+  pub shows : ShowsStop start now name run.reading bytes (given ++ run.reading.batch) t.stop
+  pub so : AreSoFar s given (cuts_within s.commands t.first) rounds histories
+  pub at : IsAt s histories switch
+  pub short_is : are_short rounds ≡ run.short
+  pub puts : Grows start.put now.put (report_text rounds)
 
--- nothing but puts was done
-pub record OnlyPuts (old new : Outside) : Type 0 where
-  pub inputs : SameInputs old new
-  pub complained : new.complained ≡ old.complained
-  pub complain_faults : new.complain_faults ≡ old.complain_faults
-  pub later : old.put_faults ≤ new.put_faults
+-- the rounds up to this cut were put, and the records before it were read
+pub record IsBetween (s : Setting) (start now : Outside) (name : List ℕ) (run : Run) (switch : SwitchNow) (first : ℕ) : Type 0 where
+  pub bytes : List ℕ
+  pub given : List Record
+  pub rounds : List Round
+  pub histories : List (List Event)
+  pub since : Since start now
+  pub read : IsRead start now name run.reading bytes given
+  pub some : 0 < length given
+  pub count : length given ≡ first
+  pub few : first ≤ most_records
+  pub cut : IsCut s.commands first
+  pub so : AreSoFar s given (cuts_within s.commands first) rounds histories
+  pub at : IsAt s histories switch
+  pub short_is : are_short rounds ≡ run.short
+  pub puts : Grows start.put now.put (report_text rounds)
 
--- a run ends by a write fault only where the host counted one
-abbrev pub WriteRises : Outside → Outside → Ending → Type 0
-WriteRises old new ending = ending ≡ WriteFault → Rose old.put_faults new.put_faults
+-- the trace ended, and the rounds up to the one that begins with this packet were put
+pub record IsPast (s : Setting) (start now : Outside) (name : List ℕ) (short : Bool) (switch : SwitchNow) (first : ℕ) : Type 0 where
+  pub bytes : List ℕ
+  pub records : List Record
+  pub rounds : List Round
+  pub histories : List (List Event)
+  pub since : Since start now
+  pub later : start.input_faults ≤ now.input_faults
+  pub whole : ReadsAll start.inputs now.inputs name bytes
+  pub capture : IsCapture bytes records None
+  pub few : length records ≤ most_records
+  pub behind : AreBehind s.commands first (length records)
+  pub so : AreSoFar s records (cuts_until s.commands (length records) (first + 1)) rounds histories
+  pub at : IsAt s histories switch
+  pub short_is : are_short rounds ≡ short
+  pub puts : Grows start.put now.put (report_text rounds)
 
-abbrev pub EndRises : {T : Type 0} → Outside → Outside → Result T Ending → Type 0
-EndRises old new (Ok x) = Unit {0}
-EndRises old new (Err ending) = WriteRises old new ending
+-- a round was put; then the next one begins, or the run is past its trace, or ends
+abbrev pub AfterPut : Setting → Outside → Outside → List ℕ → Run → SwitchNow → Stretch → Stop → Type 0
+AfterPut s start now name run switch t stop.Full = IsBetween s start now name run switch t.next
+AfterPut s start now name run switch t stop.End = IsPast s start now name run.short switch t.first
+AfterPut s start now name run switch t stop.Fault = RunsTrace s start now name end.ReadFault
+AfterPut s start now name run switch t (stop.Bad bad) = RunsTrace s start now name (end.Refused bad)
 
--- a text was put; or a front of it, where the host counted a fault; or none of it, where memory was short
-abbrev pub PutsText : Outside → Outside → List ℕ → Result ⊤ Ending → Type 0
-PutsText old new text (Ok u) = Grows old.put new.put text
-PutsText old new text (Err WriteFault) = (count : ℕ) × Grows old.put new.put (take count text)
-PutsText old new text (Err Memory) = (count : ℕ) × Grows old.put new.put (take count text)
-PutsText old new text (Err ReadFault) = ⊥
-PutsText old new text (Err Done) = ⊥
-PutsText old new text (Err Usage) = ⊥
-PutsText old new text (Err NotBuilt) = ⊥
-PutsText old new text (Err (Refused bad)) = ⊥
-PutsText old new text (Err Records) = ⊥
+-- the same, or the run ended in it
+abbrev pub PutsStretch : Setting → Outside → Outside → List ℕ → Run → SwitchNow → Stretch → Result ⊤ TraceEnd → Type 0
+PutsStretch s start now name run switch t (Ok u) = AfterPut s start now name run switch t t.stop
+PutsStretch s start now name run switch t (Err e) = RunsTrace s start now name e
 
--- the next round was read; or the run ends where the one before stopped, or for want of memory
-abbrev pub Follows : SwitchNow → SwitchNow → Progress → Progress → Stop → Bool → Result RoundRead Ending → Type 0
-Follows s t old new stop short (Ok next) = (ended stop short ≡ None) × ((bytes : List ℕ) (given : List Record) → Stands old bytes given → ReadsRound s t new bytes given next)
-Follows s t old new stop short (Err ending) = (ended stop short ≡ Some ending) ⊎ ((ended stop short ≡ None) × (ending ≡ Memory))
+-- the next round was read, or the run ended
+abbrev pub GoesOn : Setting → Outside → Outside → List ℕ → Run → SwitchNow → Result Stretch TraceEnd → Type 0
+GoesOn s start now name run switch (Ok t) = IsFilled s start now name run switch t
+GoesOn s start now name run switch (Err e) = RunsTrace s start now name e
+
+-- the ending of a trace that ended cleanly
+abbrev pub clean_of : Bool → TraceEnd
+clean_of true = end.Memory
+clean_of false = end.Done
+
+-- a further round behind the trace was put, or there is none, or the run ended in it
+abbrev pub PutsNext : Setting → Outside → Outside → List ℕ → Bool → SwitchNow → Result (Option ℕ) TraceEnd → Type 0
+PutsNext s start now name short switch (Ok (Some next)) = IsPast s start now name short switch next
+PutsNext s start now name short switch (Ok None) = RunsTrace s start now name (clean_of short)
+PutsNext s start now name short switch (Err e) = RunsTrace s start now name e
+
+-- the round of the batch was run, and its text is in the room
+pub record IsTurn (s : Setting) (hs : List (List Event)) (first : ℕ) (old new : Run) (switch : SwitchNow) : Type 0 where
+  pub short : Bool
+  pub ran : RunsRound s hs first old.reading.batch switch short [] new.text.items
+  pub short_is : new.short ≡ (old.short || short)
+
+-- and was put, or a front of it
+abbrev pub PutsRound : Setting → List (List Event) → ℕ → Run → Run → SwitchNow → Outside → Outside → Result ⊤ TraceEnd → Type 0
+PutsRound s hs first old new switch before after (Ok u) = IsTurn s hs first old new switch × DoesPut before after new.text.items (Ok u)
+PutsRound s hs first old new switch before after (Err end.WriteFault) = IsTurn s hs first old new switch × ((e : Failed) × DoesPut before after new.text.items (Err e))
+PutsRound s hs first old new switch before after (Err end.Memory) = after ≡ before
+PutsRound s hs first old new switch before after (Err e) = ⊥
+
+-- a trace that was opened, and of which nothing was read or put
+pub record IsOpened (s : Setting) (start now : Outside) (name : List ℕ) (run : Run) (switch : SwitchNow) : Type 0 where
+  pub since : Since start now
+  pub read : IsRead start now name run.reading [] []
+  pub batch : run.reading.batch ≡ []
+  pub at : IsAt s (map (λ p. []) (ports_of s.policy)) switch
+  pub short_is : run.short ≡ false
+  pub puts : Grows start.put now.put []
+
+-- its first round was read, and nothing put
+pub record IsFirst (s : Setting) (start now : Outside) (name : List ℕ) (run : Run) (switch : SwitchNow) (t : Stretch) : Type 0 where
+  pub since : Since start now
+  pub first : t.first ≡ 0
+  pub next : IsNextCut s.commands 0 t.next
+  pub stops : StopsSo start now name run.reading [] t.next t.stop
+  pub at : IsAt s (map (λ p. []) (ports_of s.policy)) switch
+  pub short_is : run.short ≡ false
+  pub puts : Grows start.put now.put []
+
+abbrev pub is_end : Stop → Bool
+is_end stop.Full = false
+is_end stop.End = true
+is_end stop.Fault = false
+is_end (stop.Bad bad) = false
+
+-- a round is run if it has packets, or if the trace ended and the round is the first or has commands
+abbrev pub is_run_of : List Line → ℕ → ℕ → Stop → Bool
+is_run_of commands count first stop = not (count == 0) || (is_end stop && ((first == 0) || is_named_by commands first))
+
+-- how a run ends whose first round stopped before a header was accepted, where so many bytes were read, counted up to 24
+abbrev pub unheaded_of : Stop → ℕ → Option TraceEnd
+unheaded_of stop.Full seen = None
+unheaded_of stop.End seen = None
+unheaded_of stop.Fault seen = if nat_lt seen 24 then Some end.ReadFault else None
+unheaded_of (stop.Bad NotPcap) seen = Some (end.Refused NotPcap)
+unheaded_of (stop.Bad Version) seen = Some (end.Refused Version)
+unheaded_of (stop.Bad LinkType) seen = Some (end.Refused LinkType)
+unheaded_of (stop.Bad (Cut at)) seen = None
+unheaded_of (stop.Bad (Huge at)) seen = None
+
+-- a whole round is followed by another, for which the trace can be read on
+abbrev pub CanRead : Outside → Run → ℕ → Stop → Type 0
+CanRead now run next stop.Full = IsOpen now run.reading × (next ≤ most_records)
+CanRead now run next stop.End = Unit {0}
+CanRead now run next stop.Fault = Unit {0}
+CanRead now run next (stop.Bad bad) = Unit {0}
+
+-- a round that was read
+pub record IsNear (now : Outside) (run : Run) (t : Stretch) : Type 0 where
+  pub low : t.first ≤ most_records
+  pub rises : t.first < t.next
+  pub size : length run.reading.batch ≤ most_records
+  pub goes : CanRead now run t.next t.stop

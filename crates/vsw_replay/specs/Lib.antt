@@ -1,3 +1,6 @@
-pub mod Trace
+pub mod Runs
+pub mod Reads
+pub mod Cut
+pub mod Passed
+pub mod Sofar
 pub mod Going
-pub mod Unheaded

@@ -1,8 +1,10 @@
-//! A trace run round by round: what is put of it, and how the run ends.
+//! A trace run round by round, while it is read in pieces.
 #![tactic(auto)]
 
+mod cut;
 mod ending;
+mod reading;
 mod trace;
 
-pub use ending::Ending;
-pub use trace::{TraceBytes, run_trace};
+pub use ending::TraceEnd;
+pub use trace::run_trace;

@@ -1,266 +1,349 @@
-//! Running a trace: its rounds, one after another (specs/Trace.antt).
+//! Running a trace.
 
-ghost use Rattle.std.specs.Prelude.{◌≡◌, ◌≤◌, ◌<◌, ◌+◌, ◌^◌, ◌||◌, ℕ, List, [], Option, IfOk, OnOk, false, length};
-ghost use Rattle.vsw_pcap.specs.Reader.{Stands};
-ghost use Rattle.vsw_report.specs.Print.{round_text};
-ghost use Rattle.vsw_replay.specs.Trace.{Puts};
-ghost use Rattle.vsw_rounds.specs.Round.{ReadsRound};
-ghost use Rattle.vsw_replay.specs.Going.{Going, GoesOn, IsNear, OnlyPuts, WriteRises, EndRises, PutsText, Follows};
-ghost use Rattle.vsw_replay.specs.Unheaded.{StandsIn, clean_end, unheaded_of, ended, is_put_of, text_put, short_put, past_limit_of};
-ghost use Rattle.vsw_switch.specs.Switch.{SwitchNow};
+ghost use Rattle.std.specs.Prelude.{◌≡◌, ◌≤◌, ◌<◌, ◌+◌, ◌^◌, ℕ, [], List, map, length, IfOk, IfSome, OnOk};
+ghost use Rattle.vsw_commandfile.specs.declared.line.Line.{Line};
+ghost use Rattle.vsw_history.specs.declared.event.Event.{Event};
+ghost use Rattle.vsw_host.specs.Outside.{Outside, SameInputs};
+ghost use Rattle.vsw_promise.specs.Jobs.{Setting};
+ghost use Rattle.vsw_ports.specs.Ports.{ports_of};
+ghost use Rattle.vsw_replay.specs.Going.{IsFilled, IsBetween, IsPast, IsOpened, IsFirst, IsNear, IsTurn, PutsRound, PutsStretch, PutsNext, GoesOn, is_run_of, unheaded_of, clean_of};
+ghost use Rattle.vsw_replay.specs.Reads.{IsOpen};
+ghost use Rattle.vsw_replay.specs.Runs.{RunsTrace};
+ghost use Rattle.vsw_switch.specs.Switch.{AreServed, IsAt, SwitchNow};
 
-use crate::ending::Ending;
+use crate::cut::{is_named, next_cut};
+use crate::ending::TraceEnd;
+use crate::reading::{HEADER_LEN, Reading, Stop, begin_reading, fill, peek};
 use std::alloc::Global;
-use vsw_host::Host;
-use vsw_pcap::{BadTrace, Reader};
-use vsw_report::{HEAD_LINE, Round, print_round};
-use vsw_rounds::{RoundRead, Stop, read_round};
+use vsw_base::NoMemory;
+use vsw_host::{Host, Source, Unopened};
+use vsw_pcap::BadTrace;
+use vsw_report::HEAD_LINE;
+use vsw_rounds::run_round;
+use vsw_schedule::Schedule;
 use vsw_switch::Switch;
 
-/// Rounds of the longest trace, which has 1,048,576 records.
-const ROUNDS_MAX: u32 = 1_024;
+/// The most records of a trace.
+const RECORDS_MOST: u32 = 1_048_576;
 
-/// Bytes of a capture's header.
-const HEADER_LEN: usize = 24;
-
-/// What was read of a trace.
+/// What a run holds beside its switch.
 #[derive(Drop)]
-pub struct TraceBytes {
-    /// Its bytes from the first on.
-    pub bytes: Vec<u8>,
-    /// Whether these are all of its bytes; else a read failed after them.
-    pub whole: bool,
-}
-
-/// What was written of a run.
-#[derive(Drop)]
-struct Written {
-    /// Room for the text of a round, which that of the next one finds again.
+struct Run {
+    reading: Reading,
+    /// The text of a round, in room that the next round's text finds again.
     text: Vec<u8>,
-    /// Whether memory was wanting for a packet of the rounds that were put.
+    /// Whether memory was wanting for a packet or a command of the rounds that were run.
     short: bool,
 }
 
-/// How a run ends whose trace ended cleanly.
-fn clean_ending(short: bool) -> Ending
-    ensures { result ≡ clean_end short }
-{
-    if short { Ending::Memory } else { Ending::Done }
+/// The packets from one cut up to the next, as far as they were read.
+#[derive(Clone, Copy)]
+struct Stretch {
+    /// The number of the first packet.
+    first: u32,
+    /// The packet with which the next round begins.
+    next: u32,
+    /// Why no further packet of it was read.
+    stop: Stop,
 }
 
-/// How a run ends where its last round stops.
-fn ending(stop: Stop, short: bool) -> Option<Ending>
-    ensures { result ≡ ended stop short }
+/// Runs the round of the batch, of which the first packet has this number, and prints it.
+fn run_text(
+    switch: &mut Switch,
+    schedule: &Schedule,
+    run: &mut Run,
+    first: u32,
+) -> Result<(), NoMemory>
+    requires served { AreServed switch.old schedule.now }
+    requires numbers { first + length run.old.reading.batch < 2 ^ 32 }
+    ensures turn { OnOk result ((s : Setting) (hs : List (List Event)) → s.commands ≡ schedule.now → IsAt s hs switch.old → IsTurn s hs first run.old run.new switch.new) }
+    ensures reading { run.new.reading ≡ run.old.reading }
+    ensures served { (lines : List Line) → AreServed switch.old lines → AreServed switch.new lines }
 {
-    match stop {
-        Stop::Full => None,
-        Stop::End => Some(clean_ending(short)),
-        Stop::More => Some(Ending::ReadFault),
-        Stop::Bad(bad) => Some(Ending::Refused(bad)),
+    run.text.clear();
+    match run_round(switch, schedule, first, &run.reading.batch, &mut run.text) {
+        Ok(short) => {
+            run.short = run.short || short;
+            Ok(())
+        }
+        Err(_) => Err(NoMemory),
     }
 }
 
-/// How a run ends of whose trace no header was accepted.
-fn unheaded(stop: Stop, size: usize) -> Option<Ending>
-    ensures { result ≡ unheaded_of stop size }
-{
-    match stop {
-        Stop::More if size < HEADER_LEN => Some(Ending::ReadFault),
-        Stop::Bad(BadTrace::NotPcap) => Some(Ending::Refused(BadTrace::NotPcap)),
-        Stop::Bad(BadTrace::Version) => Some(Ending::Refused(BadTrace::Version)),
-        Stop::Bad(BadTrace::LinkType) => Some(Ending::Refused(BadTrace::LinkType)),
-        _ => None,
-    }
-}
-
-/// Puts a text.
-fn put_text<H: Host>(host: &mut H, text: &[u8]) -> Result<(), Ending>
-    ensures puts { PutsText (H.outside host.old) (H.outside host.new) text.now result }
-    ensures rises { EndRises (H.outside host.old) (H.outside host.new) result }
-    ensures only { OnlyPuts (H.outside host.old) (H.outside host.new) }
-{
-    match host.put(text) {
-        Ok(()) => Ok(()),
-        Err(_) => Err(Ending::WriteFault),
-    }
-}
-
-/// Puts the text of a round at once. `text` is room that the next round's text finds again.
-fn put_round<H: Host>(host: &mut H, text: &mut Vec<u8>, round: &Round) -> Result<(), Ending>
-    ensures puts { PutsText (H.outside host.old) (H.outside host.new) (round_text round.now) result }
-    ensures rises { EndRises (H.outside host.old) (H.outside host.new) result }
-    ensures only { OnlyPuts (H.outside host.old) (H.outside host.new) }
-{
-    text.clear();
-    match print_round(round, text) {
-        Ok(()) => put_text(host, text),
-        Err(_) => Err(Ending::Memory),
-    }
-}
-
-/// A reader over what was read of the trace.
-fn over(alloc: Global, trace: TraceBytes) -> Reader
-    ensures { StandsIn result trace }
-{
-    let mut reader = Reader::over(alloc, trace.bytes);
-    if trace.whole {
-        reader.finish();
-    }
-    reader
-}
-
-/// Whether a round is put: it has packets, or it is the first of a trace that ended cleanly.
-fn is_put(number: u32, count: u32, stop: Stop) -> bool
-    ensures { result ≡ is_put_of number count stop }
-{
-    count != 0 || number == 0 && matches!(stop, Stop::End)
-}
-
-/// Puts a round that was read, the `number`th from 0. A round without packets is put only where it is the
-/// first of a trace that ended cleanly.
-fn put_one<H: Host>(
+/// Runs the round of the batch and puts its text at once.
+fn put_round<H: Host>(
     host: &mut H,
-    written: &mut Written,
-    number: u32,
-    round: &RoundRead,
-) -> Result<(), Ending>
-    ensures puts { PutsText (H.outside host.old) (H.outside host.new) (text_put number round.now) result }
-    ensures short { OnOk result (written.new.short ≡ (written.old.short || short_put number round.now)) }
-    ensures rises { EndRises (H.outside host.old) (H.outside host.new) result }
-    ensures only { OnlyPuts (H.outside host.old) (H.outside host.new) }
+    switch: &mut Switch,
+    schedule: &Schedule,
+    run: &mut Run,
+    first: u32,
+) -> Result<(), TraceEnd>
+    requires served { AreServed switch.old schedule.now }
+    requires numbers { first + length run.old.reading.batch < 2 ^ 32 }
+    ensures puts { (s : Setting) (hs : List (List Event)) → s.commands ≡ schedule.now → IsAt s hs switch.old → PutsRound s hs first run.old run.new switch.new (H.outside host.old) (H.outside host.new) result }
+    ensures reading { run.new.reading ≡ run.old.reading }
+    ensures inputs { SameInputs (H.outside host.old) (H.outside host.new) }
+    ensures served { (lines : List Line) → AreServed switch.old lines → AreServed switch.new lines }
 {
-    if is_put(number, round.count, round.stop) {
-        written.short = written.short || round.short;
-        put_round(host, &mut written.text, &round.round)
+    match run_text(switch, schedule, run, first) {
+        Ok(()) => match host.put(run.text.as_slice()) {
+            Ok(()) => Ok(()),
+            Err(_) => Err(TraceEnd::WriteFault),
+        },
+        Err(_) => Err(TraceEnd::Memory),
+    }
+}
+
+/// Whether a round with so many packets is run.
+fn is_run(schedule: &Schedule, count: usize, first: u32, stop: Stop) -> bool
+    ensures { result ≡ is_run_of schedule.now count first stop }
+{
+    count != 0 || matches!(stop, Stop::End) && (first == 0 || is_named(schedule, first))
+}
+
+/// Runs and puts the round that was read, if it is one.
+fn put_stretch<H: Host>(
+    host: &mut H,
+    switch: &mut Switch,
+    schedule: &Schedule,
+    run: &mut Run,
+    stretch: Stretch,
+) -> Result<(), TraceEnd>
+    requires served { AreServed switch.old schedule.now }
+    requires near { IsNear (H.outside host.old) run.old stretch }
+    ensures puts { (s : Setting) (start : Outside) (name : List ℕ) → s.commands ≡ schedule.now → IsFilled s start (H.outside host.old) name run.old switch.old stretch → PutsStretch s start (H.outside host.new) name run.new switch.new stretch result }
+    ensures near { IsNear (H.outside host.new) run.new stretch }
+    ensures served { (lines : List Line) → AreServed switch.old lines → AreServed switch.new lines }
+{
+    let count = run.reading.batch.len();
+    if is_run(schedule, count, stretch.first, stretch.stop) {
+        put_round(host, switch, schedule, run, stretch.first)
     } else {
         Ok(())
     }
 }
 
-/// Reads the round after one that stopped so, or ends the run where that one stopped.
-fn next_round(
-    alloc: Global,
+/// Runs and puts the next round of commands alone, behind the trace. Answers its packet, if there is such a round.
+fn put_next<H: Host>(
+    host: &mut H,
     switch: &mut Switch,
-    reader: &mut Reader,
-    stop: Stop,
-    short: bool,
-) -> Result<RoundRead, Ending>
-    requires { switch.old.next ≤ 2 ^ 30 }
-    ensures goes { Follows switch.old switch.new reader.old reader.new stop short result }
-    ensures finished { reader.new.finished ≡ reader.old.finished }
+    schedule: &Schedule,
+    run: &mut Run,
+    first: u32,
+) -> Result<Option<u32>, TraceEnd>
+    requires served { AreServed switch.old schedule.now }
+    requires empty { run.old.reading.batch ≡ [] }
+    ensures puts { (s : Setting) (start : Outside) (name : List ℕ) → s.commands ≡ schedule.now → IsPast s start (H.outside host.old) name run.old.short switch.old first → PutsNext s start (H.outside host.new) name run.new.short switch.new result }
+    ensures rises { IfOk result (λ next. IfSome next (λ n. (first < n) × (n < 2 ^ 32))) }
+    ensures reading { run.new.reading ≡ run.old.reading }
+    ensures served { (lines : List Line) → AreServed switch.old lines → AreServed switch.new lines }
 {
-    match ending(stop, short) {
-        Some(ending) => Err(ending),
-        None => match read_round(alloc, switch, reader) {
-            Ok(next) => Ok(next),
-            Err(_) => Err(Ending::Memory),
+    match schedule.after(first) {
+        Some(next) => match put_round(host, switch, schedule, run, next) {
+            Ok(()) => Ok(Some(next)),
+            Err(end) => Err(end),
         },
+        None => Ok(None),
+    }
+}
+
+/// How a run ends whose trace ended cleanly.
+fn clean_end(short: bool) -> TraceEnd
+    ensures { result ≡ clean_of short }
+{
+    if short {
+        TraceEnd::Memory
+    } else {
+        TraceEnd::Done
+    }
+}
+
+/// Runs and puts the rounds of commands alone that follow, once the trace ended.
+fn run_past<H: Host>(
+    host: &mut H,
+    switch: &mut Switch,
+    schedule: &Schedule,
+    run: &mut Run,
+    first: u32,
+) -> TraceEnd
+    requires served { AreServed switch.old schedule.now }
+    ensures runs { (s : Setting) (start : Outside) (name : List ℕ) → s.commands ≡ schedule.now → IsPast s start (H.outside host.old) name run.old.short switch.old first → RunsTrace s start (H.outside host.new) name result }
+{
+    run.reading.batch.clear();
+    let mut first = first;
+    loop {
+        match put_next(host, switch, schedule, run, first) {
+            Ok(Some(next)) => first = next,
+            Ok(None) => return clean_end(run.short),
+            Err(end) => return end,
+        }
+    }
+}
+
+/// Reads the round that begins with this packet, or finds that the trace has more records than it may have.
+fn read_next<H: Host>(
+    host: &mut H,
+    schedule: &Schedule,
+    run: &mut Run,
+    first: u32,
+) -> Result<Stretch, TraceEnd>
+    requires near { IsOpen (H.outside host.old) run.old.reading }
+    requires few { first ≤ 1048576 }
+    ensures goes { (s : Setting) (start : Outside) (name : List ℕ) (switch : SwitchNow) → s.commands ≡ schedule.now → IsBetween s start (H.outside host.old) name run.old switch first → GoesOn s start (H.outside host.new) name run.new switch result }
+    ensures near { IfOk result (λ next. IsNear (H.outside host.new) run.new next) }
+    ensures first { IfOk result (λ next. next.first ≡ first) }
+{
+    run.reading.batch.clear();
+    let next = next_cut(schedule, first);
+    if first == RECORDS_MOST {
+        return match peek(host, &mut run.reading) {
+            Stop::Full => Err(TraceEnd::Records),
+            stop => Ok(Stretch { first, next, stop }),
+        };
+    }
+    match fill(host, &mut run.reading, next - first) {
+        Ok(stop) => Ok(Stretch { first, next, stop }),
+        Err(_) => Err(TraceEnd::Memory),
     }
 }
 
 /// Puts a round that was read and reads the next one, or ends the run.
-fn run_round<H: Host>(
-    alloc: Global,
+fn run_stretch<H: Host>(
     host: &mut H,
     switch: &mut Switch,
-    reader: &mut Reader,
-    written: &mut Written,
-    number: u32,
-    round: &RoundRead,
-) -> Result<RoundRead, Ending>
-    requires few { number < 1024 }
-    requires near { IsNear reader.old switch.old (number + 1) }
-    ensures goes { (start : SwitchNow) (bytes : List ℕ) (before : Option (List ℕ)) → Going start bytes before (H.outside host.old).put reader.old number round.now switch.old written.old.short → GoesOn start bytes before (H.outside host.new).put reader.new number switch.new written.new.short result }
-    ensures near { OnOk result (IsNear reader.new switch.new (number + 2)) }
-    ensures finished { reader.new.finished ≡ reader.old.finished }
-    ensures rises { EndRises (H.outside host.old) (H.outside host.new) result }
-    ensures only { OnlyPuts (H.outside host.old) (H.outside host.new) }
+    schedule: &Schedule,
+    run: &mut Run,
+    stretch: Stretch,
+) -> Result<Stretch, TraceEnd>
+    requires served { AreServed switch.old schedule.now }
+    requires near { IsNear (H.outside host.old) run.old stretch }
+    ensures goes { (s : Setting) (start : Outside) (name : List ℕ) → s.commands ≡ schedule.now → IsFilled s start (H.outside host.old) name run.old switch.old stretch → GoesOn s start (H.outside host.new) name run.new switch.new result }
+    ensures near { IfOk result (λ next. IsNear (H.outside host.new) run.new next) }
+    ensures rises { IfOk result (λ next. stretch.first < next.first) }
+    ensures served { OnOk result ((lines : List Line) → AreServed switch.old lines → AreServed switch.new lines) }
 {
-    match put_one(host, written, number, round) {
-        Ok(()) => next_round(alloc, switch, reader, round.stop, written.short),
-        Err(ending) => Err(ending),
+    match put_stretch(host, switch, schedule, run, stretch) {
+        Ok(()) => match stretch.stop {
+            Stop::Full => read_next(host, schedule, run, stretch.next),
+            Stop::End => Err(run_past(host, switch, schedule, run, stretch.first)),
+            Stop::Fault => Err(TraceEnd::ReadFault),
+            Stop::Bad(bad) => Err(TraceEnd::Refused(bad)),
+        },
+        Err(end) => Err(end),
     }
 }
 
-/// How a run ends that put as many whole rounds as there may be, where `round` is what was read after them.
-fn past_limit(reader: &Reader, round: &RoundRead, short: bool) -> Ending
-    ensures { result ≡ past_limit_of round.now reader.now short }
-{
-    match round.stop {
-        Stop::End if round.count == 0 => clean_ending(short),
-        Stop::More if round.count == 0 && reader.left() == 0 => Ending::ReadFault,
-        _ => Ending::Records,
-    }
-}
-
-/// Puts the rounds of a trace, of which the first was read, until the trace ends.
-fn run_rounds<H: Host>(
-    alloc: Global,
+/// Runs a trace of which the first round was read.
+fn run_stretches<H: Host>(
     host: &mut H,
     switch: &mut Switch,
-    reader: &mut Reader,
-    first: RoundRead,
-) -> Ending
-    requires { IsNear reader.old switch.old 1 }
-    ensures puts { (start : SwitchNow) (bytes : List ℕ) (before : Option (List ℕ)) → Going start bytes before (H.outside host.old).put reader.old 0 first switch.old false → Puts start bytes reader.old.finished before (H.outside host.new).put result }
-    ensures rises { WriteRises (H.outside host.old) (H.outside host.new) result }
-    ensures only { OnlyPuts (H.outside host.old) (H.outside host.new) }
+    schedule: &Schedule,
+    run: &mut Run,
+    first: Stretch,
+) -> TraceEnd
+    requires served { AreServed switch.old schedule.now }
+    requires near { IsNear (H.outside host.old) run.old first }
+    ensures runs { (s : Setting) (start : Outside) (name : List ℕ) → s.commands ≡ schedule.now → IsFilled s start (H.outside host.old) name run.old switch.old first → RunsTrace s start (H.outside host.new) name result }
 {
-    let mut round = first;
-    let mut written = Written {
-        text: Vec::new(alloc),
-        short: false,
-    };
-    for number in 0..ROUNDS_MAX {
-        match run_round(alloc, host, switch, reader, &mut written, number, &round) {
-            Ok(next) => round = next,
-            Err(ending) => return ending,
+    let mut stretch = first;
+    loop {
+        match run_stretch(host, switch, schedule, run, stretch) {
+            Ok(next) => stretch = next,
+            Err(end) => return end,
         }
     }
-    past_limit(reader, &round, written.short)
 }
 
-/// Runs a trace of which the first round was read, of so many bytes.
-fn run_headed<H: Host>(
-    alloc: Global,
+/// How a run ends of whose trace no header was accepted.
+fn unheaded(stop: Stop, seen: usize) -> Option<TraceEnd>
+    ensures { result ≡ unheaded_of stop seen }
+{
+    match stop {
+        Stop::Fault if seen < HEADER_LEN => Some(TraceEnd::ReadFault),
+        Stop::Bad(BadTrace::NotPcap) => Some(TraceEnd::Refused(BadTrace::NotPcap)),
+        Stop::Bad(BadTrace::Version) => Some(TraceEnd::Refused(BadTrace::Version)),
+        Stop::Bad(BadTrace::LinkType) => Some(TraceEnd::Refused(BadTrace::LinkType)),
+        _ => None,
+    }
+}
+
+/// Puts the head line, once the header was accepted. The first round was read.
+fn put_head<H: Host>(host: &mut H, run: &Run, first: Stretch) -> Result<Stretch, TraceEnd>
+    requires near { IsNear (H.outside host.old) run.now first }
+    ensures goes { (s : Setting) (start : Outside) (name : List ℕ) (switch : SwitchNow) → IsFirst s start (H.outside host.old) name run.now switch first → GoesOn s start (H.outside host.new) name run.now switch result }
+    ensures near { IfOk result (λ next. IsNear (H.outside host.new) run.now next) }
+{
+    match unheaded(first.stop, run.reading.seen) {
+        None => match host.put(HEAD_LINE) {
+            Ok(()) => Ok(first),
+            Err(_) => Err(TraceEnd::WriteFault),
+        },
+        Some(end) => Err(end),
+    }
+}
+
+/// Reads the first round, and puts the head line.
+fn begin<H: Host>(host: &mut H, schedule: &Schedule, run: &mut Run) -> Result<Stretch, TraceEnd>
+    requires near { IsOpen (H.outside host.old) run.old.reading }
+    requires empty { run.old.reading.batch ≡ [] }
+    ensures goes { (s : Setting) (start : Outside) (name : List ℕ) (switch : SwitchNow) → s.commands ≡ schedule.now → IsOpened s start (H.outside host.old) name run.old switch → GoesOn s start (H.outside host.new) name run.new switch result }
+    ensures near { IfOk result (λ next. IsNear (H.outside host.new) run.new next) }
+{
+    let next = next_cut(schedule, 0);
+    match fill(host, &mut run.reading, next) {
+        Ok(stop) => put_head(
+            host,
+            run,
+            Stretch {
+                first: 0,
+                next,
+                stop,
+            },
+        ),
+        Err(_) => Err(TraceEnd::Memory),
+    }
+}
+
+/// Runs a trace that was opened, and of which nothing was read.
+fn run_opened<H: Host>(
     host: &mut H,
     switch: &mut Switch,
-    reader: &mut Reader,
-    first: RoundRead,
-    size: usize,
-) -> Ending
-    requires { IsNear reader.old switch.old 1 }
-    ensures puts { (start : SwitchNow) (bytes : List ℕ) → length bytes ≡ size → ReadsRound start switch.old reader.old bytes [] first → Puts start bytes reader.old.finished (H.outside host.old).put (H.outside host.new).put result }
-    ensures rises { WriteRises (H.outside host.old) (H.outside host.new) result }
-    ensures only { OnlyPuts (H.outside host.old) (H.outside host.new) }
+    schedule: &Schedule,
+    run: &mut Run,
+) -> TraceEnd
+    requires served { AreServed switch.old schedule.now }
+    requires near { IsOpen (H.outside host.old) run.old.reading }
+    requires empty { run.old.reading.batch ≡ [] }
+    ensures runs { (s : Setting) (start : Outside) (name : List ℕ) → s.commands ≡ schedule.now → IsOpened s start (H.outside host.old) name run.old switch.old → RunsTrace s start (H.outside host.new) name result }
 {
-    if let Some(ending) = unheaded(first.stop, size) {
-        return ending;
-    }
-    match put_text(host, HEAD_LINE) {
-        Ok(()) => run_rounds(alloc, host, switch, reader, first),
-        Err(ending) => ending,
+    match begin(host, schedule, run) {
+        Ok(first) => run_stretches(host, switch, schedule, run, first),
+        Err(end) => end,
     }
 }
 
-/// Runs what was read of a trace through the switch: puts the head line and then each round, and answers
-/// how the run ends. Nothing is put before the trace's header was accepted. After `Done` the whole report
-/// was put, and no packet of it was dropped for want of memory.
+/// Runs the trace of this name through a switch that is at its beginning: opens it, puts the head line once the trace's
+/// header was accepted, and then each round, as soon as its last packet was read, or what ends the trace.
 pub fn run_trace<H: Host>(
     alloc: Global,
     host: &mut H,
     switch: &mut Switch,
-    trace: TraceBytes,
-) -> Ending
-    requires { switch.old.next ≤ 2 ^ 29 }
-    ensures puts { Puts switch.old trace.bytes.items trace.whole (H.outside host.old).put (H.outside host.new).put result }
-    ensures rises { WriteRises (H.outside host.old) (H.outside host.new) result }
-    ensures only { OnlyPuts (H.outside host.old) (H.outside host.new) }
+    schedule: &Schedule,
+    name: &str,
+) -> TraceEnd
+    requires served { AreServed switch.old schedule.now }
+    ensures runs { (s : Setting) → s.commands ≡ schedule.now → IsAt s (map (λ p. []) (ports_of s.policy)) switch.old → RunsTrace s (H.outside host.old) (H.outside host.new) name.now result }
 {
-    let size = trace.bytes.len();
-    let mut reader = over(alloc, trace);
-    match read_round(alloc, switch, &mut reader) {
-        Ok(first) => run_headed(alloc, host, switch, &mut reader, first, size),
-        Err(_) => Ending::Memory,
+    match Source::open(alloc, host, name) {
+        Ok(source) => {
+            let mut run = Run {
+                reading: begin_reading(alloc, source),
+                text: Vec::new(alloc),
+                short: false,
+            };
+            run_opened(host, switch, schedule, &mut run)
+        }
+        Err(Unopened::Fault) => TraceEnd::ReadFault,
+        Err(Unopened::Memory) => TraceEnd::Memory,
     }
 }

@@ -1,3 +1,7 @@
-pub mod Rounding
-pub mod Forwarding
-pub mod Packets
+pub mod Steps
+pub mod Asking
+pub mod Tellings
+pub mod Calling
+pub mod Dealing
+pub mod Closing
+pub mod Running

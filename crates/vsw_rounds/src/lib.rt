@@ -1,6 +1,6 @@
-//! The rounds of a capture: its packets, 1,024 at a time, each forwarded by the switch.
+//! A round of a run: its commands, its packets, and its text.
 #![tactic(auto)]
 
 mod round;
 
-pub use round::{ROUND_SIZE, RoundRead, Stop, read_round};
+pub use round::run_round;

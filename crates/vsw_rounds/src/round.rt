@@ -1,114 +1,81 @@
-//! Running a round: each of its packets is forwarded as it is read (specs/Rounds.antt).
+//! Running a round.
 
-ghost use Rattle.std.specs.Prelude.{◌≡◌, ◌≤◌, ◌+◌, ◌^◌, ℕ, List, IfOk, OnOk};
-ghost use Rattle.std.specs.List.{list_any};
-ghost use Rattle.vsw_pcap.specs.Reader.{Stands};
-ghost use Rattle.vsw_pcap.specs.declared.capture.Record.{Record};
-ghost use Rattle.vsw_report.specs.Short.{is_short_port, tells_short};
-ghost use Rattle.vsw_rounds.specs.Round.{ReadsPackets, ReadsRound};
+ghost use Rattle.std.specs.Prelude.{◌≡◌, ◌≤◌, ◌<◌, ◌+◌, ◌^◌, [], ℕ, List, filter, length, map, IfOk, OnOk};
+ghost use Rattle.vsw_commandfile.specs.declared.line.Line.{Line};
+ghost use Rattle.vsw_history.specs.declared.event.Event.{Event};
+ghost use Rattle.vsw_history.specs.Order.{numbered};
+ghost use Rattle.vsw_policy.specs.Sound.{Each};
+ghost use Rattle.vsw_promise.specs.Jobs.{Setting};
+ghost use Rattle.vsw_rounds.specs.Round.{RunsRound};
+ghost use Rattle.vsw_rounds.specs.Steps as steps;
+ghost use Rattle.vsw_switch.specs.Does.{Works, numbers_in, placed_line};
+ghost use Rattle.vsw_switch.specs.Switch.{AreServed, IsAt};
 
-use std::alloc::Global;
-use vsw_base::{Cause, Fate, NoMemory};
-use vsw_pcap::{BadTrace, Next, Reader};
-use vsw_policy::{Refusal, Reply};
-use vsw_report::{PortRound, Round, ToldLine, What};
+use vsw_base::NoMemory;
+use vsw_commandfile::Line;
+use vsw_pcap::Batch;
+use vsw_schedule::Schedule;
 use vsw_switch::Switch;
 
-/// Packets of a whole round.
-pub const ROUND_SIZE: u32 = 1_024;
-
-/// Why no more packets were read into a round.
-#[derive(Clone, Copy)]
-pub enum Stop {
-    /// It is whole.
-    Full,
-    /// The capture ended cleanly.
-    End,
-    /// A read fault came before the next whole record.
-    More,
-    /// The capture is refused there.
-    Bad(BadTrace),
-}
-
-/// A round that was run.
-#[derive(Drop)]
-pub struct RoundRead {
-    pub round: Round,
-    /// Its packets.
-    pub count: u32,
-    pub stop: Stop,
-    /// Whether memory was wanting for one of them, or for a command.
-    pub short: bool,
-}
-
-/// Whether memory was wanting for this packet or command.
-fn is_short(line: &ToldLine) -> bool
-    ensures { result ≡ tells_short line.now.what }
+/// Whether a command runs beside the packets, or whether it runs before them.
+fn is_when(during: bool, line: &Line) -> bool
+    ensures { result ≡ steps.is_when during line.now }
 {
-    match &line.what {
-        What::Fate { fate, .. } => matches!(fate, Fate::Drop(Cause::Memory)),
-        What::Reply(reply) => matches!(reply, Reply::Refused(Refusal::Memory)),
-    }
+    if during { line.during } else { !line.during }
 }
 
-fn has_short(lines: &[ToldLine]) -> bool
-    ensures { result ≡ list_any (λ line. tells_short line.what) lines.now }
-{
-    match lines {
-        [] => false,
-        [line, rest @ ..] => is_short(line) || has_short(rest),
-    }
-}
-
-/// Whether memory was wanting for a packet or a command at one of these ports.
-fn have_short(ports: &[PortRound]) -> bool
-    ensures { result ≡ list_any is_short_port ports.now }
-{
-    match ports {
-        [] => false,
-        [port, rest @ ..] => has_short(port.lines.as_slice()) || have_short(rest),
-    }
-}
-
-/// Forwards the next packets, and answers how many there were and why no more were read.
-fn forward_all(
-    alloc: Global,
+/// Asks the commands at these places that run beside the packets, or those that run before them.
+fn ask_all(
     switch: &mut Switch,
-    reader: &mut Reader,
-) -> Result<(u32, Stop), NoMemory>
-    requires { switch.old.next ≤ 2 ^ 30 }
-    ensures reads { IfOk result (λ r. (bytes : List ℕ) (given : List Record) → Stands reader.old bytes given → ReadsPackets switch.old switch.new reader.new bytes given r.0 r.1) }
-    ensures finished { reader.new.finished ≡ reader.old.finished }
+    schedule: &Schedule,
+    places: &[u32],
+    during: bool,
+) -> Result<(), NoMemory>
+    requires served { AreServed switch.old schedule.now }
+    requires places { Each (λ place. place < length schedule.now) places.now }
+    ensures asked { OnOk result (Works switch.old (map (placed_line (numbers_in switch.old)) (filter (steps.is_when during) (steps.lines_at schedule.now places.now))) [] switch.new) }
+    ensures served { (lines : List Line) → AreServed switch.old lines → AreServed switch.new lines }
 {
-    for count in 0..ROUND_SIZE {
-        match reader.next()? {
-            Next::Record(captured) => switch.forward(alloc, &captured)?,
-            Next::More => return Ok((count, Stop::More)),
-            Next::End => return Ok((count, Stop::End)),
-            Next::Bad(bad) => return Ok((count, Stop::Bad(bad))),
+    for place in places {
+        let line = schedule.line(*place);
+        if is_when(during, line) {
+            switch.ask(line)?;
         }
     }
-    Ok((ROUND_SIZE, Stop::Full))
+    Ok(())
 }
 
-/// Runs the next round: the switch forwards the next packets of the capture, up to `ROUND_SIZE`. `reads`
-/// says what was run, of a reader that was fed these bytes and gave these records before.
-pub fn read_round(
-    alloc: Global,
-    switch: &mut Switch,
-    reader: &mut Reader,
-) -> Result<RoundRead, NoMemory>
-    requires { switch.old.next ≤ 2 ^ 30 }
-    ensures reads { IfOk result (λ r. (bytes : List ℕ) (given : List Record) → Stands reader.old bytes given → ReadsRound switch.old switch.new reader.new bytes given r) }
-    ensures finished { reader.new.finished ≡ reader.old.finished }
+/// Forwards these packets, of which the first has this number.
+fn forward_all(switch: &mut Switch, first: u32, packets: &Batch) -> Result<(), NoMemory>
+    requires numbers { first + length packets.now < 2 ^ 32 }
+    ensures forwarded { OnOk result (steps.ForwardsAll switch.old (numbered first packets.now) switch.new) }
+    ensures served { (lines : List Line) → AreServed switch.old lines → AreServed switch.new lines }
 {
-    let (count, stop) = forward_all(alloc, switch, reader)?;
-    let round = switch.close(alloc)?;
-    let short = have_short(round.ports.as_slice());
-    Ok(RoundRead {
-        round,
-        count,
-        stop,
-        short,
-    })
+    for place in 0..packets.len() {
+        let captured = packets.at(place);
+        switch.forward(first + place as u32, &captured)?;
+    }
+    Ok(())
+}
+
+/// Runs the round of these packets, the first of which has the number `first` in the trace: the commands that name that
+/// number, first those before the packets and then those beside them, and then the packets. Appends its text, and answers
+/// whether memory was wanting for one of them. After `NoMemory` nothing is said of the switch and of what was appended.
+pub fn run_round(
+    switch: &mut Switch,
+    schedule: &Schedule,
+    first: u32,
+    packets: &Batch,
+    out: &mut Vec<u8>,
+) -> Result<bool, NoMemory>
+    requires served { AreServed switch.old schedule.now }
+    requires numbers { first + length packets.now < 2 ^ 32 }
+    ensures runs { IfOk result (λ short. (s : Setting) (hs : List (List Event)) → s.commands ≡ schedule.now → IsAt s hs switch.old → RunsRound s hs first packets.now switch.new short out.old.items out.new.items) }
+    ensures served { (lines : List Line) → AreServed switch.old lines → AreServed switch.new lines }
+{
+    let places = schedule.places(first);
+    ask_all(switch, schedule, places, false)?;
+    ask_all(switch, schedule, places, true)?;
+    forward_all(switch, first, packets)?;
+    switch.close(first, out)
 }

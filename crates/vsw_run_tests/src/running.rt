@@ -3,9 +3,11 @@
 use std::alloc::{AllocError, Global};
 use std::process::Abort;
 use std::test::Fail;
-use vsw_app::{Status, Word, run_words};
+use vsw_app::run_words;
 use vsw_base::{Items, Text};
 use vsw_memory_host::{MemoryFile, MemoryHost, are_distinct};
+use vsw_promise::Status;
+use vsw_request::Word;
 
 /// A capture's header: little-endian, microseconds, version 2.4, Ethernet (libpcap file format 2.4).
 const HEADER: &[u8] =
@@ -55,21 +57,24 @@ fn file(alloc: Global, name: &str, bytes: Vec<u8>) -> Result<MemoryFile, AllocEr
     })
 }
 
-fn host_of(
+/// A host of three files, of whose calls these fail.
+pub fn host_of(
     rt: &impl Abort,
     alloc: Global,
     policy: &[&str],
+    commands: &[&str],
     trace: Vec<u8>,
+    failing: Vec<u64>,
 ) -> Result<MemoryHost, Fail> {
     let mut held = Vec::new(alloc);
     held.push(file(alloc, "policy", joined(alloc, policy)?)?)?;
-    held.push(file(alloc, "commands", Vec::new(alloc))?)?;
+    held.push(file(alloc, "commands", joined(alloc, commands)?)?)?;
     held.push(file(alloc, "trace", trace)?)?;
     assert!(rt; are_distinct(&held));
-    Ok(MemoryHost::new(alloc, held, 262_144, Vec::new(alloc))?)
+    Ok(MemoryHost::new(alloc, held, 262_144, failing)?)
 }
 
-fn words(alloc: Global) -> Result<Vec<Word>, AllocError> {
+pub fn words(alloc: Global) -> Result<Vec<Word>, AllocError> {
     let mut words = Vec::new(alloc);
     for text in ["vsw", "forward", "policy", "commands", "trace"] {
         words.push(Word::of(text.to_string(alloc)?))?;
@@ -84,7 +89,7 @@ pub fn report_of(
     policy: &[&str],
     trace: Vec<u8>,
 ) -> Result<Vec<u8>, Fail> {
-    let mut host = host_of(rt, alloc, policy, trace)?;
+    let mut host = host_of(rt, alloc, policy, &[], trace, Vec::new(alloc))?;
     let words = words(alloc)?;
     let status = run_words(alloc, &words, &mut host);
     assert!(rt; status == Status::Done && host.complained().is_empty());

@@ -1,3 +1,5 @@
 pub mod Places
-pub mod Crossed
-pub mod Begun
+pub mod Answered
+pub mod Closed
+pub mod Staying
+pub mod Opened

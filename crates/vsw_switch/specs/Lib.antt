@@ -1,2 +1,4 @@
 pub mod Switch
-pub mod Seen
+pub mod Does
+pub mod Close
+pub mod Stay

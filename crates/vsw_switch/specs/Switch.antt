@@ -1,124 +1,63 @@
--- A switch in the midst of a run: its ports and the round so far, and what becomes of the next packet of the trace.
-use Rattle.std.specs.Prelude.{◌≡◌, ℕ, zero, suc, ◌+◌, List, [], ◌∷◌, ◌++◌, length, map, Bool, true, nat_lt, if◌then◌else◌, Some, None, Result, Ok, Err}
-use Rattle.vsw_base.specs.declared.flow.Crossing.{Crossing}
-use Rattle.vsw_base.specs.declared.flow.Place.{Place}
-use Rattle.vsw_base.specs.Frame.{Parts, frame_of, sizes_of}
-use Rattle.vsw_commit.specs.Cross.{made_by, makes}
-use Rattle.vsw_flowid.specs.Port.{choose}
-use Rattle.vsw_layer.specs.Layer.{LayerSeen}
-use Rattle.vsw_pcap.specs.declared.capture.Record.{Record}
-use Rattle.vsw_policyfile.specs.declared.file.PolicyFile.{PolicyFile}
+-- The ports of a run: how they stand between two rounds, and in the midst of one.
+use Rattle.std.specs.Prelude.{◌≡◌, ◌≤◌, ◌<◌, ℕ, List, [], ◌∷◌, length, map, true}
+use Rattle.vsw_commandfile.specs.declared.line.Line.{Line}
+use Rattle.vsw_history.specs.declared.event.Event.{Event}
+use Rattle.vsw_history.specs.History.{Opening, AllRight}
+use Rattle.vsw_history.specs.Order.{ascending, counted}
+use Rattle.vsw_merge.specs.Line.{TextLine}
+use Rattle.vsw_policy.specs.Obey.{rules_given}
+use Rattle.vsw_policy.specs.Sound.{Each, IsGoodRule, is_listed}
 use Rattle.vsw_ports.specs.Ports.{PortSeen, ports_of}
+use Rattle.vsw_promise.specs.Jobs.{Setting}
+use Rattle.vsw_promise.specs.Rounds.{opening_of}
 use Rattle.vsw_report.specs.declared.round.Loose.{Loose}
-use Rattle.vsw_report.specs.declared.round.LooseCause.{LooseCause}
-use Rattle.vsw_report.specs.declared.round.LooseCause.TheVariants.{Snapped, Malformed, NoPort}
-use Rattle.vsw_report.specs.declared.round.PortRound.{PortRound}
-use Rattle.vsw_report.specs.declared.round.Round.{Round}
-use Rattle.vsw_report.specs.declared.told.By.TheVariants.{Worker}
-use Rattle.vsw_report.specs.declared.told.ToldLine.{ToldLine}
-use Rattle.vsw_report.specs.declared.told.What.TheVariants as what
-use Rattle.vsw_transit.specs.Transit.{Passage, met}
 
--- a port: its controllers and layers, its count of entries at the round's begin and now, and the lines of the round so far
+-- a port: what it began with and its history, how many entries this had when the round began, and what is told so far in the round by
+-- each worker, and by each controller in ascending order of their numbers
 pub record PortNow : Type 0 where
   pub number : ℕ
   pub mac : ℕ
-  pub controllers : List ℕ
-  pub layers : List LayerSeen
+  pub opening : Opening
+  pub journal : List Event
   pub before : ℕ
-  pub count : ℕ
-  pub lines : List ToldLine
+  pub workers : List (List TextLine)
+  pub controllers : List (List TextLine)
 
--- the ports, the numbers of the round's first packet and of the next one, and the loose packets of the round so far
+-- the number of workers, the ports in the policy's order, and the loose packets of the round so far
 pub record SwitchNow : Type 0 where
+  pub workers : ℕ
   pub ports : List PortNow
-  pub first : ℕ
-  pub next : ℕ
   pub loose : List Loose
 
--- at first a port has the layers that the policy file gives it, and no entry
-abbrev pub port_at_first : PortSeen → PortNow
-port_at_first p = record { number = p.number; mac = p.mac; controllers = p.controllers; layers = p.layers; before = 0; count = 0; lines = [] }
+-- a port of the policy between two rounds: it stands at this history, which is right, and nothing is told of it
+pub record StandsAt (workers : ℕ) (p : PortSeen) (h : List Event) (now : PortNow) : Type 0 where
+  pub number : now.number ≡ p.number
+  pub mac : now.mac ≡ p.mac
+  pub opening : now.opening ≡ opening_of p
+  pub journal : now.journal ≡ h
+  pub right : AllRight (opening_of p) h
+  pub before : now.before ≡ length h
+  pub workers_are : now.workers ≡ map (λ k. []) (counted 0 workers)
+  pub controllers_are : now.controllers ≡ map (λ c. []) (ascending p.controllers)
 
-abbrev pub switch_of : PolicyFile → SwitchNow
-switch_of f = record { ports = map port_at_first (ports_of f); first = 0; next = 0; loose = [] }
+abbrev pub AllStandAt : ℕ → List PortSeen → List (List Event) → List PortNow → Type 0
+AllStandAt workers [] [] [] = Unit {0}
+AllStandAt workers (p ∷ ps) (h ∷ hs) (n ∷ ns) = StandsAt workers p h n × AllStandAt workers ps hs ns
+AllStandAt workers _ _ _ = ⊥
 
--- where a packet goes, or why it is loose: it is snapped where fewer bytes were captured than it had, else malformed where its bytes
--- aren't a frame, else of no port where no address is a port's
-abbrev pub aim_of : List ℕ → Record → Result (Place × Parts) LooseCause
-aim_of macs r = if nat_lt (length r.bytes) r.original then Err Snapped
-    else elim (frame_of r.bytes) [
-      | Err fault ↦ Err (Malformed fault)
-      | Ok parts ↦ elim (choose macs parts.stack) [ None ↦ Err NoPort | Some place ↦ Ok (place, parts) ]
-    ]
+-- the switch of a run between two rounds: its ports stand at these histories
+pub record IsAt (s : Setting) (hs : List (List Event)) (now : SwitchNow) : Type 0 where
+  pub workers : now.workers ≡ s.workers
+  pub some : 0 < s.workers
+  pub few : s.workers ≤ 16
+  pub ports : AllStandAt s.workers (ports_of s.policy) hs now.ports
+  pub loose : now.loose ≡ []
 
-abbrev pub aim : SwitchNow → Record → Result (Place × Parts) LooseCause
-aim s r = aim_of (map (λ p. p.mac) s.ports) r
+-- a line of a commands file that the switch can be asked: one of its controllers asks one of its ports, and gives good rules
+pub record IsServed (now : SwitchNow) (l : Line) : Type 0 where
+  pub port : is_listed (map (λ p. p.number) now.ports) l.port ≡ true
+  pub controller : Each (λ p. is_listed p.opening.controllers l.controller ≡ true) now.ports
+  pub rules : Each IsGoodRule (rules_given l.command)
 
--- packet n, which the one worker brings to a port
-abbrev pub crossing_of : ℕ → Place → ℕ → Parts → Crossing
-crossing_of n place moment p = record { caller = 0; packet = n; id = record { dir = place.dir; stack = p.stack }; control = p.control; moment = moment; sizes = sizes_of p.levels }
-
--- a packet's line: an entry, or a read at the count of entries that stands
-abbrev pub line_of : ℕ → ℕ → Passage → ToldLine
-line_of n count m = record { by = Worker 0; item = n; entry = m.entry; count = count; what = what.Fate m.fate m.bytes }
-
-abbrev pub with_passage : ℕ → PortNow → Passage → PortNow
-with_passage n p m = record { number = p.number; mac = p.mac; controllers = p.controllers; layers = m.layers; before = p.before; count = if m.entry then p.count + 1 else p.count; lines = p.lines ++ line_of n p.count m ∷ [] }
-
--- a port that met a packet, for which memory was wanting or not
-abbrev pub with_packet : Bool → Crossing → Parts → PortNow → PortNow
-with_packet short x parts p = with_passage x.packet p (met short p.layers x parts)
-
--- the element at a place is changed, and the others stay
-abbrev pub changed_at : {A : Type 0} → ℕ → (A → A) → List A → List A
-changed_at n f [] = []
-changed_at zero f (x ∷ xs) = f x ∷ xs
-changed_at (suc n) f (x ∷ xs) = x ∷ changed_at n f xs
-
--- P holds of the element at a place, and there is one
-abbrev pub AtPlace : {A : Type 0} → ℕ → (A → Type 0) → List A → Type 0
-AtPlace n P [] = ⊥
-AtPlace zero P (x ∷ xs) = P x
-AtPlace (suc n) P (x ∷ xs) = AtPlace n P xs
-
--- after packet n: its port met it, or it is loose
-abbrev pub ports_after : Bool → ℕ → ℕ → Result (Place × Parts) LooseCause → List PortNow → List PortNow
-ports_after short n moment (Err why) ps = ps
-ports_after short n moment (Ok a) ps = changed_at a.0.port (with_packet short (crossing_of n a.0 moment a.1) a.1) ps
-
-abbrev pub loose_after : ℕ → Result (Place × Parts) LooseCause → List Loose
-loose_after n (Err why) = record { packet = n; cause = why } ∷ []
-loose_after n (Ok a) = []
-
-abbrev pub forwarded : Bool → ℕ → Result (Place × Parts) LooseCause → SwitchNow → SwitchNow
-forwarded short moment to s = record { ports = ports_after short s.next moment to s.ports; first = s.first; next = s.next + 1; loose = s.loose ++ loose_after s.next to }
-
--- the crossing of packet n makes a pair
-abbrev pub MakesPair : ℕ → ℕ → Result (Place × Parts) LooseCause → List PortNow → Type 0
-MakesPair n moment (Err why) ps = ⊥
-MakesPair n moment (Ok a) ps = AtPlace a.0.port (λ p. makes (made_by p.layers (crossing_of n a.0 moment a.1)) ≡ true) ps
-
--- the switch before and after a packet. Memory may be wanting where its crossing makes a pair
-pub record Forwards (s : SwitchNow) (r : Record) (t : SwitchNow) : Type 0 where
-  pub short : Bool
-  pub may_be : short ≡ true → MakesPair s.next r.moment (aim s r) s.ports
-  pub is : t ≡ forwarded short r.moment (aim s r) s
-
-abbrev pub ForwardsAll : SwitchNow → List Record → SwitchNow → Type 0
-ForwardsAll s [] t = t ≡ s
-ForwardsAll s (r ∷ rs) t = (mid : SwitchNow) × Forwards s r mid × ForwardsAll mid rs t
-
--- the report of the round so far
-abbrev pub port_round : PortNow → PortRound
-port_round p = record { port = p.number; before = p.before; after = p.count; lines = p.lines }
-
-abbrev pub round_of : SwitchNow → Round
-round_of s = record { first = s.first; ports = map port_round s.ports; loose = s.loose }
-
--- the next round begins
-abbrev pub begun : PortNow → PortNow
-begun p = record { number = p.number; mac = p.mac; controllers = p.controllers; layers = p.layers; before = p.count; count = p.count; lines = [] }
-
-abbrev pub next_round : SwitchNow → SwitchNow
-next_round s = record { ports = map begun s.ports; first = s.next; next = s.next; loose = [] }
+abbrev pub AreServed : SwitchNow → List Line → Type 0
+AreServed now ls = Each (IsServed now) ls

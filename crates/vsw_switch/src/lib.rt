@@ -1,8 +1,9 @@
-//! A switch in the midst of a run: where the next packet of the trace goes, what its port makes of it, and
-//! what is told of that.
+//! The ports of a run: what each makes of the packets and commands that come to it, and what is told of them.
 #![tactic(auto)]
 
+mod callers;
 mod live;
+mod numbers;
 mod switch;
 mod worker;
 

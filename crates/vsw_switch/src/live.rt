@@ -1,120 +1,144 @@
 //! A port in the midst of a run.
 
-ghost use Rattle.std.specs.Prelude.{◌≡◌, ◌≤◌, ◌<◌, ◌+◌, ◌-◌, ◌^◌, ◌++◌, ◌∷◌, [], ℕ, OnOk, IfOk};
+ghost use Rattle.std.specs.Prelude.{◌≡◌, ◌≤◌, ◌<◌, ◌-◌, ◌^◌, ◌++◌, IfOk, OnOk, length, true};
 ghost use Rattle.vsw_frame.specs.Frame.{parts};
-ghost use Rattle.vsw_switch.specs.Seen.{IsAtMost, Meets, live_seen};
+ghost use Rattle.vsw_history.specs.Calls.{Ask, Carry};
+ghost use Rattle.vsw_policy.specs.Obey.{rules_given};
+ghost use Rattle.vsw_policy.specs.Sound.{Each, IsGoodRule, is_listed};
 ghost use Rattle.vsw_port.specs.Core.{AreAtMost};
 ghost use Rattle.vsw_ports.specs.Ports.{port_seen};
-ghost use Rattle.vsw_switch.specs.Switch.{begun, port_at_first, port_round};
-ghost use Rattle.vsw_transit.specs.Transit.{IsOfFrame, bytes_in, len_of};
+ghost use Rattle.vsw_switch.specs.Close.{IsCounted, begun, is_short_now, text_now};
+ghost use Rattle.vsw_switch.specs.Does.{Does};
+ghost use Rattle.vsw_switch.specs.Stay.{port_at_first, standing};
+ghost use Rattle.vsw_transit.specs.Transit.{IsOfFrame};
 
+use crate::callers::{callers, tell_packet, tell_reply};
+use crate::numbers::{ascending, place_of};
 use std::alloc::Global;
-use std::mem::replace;
-use vsw_base::{Crossing, Fate, Items, Mac, NoMemory};
+use std::marker::Model;
+use vsw_base::{Crossing, Mac, NoMemory};
+use vsw_commandfile::Line;
 use vsw_frame::Frame;
+use vsw_merge::{Caller, merge};
 use vsw_port::Core;
 use vsw_ports::Port;
-use vsw_report::{By, PortRound, ToldLine, What};
+use vsw_report::port_line;
 use vsw_transit::{Room, transit};
 
 /// A port, with what is told of it in this round.
 #[derive(Drop)]
 pub(crate) struct Live {
-    pub number: u16,
-    pub mac: Mac,
-    pub core: Core,
+    number: u16,
+    mac: Mac,
+    core: Core,
     /// Entries of its history when the round began.
-    pub before: u32,
-    pub lines: Items<ToldLine>,
+    before: u32,
+    /// By number.
+    workers: Vec<Caller>,
+    /// By number.
+    controllers: Vec<Caller>,
+    /// The numbers of the controllers, ascending.
+    listed: Vec<u16>,
 }
 
-/// Adds to a list.
-#[inline(always)]
-pub(crate) fn push<T: Drop>(list: &mut Items<T>, value: T) -> Result<(), NoMemory>
-    ensures { OnOk result (list.new ≡ list.old ++ value ∷ []) }
-{
-    match list.push(value) {
-        Ok(()) => Ok(()),
-        Err(_) => Err(NoMemory),
-    }
+impl Model for Live {
+    ghost use Rattle.std.specs.Prelude.{length};
+    ghost use Rattle.vsw_switch.specs.Stay.{IsPort};
+    ghost use Rattle.vsw_switch.specs.Switch.{PortNow};
+
+    ghost Value = { PortNow };
+
+    ghost view = { λ s. record { number = s.number; mac = s.mac; opening = s.core.opening; journal = s.core.journal; before = s.before; workers = s.workers.items; controllers = s.controllers.items } };
+
+    ghost invariant = { λ s. IsPort s.core.opening s.listed.items s.before (length s.core.journal) s.controllers.items };
 }
 
-/// The bytes of a frame that passed, out of the room in which they were written.
-fn taken(alloc: Global, fate: Fate, room: &Room) -> Result<Items<u8>, NoMemory>
-    requires { len_of fate ≤ 65700 }
-    ensures { IfOk result (λ bytes. bytes ≡ bytes_in fate room.now) }
+/// Takes room for one more entry, and answers its count. A history that has no such count takes no more entries.
+fn reserve(core: &mut Core) -> Result<u32, NoMemory>
+    ensures count { IfOk result (λ count. count ≡ length core.old.journal) }
+    ensures few { IfOk result (λ count. count < 2 ^ 32 - 1) }
+    ensures room { OnOk result (1 ≤ core.new.room) }
+    ensures opening { core.new.opening ≡ core.old.opening }
+    ensures journal { core.new.journal ≡ core.old.journal }
 {
-    let mut bytes = Vec::new(alloc);
-    if let Fate::Pass { len } = fate {
-        if bytes.extend_from_slice(room.bytes(len)).is_err() {
-            return Err(NoMemory);
-        }
+    let count = core.journal().len();
+    if count >= u32::MAX as usize {
+        return Err(NoMemory);
     }
-    Ok(Items::of(bytes))
+    core.reserve(1)?;
+    Ok(count as u32)
 }
 
 impl Live {
-    /// A port whose layers have made no pair yet, and of which nothing is told.
-    pub(crate) fn open(alloc: Global, port: Port) -> Result<Live, NoMemory>
+    /// A port before the first round, none of whose layers has made a pair.
+    pub(crate) fn open(alloc: Global, workers: u32, port: Port) -> Result<Live, NoMemory>
         requires fresh { AreAtMost 0 port.policy.layers }
-        ensures { IfOk result (λ live. live_seen live ≡ port_at_first (port_seen port)) }
+        ensures { IfOk result (λ live. live ≡ port_at_first workers (port_seen port)) }
     {
+        let listed = ascending(alloc, port.policy.controllers())?;
+        let controllers = callers(alloc, listed.len())?;
+        let workers = callers(alloc, workers as usize)?;
         let core = Core::open(alloc, port.policy)?;
         Ok(Live {
             number: port.number,
             mac: port.mac,
             core,
             before: 0,
-            lines: Items::new(alloc),
+            workers,
+            controllers,
+            listed,
         })
     }
 
-    /// The port meets a packet, and tells what became of it.
-    pub(crate) fn meet(
+    /// Carries a packet, and tells what became of it. After `NoMemory` nothing is said of the history.
+    pub(crate) fn carry(
         &mut self,
-        alloc: Global,
         crossing: &Crossing,
         frame: &Frame<'_>,
         room: &mut Room,
     ) -> Result<(), NoMemory>
-        requires few { IsAtMost crossing.now.packet (live_seen self.old) }
-        requires small { crossing.now.packet < 2 ^ 31 }
+        requires worker { crossing.now.caller < length self.old.workers }
         requires of { IsOfFrame crossing.now (parts frame.now) }
-        ensures meets { OnOk result (Meets (live_seen self.old) crossing.now (parts frame.now) (live_seen self.new)) }
-        ensures few { IsAtMost (crossing.now.packet + 1) (live_seen self.new) }
-        ensures mac { self.new.mac ≡ self.old.mac }
+        ensures does { OnOk result (Does self.old (Carry crossing.now (parts frame.now)) self.new) }
+        ensures stays { standing self.new ≡ standing self.old }
     {
-        self.core.reserve(1)?;
-        let count = self.core.count();
+        let count = reserve(&mut self.core)?;
         let outcome = transit(&mut self.core, crossing, frame, room);
-        let bytes = taken(alloc, outcome.fate, room)?;
-        push(
-            &mut self.lines,
-            ToldLine {
-                by: By::Worker(0),
-                item: crossing.packet,
-                entry: outcome.entry,
-                count,
-                what: What::Fate {
-                    fate: outcome.fate,
-                    bytes,
-                },
-            },
-        )
+        tell_packet(&mut self.workers, crossing, count, outcome, room)
     }
 
-    /// The round of this port ends, and the next begins.
-    pub(crate) fn close(&mut self, alloc: Global) -> PortRound
-        requires few { IsAtMost (2 ^ 32 - 1) (live_seen self.old) }
-        ensures round { result ≡ port_round (live_seen self.old) }
-        ensures begun { live_seen self.new ≡ begun (live_seen self.old) }
+    /// Does or refuses what a controller asks, and tells the reply. After `NoMemory` nothing is said of the history.
+    pub(crate) fn ask(&mut self, line: &Line) -> Result<(), NoMemory>
+        requires listed { is_listed self.old.opening.controllers line.now.controller ≡ true }
+        requires good { Each IsGoodRule (rules_given line.now.command) }
+        ensures does { OnOk result (Does self.old (Ask line.now) self.new) }
+        ensures stays { standing self.new ≡ standing self.old }
+    {
+        let count = reserve(&mut self.core)?;
+        let answer = self
+            .core
+            .command(line.number, line.controller, &line.command);
+        let place = place_of(&self.listed, line.controller);
+        tell_reply(&mut self.controllers, place, line, count, answer)
+    }
+
+    /// Appends its part of the round's text, and begins the next round. Answers whether want of memory is told.
+    pub(crate) fn close(&mut self, out: &mut Vec<u8>) -> Result<bool, NoMemory>
+        ensures text { IsCounted self.old → OnOk result (out.new.items ≡ out.old.items ++ text_now self.old) }
+        ensures short { IsCounted self.old → IfOk result (λ short. short ≡ is_short_now self.old) }
+        ensures begun { IsCounted self.old → OnOk result (self.new ≡ begun self.old) }
+        ensures stays { standing self.new ≡ standing self.old }
     {
         let after = self.core.count();
-        PortRound {
-            port: self.number,
-            before: replace(&mut self.before, after),
+        port_line(out, self.number, self.before, after)?;
+        let short = merge(
+            &mut self.workers,
+            &mut self.controllers,
+            self.before,
             after,
-            lines: replace(&mut self.lines, Items::new(alloc)),
-        }
+            out,
+        )?;
+        self.before = after;
+        Ok(short)
     }
 }

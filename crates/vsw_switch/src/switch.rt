@@ -1,190 +1,244 @@
 //! A switch.
 
-ghost use Rattle.std.specs.Prelude.{◌≡◌, ◌≤◌, ◌<◌, ◌+◌, ◌-◌, ◌^◌, ◌++◌, [], ℕ, Some, length, map, OnOk, IfOk, Ok};
-ghost use Rattle.vsw_flowid.specs.Port.{choose};
+ghost use Rattle.std.specs.Prelude.{◌≡◌, ◌≤◌, ◌<◌, ◌^◌, ◌++◌, ◌∷◌, [], List, IfOk, OnOk, length, map, true};
+ghost use Rattle.std.specs.List.{flat_map, list_any};
+ghost use Rattle.vsw_commandfile.specs.declared.line.Line.{Line};
 ghost use Rattle.vsw_frame.specs.Frame.{parts};
+ghost use Rattle.vsw_history.specs.Calls.{Ask, Carry};
+ghost use Rattle.vsw_policy.specs.Obey.{rules_given};
+ghost use Rattle.vsw_policy.specs.Sound.{Each, IsGoodRule, are_distinct, is_listed};
 ghost use Rattle.vsw_policyfile.specs.Good.{IsGoodPolicy};
-ghost use Rattle.vsw_policy.specs.Sound.{Each};
 ghost use Rattle.vsw_port.specs.Core.{AreAtMost};
 ghost use Rattle.vsw_ports.specs.Ports.{port_seen, ports_of};
-ghost use Rattle.vsw_switch.specs.Seen.{AllAtMost, Arrives, Crosses, live_seen};
-ghost use Rattle.vsw_switch.specs.Switch.{Forwards, MakesPair, begun, next_round, port_at_first, port_round, ports_after, round_of, switch_of};
+ghost use Rattle.vsw_promise.specs.Jobs.{crossing_by, worker_of};
+ghost use Rattle.vsw_switch.specs.Close.{AreCounted, IsCounted, begun, is_short_now, next_round, round_now, text_now};
+ghost use Rattle.vsw_switch.specs.Does.{Asks, DoesAt, Forwards, numbers_in};
+ghost use Rattle.vsw_switch.specs.Stay.{ArePorts, Arrives, port_at_first, standing};
+ghost use Rattle.vsw_switch.specs.Switch.{AreServed, IsAt, IsServed, SwitchNow};
 
-use crate::live::{Live, push};
+use crate::live::Live;
+use crate::numbers::place_of;
 use crate::worker::Worker;
 use std::alloc::Global;
 use std::marker::Model;
-use std::mem::replace;
 use vsw_base::{Items, Mac, NoMemory, Place};
+use vsw_commandfile::Line;
 use vsw_flowid::choose_port;
 use vsw_frame::{Frame, read_frame};
-use vsw_pcap::Record;
+use vsw_pcap::Captured;
 use vsw_policyfile::PolicyFile;
 use vsw_ports::{Port, macs, ports_of};
-use vsw_report::{Loose, LooseCause, PortRound, Round};
+use vsw_report::{Loose, LooseCause, loose_part, round_line};
 
 /// The ports of a switch in the midst of a run, and the round so far.
 #[derive(Drop)]
 pub struct Switch {
+    workers: u32,
     ports: Vec<Live>,
+    /// The numbers of the ports.
+    numbers: Vec<u16>,
+    /// Their addresses.
     macs: Items<Mac>,
-    loose: Items<Loose>,
-    first: u32,
-    next: u32,
-    worker: Worker,
+    loose: Vec<Loose>,
+    rooms: Worker,
 }
 
 impl Model for Switch {
-    ghost use Rattle.std.specs.Prelude.{◌≡◌, ◌≤◌, map, length};
-    ghost use Rattle.vsw_switch.specs.Seen.{AllAtMost, live_seen};
+    ghost use Rattle.vsw_switch.specs.Stay.{ArePorts};
     ghost use Rattle.vsw_switch.specs.Switch.{SwitchNow};
 
     ghost Value = { SwitchNow };
 
-    ghost view = { λ s. record { ports = map live_seen s.ports.items; first = s.first; next = s.next; loose = s.loose } };
+    ghost view = { λ s. record { workers = s.workers; ports = s.ports.items; loose = s.loose.items } };
 
-    ghost invariant = { λ s. (s.macs ≡ map (λ p. p.mac) (map live_seen s.ports.items)) × AllAtMost s.next (map live_seen s.ports.items) × (length s.macs ≤ 16) };
+    ghost invariant = { λ s. ArePorts s.workers s.numbers.items s.macs s.ports.items };
 }
 
-/// The worker brings packet `packet` to the port at its place.
-fn cross(
-    alloc: Global,
-    ports: &mut Vec<Live>,
-    place: Place,
-    packet: u32,
-    captured: &Record,
-    frame: &Frame<'_>,
-    worker: &mut Worker,
-) -> Result<(), NoMemory>
-    requires within { place.port < length ports.old.items }
-    requires few { AllAtMost packet (map live_seen ports.old.items) }
-    requires small { packet < 2 ^ 31 }
-    ensures meets { OnOk result (Crosses packet place captured.now.moment (parts frame.now) (map live_seen ports.old.items) (map live_seen ports.new.items)) }
-    ensures few { AllAtMost (packet + 1) (map live_seen ports.new.items) }
-    ensures macs { map (λ p. p.mac) (map live_seen ports.new.items) ≡ map (λ p. p.mac) (map live_seen ports.old.items) }
-{
-    worker.bring(packet, place, captured.moment, frame);
-    ports[place.port as usize].meet(alloc, &worker.crossing, frame, &mut worker.room)
-}
-
-/// Packet `packet` arrives at its port. Ok tells why it is loose, where it is.
-fn arrive(
-    alloc: Global,
-    ports: &mut Vec<Live>,
-    macs: &[Mac],
-    packet: u32,
-    captured: &Record,
-    worker: &mut Worker,
-) -> Result<Option<LooseCause>, NoMemory>
-    requires macs { macs.now ≡ map (λ p. p.mac) (map live_seen ports.old.items) }
-    requires count { length macs.now ≤ 16 }
-    requires few { AllAtMost packet (map live_seen ports.old.items) }
-    requires small { packet < 2 ^ 31 }
-    ensures arrives { IfOk result (λ loose. Arrives packet macs.now captured.now (map live_seen ports.old.items) (map live_seen ports.new.items) loose) }
-    ensures few { AllAtMost (packet + 1) (map live_seen ports.new.items) }
-    ensures macs { map (λ p. p.mac) (map live_seen ports.new.items) ≡ map (λ p. p.mac) (map live_seen ports.old.items) }
-{
-    if captured.bytes.len() < captured.original as usize {
-        return Ok(Some(LooseCause::Snapped));
-    }
-    // The frame is large: it is looked at where it was read, and not moved.
-    let read = read_frame(captured.bytes.as_slice());
-    match &read {
-        Err(fault) => Ok(Some(LooseCause::Malformed(*fault))),
-        Ok(frame) => match choose_port(macs, frame.stack()) {
-            None => Ok(Some(LooseCause::NoPort)),
-            Some(place) => {
-                cross(alloc, ports, place, packet, captured, frame, worker)?;
-                Ok(None)
-            }
-        },
-    }
-}
-
-/// The rounds of ports end, and the next begin.
-fn close_all(
-    alloc: Global,
-    ports: &mut Vec<Live>,
-    rounds: &mut Items<PortRound>,
-) -> Result<(), NoMemory>
-    requires few { AllAtMost (2 ^ 32 - 1) (map live_seen ports.old.items) }
-    ensures rounds { OnOk result (rounds.new ≡ rounds.old ++ map port_round (map live_seen ports.old.items)) }
-    ensures begun { OnOk result (map live_seen ports.new.items ≡ map begun (map live_seen ports.old.items)) }
-    ensures few { (n : ℕ) → AllAtMost n (map live_seen ports.old.items) → AllAtMost n (map live_seen ports.new.items) }
-    ensures macs { map (λ p. p.mac) (map live_seen ports.new.items) ≡ map (λ p. p.mac) (map live_seen ports.old.items) }
-{
-    for place in 0..ports.len() {
-        push(rounds, ports[place].close(alloc))?;
-    }
-    Ok(())
-}
-
-/// Adds ports, of which nothing is told yet.
-fn open_all(made: Items<Port>, alloc: Global) -> Result<Vec<Live>, NoMemory>
+/// The ports before the first round.
+fn open_all(alloc: Global, workers: u32, made: Items<Port>) -> Result<Vec<Live>, NoMemory>
     requires fresh { Each (λ p. AreAtMost 0 p.layers) (map port_seen made) }
-    ensures { IfOk result (λ ports. map live_seen ports.items ≡ map port_at_first (map port_seen made)) }
+    ensures { IfOk result (λ ports. ports.items ≡ map (port_at_first workers) (map port_seen made)) }
 {
     let mut ports = Vec::new(alloc);
     for port in made.into_vec() {
-        if ports.push(Live::open(alloc, port)?).is_err() {
+        if ports.push(Live::open(alloc, workers, port)?).is_err() {
             return Err(NoMemory);
         }
     }
     Ok(ports)
 }
 
+/// The numbers of ports.
+fn numbers_of(alloc: Global, ports: &[Port]) -> Result<Vec<u16>, NoMemory>
+    ensures { IfOk result (λ numbers. numbers.items ≡ map (λ p. p.number) ports.now) }
+{
+    let mut numbers = Vec::new(alloc);
+    for port in ports {
+        if numbers.push(port.number).is_err() {
+            return Err(NoMemory);
+        }
+    }
+    Ok(numbers)
+}
+
+/// The port at a place is asked.
+fn ask_at(ports: &mut Vec<Live>, place: usize, line: &Line) -> Result<(), NoMemory>
+    requires within { place < length ports.old.items }
+    requires listed { Each (λ p. is_listed p.opening.controllers line.now.controller ≡ true) ports.old.items }
+    requires good { Each IsGoodRule (rules_given line.now.command) }
+    ensures does { OnOk result (DoesAt place (Ask line.now) ports.old.items ports.new.items) }
+    ensures stays { map standing ports.new.items ≡ map standing ports.old.items }
+{
+    let port = &mut ports[place];
+    port.ask(line)
+}
+
+/// Packet `packet` is carried at the port of its place.
+fn carry_at(
+    ports: &mut Vec<Live>,
+    workers: u32,
+    place: Place,
+    packet: u32,
+    captured: &Captured<'_>,
+    frame: &Frame<'_>,
+    rooms: &mut Worker,
+) -> Result<(), NoMemory>
+    requires some { 1 ≤ workers }
+    requires callers { Each (λ p. length p.workers ≡ workers) ports.old.items }
+    requires within { place.port < length ports.old.items }
+    ensures does { OnOk result (DoesAt place.port (Carry (crossing_by (worker_of workers (parts frame.now)) packet place captured.now.moment (parts frame.now)) (parts frame.now)) ports.old.items ports.new.items) }
+    ensures stays { map standing ports.new.items ≡ map standing ports.old.items }
+{
+    rooms.bring(workers, packet, place, captured.moment, frame);
+    let port = &mut ports[place.port as usize];
+    port.carry(&rooms.crossing, frame, &mut rooms.room)
+}
+
+/// Packet `packet` arrives at its port. Ok tells why it is loose, where it is.
+fn arrive(
+    ports: &mut Vec<Live>,
+    macs: &[Mac],
+    workers: u32,
+    packet: u32,
+    captured: &Captured<'_>,
+    rooms: &mut Worker,
+) -> Result<Option<LooseCause>, NoMemory>
+    requires some { 1 ≤ workers }
+    requires callers { Each (λ p. length p.workers ≡ workers) ports.old.items }
+    requires macs { macs.now ≡ map (λ p. p.mac) ports.old.items }
+    requires few { length macs.now ≤ 16 }
+    ensures arrives { IfOk result (λ loose. Arrives workers packet macs.now (record { moment = captured.now.moment; original = captured.now.original; bytes = captured.now.bytes.now }) ports.old.items ports.new.items loose) }
+    ensures stays { map standing ports.new.items ≡ map standing ports.old.items }
+{
+    if captured.bytes.len() < captured.original as usize {
+        return Ok(Some(LooseCause::Snapped));
+    }
+    // The frame is large: it is looked at where it was read, and not moved.
+    let read = read_frame(captured.bytes);
+    match &read {
+        Err(fault) => Ok(Some(LooseCause::Malformed(*fault))),
+        Ok(frame) => match choose_port(macs, frame.stack()) {
+            None => Ok(Some(LooseCause::NoPort)),
+            Some(place) => {
+                carry_at(ports, workers, place, packet, captured, frame, rooms)?;
+                Ok(None)
+            }
+        },
+    }
+}
+
+/// Appends the parts of ports of the round's text, and begins their next rounds. Answers whether want of memory is told
+/// of one.
+fn close_all(ports: &mut Vec<Live>, out: &mut Vec<u8>) -> Result<bool, NoMemory>
+    ensures text { Each IsCounted ports.old.items → OnOk result (out.new.items ≡ out.old.items ++ flat_map text_now ports.old.items) }
+    ensures short { Each IsCounted ports.old.items → IfOk result (λ short. short ≡ list_any is_short_now ports.old.items) }
+    ensures begun { Each IsCounted ports.old.items → OnOk result (ports.new.items ≡ map begun ports.old.items) }
+    ensures stays { map standing ports.new.items ≡ map standing ports.old.items }
+{
+    let mut short = false;
+    for place in 0..ports.len() {
+        let port = &mut ports[place];
+        let told = port.close(out)?;
+        short = short || told;
+    }
+    Ok(short)
+}
+
 impl Switch {
-    /// The switch of a policy file, before the first packet of the trace.
-    pub fn open(alloc: Global, file: &PolicyFile) -> Result<Switch, NoMemory>
-        requires { IsGoodPolicy file.now }
-        ensures { IfOk result (λ switch. switch ≡ switch_of file.now) }
+    /// The switch of a policy file with so many workers, before the first round.
+    pub fn open(alloc: Global, workers: u32, file: &PolicyFile) -> Result<Switch, NoMemory>
+        requires good { IsGoodPolicy file.now }
+        requires some { 0 < workers }
+        requires few { workers ≤ 16 }
+        ensures opens { IfOk result (λ switch. (commands : List Line) → IsAt (record { workers = workers; policy = file.now; commands = commands }) (map (λ p. []) (ports_of file.now)) switch) }
+        ensures served { IfOk result (λ switch. (lines : List Line) → Each (λ l. is_listed file.now.controllers l.controller ≡ true) lines → Each (λ l. is_listed (map (λ p. p.number) (ports_of file.now)) l.port ≡ true) lines → Each (λ l. Each IsGoodRule (rules_given l.command)) lines → AreServed switch lines) }
     {
         let made = ports_of(alloc, file)?;
         let macs = macs(alloc, made.as_slice())?;
-        let ports = open_all(made, alloc)?;
+        let numbers = numbers_of(alloc, made.as_slice())?;
+        let ports = open_all(alloc, workers, made)?;
         Ok(Switch {
+            workers,
             ports,
+            numbers,
             macs,
-            loose: Items::new(alloc),
-            first: 0,
-            next: 0,
-            worker: Worker::new(alloc)?,
+            loose: Vec::new(alloc),
+            rooms: Worker::new(alloc)?,
         })
     }
 
-    /// Forwards the next packet of the trace, and adds its line to the round.
-    pub fn forward(&mut self, alloc: Global, captured: &Record) -> Result<(), NoMemory>
-        requires { self.old.next < 2 ^ 31 }
-        ensures { OnOk result (Forwards self.old captured.now self.new) }
+    /// Asks a command of its port, and tells the reply. After `NoMemory` nothing is said of the port's history.
+    pub fn ask(&mut self, line: &Line) -> Result<(), NoMemory>
+        requires { IsServed self.old line.now }
+        ensures asks { OnOk result (Asks self.old line.now self.new) }
+        ensures served { (lines : List Line) → AreServed self.old lines → AreServed self.new lines }
     {
-        let packet = self.next;
-        self.next += 1;
+        let place = place_of(&self.numbers, line.port);
+        ask_at(&mut self.ports, place, line)
+    }
+
+    /// Forwards packet `packet` to its port and tells what became of it, or why it is loose. After `NoMemory` nothing is
+    /// said of the port's history.
+    pub fn forward(&mut self, packet: u32, captured: &Captured<'_>) -> Result<(), NoMemory>
+        ensures forwards { OnOk result (Forwards self.old packet (record { moment = captured.now.moment; original = captured.now.original; bytes = captured.now.bytes.now }) self.new) }
+        ensures served { (lines : List Line) → AreServed self.old lines → AreServed self.new lines }
+    {
         match arrive(
-            alloc,
             &mut self.ports,
             self.macs.as_slice(),
+            self.workers,
             packet,
             captured,
-            &mut self.worker,
+            &mut self.rooms,
         )? {
             None => Ok(()),
             Some(cause) => push(&mut self.loose, Loose { packet, cause }),
         }
     }
 
-    /// The round ends, and the next begins.
-    pub fn close(&mut self, alloc: Global) -> Result<Round, NoMemory>
-        ensures round { IfOk result (λ round. round ≡ round_of self.old) }
-        ensures next { OnOk result (self.new ≡ next_round self.old) }
+    /// Appends the text of the round, of which this is the first packet, and begins the next. Answers whether want of memory
+    /// is told in it. After `NoMemory` nothing is said of what was appended.
+    pub fn close(&mut self, first: u32, out: &mut Vec<u8>) -> Result<bool, NoMemory>
+        ensures text { AreCounted self.old → OnOk result (out.new.items ≡ out.old.items ++ round_now first self.old) }
+        ensures short { AreCounted self.old → IfOk result (λ short. short ≡ list_any is_short_now self.old.ports) }
+        ensures next { AreCounted self.old → OnOk result (self.new ≡ next_round self.old) }
+        ensures served { (lines : List Line) → AreServed self.old lines → AreServed self.new lines }
+        ensures apart { OnOk result (are_distinct (numbers_in self.old) ≡ true) }
     {
-        let mut rounds = Items::new(alloc);
-        close_all(alloc, &mut self.ports, &mut rounds)?;
-        let first = replace(&mut self.first, self.next);
-        let loose = replace(&mut self.loose, Items::new(alloc));
-        Ok(Round {
-            first,
-            ports: rounds,
-            loose,
-        })
+        round_line(out, first)?;
+        let short = close_all(&mut self.ports, out)?;
+        loose_part(out, &self.loose)?;
+        self.loose.clear();
+        Ok(short)
+    }
+}
+
+/// Adds a loose packet.
+fn push(loose: &mut Vec<Loose>, packet: Loose) -> Result<(), NoMemory>
+    ensures { OnOk result (loose.new.items ≡ loose.old.items ++ packet ∷ []) }
+{
+    match loose.push(packet) {
+        Ok(()) => Ok(()),
+        Err(_) => Err(NoMemory),
     }
 }

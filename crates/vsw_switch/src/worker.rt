@@ -1,23 +1,38 @@
-//! A worker.
+//! The rooms in which packet after packet is brought to its port.
 
-ghost use Rattle.std.specs.Prelude.{◌≡◌};
+ghost use Rattle.std.specs.Prelude.{◌≡◌, ◌≤◌, ◌<◌, ◌%◌};
+ghost use Rattle.vsw_flowid.specs.Sum.{flow_sum_of};
 ghost use Rattle.vsw_frame.specs.Frame.{parts};
-ghost use Rattle.vsw_switch.specs.Switch.{crossing_of};
+ghost use Rattle.vsw_promise.specs.Jobs.{crossing_by, worker_of};
 
 use std::alloc::Global;
 use vsw_base::{Control, Crossing, Dir, Moment, NoMemory, Place, Sizes, Stack, Ufid};
+use vsw_flowid::spread;
 use vsw_frame::Frame;
 use vsw_transit::Room;
 
-/// The worker that brings packets to their ports, with its rooms, in which packet after packet is written.
+/// A packet on its way, and room for its outgoing bytes. Both are written over by the next packet.
 #[derive(Drop)]
 pub(crate) struct Worker {
     pub crossing: Crossing,
     pub room: Room,
 }
 
+/// The worker, of so many, that brings a frame. One worker brings all, and no sum is taken.
+fn worker_for(workers: u32, stack: &Stack) -> u32
+    requires { 1 ≤ workers }
+    ensures value { result ≡ flow_sum_of stack.now % workers }
+    ensures below { result < workers }
+{
+    if workers == 1 {
+        0
+    } else {
+        spread(stack, workers)
+    }
+}
+
 impl Worker {
-    /// A worker that has brought no packet.
+    /// Rooms in which no packet was brought.
     pub(crate) fn new(alloc: Global) -> Result<Worker, NoMemory> {
         let room = Room::new(alloc)?;
         let crossing = Crossing {
@@ -38,12 +53,21 @@ impl Worker {
         Ok(Worker { crossing, room })
     }
 
-    /// It brings packet `packet`, which came at this moment, to the port at a place.
-    pub(crate) fn bring(&mut self, packet: u32, place: Place, moment: Moment, frame: &Frame<'_>)
-        ensures { self.new.crossing ≡ crossing_of packet place moment (parts frame.now) }
+    /// Packet `packet`, which came at this moment, is brought to the port at a place by its worker, one of so many.
+    pub(crate) fn bring(
+        &mut self,
+        workers: u32,
+        packet: u32,
+        place: Place,
+        moment: Moment,
+        frame: &Frame<'_>,
+    )
+        requires { 1 ≤ workers }
+        ensures crossing { self.new.crossing ≡ crossing_by (worker_of workers (parts frame.now)) packet place moment (parts frame.now) }
+        ensures worker { self.new.crossing.caller < workers }
     {
         let crossing = &mut self.crossing;
-        crossing.caller = 0;
+        crossing.caller = worker_for(workers, frame.stack());
         crossing.packet = packet;
         crossing.id.dir = place.dir;
         crossing.id.stack.copy_from(frame.stack());

@@ -1,7 +1,9 @@
-use Rattle.std.proofs.Common.{◌++◌, List, ℕ, ◌∙◌, ap}
 use Rattle.std.specs.Prelude.{codes, decimal}
-use Rattle.vsw_app.proofs.Speaking.{speaks_then, speaks_is}
+use Rattle.vsw_app.proofs.Speaking.{speaks_then, speaks_part}
 use Rattle.vsw_app.proofs.complaint.say_byte.Goals as goal
 
-pub returns : goal.returns
-returns g c = speaks_is _ _ (codes " " ++ c.as_bytes.result.now) (codes " " ++ decimal c.args.at) _ (ap (λ (t : List ℕ). codes " " ++ t) (c.as_bytes.ensures.value ∙ c.format.ensures.text)) (speaks_then (g.H.Host.outside c.args.host.now) (g.H.Host.outside c.say.new.host) (g.H.Host.outside c.say-2.new.host) (codes " ") c.as_bytes.result.now c.say-2.result c.in_ok-say.field-0 c.in_ok-say.ensures c.say-2.ensures)
+pub returns-in-Ok : goal.returns-in-Ok
+returns-in-Ok g c = speaks_then (g.H.Host.outside c.args.host.now) (g.H.Host.outside c.say.new.host) (g.H.Host.outside c.say_number.new.host) (codes " ") (decimal c.args.at) c.say_number.result c.in-Ok.field-0 c.in-Ok.ensures c.say_number.ensures
+
+pub returns-in-Err : goal.returns-in-Err
+returns-in-Err g c = speaks_part (g.H.Host.outside c.args.host.now) (g.H.Host.outside c.say.new.host) (codes " ") (decimal c.args.at) c.in-Err.failed c.in-Err.failed c.in-Err.ensures

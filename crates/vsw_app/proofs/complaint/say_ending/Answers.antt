@@ -1,24 +1,34 @@
-use Rattle.vsw_app.proofs.Speaking.{speaks_of}
-use Rattle.vsw_replay.specs.declared.ending.Ending.TheVariants.{Usage, ReadFault, WriteFault, Refused, Records, NotBuilt, Memory}
+use Rattle.std.specs.Prelude.{codes}
+use Rattle.vsw_pcap.specs.Fault.{trace_name}
+use Rattle.vsw_promise.specs.Complaint.{complaint, byte_text}
+use Rattle.vsw_promise.specs.declared.ending.Ending.{Ending}
+use Rattle.vsw_promise.specs.declared.ending.Ending.TheVariants as variant
+use Rattle.vsw_app.proofs.Speaking.{speaks_of, speaks_is, four}
 use Rattle.vsw_app.proofs.complaint.say_ending.Goals as goal
 
+pub returns-in-Done : goal.returns-in-Done
+returns-in-Done g c = speaks_of Ending complaint _ _ c.args.end.now variant.Done _ c.in-Done.is c.say.ensures
+
 pub returns-in-Usage : goal.returns-in-Usage
-returns-in-Usage g c = speaks_of _ _ c.args.ending Usage _ c.in-Usage.is c.say-in-Usage.ensures
+returns-in-Usage g c = speaks_of Ending complaint _ _ c.args.end.now variant.Usage _ c.in-Usage.is c.say-in-Usage.ensures
 
 pub returns-in-ReadFault : goal.returns-in-ReadFault
-returns-in-ReadFault g c = speaks_of _ _ c.args.ending ReadFault _ c.in-ReadFault.is c.say-in-ReadFault.ensures
+returns-in-ReadFault g c = speaks_of Ending complaint _ _ c.args.end.now variant.ReadFault _ c.in-ReadFault.is c.say-in-ReadFault.ensures
 
 pub returns-in-WriteFault : goal.returns-in-WriteFault
-returns-in-WriteFault g c = speaks_of _ _ c.args.ending WriteFault _ c.in-WriteFault.is c.say-in-WriteFault.ensures
+returns-in-WriteFault g c = speaks_of Ending complaint _ _ c.args.end.now variant.WriteFault _ c.in-WriteFault.is c.say-in-WriteFault.ensures
 
 pub returns-in-Records : goal.returns-in-Records
-returns-in-Records g c = speaks_of _ _ c.args.ending Records _ c.in-Records.is c.say-in-Records.ensures
-
-pub returns-in-NotBuilt : goal.returns-in-NotBuilt
-returns-in-NotBuilt g c = speaks_of _ _ c.args.ending NotBuilt _ c.in-NotBuilt.is c.say-in-NotBuilt.ensures
+returns-in-Records g c = speaks_of Ending complaint _ _ c.args.end.now variant.Records _ c.in-Records.is c.say-in-Records.ensures
 
 pub returns-in-Memory : goal.returns-in-Memory
-returns-in-Memory g c = speaks_of _ _ c.args.ending Memory _ c.in-Memory.is c.say-in-Memory.ensures
+returns-in-Memory g c = speaks_of Ending complaint _ _ c.args.end.now variant.Memory _ c.in-Memory.is c.say-in-Memory.ensures
 
-pub returns-in-Refused : goal.returns-in-Refused
-returns-in-Refused g c = speaks_of _ _ c.args.ending (Refused c.in-Refused.bad) _ c.in-Refused.is c.say_refused.ensures
+pub returns-in-Policy : goal.returns-in-Policy
+returns-in-Policy g c = speaks_of Ending complaint _ _ c.args.end.now (variant.Policy c.in-Policy.why) _ c.in-Policy.is c.say_policy.ensures
+
+pub returns-in-Commands : goal.returns-in-Commands
+returns-in-Commands g c = speaks_of Ending complaint _ _ c.args.end.now (variant.Commands c.in-Commands.why) _ c.in-Commands.is c.say_commands.ensures
+
+pub returns-in-Trace : goal.returns-in-Trace
+returns-in-Trace g c = speaks_of Ending complaint _ _ c.args.end.now (variant.Trace c.in-Trace.bad) _ c.in-Trace.is (speaks_is _ _ _ _ _ (four (codes "vsw: refused trace ") (trace_name c.in-Trace.bad) (byte_text c.in-Trace.bad) (codes "\n")) c.say_bad_trace.ensures)

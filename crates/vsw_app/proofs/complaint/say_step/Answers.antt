@@ -1,5 +1,5 @@
 use Rattle.std.specs.Prelude.{codes}
-use Rattle.vsw_app.specs.Ending.{name_text}
+use Rattle.vsw_app.specs.Speaks.{name_text}
 use Rattle.vsw_app.proofs.Speaking.{speaks_then, speaks_part, speaks_is, step_is}
 use Rattle.vsw_app.proofs.complaint.say_step.Goals as goal
 

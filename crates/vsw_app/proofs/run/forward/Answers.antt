@@ -1,8 +1,33 @@
-use Rattle.vsw_app.proofs.Running.{forwards_ok, forwards_err}
+use Rattle.std.proofs.Common.{refl}
+use Rattle.vsw_commandfile_law.proofs.Lines as lines
+use Rattle.vsw_policyfile.proofs.Policies as policies
+use Rattle.vsw_request.specs.Seen.{request_seen}
+use Rattle.vsw_app.specs.Stages.{HasPolicy, HasCommands}
+use Rattle.vsw_app.proofs.Running.{traced_as}
 use Rattle.vsw_app.proofs.run.forward.Goals as goal
 
-pub returns-in-Ok : goal.returns-in-Ok
-returns-in-Ok g c = forwards_ok (g.H.Host.outside c.args.host.now) (g.H.Host.outside c.judge.new.host) (g.H.Host.outside c.start.new.host) (record { policy = c.args.policy_name.now; commands = c.args.commands_name.now; trace = c.args.trace_name.now }) c.in-Ok.policy c.start.result c.in-Ok.ensures c.start.ensures
-
 pub returns-in-Err : goal.returns-in-Err
-returns-in-Err g c = forwards_err (g.H.Host.outside c.args.host.now) (g.H.Host.outside c.judge.new.host) (record { policy = c.args.policy_name.now; commands = c.args.commands_name.now; trace = c.args.trace_name.now }) c.in-Err.last c.in-Err.ensures
+returns-in-Err g c =
+    c.in-Err.ensures (request_seen c.args.request.now) refl
+
+pub returns-in-Err-open_commands : goal.returns-in-Err-open_commands
+returns-in-Err-open_commands g c =
+    let q = request_seen c.args.request.now in
+    c.in-Err-open_commands.ensures q (g.H.Host.outside c.args.host.now) refl (c.in-Ok.ensures q refl)
+
+pub run_through-requires-clause-good : goal.run_through-requires-clause-good
+run_through-requires-clause-good g c =
+    let q = request_seen c.args.request.now in
+    let h : HasPolicy q (g.H.Host.outside c.args.host.now) (g.H.Host.outside c.open_policy.new.host) c.in-Ok.policy = c.in-Ok.ensures q refl in
+    policies.each_is_good h.file.bytes c.in-Ok.policy h.is.good
+
+pub run_through-requires-clause-asked : goal.run_through-requires-clause-asked
+run_through-requires-clause-asked g c =
+    let q = request_seen c.args.request.now in
+    let h : HasCommands q (g.H.Host.outside c.args.host.now) (g.H.Host.outside c.open_commands.new.host) c.in-Ok.policy c.in-Ok-open_commands.lines = c.in-Ok-open_commands.ensures q (g.H.Host.outside c.args.host.now) refl (c.in-Ok.ensures q refl) in
+    (lines.each_is_good c.in-Ok.policy h.file.bytes c.in-Ok-open_commands.lines h.are.good).can_ask
+
+pub returns : goal.returns
+returns g c =
+    let q = request_seen c.args.request.now in
+    traced_as q (g.H.Host.outside c.args.host.now) (g.H.Host.outside c.open_commands.new.host) (g.H.Host.outside c.run_through.new.host) c.in-Ok.policy c.in-Ok-open_commands.lines c.run_through.result c.ending_of.result (c.in-Ok-open_commands.ensures q (g.H.Host.outside c.args.host.now) refl (c.in-Ok.ensures q refl)) c.run_through.ensures c.ending_of.ensures

@@ -1,14 +1,11 @@
 use Rattle.std.proofs.Common.{sym}
-use Rattle.vsw_app.specs.Words.{names_of}
-use Rattle.vsw_replay.specs.declared.ending.Ending.TheVariants.{Usage}
-use Rattle.vsw_app.specs.declared.ending.RunEnd.TheVariants.{Run}
-use Rattle.vsw_app.proofs.Running.{unnamed}
+use Rattle.vsw_request.specs.Seen.{request_seen}
+use Rattle.vsw_app.proofs.Finishing.{run_asked, run_unasked}
 use Rattle.vsw_app.proofs.run.run.Goals as goal
 
-pub returns-in-None-clause-run : goal.returns-in-None-clause-run
-returns-in-None-clause-run g c = record {
-  last = Run Usage;
-  status_is = c.finish.ensures.status;
-  leaves = unnamed (g.H.Host.outside c.args.host.now) (g.H.Host.outside c.finish.new.host) (names_of c.args.words.now) (sym c.in-None.ensures) c.finish.ensures.inputs c.finish.ensures.put.put;
-  complains = c.finish.ensures.complains;
-}
+pub returns-in-None : goal.returns-in-None
+returns-in-None g c = run_unasked c.args.words.now (g.H.Host.outside c.args.host.now) (g.H.Host.outside c.finish.new.host) c.finish.result (sym c.in-None.ensures.forward) c.finish.ensures.status c.finish.ensures.complains c.finish.ensures.inputs c.finish.ensures.put
+
+pub returns-in-Some : goal.returns-in-Some
+returns-in-Some g c =
+    run_asked c.args.words.now (request_seen c.in-Some.request) (g.H.Host.outside c.args.host.now) (g.H.Host.outside c.forward-end.new.host) (g.H.Host.outside c.finish-in-Some.new.host) c.forward-end.result c.finish-in-Some.result (sym c.in-Some.ensures.forward) c.forward-end.ensures c.finish-in-Some.ensures.status c.finish-in-Some.ensures.complains c.finish-in-Some.ensures.inputs c.finish-in-Some.ensures.put

@@ -1,5 +1,15 @@
 use Rattle.vsw_app.proofs.Completing.{complete_is}
+use Rattle.vsw_app.proofs.Finishing.{usage_is, read_fault_is, write_fault_is}
 use Rattle.vsw_app.proofs.run.run_words.Goals as goal
 
+pub returns-clause-usage : goal.returns-clause-usage
+returns-clause-usage g c = usage_is c.args.words.now (g.H.Host.outside c.args.host.now) (g.H.Host.outside c.run.new.host) c.run.result c.run.ensures
+
+pub returns-clause-read_fault : goal.returns-clause-read_fault
+returns-clause-read_fault g c = read_fault_is c.args.words.now (g.H.Host.outside c.args.host.now) (g.H.Host.outside c.run.new.host) c.run.result c.run.ensures
+
+pub returns-clause-write_fault : goal.returns-clause-write_fault
+returns-clause-write_fault g c = write_fault_is c.args.words.now (g.H.Host.outside c.args.host.now) (g.H.Host.outside c.run.new.host) c.run.result c.run.ensures
+
 pub returns-clause-complete : goal.returns-clause-complete
-returns-clause-complete g c = complete_is c.args.words.now (g.H.Host.outside c.args.host.now) (g.H.Host.outside c.run.new.host) c.run.result c.run.ensures.run c.run.ensures.read_fault c.run.ensures.write_fault
+returns-clause-complete g c = complete_is c.args.words.now (g.H.Host.outside c.args.host.now) (g.H.Host.outside c.run.new.host) c.run.result c.run.ensures

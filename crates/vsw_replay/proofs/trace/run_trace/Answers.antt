@@ -1,8 +1,8 @@
-use Rattle.vsw_replay.proofs.Heading.{near_first, nothing_puts}
+use Rattle.vsw_replay.proofs.Beginning.{unopened_fault, unopened_memory}
 use Rattle.vsw_replay.proofs.trace.run_trace.Goals as goal
 
-pub run_headed-requires : goal.run_headed-requires
-run_headed-requires g c = near_first c.args.switch.now c.read_round.new.switch c.over-reader.result c.read_round.new.reader c.args.trace c.in-Ok.first c.requires c.over-reader.ensures c.in-Ok.ensures.reads
+pub returns-in-Err-Fault : goal.returns-in-Err-Fault
+returns-in-Err-Fault g c = record { runs = λ s e at. unopened_fault s (g.H.Host.outside c.args.host.now) (g.H.Host.outside c.open.new.host) c.args.name.now c.in-Err-Fault.field-0 c.in-Err-Fault.field-0-is c.in-Err-Fault.ensures }
 
-pub returns-clause-puts : goal.returns-clause-puts
-returns-clause-puts g c = nothing_puts c.args.switch.now c.args.trace.bytes.items c.args.trace.whole (g.H.Host.outside c.args.host.now).put
+pub returns-in-Err-Memory : goal.returns-in-Err-Memory
+returns-in-Err-Memory g c = record { runs = λ s e at. unopened_memory s (g.H.Host.outside c.args.host.now) (g.H.Host.outside c.open.new.host) c.args.name.now c.in-Err-Memory.field-0 c.in-Err-Memory.field-0-is c.in-Err-Memory.ensures }

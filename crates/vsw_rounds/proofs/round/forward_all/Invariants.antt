@@ -1,12 +1,12 @@
-use Rattle.std.proofs.Common.{◌≡◌, ◌+◌, ℕ, List}
-use Rattle.vsw_pcap.specs.Reader.{Stands}
-use Rattle.vsw_pcap.specs.declared.capture.Record.{Record}
-use Rattle.vsw_rounds.proofs.Packets.{PacketsSoFar}
+use Rattle.std.proofs.Common.{List, take}
+use Rattle.vsw_commandfile.specs.declared.line.Line.{Line}
+use Rattle.vsw_history.specs.Order.{numbered}
+use Rattle.vsw_rounds.specs.Steps.{ForwardsAll}
+use Rattle.vsw_switch.specs.Switch.{AreServed}
 use Rattle.vsw_rounds.proofs.round.forward_all.Given as goal
 
-abbrev pub invariant-loop-count : goal.invariant-loop-count
-invariant-loop-count l = record {
-  so_far : (bytes : List ℕ) (given : List Record) → Stands l.fn.reader bytes given → PacketsSoFar l.fn.switch l.switch l.reader bytes given l.count;
-  next : l.switch.next ≡ l.fn.switch.next + l.count;
-  finished : l.reader.finished ≡ l.fn.reader.finished;
+abbrev pub invariant-loop-place : goal.invariant-loop-place
+invariant-loop-place l = record {
+  so_far : ForwardsAll l.fn.switch (numbered l.fn.first (take l.place l.packets)) l.switch;
+  served : (lines : List Line) → AreServed l.fn.switch lines → AreServed l.switch lines;
 }

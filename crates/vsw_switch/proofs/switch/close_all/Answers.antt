@@ -1,49 +1,30 @@
-use Rattle.std.proofs.Common.{◌<◌, ◌+◌, ◌-◌, ◌^◌, length, map, length-set, ◌∙◌, arith}
-use Rattle.std.proofs.lemmas.List.{length-map}
-use Rattle.vsw_switch.specs.Seen.{IsAtMost, live_seen}
-use Rattle.vsw_switch.proofs.Begun.{begun_all, ports_next, rounds_next, still_macs, still_most}
-use Rattle.vsw_switch.proofs.Places.{each-is}
+use Rattle.std.proofs.Common.{◌≡◌, ◌<◌, ◌||◌, length, length-set, ap, sym, ◌∙◌, arith}
+use Rattle.vsw_switch.specs.Stay.{standing}
+use Rattle.vsw_switch.proofs.Closed.{closed_all, closed_next}
+use Rattle.vsw_switch.proofs.Places.{set_same}
+use Rattle.vsw_switch.proofs.switch.close_all.Goals.{then-short, else-short}
 use Rattle.vsw_switch.proofs.switch.close_all.Goals as goal
 
-pub close-requires : goal.close-requires
-close-requires c =
-    let xs = c.args.ports.now.items in
-    let place : c.loop-place.place < length (map live_seen xs) = omega (arith, length-map xs live_seen, c.loop-place-test.true, c.loop-place.auto.place-end, c.len-place-end.ensures) in
-    record {
-      few = each-is live_seen (IsAtMost (2 ^ 32 - 1)) c.loop-place.ports.items c.loop-place.place c.index_mut.result.now (omega (arith, place, length-map xs live_seen, c.loop-place.invariant.count)) c.index_mut.ensures.value
-          (still_most c.loop-place.place xs c.loop-place.ports.items c.loop-place.invariant.ports (2 ^ 32 - 1) c.requires.few);
-    }
-
-pub returns-in_err-push-clause-few : goal.returns-in_err-push-clause-few
-returns-in_err-push-clause-few c =
-    let xs = c.args.ports.now.items in
-    let place : c.loop-place.place < length (map live_seen xs) = omega (arith, length-map xs live_seen, c.loop-place-test.true, c.loop-place.auto.place-end, c.len-place-end.ensures) in
-    still_most (c.loop-place.place + 1) xs _ (ports_next c.loop-place.place c.loop-place.ports.items (map live_seen xs) c.index_mut.result.now c.close.new.self c.loop-place.invariant.ports place (omega (arith, place, length-map xs live_seen, c.loop-place.invariant.count)) c.index_mut.ensures.value c.close.ensures.begun)
-
-pub returns-in_err-push-clause-macs : goal.returns-in_err-push-clause-macs
-returns-in_err-push-clause-macs c =
-    let xs = c.args.ports.now.items in
-    let place : c.loop-place.place < length (map live_seen xs) = omega (arith, length-map xs live_seen, c.loop-place-test.true, c.loop-place.auto.place-end, c.len-place-end.ensures) in
-    still_macs (c.loop-place.place + 1) xs _ (ports_next c.loop-place.place c.loop-place.ports.items (map live_seen xs) c.index_mut.result.now c.close.new.self c.loop-place.invariant.ports place (omega (arith, place, length-map xs live_seen, c.loop-place.invariant.count)) c.index_mut.ensures.value c.close.ensures.begun)
+pub returns-in_err-told-clause-stays : goal.returns-in_err-told-clause-stays
+returns-in_err-told-clause-stays c = set_same standing c.loop-place.ports.items c.loop-place.place c.index_mut-port.result.now c.close.new.self c.index_mut-port.ensures.value c.close.ensures.stays ∙ c.loop-place.invariant.stays
 
 pub loop-place-preserved : goal.loop-place-preserved
 loop-place-preserved c =
-    let xs = c.args.ports.now.items in
-    let place : c.loop-place.place < length (map live_seen xs) = omega (arith, length-map xs live_seen, c.loop-place-test.true, c.loop-place.auto.place-end, c.len-place-end.ensures) in
-    let within : c.loop-place.place < length c.loop-place.ports.items = omega (arith, place, length-map xs live_seen, c.loop-place.invariant.count) in
+    let ps = c.args.ports.now.items in
+    let place : c.loop-place.place < length ps = omega (arith, c.loop-place-test.true, c.loop-place.auto.place-end, c.len-place-end.ensures, c.args.ports.now.ok.0) in
+    let is : (c.loop-place.short || c.in_ok-told.told) ≡ c.if-short.short = elim c.if-short.branch [ then-short w ↦ ap (λ b. b || c.in_ok-told.told) w.if-short.true ∙ (sym w.if-short.true ∙ sym w.short-is) | else-short w ↦ ap (λ b. b || c.in_ok-told.told) w.if-short.false ∙ sym w.short-is ] in
     record {
-      ports = ports_next c.loop-place.place c.loop-place.ports.items (map live_seen xs) c.index_mut.result.now c.close.new.self c.loop-place.invariant.ports place within c.index_mut.ensures.value c.close.ensures.begun;
-      rounds = rounds_next c.loop-place.place c.loop-place.ports.items (map live_seen xs) c.index_mut.result.now c.args.rounds.now c.loop-place.rounds c.push.new.list c.close.result c.loop-place.invariant.ports place c.index_mut.ensures.value c.loop-place.invariant.rounds c.close.ensures.round (c.in_ok-push.ensures);
+      so_far = λ counted. closed_next c.loop-place.place ps c.loop-place.ports.items c.index_mut-port.result.now c.close.new.self c.args.out.now.items c.loop-place.out.items c.close.new.out.items c.loop-place.short c.in_ok-told.told c.if-short.short place c.index_mut-port.ensures.value is
+          c.in_ok-told.ensures.text c.in_ok-told.ensures.short c.in_ok-told.ensures.begun counted (c.loop-place.invariant.so_far counted);
+      stays = set_same standing c.loop-place.ports.items c.loop-place.place c.index_mut-port.result.now c.close.new.self c.index_mut-port.ensures.value c.close.ensures.stays ∙ c.loop-place.invariant.stays;
       count = length-set _ _ _ ∙ c.loop-place.invariant.count;
     }
 
+pub returns-clause-text : goal.returns-clause-text
+returns-clause-text c counted = (closed_all c.loop-place.place c.args.ports.now.items c.loop-place.ports.items c.args.out.now.items c.loop-place.out.items c.loop-place.short (omega (arith, c.loop-place-test.false, c.loop-place.auto.place-end, c.len-place-end.ensures, c.args.ports.now.ok.0)) (c.loop-place.invariant.so_far counted)).text
+
+pub returns-clause-short : goal.returns-clause-short
+returns-clause-short c counted = (closed_all c.loop-place.place c.args.ports.now.items c.loop-place.ports.items c.args.out.now.items c.loop-place.out.items c.loop-place.short (omega (arith, c.loop-place-test.false, c.loop-place.auto.place-end, c.len-place-end.ensures, c.args.ports.now.ok.0)) (c.loop-place.invariant.so_far counted)).short_is
+
 pub returns-clause-begun : goal.returns-clause-begun
-returns-clause-begun c =
-    let xs = c.args.ports.now.items in
-    c.loop-place.invariant.ports ∙ begun_all c.loop-place.place (map live_seen xs) (omega (arith, length-map xs live_seen, c.loop-place-test.false, c.loop-place.auto.place-end, c.len-place-end.ensures))
-
-pub returns-clause-few : goal.returns-clause-few
-returns-clause-few c = still_most c.loop-place.place c.args.ports.now.items c.loop-place.ports.items c.loop-place.invariant.ports
-
-pub returns-clause-macs : goal.returns-clause-macs
-returns-clause-macs c = still_macs c.loop-place.place c.args.ports.now.items c.loop-place.ports.items c.loop-place.invariant.ports
+returns-clause-begun c counted = (closed_all c.loop-place.place c.args.ports.now.items c.loop-place.ports.items c.args.out.now.items c.loop-place.out.items c.loop-place.short (omega (arith, c.loop-place-test.false, c.loop-place.auto.place-end, c.len-place-end.ensures, c.args.ports.now.ok.0)) (c.loop-place.invariant.so_far counted)).begun_are

@@ -1,11 +1,13 @@
-use Rattle.std.proofs.Common.{◌≡◌, ◌++◌, map, take, length}
-use Rattle.vsw_switch.specs.Seen.{begun_to, live_seen}
-use Rattle.vsw_switch.specs.Switch.{port_round}
+use Rattle.std.proofs.Common.{◌≡◌, length, map}
+use Rattle.vsw_policy.specs.Sound.{Each}
+use Rattle.vsw_switch.specs.Close.{IsCounted}
+use Rattle.vsw_switch.specs.Stay.{standing}
+use Rattle.vsw_switch.proofs.Closed.{ClosedTo}
 use Rattle.vsw_switch.proofs.switch.close_all.Given as goal
 
 abbrev pub invariant-loop-place : goal.invariant-loop-place
 invariant-loop-place l = record {
-  ports : map live_seen l.ports.items ≡ begun_to l.place (map live_seen l.fn.ports.items);
-  rounds : l.rounds ≡ l.fn.rounds ++ map port_round (take l.place (map live_seen l.fn.ports.items));
+  so_far : Each IsCounted l.fn.ports.items → ClosedTo l.place l.fn.ports.items l.ports.items l.fn.out.items l.out.items l.short;
+  stays : map standing l.ports.items ≡ map standing l.fn.ports.items;
   count : length l.ports.items ≡ length l.fn.ports.items;
 }

@@ -2,12 +2,11 @@ use Rattle.std.proofs.Common.{◌≡◌, map}
 use Rattle.vsw_policy.specs.Sound.{Each}
 use Rattle.vsw_port.specs.Core.{AreAtMost}
 use Rattle.vsw_ports.specs.Ports.{port_seen}
-use Rattle.vsw_switch.specs.Seen.{live_seen}
-use Rattle.vsw_switch.specs.Switch.{port_at_first}
+use Rattle.vsw_switch.specs.Stay.{port_at_first}
 use Rattle.vsw_switch.proofs.switch.open_all.Given as goal
 
 abbrev pub invariant-loop-port : goal.invariant-loop-port
 invariant-loop-port l = record {
-  ports : map live_seen l.ports.items ≡ map port_at_first (map port_seen l.yielded);
+  ports : l.ports.items ≡ map (port_at_first l.fn.workers) (map port_seen l.yielded);
   fresh : Each (λ p. AreAtMost 0 p.layers) (map port_seen l.port-iterator.rest.items);
 }

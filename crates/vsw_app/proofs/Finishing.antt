@@ -1,0 +1,143 @@
+-- The whole run: what is left behind its complaint, and what its status shows.
+use Rattle.std.proofs.Common.{◌≡◌, ◌⊎◌, ◌↔◌, ℕ, inl, inr, List, [], Option, Some, None, take, refl, sym, ◌∙◌, ap, subst}
+use Rattle.vsw_commandfile.specs.declared.fault.CommandsFault.{CommandsFault}
+use Rattle.vsw_commandfile.specs.declared.fault.CommandsFault.TheVariants as commands
+use Rattle.vsw_host.specs.Outside.{Opened, Outside, Grows, Rose, SameInputs}
+use Rattle.vsw_host.specs.Told.{TellsSince}
+use Rattle.vsw_host.proofs.CallerLemmas.{TellsSince-SameInputs}
+use Rattle.vsw_policyfile.specs.declared.file.ConfigFault.{ConfigFault}
+use Rattle.vsw_policyfile.specs.declared.file.ConfigFault.TheVariants as policy
+use Rattle.vsw_promise.specs.Complaint.{policy_status, commands_status, status_of, complaint, Complains}
+use Rattle.vsw_promise.specs.Files.{Opens}
+use Rattle.vsw_promise.specs.IsRun.{Ends, EndsByTrace, BreaksOff, TraceRead, Runs, RunsBy, IsRun}
+use Rattle.vsw_promise.specs.declared.ending.Ending.{Ending}
+use Rattle.vsw_promise.specs.declared.ending.Ending.TheVariants as ending
+use Rattle.vsw_promise.specs.declared.ending.Status.{Status}
+use Rattle.vsw_promise.specs.declared.ending.Status.TheVariants as status
+use Rattle.vsw_request.specs.Words.{Request, request_in}
+use Rattle.vsw_app.specs.Speaks.{KeepsPut}
+use Rattle.vsw_app.specs.Stages.{HasEnded}
+use Rattle.vsw_app.proofs.Growing.{grows_none, grows_as, rose_as}
+use Rattle.vsw_app.proofs.Running.{read_as}
+
+-- ---- behind the complaint
+
+-- nothing was opened, read and put since
+record IsLater (b c : Outside) : Type 0 where
+  inputs : SameInputs b c
+  put : KeepsPut b c
+
+opens_later : (q : Request) (old b c : Outside) (files : List Opened) → IsLater b c → Opens old b q files → Opens old c q files
+opens_later q old b c files l o = record { since = subst (λ i. TellsSince old.inputs i files) (sym l.inputs.inputs) o.since; held = o.held; within = o.within; in_turn = o.in_turn }
+
+read_later : (q : Request) (old b c : Outside) (files : List Opened) → IsLater b c → TraceRead q old b files → TraceRead q old c files
+read_later q old b c files l r = record { setting = r.setting; file = r.file; opened = r.opened; trace = r.trace; read = read_as old b old c r.file r.trace (rose_as old.input_faults b.input_faults old.input_faults c.input_faults refl l.inputs.input_faults) r.read }
+
+grows_later : (old b c : Outside) (text : List ℕ) → IsLater b c → Grows old.put b.put text → Grows old.put c.put text
+grows_later old b c text l g = grows_as old.put b.put old.put c.put text refl l.put.put g
+
+by_trace_later : (q : Request) (old b c : Outside) (files : List Opened) (end : Ending) → IsLater b c → EndsByTrace q old b files end → EndsByTrace q old c files end
+unfolding read_later
+by_trace_later q old b c files end l e = record { reads = read_later q old b c files l e.reads; text = e.text; tells = e.tells; puts = grows_later old b c e.text l e.puts }
+
+break_later : (q : Request) (old b c : Outside) (files : List Opened) → IsLater b c → BreaksOff q old b files → BreaksOff q old c files
+unfolding read_later
+break_later q old b c files l e = record { reads = read_later q old b c files l e.reads; text = e.text; tells = e.tells; puts = (e.puts.0, grows_later old b c (take e.puts.0 e.text) l e.puts.1) }
+
+ends_later : (q : Request) (old b c : Outside) (files : List Opened) (end : Ending) → IsLater b c → Ends q old b files end → Ends q old c files end
+ends_later q old b c files (ending.Policy why) l e = (e.0, grows_later old b c [] l e.1)
+ends_later q old b c files (ending.Commands why) l e = (e.0, grows_later old b c [] l e.1)
+ends_later q old b c files (ending.Trace bad) l e = by_trace_later q old b c files (ending.Trace bad) l e
+ends_later q old b c files ending.Records l e = by_trace_later q old b c files ending.Records l e
+ends_later q old b c files ending.Done l e = by_trace_later q old b c files ending.Done l e
+ends_later q old b c files ending.ReadFault l (rose, inl e) = (rose_as old.input_faults b.input_faults old.input_faults c.input_faults refl l.inputs.input_faults rose, inl (e.0, grows_later old b c [] l e.1))
+ends_later q old b c files ending.ReadFault l (rose, inr e) = (rose_as old.input_faults b.input_faults old.input_faults c.input_faults refl l.inputs.input_faults rose, inr (by_trace_later q old b c files ending.ReadFault l e))
+ends_later q old b c files ending.WriteFault l (rose, e) = (rose_as old.put_faults b.put_faults old.put_faults c.put_faults refl l.put.put_faults rose, break_later q old b c files l e)
+ends_later q old b c files ending.Memory l (inl e) = inl (grows_later old b c [] l e)
+ends_later q old b c files ending.Memory l (inr (inl e)) = inr (inl (by_trace_later q old b c files ending.Memory l e))
+ends_later q old b c files ending.Memory l (inr (inr e)) = inr (inr (break_later q old b c files l e))
+ends_later q old b c files ending.Usage l e = absurd e
+
+-- words that were complained where nothing had been since
+complains_from : (a b c : Outside) (text : List ℕ) → b.complained ≡ a.complained → b.complain_faults ≡ a.complain_faults → Complains b c text → Complains a c text
+complains_from a b c text e f (inl g) = inl (grows_as b.complained c.complained a.complained c.complained text (sym e) refl g)
+complains_from a b c text e f (inr (n, g, r)) = inr (n, grows_as b.complained c.complained a.complained c.complained (take n text) (sym e) refl g, rose_as b.complain_faults c.complain_faults a.complain_faults c.complain_faults (sym f) refl r)
+
+-- the words ask for a run, which ended and was complained of
+pub run_asked : (words : List (List ℕ)) (q : Request) (old now new : Outside) (end : Ending) (s : Status) → request_in words ≡ Some q → HasEnded q old now end → s ≡ status_of end → Complains now new (complaint end) → SameInputs now new → KeepsPut now new → IsRun words old new s
+run_asked words q old now new end s asked h is complains same keeps = record {
+  end = end;
+  status_is = is;
+  runs = subst (λ o. RunsBy o old new end) (sym asked) (record { files = h.runs.files; opens = opens_later q old now new h.runs.files (record { inputs = same; put = keeps }) h.runs.opens; ends = ends_later q old now new h.runs.files end (record { inputs = same; put = keeps }) h.runs.ends });
+  complains = complains_from old now new (complaint end) h.complained h.complain_faults complains;
+}
+
+-- they are outside the grammar
+pub run_unasked : (words : List (List ℕ)) (old new : Outside) (s : Status) → request_in words ≡ None → s ≡ status.Usage → Complains old new (complaint ending.Usage) → SameInputs old new → KeepsPut old new → IsRun words old new s
+run_unasked words old new s unasked is complains same keeps = record {
+  end = ending.Usage;
+  status_is = is;
+  runs = subst (λ o. RunsBy o old new ending.Usage) (sym unasked) (record { usage = refl; opens = TellsSince-SameInputs old new same; nothing = grows_as old.put old.put old.put new.put [] refl keeps.put (grows_none old.put) });
+  complains = complains;
+}
+
+-- ---- what the status shows
+
+-- the statuses that one ending alone has
+abbrev IsOwn : Status → Ending → Type 0
+IsOwn status.Usage end = end ≡ ending.Usage
+IsOwn status.ReadFault end = end ≡ ending.ReadFault
+IsOwn status.WriteFault end = end ≡ ending.WriteFault
+IsOwn s end = Unit {0}
+
+own_policy : (why : ConfigFault) → IsOwn (policy_status why) (ending.Policy why)
+own_policy (policy.Bad kind path) = tt
+own_policy policy.PolicyLimit = tt
+own_policy policy.PortsLimit = tt
+own_policy policy.ControllersLimit = tt
+own_policy policy.Memory = tt
+
+own_commands : (why : CommandsFault) → IsOwn (commands_status why) (ending.Commands why)
+own_commands (commands.Bad line kind path) = tt
+own_commands commands.CommandsLimit = tt
+own_commands commands.LinesLimit = tt
+own_commands commands.Memory = tt
+
+own : (end : Ending) → IsOwn (status_of end) end
+own ending.Done = tt
+own ending.Usage = refl
+own ending.ReadFault = refl
+own ending.WriteFault = refl
+own (ending.Policy why) = own_policy why
+own (ending.Commands why) = own_commands why
+own (ending.Trace bad) = tt
+own ending.Records = tt
+own ending.Memory = tt
+
+end_of : (words : List (List ℕ)) (old new : Outside) (s t : Status) (r : IsRun words old new s) → s ≡ t → IsOwn t r.end
+end_of words old new s t r e = subst (λ u. IsOwn u r.end) (sym r.status_is ∙ e) (own r.end)
+
+-- words outside the grammar have no other status
+usage_by : (o : Option Request) (old new : Outside) (end : Ending) → RunsBy o old new end → (end ≡ ending.Usage) ↔ (o ≡ None)
+usage_by None old new end r = ((λ e. refl), (λ e. r.usage))
+usage_by (Some q) old new end r = ((λ e. absurd (subst (Ends q old new r.files) e r.ends)), (λ e. absurd (cc e)))
+
+pub usage_is : (words : List (List ℕ)) (old new : Outside) (s : Status) → IsRun words old new s → (s ≡ status.Usage) ↔ (request_in words ≡ None)
+usage_is words old new s r =
+    let both = usage_by (request_in words) old new r.end r.runs in
+    ((λ e. both.0 (end_of words old new s status.Usage r e)), (λ e. r.status_is ∙ ap status_of (both.1 e)))
+
+-- a fault has its cause
+read_by : (o : Option Request) (old new : Outside) (end : Ending) → RunsBy o old new end → end ≡ ending.ReadFault → Rose old.input_faults new.input_faults
+read_by None old new end r e = absurd (let u = r.usage in cc (u, e))
+read_by (Some q) old new end r e = (subst (Ends q old new r.files) e r.ends).0
+
+pub read_fault_is : (words : List (List ℕ)) (old new : Outside) (s : Status) → IsRun words old new s → s ≡ status.ReadFault → Rose old.input_faults new.input_faults
+read_fault_is words old new s r e = read_by (request_in words) old new r.end r.runs (end_of words old new s status.ReadFault r e)
+
+write_by : (o : Option Request) (old new : Outside) (end : Ending) → RunsBy o old new end → end ≡ ending.WriteFault → Rose old.put_faults new.put_faults
+write_by None old new end r e = absurd (let u = r.usage in cc (u, e))
+write_by (Some q) old new end r e = (subst (Ends q old new r.files) e r.ends).0
+
+pub write_fault_is : (words : List (List ℕ)) (old new : Outside) (s : Status) → IsRun words old new s → s ≡ status.WriteFault → Rose old.put_faults new.put_faults
+write_fault_is words old new s r e = write_by (request_in words) old new r.end r.runs (end_of words old new s status.WriteFault r e)

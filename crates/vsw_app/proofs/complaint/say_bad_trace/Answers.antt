@@ -1,0 +1,12 @@
+use Rattle.std.proofs.Common.{◌++◌}
+use Rattle.std.specs.Prelude.{codes}
+use Rattle.vsw_promise.specs.Complaint.{byte_text}
+use Rattle.vsw_pcap.specs.Fault.{trace_name}
+use Rattle.vsw_app.proofs.Speaking.{speaks_then, speaks_part}
+use Rattle.vsw_app.proofs.complaint.say_bad_trace.Goals as goal
+
+pub returns-in-Ok : goal.returns-in-Ok
+returns-in-Ok g c = speaks_then (g.H.Host.outside c.args.host.now) (g.H.Host.outside c.say.new.host) (g.H.Host.outside c.say_bad.new.host) (codes "vsw: refused trace ") (trace_name c.args.bad ++ (byte_text c.args.bad ++ codes "\n")) c.say_bad.result c.in-Ok.field-0 c.in-Ok.ensures c.say_bad.ensures
+
+pub returns-in-Err : goal.returns-in-Err
+returns-in-Err g c = speaks_part (g.H.Host.outside c.args.host.now) (g.H.Host.outside c.say.new.host) (codes "vsw: refused trace ") (trace_name c.args.bad ++ (byte_text c.args.bad ++ codes "\n")) c.in-Err.failed c.in-Err.failed c.in-Err.ensures

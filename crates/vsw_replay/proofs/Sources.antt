@@ -1,0 +1,107 @@
+-- What was read and put, as the run goes on.
+use Rattle.std.proofs.Common.{◌≡◌, ◌≤◌, ℕ, Result, List, ◌++◌, length, take, take_all, min, refl, sym, ◌∙◌, ap, subst, arith, length-take}
+use Rattle.vsw_host.specs.Outside.{Outside, Grows, Rose, SameInputs, SameOutputs, DoesPut}
+use Rattle.vsw_host.specs.Source.{IsReading}
+use Rattle.vsw_host.specs.Told.{ReadsAll, ReadsFront}
+use Rattle.vsw_pcap.specs.declared.capture.Record.{Record}
+use Rattle.vsw_promise.specs.Jobs.{Setting}
+use Rattle.vsw_promise.specs.Trace.{Trace, All, Fault, Stopped, Tells}
+use Rattle.vsw_promise.specs.declared.ending.Ending.{Ending}
+use Rattle.vsw_replay.specs.declared.ending.TraceEnd.{TraceEnd}
+use Rattle.vsw_replay.specs.declared.reading.Reading.{Reading}
+use Rattle.vsw_replay.specs.declared.reading.Stop.{Stop}
+use Rattle.vsw_replay.specs.declared.reading.Stop.TheVariants as stop
+use Rattle.vsw_replay.specs.Going.{Since, ShowsStop}
+use Rattle.vsw_replay.specs.Reads.{IsRead, IsOpen}
+use Rattle.vsw_replay.specs.Runs.{Reads, EndsSo, BreaksOff, Ends, RunsTrace}
+use Rattle.vsw_replay.proofs.Completing.{read_to, Follows}
+use Rattle.vsw_replay.proofs.Growing.{grows_is, front_more}
+
+-- ---- what was read of the file
+
+pub reads_whole : (start now : Outside) (name bytes : List ℕ) → ReadsAll start.inputs now.inputs name bytes → Reads start now name (read_to All bytes)
+reads_whole start now name bytes r = record {
+  file = record { name = name; bytes = bytes; read = length bytes };
+  named = refl;
+  since = r.since;
+  held = r.held;
+  within = omega arith;
+  read = record { bytes = sym (take_all (length bytes) bytes (omega arith)); reaches = refl };
+}
+
+front_within : (got bytes : List ℕ) → got ≡ take (length got) bytes → length got ≤ length bytes
+front_within got bytes e = omega (arith, ap length e, length-take (length got) bytes)
+
+pub reads_stopped : (start now : Outside) (name : List ℕ) (file : ℕ) (bytes : List ℕ) → IsReading start now name file bytes → Reads start now name (read_to Stopped bytes)
+reads_stopped start now name file bytes r = record {
+  file = record { name = name; bytes = r.front.bytes; read = length bytes };
+  named = refl;
+  since = r.front.since;
+  held = r.front.held;
+  within = front_within bytes r.front.bytes r.front.front;
+  read = record { bytes = r.front.front; reaches = tt };
+}
+
+pub reads_fault : (start now : Outside) (name : List ℕ) (file : ℕ) (bytes : List ℕ) → Rose start.input_faults now.input_faults → IsReading start now name file bytes → Reads start now name (read_to Fault bytes)
+reads_fault start now name file bytes rose r = record {
+  file = record { name = name; bytes = r.front.bytes; read = length bytes };
+  named = refl;
+  since = r.front.since;
+  held = r.front.held;
+  within = front_within bytes r.front.bytes r.front.front;
+  read = record { bytes = r.front.front; reaches = rose };
+}
+
+-- ---- what a put changes
+
+pub since_put : (start old now : Outside) (bytes : List ℕ) (r : Result (Unit {0}) _) → Since start old → DoesPut old now bytes r → Since start now
+since_put start old now bytes r f d = record { complained = d.complained ∙ f.complained; complain_faults = d.complain_faults ∙ f.complain_faults; puts_later = omega (arith, f.puts_later, d.cause.later) }
+
+pub since_read : (start old now : Outside) → Since start old → SameOutputs old now → Since start now
+since_read start old now f d = record { complained = d.complained ∙ f.complained; complain_faults = d.complain_faults ∙ f.complain_faults; puts_later = omega (arith, f.puts_later, d.put_faults) }
+
+pub grows_read : (start old now : Outside) (text : List ℕ) → SameOutputs old now → Grows start.put old.put text → Grows start.put now.put text
+grows_read start old now text d g = subst (λ p. Grows start.put p text) (sym d.put) g
+
+pub whole_put : (start old now : Outside) (name bytes : List ℕ) → SameInputs old now → ReadsAll start.inputs old.inputs name bytes → ReadsAll start.inputs now.inputs name bytes
+whole_put start old now name bytes same r = subst (λ i. ReadsAll start.inputs i name bytes) (sym same.inputs) r
+
+pub reading_put : (start old now : Outside) (name : List ℕ) (file : ℕ) (bytes : List ℕ) → SameInputs old now → IsReading start old name file bytes → IsReading start now name file bytes
+reading_put start old now name file bytes same r = record {
+  front = subst (λ i. ReadsFront start.inputs i name bytes) (sym same.inputs) r.front;
+  number = r.number;
+  is_open = omega (arith, r.is_open, same.opens);
+  later = omega (arith, r.later, same.input_faults);
+}
+
+read_put : (start old now : Outside) (name : List ℕ) (r : Reading) (bytes : List ℕ) (records : List Record) → SameInputs old now → IsRead start old name r bytes records → IsRead start now name r bytes records
+read_put start old now name r bytes records same h = record { reading = reading_put start old now name r.source.file bytes same h.reading; stands = h.stands; seen = h.seen; end = λ t. whole_put start old now name bytes same (h.end t) }
+
+pub open_put : (old now : Outside) (r : Reading) → SameInputs old now → IsOpen old r → IsOpen now r
+open_put old now r same o = record { start = o.start; name = o.name; given = o.given; reads = record { bytes = o.reads.bytes; read = read_put o.start old now o.name r o.reads.bytes (o.given ++ r.batch) same o.reads.read } }
+
+rose_put : (start old now : Outside) → SameInputs old now → Rose start.input_faults old.input_faults → Rose start.input_faults now.input_faults
+rose_put start old now same r = subst (λ n. Rose start.input_faults n) (sym same.input_faults) r
+
+pub shows_put : (start old now : Outside) (name : List ℕ) (r : Reading) (bytes : List ℕ) (records : List Record) (s : Stop) → SameInputs old now → ShowsStop start old name r bytes records s → ShowsStop start now name r bytes records s
+shows_put start old now name r bytes records stop.Full same h = read_put start old now name r bytes records same h
+shows_put start old now name r bytes records stop.End same h = (whole_put start old now name bytes same h.0, h.1, h.2)
+shows_put start old now name r bytes records stop.Fault same h = (rose_put start old now same h.0, h.1, h.2)
+shows_put start old now name r bytes records (stop.Bad bad) same h = ((λ at e. whole_put start old now name bytes same (h.0 at e)), h.1, h.2)
+
+-- ---- how a run ends
+
+pub runs_so : (s : Setting) (start now : Outside) (name : List ℕ) (e : TraceEnd) → Since start now → start.input_faults ≤ now.input_faults → Ends s start now name e → RunsTrace s start now name e
+runs_so s start now name e f later ends = record { ends = ends; complained = f.complained; complain_faults = f.complain_faults; inputs_later = later; puts_later = f.puts_later }
+
+-- a text was put that a run might have put
+pub ends_so : (s : Setting) (start now : Outside) (name : List ℕ) (e : Ending) (t : Trace) (text : List ℕ) → Reads start now name t → Tells s t e text → Grows start.put now.put text → EndsSo s start now name e
+ends_so s start now name e t text reads tells puts = record { trace = t; reads = reads; text = text; tells = tells; puts = puts }
+
+-- a front of a front of such a text was put
+pub breaks_off : (s : Setting) (start now : Outside) (name : List ℕ) (t : Trace) (front : List ℕ) (n : ℕ) → Reads start now name t → Follows s t front → Grows start.put now.put (take n front) → BreaksOff s start now name
+breaks_off s start now name t front n reads f g = record { trace = t; reads = reads; text = front ++ f.more; tells = f.tells; count = min n (length front); puts = front_more start.put now.put front f.more n g }
+
+-- all of that front was
+pub breaks_after : (s : Setting) (start now : Outside) (name : List ℕ) (t : Trace) (front : List ℕ) → Reads start now name t → Follows s t front → Grows start.put now.put front → BreaksOff s start now name
+breaks_after s start now name t front reads f g = breaks_off s start now name t front (length front) reads f (grows_is start.put now.put front (take (length front) front) (sym (take_all (length front) front (omega arith))) g)

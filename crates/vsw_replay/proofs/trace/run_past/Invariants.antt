@@ -1,0 +1,16 @@
+use Rattle.std.proofs.Common.{◌≡◌, ℕ, ◌-◌, List, []}
+use Rattle.vsw_host.specs.Outside.{Outside}
+use Rattle.vsw_promise.specs.Jobs.{Setting}
+use Rattle.vsw_switch.specs.Switch.{AreServed}
+use Rattle.vsw_replay.specs.Going.{IsPast}
+use Rattle.vsw_replay.proofs.trace.run_past.Given as goal
+
+abbrev pub invariant-loop-next : goal.invariant-loop-next
+invariant-loop-next g l = record {
+  past : (s : Setting) (start : Outside) (name : List ℕ) → s.commands ≡ l.fn.schedule → IsPast s start (g.H.Host.outside l.fn.host) name l.fn.run.short l.fn.switch l.fn.first → IsPast s start (g.H.Host.outside l.host) name l.run.short l.switch l.first;
+  served : AreServed l.switch l.fn.schedule;
+  empty : l.run.reading.batch ≡ [];
+}
+
+abbrev pub decreases-loop-next : goal.decreases-loop-next
+decreases-loop-next g l = 4294967296 - l.first

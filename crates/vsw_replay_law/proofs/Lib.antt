@@ -1,5 +1,0 @@
-pub mod Chunks
-pub mod Meetings
-pub mod OneWorker
-pub mod Steps
-pub mod Tellings

@@ -1,0 +1,20 @@
+-- The steps of a round.
+use Rattle.std.specs.Prelude.{ℕ, Bool, not, List, option_to_list, if◌then◌else◌}
+use Rattle.std.specs.List.{flat_map, slice_get}
+use Rattle.vsw_commandfile.specs.declared.line.Line.{Line}
+use Rattle.vsw_pcap.specs.declared.capture.Record.{Record}
+use Rattle.vsw_promise.specs.Jobs.{loose_among, placed_packets}
+use Rattle.vsw_switch.specs.Does.{Works, macs_in}
+use Rattle.vsw_switch.specs.Switch.{SwitchNow}
+
+-- the commands at these places of the file
+abbrev pub lines_at : List Line → List ℕ → List Line
+lines_at lines places = flat_map (λ place. option_to_list (slice_get lines place)) places
+
+-- the command runs beside the packets, or before them
+abbrev pub is_when : Bool → Line → Bool
+is_when during l = if during then l.during else not l.during
+
+-- these packets were forwarded, each with its number
+abbrev pub ForwardsAll : SwitchNow → List (ℕ × Record) → SwitchNow → Type 0
+ForwardsAll s packets t = Works s (placed_packets s.workers (macs_in s) packets) (loose_among (macs_in s) packets) t

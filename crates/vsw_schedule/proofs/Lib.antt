@@ -1,0 +1,5 @@
+pub mod Counts
+pub mod Beside
+pub mod First
+pub mod Stable
+pub mod Indexed

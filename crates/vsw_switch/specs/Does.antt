@@ -1,0 +1,96 @@
+-- What the ports of a switch do: jobs, one after the other. Each is the next call on its port's history.
+use Rattle.std.specs.Prelude.{◌≡◌, ◌<◌, ℕ, zero, suc, List, [], ◌∷◌, ◌++◌, length, map, true}
+use Rattle.vsw_commandfile.specs.declared.line.Line.{Line}
+use Rattle.vsw_history.specs.Calls.{Call, Job, Carry, Ask, job_of, entries_of}
+use Rattle.vsw_history.specs.Next.{IsNext}
+use Rattle.vsw_history.specs.Order.{ascending}
+use Rattle.vsw_merge.specs.Line.{TextLine, text_of}
+use Rattle.vsw_pcap.specs.declared.capture.Record.{Record}
+use Rattle.vsw_policy.specs.Layers.{place_of}
+use Rattle.vsw_policy.specs.Sound.{is_listed}
+use Rattle.vsw_promise.specs.Jobs.{Placed, aim_of, loose_after, placed_packet}
+use Rattle.vsw_promise.specs.Told.{by_of, line_of}
+use Rattle.vsw_report.specs.declared.round.Loose.{Loose}
+use Rattle.vsw_report.specs.declared.told.By.{By}
+use Rattle.vsw_report.specs.declared.told.By.TheVariants.{Worker, Controller}
+use Rattle.vsw_switch.specs.Switch.{PortNow, SwitchNow}
+
+-- ---- one port
+
+-- a line behind those of the caller at a place
+abbrev pub told_at : ℕ → TextLine → List (List TextLine) → List (List TextLine)
+told_at n line [] = []
+told_at zero line (ls ∷ callers) = (ls ++ line ∷ []) ∷ callers
+told_at (suc n) line (ls ∷ callers) = ls ∷ told_at n line callers
+
+-- what is told by the workers, and by the controllers, after a line of one of them
+abbrev pub told_workers : By → TextLine → List (List TextLine) → List (List TextLine)
+told_workers (Worker n) line workers = told_at n line workers
+told_workers (Controller c) line workers = workers
+
+abbrev pub told_controllers : List ℕ → By → TextLine → List (List TextLine) → List (List TextLine)
+told_controllers cs (Worker n) line controllers = controllers
+told_controllers cs (Controller c) line controllers = told_at (place_of c (ascending cs)) line controllers
+
+-- a port after a call: its history has the entry, if it is one, and its caller the line
+abbrev pub with_call : Call → PortNow → PortNow
+with_call c p = record {
+  number = p.number;
+  mac = p.mac;
+  opening = p.opening;
+  journal = p.journal ++ entries_of (c ∷ []);
+  before = p.before;
+  workers = told_workers (by_of c.deed) (text_of (line_of c)) p.workers;
+  controllers = told_controllers p.opening.controllers (by_of c.deed) (text_of (line_of c)) p.controllers;
+}
+
+-- the job is one of the port's workers' or controllers'
+abbrev pub HasCaller : PortNow → Job → Type 0
+HasCaller p (Carry x parts) = x.caller < length p.workers
+HasCaller p (Ask l) = is_listed p.opening.controllers l.controller ≡ true
+
+-- a port does a job: it is the next call on its history
+pub record Does (p : PortNow) (j : Job) (q : PortNow) : Type 0 where
+  pub caller : HasCaller p j
+  pub call : Call
+  pub job : job_of call.deed ≡ j
+  pub next : IsNext p.opening p.journal call
+  pub is : q ≡ with_call call p
+
+-- ---- all ports
+
+-- the port at a place does a job, and the others stay as they are
+abbrev pub DoesAt : ℕ → Job → List PortNow → List PortNow → Type 0
+DoesAt zero j (p ∷ ps) (q ∷ qs) = Does p j q × (qs ≡ ps)
+DoesAt (suc n) j (p ∷ ps) (q ∷ qs) = (q ≡ p) × DoesAt n j ps qs
+DoesAt n j _ _ = ⊥
+
+-- jobs, one after the other
+abbrev pub DoesAll : List Placed → List PortNow → List PortNow → Type 0
+DoesAll [] ps qs = qs ≡ ps
+DoesAll (t ∷ ts) ps qs = (mid : List PortNow) × DoesAt t.0 t.1 ps mid × DoesAll ts mid qs
+
+-- the addresses and the numbers of the ports
+abbrev pub macs_in : SwitchNow → List ℕ
+macs_in s = map (λ p. p.mac) s.ports
+
+abbrev pub numbers_in : SwitchNow → List ℕ
+numbers_in s = map (λ p. p.number) s.ports
+
+-- a switch before and after these jobs and loose packets
+pub record Works (s : SwitchNow) (jobs : List Placed) (loose : List Loose) (t : SwitchNow) : Type 0 where
+  pub workers : t.workers ≡ s.workers
+  pub ports : DoesAll jobs s.ports t.ports
+  pub loose_are : t.loose ≡ s.loose ++ loose
+
+-- a command, with the place of the port that it is for
+abbrev pub placed_line : List ℕ → Line → Placed
+placed_line numbers l = (place_of l.port numbers, Ask l)
+
+-- a command was asked of its port
+abbrev pub Asks : SwitchNow → Line → SwitchNow → Type 0
+Asks s l t = Works s (placed_line (numbers_in s) l ∷ []) [] t
+
+-- packet n went to its port, or is loose
+abbrev pub Forwards : SwitchNow → ℕ → Record → SwitchNow → Type 0
+Forwards s n r t = Works s (placed_packet s.workers n r.moment (aim_of (macs_in s) r)) (loose_after n (aim_of (macs_in s) r)) t

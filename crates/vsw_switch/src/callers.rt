@@ -1,0 +1,101 @@
+//! The callers of a port, and the lines that they leave.
+
+ghost use Rattle.std.specs.Prelude.{◌≡◌, ◌≤◌, ◌<◌, [], IfOk, OnOk, length, not, replicate};
+ghost use Rattle.vsw_commandfile.specs.declared.line.Line.{Line};
+ghost use Rattle.vsw_merge.specs.Line.{text_of};
+ghost use Rattle.vsw_policy.specs.Obey.{is_memory};
+ghost use Rattle.vsw_policy.specs.Refusals.{reply_of};
+ghost use Rattle.vsw_report.specs.declared.told.By.TheVariants as by;
+ghost use Rattle.vsw_report.specs.declared.told.What.TheVariants as what;
+ghost use Rattle.vsw_switch.specs.Does.{told_at};
+ghost use Rattle.vsw_transit.specs.Transit.{bytes_in, len_of};
+
+use std::alloc::Global;
+use vsw_base::{Crossing, Fate, NoMemory};
+use vsw_commandfile::Line;
+use vsw_merge::Caller;
+use vsw_policy::{Refusal, Reply};
+use vsw_port::Outcome;
+use vsw_transit::Room;
+
+/// So many callers with no lines.
+pub(crate) fn callers(alloc: Global, count: usize) -> Result<Vec<Caller>, NoMemory>
+    ensures { IfOk result (λ callers. callers.items ≡ replicate count []) }
+{
+    let mut callers = Vec::new(alloc);
+    for _ in 0..count {
+        if callers.push(Caller::new(alloc)).is_err() {
+            return Err(NoMemory);
+        }
+    }
+    Ok(callers)
+}
+
+/// The outgoing bytes of a pass, which stand at the front of the room, and none of a drop.
+fn bytes_of(fate: Fate, room: &Room) -> &[u8]
+    requires { len_of fate ≤ 65700 }
+    ensures { result.now ≡ bytes_in fate room.now }
+{
+    match fate {
+        Fate::Pass { len } => room.bytes(len),
+        Fate::Drop(_) => &[],
+    }
+}
+
+/// A packet's worker tells what became of it.
+pub(crate) fn tell_packet(
+    workers: &mut Vec<Caller>,
+    crossing: &Crossing,
+    count: u32,
+    outcome: Outcome,
+    room: &Room,
+) -> Result<(), NoMemory>
+    requires worker { crossing.now.caller < length workers.old.items }
+    requires len { len_of outcome.fate ≤ 65700 }
+    ensures told { OnOk result (workers.new.items ≡ told_at crossing.now.caller (text_of (record { by = by.Worker crossing.now.caller; item = crossing.now.packet; entry = outcome.entry; count = count; what = what.Fate outcome.fate (bytes_in outcome.fate room.now) })) workers.old.items) }
+    ensures stays { length workers.new.items ≡ length workers.old.items }
+{
+    let bytes = bytes_of(outcome.fate, room);
+    let worker = &mut workers[crossing.caller as usize];
+    worker.tell_packet(
+        crossing.caller,
+        crossing.packet,
+        outcome.entry,
+        count,
+        &outcome.fate,
+        bytes,
+    )
+}
+
+/// The controller at a place tells the answer to its command, which is an entry unless memory was wanting.
+pub(crate) fn tell_reply(
+    controllers: &mut Vec<Caller>,
+    place: usize,
+    line: &Line,
+    count: u32,
+    answer: Result<(), Refusal>,
+) -> Result<(), NoMemory>
+    requires place { place < length controllers.old.items }
+    ensures told { OnOk result (controllers.new.items ≡ told_at place (text_of (record { by = by.Controller line.now.controller; item = line.now.number; entry = not (is_memory answer); count = count; what = what.Reply (reply_of answer) })) controllers.old.items) }
+    ensures stays { length controllers.new.items ≡ length controllers.old.items }
+{
+    let entry = is_entry(answer);
+    let controller = &mut controllers[place];
+    controller.tell_reply(
+        line.controller,
+        line.number,
+        entry,
+        count,
+        Reply::of(answer),
+    )
+}
+
+/// Whether an answer is an entry of the port's history.
+fn is_entry(answer: Result<(), Refusal>) -> bool
+    ensures { result ≡ not (is_memory answer) }
+{
+    match answer {
+        Err(Refusal::Memory) => false,
+        _ => true,
+    }
+}

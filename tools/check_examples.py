@@ -27,29 +27,32 @@ def read(*path):
         return file.read()
 
 
-def policies(folder):
-    return sorted(name for name in os.listdir(os.path.join(EXAMPLES, folder)) if name.endswith(".json"))
+def bad_files():
+    """The policies and commands files that are refused: folder, policy, commands, what is complained."""
+    for name in sorted(os.listdir(os.path.join(EXAMPLES, BAD))):
+        front, kind = os.path.splitext(name)
+        if kind == ".said":
+            is_policy = os.path.exists(os.path.join(EXAMPLES, BAD, front + ".json"))
+            files = (front + ".json", "commands.jsonl") if is_policy else ("policy.json", front + ".jsonl")
+            yield BAD, *files, read(BAD, name)
 
 
 def runs():
-    """The runs in the gate's order: folder, policy, what is put, what is complained."""
-    for folder in FOLDERS:
-        for policy in policies(folder):
-            said = policy.replace(".json", ".said")
-            if folder == BAD:
-                yield folder, policy, b"", read(folder, said)
-            else:
-                yield folder, policy, read(folder, "report.txt"), b""
+    """The runs in the gate's order: folder, policy, commands, what is put, what is complained."""
+    for folder in ["first", *FOLDERS[:-1]]:
+        yield folder, "policy.json", "commands.jsonl", read(folder, "report.txt"), b""
+    for folder, policy, commands, said in bad_files():
+        yield folder, policy, commands, b"", said
 
 
 def wanted():
     """Each file of the crates, by its path, with the bytes that it should have."""
-    files = {("vsw", "stdout"): read("first", "report.txt"), ("vsw_examples", "data", "commands.jsonl"): b""}
+    files = {("vsw", "stdout"): read("flows", "report.txt")}
     for name in ("policy.json", "commands.jsonl", "trace.pcap"):
-        files["vsw", "data", name] = read("first", name)
-    files["vsw_examples", "stdout"] = b"".join(put + said for _, _, put, said in runs())
-    for folder, policy, _, _ in runs():
-        for name in (policy, "trace.pcap"):
+        files["vsw", "data", name] = read("flows", name)
+    files["vsw_examples", "stdout"] = b"".join(put + said for _, _, _, put, said in runs())
+    for folder, policy, commands, _, _ in runs():
+        for name in (policy, commands, "trace.pcap"):
             files["vsw_examples", "data", folder, name] = read(folder, name)
     return {os.path.join(ROOT, "crates", *path): data for path, data in files.items()}
 
@@ -74,17 +77,16 @@ def check_copies():
 
 
 def check_captures():
-    before = {folder: read(folder, "trace.pcap") for folder in FOLDERS}
+    before = {folder: read(folder, "trace.pcap") for folder in [*FOLDERS, "flows"]}
     subprocess.run([os.path.join(EXAMPLES, "make_traces.py")], check=True)
-    for folder in FOLDERS:
+    for folder in before:
         yield compare(f"capture of {folder}", read(folder, "trace.pcap") == before[folder])
 
 
 def check_reports():
-    for folder, policy, put, _ in runs():
-        if folder != BAD:
-            report = plain_switch.report(read(folder, policy), read(folder, "trace.pcap"))
-            yield compare(f"report of {folder} by the rules", report.encode() == put)
+    for folder in ["flows", *FOLDERS[:-1]]:
+        report = plain_switch.report(read(folder, "policy.json"), read(folder, "trace.pcap"), read(folder, "commands.jsonl"))
+        yield compare(f"report of {folder} by the rules", report.encode() == read(folder, "report.txt"))
 
 
 def check_guide():
@@ -98,19 +100,20 @@ def check_guide():
             is_well = all(read(folder, f"{name}.said") == f"vsw: {said}\n".encode() for name, said in shown)
         else:
             lines = read(folder, "report.txt").decode().splitlines()
-            shown = re.findall(r"^    (w0 .+?|port \d.+?)(?:  .*)?$", section, re.MULTILINE)
+            shown = re.findall(r"^    ([wc]\d+ .+?|port \d.+?|round \d.*?)(?:  .*)?$", section, re.MULTILINE)
             is_well = all(any(line.startswith(part[:-1]) if part.endswith("…") else line == part for line in lines)
                           for part in shown)
         yield compare(f"{len(shown)} lines of the guide on {folder}", bool(shown) and is_well)
 
 
 def check_runs():
-    for folder, policy, put, said in [("first", "policy.json", read("first", "report.txt"), b""), *runs()]:
-        files = [os.path.join(EXAMPLES, folder, name) for name in (policy, "commands.jsonl", "trace.pcap")]
+    flows = ("flows", "policy.json", "commands.jsonl", read("flows", "report.txt"), b"")
+    for folder, policy, commands, put, said in [flows, *runs()]:
+        files = [os.path.join(EXAMPLES, folder, name) for name in (policy, commands, "trace.pcap")]
         ran = subprocess.run([os.path.join(ROOT, "vsw"), "forward", *files], capture_output=True)
         status = STATUSES[said.split()[1].decode()] if said else 0
         is_well = (ran.stdout, ran.stderr, ran.returncode) == (put, said, status)
-        yield compare(f"run of {folder}/{policy}", is_well)
+        yield compare(f"run of {folder}/{policy} with {commands}", is_well)
 
 
 def main():

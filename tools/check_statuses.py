@@ -40,6 +40,16 @@ def run(words, output=subprocess.DEVNULL, program=os.path.join(TOP, "vsw"), limi
     return done.returncode, done.stderr
 
 
+def bad_commands():
+    """Of each: what it is, the file, the status and what is complained."""
+    ask = b'{"at": 0, "when": "before", "controller": 9, "port": 1, "do": "remove_layer", "layer": 1}'
+    yield "a command of nobody", ask, 5, b"vsw: refused commands 1 Unknown /controller\n"
+    yield "a command without members", b"\n{}\n", 5, b"vsw: refused commands 2 Shape /\n"
+    yield "commands that are no JSON", b"{", 5, b"vsw: refused commands 1 Json /\n"
+    yield "many lines", b"\n" * 65_537, 6, b"vsw: limit lines\n"
+    yield "large commands", b" " * 16_777_217, 6, b"vsw: limit commands\n"
+
+
 def cases(folder):
     """Of each: what it is, the words, the status and what is complained."""
     def file(name, data):
@@ -55,7 +65,10 @@ def cases(folder):
         return ["forward", POLICY, COMMANDS, file(name, data)]
 
     yield "a whole report", ["forward", POLICY, COMMANDS, TRACE], 0, b""
-    for words in [], ["help"], ["forward"], ["forward", "-x", COMMANDS, TRACE], ["forward", b"\xff", COMMANDS, TRACE]:
+    yield "four workers", ["forward", "--workers", "4", POLICY, COMMANDS, TRACE], 0, b""
+    options = ["--workers=0"], ["--workers", "17"], ["--workers=2", "--workers=2"]
+    words_of_options = [["forward", *option, POLICY, COMMANDS, TRACE] for option in options]
+    for words in [], ["help"], ["forward"], ["forward", "-x", COMMANDS, TRACE], ["forward", b"\xff", COMMANDS, TRACE], *words_of_options:
         yield f"words {words}", words, 2, b"vsw: usage\n"
     for place in range(3):
         files = [POLICY, COMMANDS, TRACE]
@@ -70,7 +83,8 @@ def cases(folder):
     yield "many ports", of_policy("ports", policy([1], range(1, 18))), 6, b"vsw: limit ports\n"
     yield "many controllers", of_policy("controllers", policy(list(range(1, 10)), [1])), 6, b"vsw: limit controllers\n"
     yield "many records", of_trace("records", head() + record(0, 1) * (RECORDS + 1)), 6, b"vsw: limit records\n"
-    yield "a command", ["forward", POLICY, file("command", b"{}\n"), TRACE], 7, b"vsw: not built\n"
+    for name, data, status, complaint in bad_commands():
+        yield name, ["forward", POLICY, file(name, data), TRACE], status, complaint
 
 
 def main():

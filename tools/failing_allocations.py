@@ -5,19 +5,24 @@ Usage: tools/failing_allocations.py        (needs a C compiler)
 
 For n = 1, 2, .. the program's nth allocation fails, until a run meets no failure. Each run must end with
 status 9 and the words "vsw: memory"; or with 3 and "vsw: read fault", where the host had no memory to open
-a file. What it printed must be a front of the report. Exits with 1 where a run does anything else.
+a file. What it printed must be a front of the report, or tell of a packet or a command for which memory was wanting.
+Exits with 1 where a run does anything else.
 """
 import os
+import re
 import subprocess
 import sys
 import tempfile
 
 TOP = os.path.dirname(os.path.dirname(os.path.abspath(__file__)))
-EXAMPLE = os.path.join(TOP, "examples", "first")
+EXAMPLE = os.path.join(TOP, "examples", "7-commands")
 FILES = [os.path.join(EXAMPLE, name) for name in ("policy.json", "commands.jsonl", "trace.pcap")]
 
 # What a run tells that met the failure: of its own, or within the host's opening of a file.
 TOLD = [(9, b"vsw: memory\n"), (3, b"vsw: read fault\n")]
+
+# How a report tells of want of memory.
+WANT = re.compile(rb" (drop memory|@\d+ refused 10 Memory)\n")
 
 # Every allocation of the process counts, from the start of main on.
 SHIM = r"""
@@ -67,10 +72,10 @@ def main():
             if made.returncode == 0 and made.stdout == report:
                 break
             statuses[made.returncode] = statuses.get(made.returncode, 0) + 1
-            front = report.startswith(made.stdout)
+            front = report.startswith(made.stdout) or WANT.search(made.stdout)
             told = (made.returncode, made.stderr) in TOLD
             if not front or not told:
-                sys.exit(f"allocation {number}: status {made.returncode}, {made.stderr!r}, a front of the report: {front}")
+                sys.exit(f"allocation {number}: status {made.returncode}, {made.stderr!r}, a front of the report: {bool(front)}")
     print(f"{number - 1} allocations refused, one at a time; runs by status: {statuses}")
 
 

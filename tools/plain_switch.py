@@ -1,7 +1,7 @@
 """The switch's rules once more, in plain Python, to check what the examples expect.
 
-Written from docs/MODEL.md and docs/FORMATS.md alone, apart from the switch's code and definitions. It takes good policies
-and traces, no commands and no fragments, and computes checksums anew where the switch updates them: frames need right ones.
+Written from docs/MODEL.md and docs/FORMATS.md alone, apart from the switch's code and definitions. It takes good policies,
+commands and traces, no fragments, and computes checksums anew where the switch updates them: frames need right ones.
 """
 import ipaddress
 import json
@@ -27,7 +27,7 @@ class Packet:
     """A frame as its encapsulations, outermost first, and the fields of its innermost headers."""
 
     def __init__(self, data):
-        self.encaps, self.control, self.sizes = [], None, []
+        self.encaps, self.control, self.sizes, self.whole, self.starts = [], None, [], data, [0]
         while True:
             self.sizes.append(len(data))
             fields, rest = self.headers(data)
@@ -35,6 +35,7 @@ class Packet:
             if not (is_vxlan and len(rest) >= 8 and rest[0] & 8):
                 break
             self.encaps.append({**fields, "vni": int.from_bytes(rest[4:7], "big")})
+            self.starts.append(self.starts[-1] + 14 + (data[14] & 15) * 4 + 16)
             data = rest[8:]
         self.fields, self.data, self.kept, self.pushed = fields, data, len(self.encaps), []
 
@@ -187,10 +188,21 @@ def flow_sum(fields):
     return total
 
 
+def behind_kept(packet, data):
+    """The innermost frame within the encapsulations that are kept. Their UDP checksums go where it was edited."""
+    first = len(packet.encaps) - packet.kept
+    start, end = packet.starts[first], packet.starts[first] + packet.sizes[first]
+    whole, inner = bytearray(packet.whole), packet.starts[-1]
+    whole[inner:inner + len(data)] = data
+    if packet.fields != Packet(packet.data).fields:
+        for at in packet.starts[first + 1:]:
+            whole[at - 10:at - 8] = b"\0\0"
+    return bytes(whole[start:end])
+
+
 def sent(packet):
-    """The outgoing bytes. Kept encapsulations aren't edited here: the examples have none."""
+    """The outgoing bytes."""
     fields, data = packet.fields, bytearray(packet.data)
-    assert packet.kept == 0 or fields == Packet(bytes(data)).fields
     data[:12] = fields["dst_mac"].to_bytes(6, "big") + fields["src_mac"].to_bytes(6, "big")
     if "src_ip" in fields:
         start = 14 + (data[14] & 15) * 4
@@ -207,7 +219,7 @@ def sent(packet):
                 front = pseudo(fields["src_ip"], fields["dst_ip"], proto, end - start)
                 value = ones_sum(front + bytes(data[start:end]))
                 data[at:at + 2] = (value or (0xFFFF if proto == 17 else 0)).to_bytes(2, "big")
-    data = bytes(data)
+    data = behind_kept(packet, bytes(data))
     for encap in reversed(packet.pushed):
         inner = len(data)
         port = 49_152 + flow_sum(fields) % 16_384
@@ -250,7 +262,7 @@ def visit(layer, way, packet, moment):
             values = {field: packet.fields[field] for field in SET_FIELDS
                       if isinstance(rule["action"], dict) and field in rule["action"]["set"] and field in fields}
             back = {MIRROR[field]: fields[field] for field in values}
-            new = {"way": way, "forward": now, "set": values, "reverse": mirror(key(*packet.stack())), "back": back,
+            new = {"group": group["group"], "rule": rule["rule"], "way": way, "forward": now, "set": values, "reverse": mirror(key(*packet.stack())), "back": back,
                    "state": opened(fields, packet.control, way), "last": moment}
             return None, [(layer, leaving, None, new)]
     return None, [(layer, leaving, None, None)] if leaving else []
@@ -301,39 +313,166 @@ def cross(port, way, packet, moment):
     return f"pass {len(data)} {data.hex()}", bool(wants)
 
 
-def opened_ports(policy):
-    places = {controller: place for place, controller in enumerate(policy["controllers"])}
+# Commands
+
+MOST = {"layers": 16, "groups": 32, "rules": 1_024}
+
+
+def plain_item(field, item):
+    """An item of a condition, so that two are equal where they are one to the switch."""
+    if field.endswith("_ip") and isinstance(item, str):
+        front, _, bits = item.partition("/")
+        return "prefix", address(front), int(bits or 32)
+    low, high = item if isinstance(item, list) else (item, item)
+    return "range", number(field, low), number(field, high)
+
+
+def plain_action(action):
+    if isinstance(action, str):
+        return action
+    values, encap = action["set"], action["encap"] or {}
+    return (action["decap"], {name: number(name, value) for name, value in values.items()},
+            {name: number(name, value) for name, value in encap.items()})
+
+
+def plain_rule(rule):
+    when = [(condition["field"], [plain_item(condition["field"], item) for item in condition["any"]]) for condition in rule["when"]]
+    return rule["rule"], rule["priority"], when, plain_action(rule["action"]), rule["stateful"], rule["last"]
+
+
+def named(things, name, wanted):
+    return next((thing for thing in things if thing[name] == wanted), None)
+
+
+def refused(port, command):
+    """The first refusal that applies to a command, or None."""
+    do, own = command["do"], [layer for layer in port["layers"] if layer["controller"] == command["controller"]]
+    layer = named(own, "layer", command["layer"])
+    group = named(layer["groups"], "group", command["group"]) if layer and "group" in command else None
+    rules = command["rules"] if do == "put_rules" else []
+    is_new = {"add_layer": layer, "add_group": group}
+    wants_group = do in ("remove_group", "put_rules", "add_rule", "remove_rule")
+    number_of = command["rule"]["rule"] if do == "add_rule" else command.get("rule")
+    rule = named(group["rules"], "rule", number_of) if group and do in ("add_rule", "remove_rule") else None
+    tests = [
+        do != "add_layer" and layer is None,
+        do == "add_layer" and is_new[do] is not None,
+        wants_group and group is None,
+        do == "add_group" and is_new[do] is not None,
+        do == "remove_rule" and rule is None,
+        do == "add_rule" and rule is not None or len({rule["rule"] for rule in rules}) < len(rules),
+        do == "add_layer" and len(own) >= MOST["layers"],
+        do == "add_group" and layer is not None and len(layer["groups"]) >= MOST["groups"],
+        do == "add_rule" and group is not None and len(group["rules"]) >= MOST["rules"] or len(rules) > MOST["rules"],
+    ]
+    names = ["NoLayer", "LayerExists", "NoGroup", "GroupExists", "NoRule", "RuleExists", "ManyLayers", "ManyGroups", "ManyRules"]
+    return next((f"{place} {name}" for place, (test, name) in enumerate(zip(tests, names), 1) if test), None)
+
+
+def forget(layer, is_gone):
+    """The pairs go of which this holds."""
+    layer["held"] = [pair for pair in layer["held"] if not is_gone(pair)]
+
+
+def obey(port, places, command):
+    """Does what a controller asks, or tells why not."""
+    why = refused(port, command)
+    if why is not None:
+        return f"refused {why}"
+    do, layers = command["do"], port["layers"]
+    layer = next((one for one in layers if (one["controller"], one["layer"]) == (command["controller"], command["layer"])), None)
+    group = named(layer["groups"], "group", command["group"]) if layer and "group" in command else None
+    if do == "add_layer":
+        names = ("controller", "layer", "order", "default_out", "default_in", "pairs", "idle", "linger")
+        layers.append({**{name: command[name] for name in names}, "groups": [], "held": [], "next": 0})
+        put_in_order(layers, places)
+    elif do == "remove_layer":
+        layers.remove(layer)
+    elif do == "add_group":
+        layer["groups"].append({"group": command["group"], "dir": command["dir"], "when": command["when_all"], "rules": []})
+    elif do == "remove_group":
+        layer["groups"].remove(group)
+        forget(layer, lambda pair: pair["group"] == command["group"])
+    elif do == "put_rules":
+        stay = [plain_rule(rule) for rule in command["rules"]]
+        gone = {rule["rule"] for rule in group["rules"] if plain_rule(rule) not in stay}
+        group["rules"] = command["rules"]
+        forget(layer, lambda pair: pair["group"] == command["group"] and pair["rule"] in gone)
+    elif do == "add_rule":
+        group["rules"].append(command["rule"])
+    elif do == "remove_rule":
+        group["rules"].remove(named(group["rules"], "rule", command["rule"]))
+        forget(layer, lambda pair: (pair["group"], pair["rule"]) == (command["group"], command["rule"]))
+    elif do == "set_default":
+        layer["default_" + command["dir"]] = command["default"]
+    else:
+        forget(layer, lambda pair: pair["last"] + life(layer, pair["state"]) <= command["now"])
+    return "ok"
+
+
+# A run
+
+def put_in_order(layers, places):
+    layers.sort(key=lambda layer: (layer["order"], places[layer["controller"]], layer["layer"]))
+
+
+def opened_ports(policy, places):
     for port in policy["ports"]:
-        port["layers"].sort(key=lambda layer: (layer["order"], places[layer["controller"]], layer["layer"]))
+        put_in_order(port["layers"], places)
         port["count"] = 0
         for layer in port["layers"]:
             layer.update(held=[], next=0)
     return policy["ports"]
 
 
-def report(policy_text, trace):
-    """The report of a run over this policy and trace, without commands."""
-    ports = opened_ports(json.loads(policy_text))
+def tell(port, told, by, item, rest, is_entry):
+    """Adds a line with what places it: at a count reads stand before the entry, and workers before controllers."""
+    line = f"{by[0]}{by[1]} {item} {'+' if is_entry else '@'}{port['count']} {rest}"
+    told[port["port"]].append(((port["count"], is_entry, by[0] == "c", by[1]), line))
+    port["count"] += is_entry
+
+
+def read_commands(text):
+    """The commands of a file, each with the number of its line."""
+    lines = enumerate(text.decode().split("\n"), 1)
+    return [{**json.loads(line), "line": number} for number, line in lines if line.strip(" \t\r")]
+
+
+def carry(ports, macs, told, loose, place, record, workers):
+    """Brings a packet to its port, or tells why it is loose."""
+    moment, data, original = record
+    if len(data) < original:
+        return loose.append(f"{place} snapped")
+    packet = Packet(data)
+    worker = flow_sum(packet.fields) % workers
+    outermost = (packet.encaps or [packet.fields])[0]["src_mac"]
+    way = "out" if outermost in macs else "in"
+    port = macs.get(outermost) or macs.get(packet.fields["dst_mac"])
+    if port is None:
+        return loose.append(f"{place} noport")
+    fate, is_entry = cross(port, way, packet, moment)
+    return tell(port, told, ("w", worker), place, fate, is_entry)
+
+
+def report(policy_text, trace, commands_text=b"", workers=1):
+    """The report of a run over this policy, these commands and this trace, all done in one order."""
+    policy, records, commands = json.loads(policy_text), read_capture(trace), read_commands(commands_text)
+    places = {controller: place for place, controller in enumerate(policy["controllers"])}
+    ports = opened_ports(policy, places)
     macs = {mac(port["mac"]): port for port in ports}
-    lines, records = ["vsw report 1"], read_capture(trace)
-    for first in range(0, max(len(records), 1), ROUND):
+    lines = ["vsw report 1"]
+    cuts = sorted({0, *(command["at"] for command in commands), *range(0, len(records), ROUND)})
+    for first, following in zip(cuts, [*cuts[1:], None]):
         told, loose, begun = {port["port"]: [] for port in ports}, [], [port["count"] for port in ports]
-        for place, (moment, data, original) in enumerate(records[first:first + ROUND], first):
-            if len(data) < original:
-                loose.append(f"{place} snapped")
-                continue
-            packet = Packet(data)
-            outermost = (packet.encaps or [packet.fields])[0]["src_mac"]
-            way = "out" if outermost in macs else "in"
-            port = macs.get(outermost) or macs.get(packet.fields["dst_mac"])
-            if port is None:
-                loose.append(f"{place} noport")
-                continue
-            fate, is_entry = cross(port, way, packet, moment)
-            told[port["port"]].append(f"w0 {place} {'+' if is_entry else '@'}{port['count']} {fate}")
-            port["count"] += is_entry
+        here = [command for command in commands if command["at"] == first]
+        for command in sorted(here, key=lambda command: command["when"] == "during"):
+            port = named(ports, "port", command["port"])
+            reply = obey(port, places, command)
+            tell(port, told, ("c", command["controller"]), command["line"], reply, True)
+        for place, record in enumerate(records[first:following], first):
+            carry(ports, macs, told, loose, place, record, workers)
         lines.append(f"round {first}")
         for port, before in zip(ports, begun):
-            lines += [f"port {port['port']} {before} {port['count']}", *told[port["port"]]]
+            lines += [f"port {port['port']} {before} {port['count']}", *(line for _, line in sorted(told[port["port"]], key=lambda t: t[0]))]
         lines += ["loose", *loose]
     return "".join(line + "\n" for line in lines)

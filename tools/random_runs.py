@@ -1,11 +1,12 @@
 #!/usr/bin/env python3
-"""Runs the program over random policies and captures, and compares its reports with those of a plain program.
+"""Runs the program over random policies, commands and captures, and compares its reports with those of a plain program.
 
     tools/random_runs.py [RUNS] [SEED]
 
 The plain program is tools/plain_switch.py, written from docs/MODEL.md apart from the switch. Policies have up to four
 layers of three controllers on each of two ports; packets are ARP, UDP, TCP and ICMP, some of them in VXLAN, among few
-addresses and ports, and replies to what passed. Prints how often each fate came, and the seed of a run that differs.
+addresses and ports, and replies to what passed; commands come before and beside them, and past the last. Every run is made
+with 1 to 4 workers. Prints how often each fate and reply came, and the seed of a run that differs.
 """
 import collections
 import json
@@ -90,6 +91,34 @@ def policy(draw):
     return {"version": 1, "controllers": draw.sample([1, 2, 3], 3), "ports": ports}
 
 
+def command(draw, layers):
+    """A command that finds what it names more often than not."""
+    port, own, number = draw.choice(layers) if draw.random() < 0.8 else (draw.randint(1, 2), draw.randint(1, 3), draw.randint(1, 4))
+    named = {"layer": number, "group": draw.randint(1, 4) if draw.random() < 0.5 else 1}
+    ways = {"dir": draw.choice(["in", "out"])}
+    made = layer(draw, own, named["layer"])
+    rules = [rule(draw, place + 1) for place in range(draw.randint(0, 4))]
+    more = draw.choice([
+        {"do": "add_layer", **{name: made[name] for name in ("layer", "order", "default_out", "default_in", "pairs", "idle", "linger")}},
+        {"do": "remove_layer", "layer": named["layer"]},
+        {"do": "add_group", **named, **ways, "when_all": conditions(draw, 0.3)},
+        {"do": "remove_group", **named},
+        {"do": "put_rules", **named, "rules": rules + rules[:draw.random() < 0.1]},
+        {"do": "put_rules", **named, "rules": rules},
+        {"do": "add_rule", **named, "rule": rule(draw, draw.randint(1, 6))},
+        {"do": "remove_rule", **named, "rule": draw.randint(1, 5)},
+        {"do": "set_default", "layer": named["layer"], **ways, "default": draw.choice(["allow", "drop"])},
+        {"do": "sweep", "layer": named["layer"], "now": draw.randrange(60_000_000)},
+    ])
+    return {"at": draw.randint(0, 60), "when": draw.choice(["before", "during"]), "controller": own, "port": port, **more}
+
+
+def commands(draw, policy):
+    layers = [(port["port"], layer["controller"], layer["layer"]) for port in policy["ports"] for layer in port["layers"]]
+    lines = [json.dumps(command(draw, layers)) for _ in range(draw.choice([0, 5, 30]))]
+    return "".join(line + draw.choice(["\n", "\n", "\n\n", " \r\n"]) for line in lines).encode()
+
+
 def frame(draw):
     to, came, (src, dst) = draw.choice(MACS), draw.choice(MACS), draw.choices(ADDRESSES, k=2)
     ports, payload, kind = draw.choices(PORTS, k=2), draw.randbytes(draw.randint(0, 9)), draw.random()
@@ -116,30 +145,32 @@ def reply(sent):
 
 
 def drawn(seed):
-    """A policy and a capture, and the report of the plain program."""
+    """A policy, commands, a capture and a number of workers, and the report of the plain program."""
     draw = random.Random(seed)
-    text, records, moment = json.dumps(policy(draw)), [], 0
+    made, records, moment = policy(draw), [], 0
+    text, lines, workers = json.dumps(made), commands(draw, made), draw.choice([1, 1, 2, 4])
     often = [frame(draw) for _ in range(8)]
     for _ in range(40):
         moment += draw.choice(STEPS)
         data = draw.choice(often) if draw.random() < 0.6 else frame(draw)
         records.append((moment, data, len(data)))
     for _ in range(2):
-        told = read_report(plain_switch.report(text, write_capture(records)))
+        told = read_report(plain_switch.report(text, write_capture(records), lines, workers))
         sent = [told[packet].sent() for packet in sorted(told)]
         for data in filter(None, (reply(data) for data in sent if data and draw.random() < 0.2)):
             moment += 1_000
             records.append((moment, data, len(data)))
     trace = write_capture(records)
-    return text, trace, plain_switch.report(text, trace)
+    return (text.encode(), lines, trace, workers), plain_switch.report(text, trace, lines, workers)
 
 
-def run(folder, text, trace):
+def run(folder, text, lines, trace, workers):
     names = [os.path.join(folder, name) for name in ("policy.json", "commands.jsonl", "trace.pcap")]
-    for name, data in zip(names, (text.encode(), b"", trace)):
+    for name, data in zip(names, (text, lines, trace)):
         with open(name, "wb") as file:
             file.write(data)
-    return subprocess.run([os.path.join(ROOT, "vsw"), "forward", *names], capture_output=True, check=True).stdout.decode()
+    words = [os.path.join(ROOT, "vsw"), "forward", *([f"--workers={workers}"] if workers > 1 else []), *names]
+    return subprocess.run(words, capture_output=True, check=True).stdout.decode()
 
 
 def main():
@@ -148,11 +179,12 @@ def main():
     fates, differ = collections.Counter(), []
     with tempfile.TemporaryDirectory() as folder:
         for seed in range(first, first + runs):
-            text, trace, wanted = drawn(seed)
-            if run(folder, text, trace) != wanted:
+            files, wanted = drawn(seed)
+            if run(folder, *files) != wanted:
                 differ.append(seed)
             for told in read_report(wanted).values():
                 fates[told.mark + " ".join(told.fate.split()[:2 if told.fate.startswith("drop") else 1])] += 1
+            fates.update(" ".join(line.split()[3:]) for line in wanted.splitlines() if line.startswith("c"))
     for fate, count in sorted(fates.items()):
         print(fate, count)
     print(f"{runs - len(differ)} of {runs} runs agree; seeds that differ: {differ}")

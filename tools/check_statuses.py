@@ -100,8 +100,10 @@ def main():
     with tempfile.TemporaryDirectory() as folder:
         for what, words, status, complaint in cases(folder):
             look(what, run(words), status, complaint)
-        many = ["forward", POLICY, COMMANDS, os.path.join(folder, "records")]
-        look("little memory", run(many, program=os.path.join(TOP, "crates/vsw/out/vsw"), limit=16_384), 9, b"vsw: memory\n")
+        large = ["forward", os.path.join(folder, "spaces"), COMMANDS, TRACE]
+        with open(large[1], "wb") as out:
+            out.write(b" " * 4_194_304)
+        look("little memory", run(large, program=os.path.join(TOP, "crates/vsw/out/vsw"), limit=4_096), 9, b"vsw: memory\n")
     with open("/dev/full", "wb") as full:
         look("a full disk", run(["forward", POLICY, COMMANDS, TRACE], full), 4, b"vsw: write fault\n")
     sys.exit(1 if wrong else print("each status came, with its words") or 0)

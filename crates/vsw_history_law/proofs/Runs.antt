@@ -21,12 +21,15 @@ use Rattle.vsw_report.specs.declared.round.Round.{Round}
 use Rattle.vsw_promise.specs.Complaint.{status_of}
 use Rattle.vsw_pcap.specs.Capture.{IsCapture}
 use Rattle.vsw_promise.specs.Files.{InTurn, HasBadPolicy, HasBadCommands, Reaches}
-use Rattle.vsw_promise.specs.IsRun.{IsRun, TraceRead, Runs, RunsBy, EndsByTrace}
+use Rattle.vsw_promise.specs.IsRun.{IsRun, TraceRead, Runs, RunsBy, RunsGenerated, EndsByTrace, PutsSummary}
+use Rattle.vsw_promise.specs.Alone.{rounds_alone}
+use Rattle.vsw_promise.specs.Generated.{Summarizes, alone_under, generated_records}
+use Rattle.vsw_promise.specs.Summary.{summary_text}
 use Rattle.vsw_promise.specs.Jobs.{Setting, cuts, cuts_within}
 use Rattle.vsw_report.specs.Print.{report_text}
 use Rattle.vsw_promise.specs.Rounds.{AreRounds}
 use Rattle.vsw_promise.specs.Trace.{All as Whole, Trace, Tells}
-use Rattle.vsw_request.specs.Words.{Request, request_in}
+use Rattle.vsw_request.specs.Words.{Request, Asked, Forward, Generate, asked_in}
 use Rattle.vsw_history_law.specs.Law.{AreAsked, AreAlike, HasNoFault, OneStatus, OneRun, TellsWant}
 use Rattle.vsw_history_law.proofs.Endings.{Says, one_ending, IsOfFile, header_longer, says_cut, says_huge, says_more}
 use Rattle.vsw_history_law.proofs.Values.{one_value}
@@ -276,32 +279,61 @@ agree q files old new other last e f (ByTrace i a) (AtCommands how j b h) =
     absurd (not_both a.setting.commands how (sym a.commands_good ∙ (same_commands files q.commands a.commands b.commands a.setting.policy b.given a.commands_held b.held policies ∙ b.bad)))
 agree q files old new other last e f (ByTrace i a) (ByTrace j b) = by_trace q files old new other last e f i a b
 
+-- ---- a generated workload
+
+-- where nothing failed and memory sufficed, the summary was put
+summarized : (start packets : ℕ) (old new : Outside) (e : Ending) → HasNoFault old new → (status_of e ≡ status.Memory → ⊥) → RunsGenerated start packets old new e → (e ≡ ending.Done) × PutsSummary start packets old new false
+summarized start packets old new ending.Done clean plenty r = (refl, r.ends)
+summarized start packets old new ending.WriteFault clean plenty r = absurd (clean.put r.ends.0)
+summarized start packets old new ending.Memory clean plenty r = absurd (plenty refl)
+summarized start packets old new ending.Usage clean plenty r = absurd r.ends
+summarized start packets old new ending.ReadFault clean plenty r = absurd r.ends
+summarized start packets old new (ending.Policy why) clean plenty r = absurd r.ends
+summarized start packets old new (ending.Commands why) clean plenty r = absurd r.ends
+summarized start packets old new (ending.Trace bad) clean plenty r = absurd r.ends
+summarized start packets old new ending.Records clean plenty r = absurd r.ends
+
+-- there is one summary
+one_summary : (start packets : ℕ) (a b : List ℕ) → Summarizes start packets false a → Summarizes start packets false b → a ≡ b
+one_summary start packets a b x y =
+    let records = generated_records start packets in
+    let cs = cuts [] packets in
+    let policies : x.policy ≡ y.policy = ok_is x.policy y.policy (sym x.good ∙ y.good) in
+    let first = one_value (alone_under x.policy) records cs x.rounds refl tt x.are x.short_is in
+    let second = one_value (alone_under y.policy) records cs y.rounds refl tt y.are y.short_is in
+    x.text_is ∙ (ap (summary_text packets) (first ∙ (ap (λ p. rounds_alone (alone_under p) records cs) policies ∙ sym second)) ∙ sym y.text_is)
+
 -- ---- one run
 
-runs_as : (words : List (List ℕ)) (o : Option Request) (old new : Outside) (s : Status) (r : IsRun words old new s) → request_in words ≡ o → RunsBy o old new r.end
+runs_as : (words : List (List ℕ)) (o : Option Asked) (old new : Outside) (s : Status) (r : IsRun words old new s) → asked_in words ≡ o → RunsBy o old new r.end
 runs_as words o old new s r e = subst (λ w. RunsBy w old new r.end) e r.runs
 
-record Both (q : Option Request) (old new other last : Outside) (e f : Ending) : Type 0 where
+record Both (q : Option Asked) (old new other last : Outside) (e f : Ending) : Type 0 where
   ends : e ≡ f
-  text : ((r : Request) → q ≡ Some r → r.workers ≡ 1) → (a b : List ℕ) → old.put ≡ Some [] → other.put ≡ Some [] → new.put ≡ Some a → last.put ≡ Some b → ¬ (TellsWant a) → ¬ (TellsWant b) → a ≡ b
+  text : ((r : Request) → q ≡ Some (Forward r) → r.workers ≡ 1) → (a b : List ℕ) → old.put ≡ Some [] → other.put ≡ Some [] → new.put ≡ Some a → last.put ≡ Some b → ¬ (TellsWant a) → ¬ (TellsWant b) → a ≡ b
 
-both : (words : List (List ℕ)) (old new other last : Outside) (s t : Status) (o : Option Request) → request_in words ≡ o → AreAlike old other → HasNoFault old new → HasNoFault other last → (r : IsRun words old new s) (u : IsRun words other last t) → s ≢ status.Memory → t ≢ status.Memory → Both o old new other last r.end u.end
+both : (words : List (List ℕ)) (old new other last : Outside) (s t : Status) (o : Option Asked) → asked_in words ≡ o → AreAlike old other → HasNoFault old new → HasNoFault other last → (r : IsRun words old new s) (u : IsRun words other last t) → s ≢ status.Memory → t ≢ status.Memory → Both o old new other last r.end u.end
 both words old new other last s t None e same clean also r u m n =
     let a = runs_as words None old new s r e in
     let b = runs_as words None other last t u e in
     record { ends = a.usage ∙ sym b.usage; text = λ w x y o p k l none nothing. put_is old.put new.put [] x o k a.nothing ∙ sym (put_is other.put last.put [] y p l b.nothing) }
-both words old new other last s t (Some q) e same clean also r u m n =
-    let a = found q old new same.files r.end same.told clean (λ k. m (r.status_is ∙ k)) (runs_as words (Some q) old new s r e) in
-    let b = found q other last same.others u.end same.told_too also (λ k. n (u.status_is ∙ k)) (runs_as words (Some q) other last t u e) in
+both words old new other last s t (Some (Forward q)) e same clean also r u m n =
+    let a = found q old new same.files r.end same.told clean (λ k. m (r.status_is ∙ k)) (runs_as words (Some (Forward q)) old new s r e) in
+    let b = found q other last same.others u.end same.told_too also (λ k. n (u.status_is ∙ k)) (runs_as words (Some (Forward q)) other last t u e) in
     let agreed = agree q same.files.files old.put new.put other.put last.put r.end u.end a (subst (λ f. Found q f other.put last.put u.end) (sym same.same) b) in
     record { ends = agreed.ends; text = λ w. agreed.text (w q refl) }
 
+both words old new other last s t (Some (Generate start packets)) e same clean also r u m n =
+    let a = summarized start packets old new r.end clean (λ k. m (r.status_is ∙ k)) (runs_as words (Some (Generate start packets)) old new s r e) in
+    let b = summarized start packets other last u.end also (λ k. n (u.status_is ∙ k)) (runs_as words (Some (Generate start packets)) other last t u e) in
+    record { ends = a.0 ∙ sym b.0; text = λ w x y o p k l none nothing. put_is old.put new.put a.1.text x o k a.1.puts ∙ (one_summary start packets a.1.text b.1.text a.1.summarizes b.1.summarizes ∙ sym (put_is other.put last.put b.1.text y p l b.1.puts)) }
+
 pub one_status : OneStatus
 one_status words old new other last s t same clean also r u m n =
-    r.status_is ∙ (ap status_of (both words old new other last s t (request_in words) refl same clean also r u m n).ends ∙ sym u.status_is)
+    r.status_is ∙ (ap status_of (both words old new other last s t (asked_in words) refl same clean also r u m n).ends ∙ sym u.status_is)
 
 pub one_run : OneRun
 one_run words old new other last s t same clean also r u m n w a b =
-    let agreed = both words old new other last s t (request_in words) refl same clean also r u m n in
+    let agreed = both words old new other last s t (asked_in words) refl same clean also r u m n in
     let texts = agreed.text w a.text b.text a.before b.before a.now b.now a.plenty b.plenty in
     (a.now ∙ (ap (λ x. Some x) texts ∙ sym b.now), r.status_is ∙ (ap status_of agreed.ends ∙ sym u.status_is))

@@ -23,7 +23,7 @@ use Rattle.vsw_report.specs.declared.told.What.{What}
 use Rattle.vsw_report.specs.declared.told.What.TheVariants as what
 use Rattle.vsw_history.specs.Calls.{Job, Carry, Ask, Call, job_of, job_item, job_doer, jobs_by, calls_of, Legal, HasBytes}
 use Rattle.vsw_promise.specs.IsRun.{IsRun}
-use Rattle.vsw_request.specs.Words.{Request, request_in}
+use Rattle.vsw_request.specs.Words.{Request, Forward, asked_in}
 use Rattle.vsw_promise.specs.Agree.{lines_at}
 use Rattle.vsw_promise.specs.Alone.{rounds_alone}
 use Rattle.vsw_promise.specs.Trace.{Trace, TellsAll}
@@ -130,7 +130,7 @@ pub record PutsPlenty (old new : Outside) : Type 0 where
 abbrev pub OneRun : Type 0
 OneRun = (words : List (List ℕ)) (old new other last : Outside) (s t : Status) → AreAlike old other → HasNoFault old new → HasNoFault other last
     → IsRun words old new s → IsRun words other last t → s ≢ status.Memory → t ≢ status.Memory
-    → ((q : Request) → request_in words ≡ Some q → q.workers ≡ 1) → PutsPlenty old new → PutsPlenty other last → (new.put ≡ last.put) × (s ≡ t)
+    → ((q : Request) → asked_in words ≡ Some (Forward q) → q.workers ≡ 1) → PutsPlenty old new → PutsPlenty other last → (new.put ≡ last.put) × (s ≡ t)
 
 -- ---- controllers
 

@@ -129,8 +129,9 @@ impl Batch {
         lend(&self.bytes, &self.marks[place])
     }
 
-    /// Appends a record, whose bytes it copies; where there is no memory for it, nothing changes.
-    pub(crate) fn push(
+    /// Appends a record, which came at this moment and had `original` bytes; those that were captured are copied. Where there is
+    /// no memory for it, nothing changes.
+    pub fn push(
         &mut self,
         moment: Moment,
         original: u32,

@@ -1,5 +1,7 @@
 pub mod IsRun
 pub mod Trace
+pub mod Generated
+pub mod Summary
 pub mod Files
 pub mod Complaint
 pub mod Rounds

@@ -104,6 +104,20 @@ until_below commands total low k h = (has_until commands total low k h).1
 pub within_below : (commands : List Line) (total k : ℕ) → Has k (cuts_within commands total) → k < total
 within_below commands total k h = until_below commands total total k h
 
+-- a filter that each passes
+filter_all : (p : ℕ → Bool) (ms : List ℕ) → ((k : ℕ) → Has k ms → p k ≡ true) → filter p ms ≡ ms
+filter_all p [] f = refl
+filter_all p (m ∷ ms) f = let here : p m ≡ true = f m (inl refl) in rw here (ap (λ w. m ∷ w) (filter_all p ms (λ k h. f k (inr h))))
+
+-- without commands no round begins past the last packet
+pub all_within : (total : ℕ) → 0 < total → cuts_within [] total ≡ cuts [] total
+all_within total some = filter_all (λ n. nat_lt n total) (cuts [] total) (λ k h. below k total (by k (has_cut [] total k h)))
+  where
+    by : (k : ℕ) → IsCutOf [] total k → k < total
+    by k (inl e) = omega (arith, e, some)
+    by k (inr (inl t)) = absurd (cc t)
+    by k (inr (inr t)) = t.2
+
 -- cuts and one more behind them
 push_ascends : (commands : List Line) (total low n : ℕ) → low ≤ n → Ascends 0 (cuts_until commands total low ++ n ∷ [])
 push_ascends commands total low n le = ascends_append 0 n (cuts_until commands total low) (n ∷ []) (omega arith) (until_ascends commands total low) (λ k h. omega (arith, le, until_below commands total low k h)) (omega arith, tt)

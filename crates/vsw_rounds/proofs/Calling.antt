@@ -1,6 +1,7 @@
 -- A port in the midst of a round: its jobs so far are calls, one after the other.
-use Rattle.std.proofs.Common.{◌≡◌, ◌≤◌, ℕ, List, [], ◌∷◌, ◌++◌, length, map, refl, ap, ap₂, sym, ◌∙◌, subst, arith, append_assoc}
+use Rattle.std.proofs.Common.{◌≡◌, ◌≤◌, ◌+◌, ℕ, Bool, List, [], ◌∷◌, ◌++◌, length, map, refl, ap, ap₂, sym, ◌∙◌, subst, arith, append_assoc}
 use Rattle.std.proofs.lemmas.List.{length-map}
+use Rattle.vsw_base.specs.declared.fate.Fate.{Fate}
 use Rattle.vsw_history.specs.declared.event.Event.{Event}
 use Rattle.vsw_history.specs.Calls.{Call, Deed, Job, Carried, Asked, controller_at, job_of}
 use Rattle.vsw_history.specs.Next.{Goes, IsNext}
@@ -11,13 +12,39 @@ use Rattle.vsw_history.proofs.Next.{goes_none, goes_on}
 use Rattle.vsw_policy.specs.Sound.{Each, is_listed}
 use Rattle.vsw_ports.specs.Ports.{PortSeen}
 use Rattle.vsw_promise.specs.Rounds.{opening_of}
-use Rattle.vsw_promise.specs.Told.{by_of}
+use Rattle.vsw_promise.specs.Summary.{dropped, in_line, passed, size_of, total}
+use Rattle.vsw_promise.specs.Told.{by_of, what_of}
 use Rattle.vsw_switch.specs.Does.{Does, HasCaller, told_controllers, told_workers, with_call}
 use Rattle.vsw_switch.specs.Switch.{PortNow, StandsAt}
+use Rattle.vsw_switch.specs.Tally.{counted_in}
+use Rattle.vsw_switch.specs.declared.tally.Tally.{Tally}
 use Rattle.vsw_switch.proofs.Opened.{length_counted}
 use Rattle.vsw_told_law.specs.Law.{IsKnown}
 use Rattle.vsw_rounds.proofs.Steps.{DoesEach}
 use Rattle.vsw_rounds.proofs.Tellings.{Tells, map_append, tells, text, texts}
+use Rattle.vsw_rounds.proofs.Totals.{total_append}
+
+-- what became of the packet of a call
+abbrev pub of_call : (Fate → ℕ) → Call → ℕ
+of_call f c = in_line f (what_of c.deed)
+
+-- the tally of calls
+abbrev pub tally_over : List Call → Tally
+tally_over calls = record { pass = total (of_call passed) calls; drop = total (of_call dropped) calls; bytes = total (of_call size_of) calls }
+
+one_more : (f : Fate → ℕ) (calls : List Call) (c : Call) → total (of_call f) calls + of_call f c ≡ total (of_call f) (calls ++ c ∷ [])
+one_more f calls c = let e = total_append (of_call f) calls (c ∷ []) in omega (arith, e)
+
+tally_more : (calls : List Call) (d : Deed) (entry : Bool) (count : ℕ) → counted_in (what_of d) (tally_over calls) ≡ tally_over (calls ++ record { deed = d; entry = entry; count = count } ∷ [])
+tally_more calls (Carried x parts fate bytes) entry count =
+    let c : Call = record { deed = Carried x parts fate bytes; entry = entry; count = count } in
+    λ i. record { pass = one_more passed calls c i; drop = one_more dropped calls c i; bytes = one_more size_of calls c i }
+tally_more calls (Asked l reply) entry count =
+    let c : Call = record { deed = Asked l reply; entry = entry; count = count } in
+    λ i. record { pass = same passed c refl i; drop = same dropped c refl i; bytes = same size_of c refl i }
+  where
+    same : (f : Fate → ℕ) (c : Call) → of_call f c ≡ 0 → total (of_call f) calls ≡ total (of_call f) (calls ++ c ∷ [])
+    same f c none = let e = one_more f calls c in omega (arith, e, none)
 
 -- a port in the midst of a round that began with this history, after these jobs
 pub record PortGoes (workers : ℕ) (seen : PortSeen) (before : List Event) (jobs : List Job) (p : PortNow) : Type 0 where
@@ -31,6 +58,7 @@ pub record PortGoes (workers : ℕ) (seen : PortSeen) (before : List Event) (job
   pub callers : Each (λ c. IsKnown workers seen.controllers c.deed) calls
   pub workers_are : p.workers ≡ texts seen.controllers calls (counted 0 workers)
   pub controllers_are : p.controllers ≡ texts seen.controllers calls (map (controller_at seen.controllers) (ascending seen.controllers))
+  pub tally : p.tally ≡ tally_over calls
 
 map_map : (cs ns : List ℕ) → map (λ n. []) ns ≡ texts cs [] (map (controller_at cs) ns)
 map_map cs [] = refl
@@ -49,6 +77,7 @@ port_begins workers seen h p s = record {
   callers = tt;
   workers_are = s.workers_are;
   controllers_are = s.controllers_are ∙ map_map seen.controllers (ascending seen.controllers);
+  tally = s.tally;
 }
 
 -- a job's caller is the deed's
@@ -81,6 +110,7 @@ port_does workers seen before jobs j p q few g d = subst (λ w. PortGoes workers
       callers = each_append (λ c. IsKnown workers seen.controllers c.deed) g.calls (d.call ∷ []) g.callers (of, tt);
       workers_are = ap (told_workers (by_of d.call.deed) (text d.call)) g.workers_are ∙ told.workers_are;
       controllers_are = ap₂ (λ o w. told_controllers o.controllers (by_of d.call.deed) (text d.call) w) g.opening g.controllers_are ∙ told.controllers_are;
+      tally = ap (counted_in (what_of d.call.deed)) g.tally ∙ tally_more g.calls d.call.deed d.call.entry d.call.count;
     }
 
 -- several more

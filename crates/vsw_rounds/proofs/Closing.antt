@@ -1,6 +1,7 @@
 -- The end of a round: what each port did is a port's round as promised, with the text that is appended.
-use Rattle.std.proofs.Common.{◌≡◌, ◌≤◌, ◌-◌, ℕ, suc, ◌||◌, Bool, List, [], ◌∷◌, ◌++◌, length, map, refl, ap, ap₂, sym, ◌∙◌, subst}
+use Rattle.std.proofs.Common.{◌≡◌, ◌≤◌, ◌+◌, ◌-◌, ℕ, suc, ◌||◌, Bool, List, [], ◌∷◌, ◌++◌, length, map, refl, ap, ap₂, sym, ◌∙◌, subst}
 use Rattle.std.specs.List.{flat_map, list_any}
+use Rattle.vsw_base.specs.declared.fate.Fate.{Fate}
 use Rattle.vsw_history.specs.declared.event.Event.{Event}
 use Rattle.vsw_history.specs.Calls.{Call, Job, controller_at, entries_of, job_of}
 use Rattle.vsw_history.specs.Next.{Goes}
@@ -12,7 +13,8 @@ use Rattle.vsw_policy.specs.Sound.{Each}
 use Rattle.vsw_ports.specs.Ports.{PortSeen}
 use Rattle.vsw_promise.specs.Jobs.{Jobs, Placed, Setting, at_place, before_jobs, during_jobs, macs_of, packet_jobs, packets_between}
 use Rattle.vsw_promise.specs.Rounds.{AllBegin, AreHistories, ArePortRounds, IsPortRound, opening_of}
-use Rattle.vsw_promise.specs.Told.{lines_of}
+use Rattle.vsw_promise.specs.Summary.{dropped, in_line, in_port, passed, size_of, total}
+use Rattle.vsw_promise.specs.Told.{in_told_order, line_of, lines_of}
 use Rattle.vsw_promise.proofs.PortRounds.{round_of_goes}
 use Rattle.vsw_report.specs.declared.round.PortRound.{PortRound}
 use Rattle.vsw_report.specs.declared.told.ToldLine.{ToldLine}
@@ -22,9 +24,10 @@ use Rattle.vsw_switch.specs.Close.{IsCounted, begun, is_short_now, lines_now, te
 use Rattle.vsw_switch.specs.Switch.{AllStandAt, PortNow, StandsAt}
 use Rattle.vsw_told_law.specs.Law.{texts_of}
 use Rattle.vsw_told_law.proofs.Telling.{counts_stand, merge_tells}
-use Rattle.vsw_rounds.proofs.Calling.{PortGoes, port_begins, port_goes}
+use Rattle.vsw_rounds.proofs.Calling.{PortGoes, of_call, port_begins, port_goes}
 use Rattle.vsw_rounds.proofs.Steps.{AllEach}
 use Rattle.vsw_rounds.proofs.Tellings.{map_append, texts}
+use Rattle.vsw_rounds.proofs.Totals.{total_map, total_told}
 
 -- ---- one port
 
@@ -88,6 +91,13 @@ port_says p calls t = ap (λ w. port_line p.number p.before (length p.journal) +
 port_short : (p : PortNow) (calls : List Call) → PortTells p calls → is_short_now p ≡ is_short_port (round_of p calls)
 port_short p calls t = ap (list_any (λ l. l.short)) t.lines ∙ any_short (round_of p calls).lines
 
+-- what became of a port's packets is the sum over its lines
+port_total : (f : Fate → ℕ) (workers : ℕ) (seen : PortSeen) (before : List Event) (jobs : List Job) (p : PortNow) → workers ≤ 16 → (g : PortGoes workers seen before jobs p) → total (of_call f) g.calls ≡ in_port f (round_of p g.calls)
+port_total f workers seen before jobs p few g =
+    sym (total_told (of_call f) (opening_of seen) before p.journal workers g.calls g.goes few g.callers)
+    ∙ (ap₂ (λ cs n. total (of_call f) (in_told_order cs g.calls n (length p.journal - n))) (ap (λ o. o.controllers) (sym g.opening)) (sym g.before_is)
+    ∙ sym (total_map (λ l. in_line f l.what) line_of (in_told_order p.opening.controllers g.calls p.before (length p.journal - p.before))))
+
 emptied_are : {A : Type 0} (f : A → List TextLine) (xs : List A) → emptied (map f xs) ≡ map (λ x. []) xs
 emptied_are f [] = refl
 emptied_are f (x ∷ xs) = ap (λ w. [] ∷ w) (emptied_are f xs)
@@ -107,6 +117,7 @@ stands_next workers seen before jobs p g = record {
   before = refl;
   workers_are = ap emptied g.workers_are ∙ emptied_are _ (counted 0 workers);
   controllers_are = ap emptied g.controllers_are ∙ emptied_twice seen.controllers (ascending seen.controllers) g.calls;
+  tally = refl;
 }
 
 -- ---- all ports
@@ -149,9 +160,12 @@ pub record Ended (s : Setting) (first : ℕ) (packets : List (ℕ × Record)) (n
   pub counts : Each IsCounted ps
   pub text : flat_map text_now ps ≡ flat_map port_text rounds
   pub short : list_any is_short_now ps ≡ list_any is_short_port rounds
+  pub pass : total (λ p. p.tally.pass) ps ≡ total (in_port passed) rounds
+  pub drop : total (λ p. p.tally.drop) ps ≡ total (in_port dropped) rounds
+  pub size : total (λ p. p.tally.bytes) ps ≡ total (in_port size_of) rounds
 
 pub all_end : (s : Setting) (first : ℕ) (packets : List (ℕ × Record)) (ts : List Placed) (n : ℕ) (ss : List PortSeen) (hs : List (List Event)) (ps : List PortNow) → s.workers ≤ 16 → AreDealt s first packets ts n ss → AllGo s.workers ts n ss hs ps → Ended s first packets n ss hs ps
-all_end s first packets ts n [] [] [] few d g = record { histories = []; rounds = []; are = λ records next e. tt; right = tt; begin = tt; before = refl; after = refl; stand = tt; counts = tt; text = refl; short = refl }
+all_end s first packets ts n [] [] [] few d g = record { histories = []; rounds = []; are = λ records next e. tt; right = tt; begin = tt; before = refl; after = refl; stand = tt; counts = tt; text = refl; short = refl; pass = refl; drop = refl; size = refl }
 all_end s first packets ts n (seen ∷ ss) (h ∷ hs) (p ∷ ps) few d g = joined seen ss h hs p ps (subst (λ js. PortGoes s.workers seen h js p) d.0 g.0) (all_end s first packets ts (suc n) ss hs ps few d.1 g.1)
   where
     joined : (seen : PortSeen) (ss : List PortSeen) (h : List Event) (hs : List (List Event)) (p : PortNow) (ps : List PortNow)
@@ -171,6 +185,9 @@ all_end s first packets ts n (seen ∷ ss) (h ∷ hs) (p ∷ ps) few d g = joine
           counts = (tells.counted_so, rest.counts);
           text = ap₂ (λ x y. x ++ y) (port_says p here.calls tells) rest.text;
           short = ap₂ (λ a b. a || b) (port_short p here.calls tells) rest.short;
+          pass = ap₂ (λ a b. a + b) (ap (λ t. t.pass) here.tally ∙ port_total passed s.workers seen h (jobs.first ++ jobs.later) p few here) rest.pass;
+          drop = ap₂ (λ a b. a + b) (ap (λ t. t.drop) here.tally ∙ port_total dropped s.workers seen h (jobs.first ++ jobs.later) p few here) rest.drop;
+          size = ap₂ (λ a b. a + b) (ap (λ t. t.bytes) here.tally ∙ port_total size_of s.workers seen h (jobs.first ++ jobs.later) p few here) rest.size;
         }
 all_end s first packets ts n [] [] (p ∷ ps) few d g = absurd g
 all_end s first packets ts n [] (h ∷ hs) ps few d g = absurd g

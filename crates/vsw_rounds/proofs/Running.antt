@@ -9,17 +9,20 @@ use Rattle.vsw_pcap.specs.declared.capture.Record.{Record}
 use Rattle.vsw_policy.specs.Sound.{are_distinct}
 use Rattle.vsw_ports.specs.Ports.{PortSeen, ports_of}
 use Rattle.vsw_promise.specs.Jobs.{Placed, Setting, loose_among, macs_of, placed_packets}
+use Rattle.vsw_promise.specs.Summary.{dropped, in_port, passed, size_of, total}
 use Rattle.vsw_report.specs.declared.round.Round.{Round}
 use Rattle.vsw_report.specs.Print.{loose_text, round_text}
 use Rattle.vsw_schedule.specs.Schedule.{commands_at}
-use Rattle.vsw_switch.specs.Close.{AreCounted, is_short_now, next_round, round_now}
+use Rattle.vsw_switch.specs.Close.{AreCounted, begun, is_short_now, last_of, next_round, round_now}
 use Rattle.vsw_switch.specs.Does.{DoesAll, Works, macs_in, numbers_in, placed_line}
 use Rattle.vsw_switch.specs.Switch.{AllStandAt, IsAt, PortNow, SwitchNow}
+use Rattle.vsw_switch.specs.declared.tally.Tally.{Tally}
 use Rattle.vsw_rounds.specs.Round.{RunsRound}
 use Rattle.vsw_rounds.specs.Steps.{ForwardsAll, lines_at}
 use Rattle.vsw_rounds.proofs.Asking.{AsksOf, lines_are}
 use Rattle.vsw_rounds.proofs.Closing.{AreDealt, Ended, all_end, all_go}
 use Rattle.vsw_rounds.proofs.Dealing.{StandInPlace, jobs_done, jobs_there, stand_in_place}
+use Rattle.vsw_rounds.proofs.Totals.{total_map}
 use Rattle.vsw_rounds.proofs.Steps.{each_place, works_join, works_macs, works_numbers}
 
 -- ---- the jobs of a round
@@ -86,6 +89,10 @@ pub record Closes (first : ℕ) (b c : SwitchNow) (short : Bool) (old new : List
   pub next : AreCounted b → c ≡ next_round b
   pub apart : are_distinct (numbers_in b) ≡ true
 
+-- the tallies of the round that ended are those of the round before the next
+last_sum : (f : Tally → ℕ) (ps : List PortNow) (n : ℕ) → total (λ p. f p.tally) ps ≡ n → total (λ p. f p.last) (map begun ps) ≡ n
+last_sum f ps n e = total_map (λ p. f p.last) begun ps ∙ e
+
 runs_round : (s : Setting) (hs : List (List Event)) (first : ℕ) (packets : List Record) (a b c : SwitchNow) (short : Bool) (old new : List ℕ) → IsAt s hs a
     → Works a (jobs_done a.workers (numbers_in a) (macs_in a) s.commands first (numbered first packets)) (loose_among (macs_in a) (numbered first packets)) b → Closes first b c short old new → RunsRound s hs first packets c short old new
 runs_round s hs first packets a b c short old new at w closes =
@@ -107,6 +114,7 @@ runs_round s hs first packets a b c short old new at w closes =
       at = subst (IsAt s e.histories) (sym (closes.next e.counts)) stands;
       short_is = closes.short_is e.counts ∙ e.short;
       text = closes.text e.counts ∙ ap (λ t. old ++ t) text;
+      tally = ap (λ t. last_of t.ports) (closes.next e.counts) ∙ (λ i. record { pass = last_sum (λ t. t.pass) b.ports (total (in_port passed) e.rounds) e.pass i; drop = last_sum (λ t. t.drop) b.ports (total (in_port dropped) e.rounds) e.drop i; bytes = last_sum (λ t. t.bytes) b.ports (total (in_port size_of) e.rounds) e.size i });
     }
 
 -- whatever the run's setting: its commands are those of the schedule

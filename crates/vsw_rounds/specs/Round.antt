@@ -9,7 +9,9 @@ use Rattle.vsw_promise.specs.Rounds.{IsRound, AllBegin, AreHistories}
 use Rattle.vsw_report.specs.declared.round.Round.{Round}
 use Rattle.vsw_report.specs.Print.{round_text}
 use Rattle.vsw_report.specs.Short.{is_short_round}
+use Rattle.vsw_switch.specs.Close.{last_of}
 use Rattle.vsw_switch.specs.Switch.{SwitchNow, IsAt}
+use Rattle.vsw_switch.specs.Tally.{tally_in}
 
 -- a switch that stood at these histories ran the round of these packets, of which the first has this number in the trace, and appended
 -- its text. It is that round of every trace that has these packets there
@@ -24,3 +26,4 @@ pub record RunsRound (s : Setting) (hs : List (List Event)) (first : ℕ) (packe
   pub at : IsAt s histories now
   pub short_is : short ≡ is_short_round round
   pub text : new ≡ old ++ round_text round
+  pub tally : last_of now.ports ≡ tally_in round

@@ -18,6 +18,8 @@ use Rattle.vsw_report.specs.declared.told.By.TheVariants as by
 use Rattle.vsw_report.specs.declared.told.What.TheVariants as what
 use Rattle.vsw_switch.specs.Does.{Does, told_at}
 use Rattle.vsw_switch.specs.Switch.{PortNow}
+use Rattle.vsw_switch.specs.Tally.{both, tally_of}
+use Rattle.vsw_switch.specs.declared.tally.Tally.{Tally}
 
 entered_is : (b : Bool) (d : Deed) (n : ℕ) → entered b (event_of d) ≡ entries_of (record { deed = d; entry = b; count = n } ∷ [])
 entered_is true d n = refl
@@ -41,45 +43,45 @@ journal_is : (old mid new : CoreSeen) (d : Deed) (entry : Bool) (count : ℕ) �
 journal_is old mid new d entry count m = m.journal ∙ ap₂ (λ x y. x ++ y) m.mid_journal (entered_is entry d count)
 
 -- the call of a packet
-pub carried : (number mac before : ℕ) (old mid new : CoreSeen) (ws us cs : List (List TextLine)) (p : PortNow) (x : Crossing) (parts : Parts) (fate : Fate) (bytes : List ℕ) (entry : Bool) (count : ℕ) (r : Result ⊤ NoMemory)
-    → record { number = number; mac = mac; opening = old.opening; journal = old.journal; before = before; workers = ws; controllers = cs } ≡ p
+pub carried : (number mac before : ℕ) (old mid new : CoreSeen) (ws us cs : List (List TextLine)) (tally after last : Tally) (p : PortNow) (x : Crossing) (parts : Parts) (fate : Fate) (bytes : List ℕ) (entry : Bool) (count : ℕ) (r : Result ⊤ NoMemory)
+    → record { number = number; mac = mac; opening = old.opening; journal = old.journal; before = before; workers = ws; controllers = cs; tally = tally; last = last } ≡ p → after ≡ both tally (tally_of fate)
     → Moves old mid new (Carried x parts fate bytes) entry count → IsNext mid.opening mid.journal (call_of (Carried x parts fate bytes) entry (length mid.journal)) → x.caller < length p.workers
     → OnOk r (us ≡ told_at x.caller (text_of (record { by = by.Worker x.caller; item = x.packet; entry = entry; count = count; what = what.Fate fate bytes })) ws)
-    → OnOk r (Does p (Carry x parts) (record { number = number; mac = mac; opening = new.opening; journal = new.journal; before = before; workers = us; controllers = cs }))
-carried number mac before old mid new ws us cs p x parts fate bytes entry count (Err e) view m n lt t = tt
-carried number mac before old mid new ws us cs p x parts fate bytes entry count (Ok u) view m n lt t =
+    → OnOk r (Does p (Carry x parts) (record { number = number; mac = mac; opening = new.opening; journal = new.journal; before = before; workers = us; controllers = cs; tally = after; last = last }))
+carried number mac before old mid new ws us cs tally after last p x parts fate bytes entry count (Err e) view sums m n lt t = tt
+carried number mac before old mid new ws us cs tally after last p x parts fate bytes entry count (Ok u) view sums m n lt t =
     let here : length mid.journal ≡ count = ap length m.mid_journal ∙ sym m.count_is in
     let counted : IsNext mid.opening mid.journal (call_of (Carried x parts fate bytes) entry count) = subst (λ k. IsNext mid.opening mid.journal (call_of (Carried x parts fate bytes) entry k)) here n in
     let next : IsNext old.opening old.journal (call_of (Carried x parts fate bytes) entry count) = subst (λ o. IsNext o old.journal (call_of (Carried x parts fate bytes) entry count)) m.mid_opening (subst (λ h. IsNext mid.opening h (call_of (Carried x parts fate bytes) entry count)) m.mid_journal counted) in
     let opening = opening_is old mid new (Carried x parts fate bytes) entry count m in
     let journal = journal_is old mid new (Carried x parts fate bytes) entry count m in
-    subst (λ w. Does w (Carry x parts) (record { number = number; mac = mac; opening = new.opening; journal = new.journal; before = before; workers = us; controllers = cs })) view (record {
+    subst (λ w. Does w (Carry x parts) (record { number = number; mac = mac; opening = new.opening; journal = new.journal; before = before; workers = us; controllers = cs; tally = after; last = last })) view (record {
       caller = subst (λ w. x.caller < length w.workers) (sym view) lt;
       call = call_of (Carried x parts fate bytes) entry count;
       job = refl;
       next = next;
-      is = λ i. record { number = number; mac = mac; opening = opening i; journal = journal i; before = before; workers = t i; controllers = cs };
+      is = λ i. record { number = number; mac = mac; opening = opening i; journal = journal i; before = before; workers = t i; controllers = cs; tally = sums i; last = last };
     })
 
 -- the call of a command
-pub asked : (number mac before : ℕ) (old mid new : CoreSeen) (ws cs ds : List (List TextLine)) (listed : List ℕ) (p : PortNow) (l : Line) (reply : Reply) (entry : Bool) (count place : ℕ) (r : Result ⊤ NoMemory)
-    → record { number = number; mac = mac; opening = old.opening; journal = old.journal; before = before; workers = ws; controllers = cs } ≡ p
+pub asked : (number mac before : ℕ) (old mid new : CoreSeen) (ws cs ds : List (List TextLine)) (tally last : Tally) (listed : List ℕ) (p : PortNow) (l : Line) (reply : Reply) (entry : Bool) (count place : ℕ) (r : Result ⊤ NoMemory)
+    → record { number = number; mac = mac; opening = old.opening; journal = old.journal; before = before; workers = ws; controllers = cs; tally = tally; last = last } ≡ p
     → Moves old mid new (Asked l reply) entry count → IsDone mid.opening mid.journal (Asked l reply) entry → is_listed p.opening.controllers l.controller ≡ true
     → place ≡ place_of l.controller listed → listed ≡ ascending old.opening.controllers
     → OnOk r (ds ≡ told_at place (text_of (record { by = by.Controller l.controller; item = l.number; entry = entry; count = count; what = what.Reply reply })) cs)
-    → OnOk r (Does p (Ask l) (record { number = number; mac = mac; opening = new.opening; journal = new.journal; before = before; workers = ws; controllers = ds }))
-asked number mac before old mid new ws cs ds listed p l reply entry count place (Err e) view m d li at lists t = tt
-asked number mac before old mid new ws cs ds listed p l reply entry count place (Ok u) view m d li at lists t =
+    → OnOk r (Does p (Ask l) (record { number = number; mac = mac; opening = new.opening; journal = new.journal; before = before; workers = ws; controllers = ds; tally = tally; last = last }))
+asked number mac before old mid new ws cs ds tally last listed p l reply entry count place (Err e) view m d li at lists t = tt
+asked number mac before old mid new ws cs ds tally last listed p l reply entry count place (Ok u) view m d li at lists t =
     let done : IsDone old.opening old.journal (Asked l reply) entry = subst (λ o. IsDone o old.journal (Asked l reply) entry) m.mid_opening (subst (λ h. IsDone mid.opening h (Asked l reply) entry) m.mid_journal d) in
     let opening = opening_is old mid new (Asked l reply) entry count m in
     let journal = journal_is old mid new (Asked l reply) entry count m in
     let there : place ≡ place_of l.controller (ascending old.opening.controllers) = at ∙ ap (place_of l.controller) lists in
     let line : TextLine = text_of (record { by = by.Controller l.controller; item = l.number; entry = entry; count = count; what = what.Reply reply }) in
     let told : ds ≡ told_at (place_of l.controller (ascending old.opening.controllers)) line cs = t ∙ ap (λ k. told_at k line cs) there in
-    subst (λ w. Does w (Ask l) (record { number = number; mac = mac; opening = new.opening; journal = new.journal; before = before; workers = ws; controllers = ds })) view (record {
+    subst (λ w. Does w (Ask l) (record { number = number; mac = mac; opening = new.opening; journal = new.journal; before = before; workers = ws; controllers = ds; tally = tally; last = last })) view (record {
       caller = subst (λ w. is_listed w.opening.controllers l.controller ≡ true) (sym view) li;
       call = call_of (Asked l reply) entry count;
       job = refl;
       next = record { last = m.count_is; done = done; shows = tt };
-      is = λ i. record { number = number; mac = mac; opening = opening i; journal = journal i; before = before; workers = ws; controllers = told i };
+      is = λ i. record { number = number; mac = mac; opening = opening i; journal = journal i; before = before; workers = ws; controllers = told i; tally = tally; last = last };
     })

@@ -104,7 +104,7 @@ are_ports f workers made numbers macs ports good some is n m p =
 
 stand_first : (workers : ℕ) (ps : List PortSeen) → AllStandAt workers ps (map (λ p. []) ps) (map (port_at_first workers) ps)
 stand_first workers [] = tt
-stand_first workers (p ∷ ps) = (record { number = refl; mac = refl; opening = refl; journal = refl; right = tt; before = refl; workers_are = refl; controllers_are = refl }, stand_first workers ps)
+stand_first workers (p ∷ ps) = (record { number = refl; mac = refl; opening = refl; journal = refl; right = tt; before = refl; workers_are = refl; controllers_are = refl; tally = refl }, stand_first workers ps)
 
 pub all_stand : (f : PolicyFile) (workers : ℕ) (made : List Port) (ports : List PortNow) → map port_seen made ≡ ports_of f → ports ≡ map (port_at_first workers) (map port_seen made) → AllStandAt workers (ports_of f) (map (λ p. []) (ports_of f)) ports
 all_stand f workers made ports is p = subst (AllStandAt workers (ports_of f) (map (λ p. []) (ports_of f))) (sym (p ∙ ap (map (port_at_first workers)) is)) (stand_first workers (ports_of f))

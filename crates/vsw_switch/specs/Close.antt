@@ -5,7 +5,10 @@ use Rattle.vsw_merge.specs.Line.{TextLine}
 use Rattle.vsw_merge.specs.Order.{AllInCounts, emptied, in_order}
 use Rattle.vsw_policy.specs.Sound.{Each}
 use Rattle.vsw_report.specs.Print.{loose_text, port_line}
+use Rattle.vsw_promise.specs.Summary.{total}
 use Rattle.vsw_switch.specs.Switch.{PortNow, SwitchNow}
+use Rattle.vsw_switch.specs.Tally.{none}
+use Rattle.vsw_switch.specs.declared.tally.Tally.{Tally}
 
 -- the counts of each caller's lines never fall, rise after an entry, and lie within the round's
 abbrev pub IsCounted : PortNow → Type 0
@@ -32,7 +35,15 @@ round_now first s = codes "round " ++ decimal first ++ codes "\n" ++ flat_map te
 
 -- a port at the beginning of the next round
 abbrev pub begun : PortNow → PortNow
-begun p = record { number = p.number; mac = p.mac; opening = p.opening; journal = p.journal; before = length p.journal; workers = emptied p.workers; controllers = emptied p.controllers }
+begun p = record { number = p.number; mac = p.mac; opening = p.opening; journal = p.journal; before = length p.journal; workers = emptied p.workers; controllers = emptied p.controllers; tally = none; last = p.tally }
 
 abbrev pub next_round : SwitchNow → SwitchNow
 next_round s = record { workers = s.workers; ports = map begun s.ports; loose = [] }
+
+-- what became of the packets of the round that ended last, at all ports
+abbrev pub last_of : List PortNow → Tally
+last_of ps = record { pass = total (λ p. p.last.pass) ps; drop = total (λ p. p.last.drop) ps; bytes = total (λ p. p.last.bytes) ps }
+
+-- the entries of all ports
+abbrev pub entries_in : List PortNow → ℕ
+entries_in ps = total (λ p. length p.journal) ps

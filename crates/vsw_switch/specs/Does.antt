@@ -9,11 +9,12 @@ use Rattle.vsw_pcap.specs.declared.capture.Record.{Record}
 use Rattle.vsw_policy.specs.Layers.{place_of}
 use Rattle.vsw_policy.specs.Sound.{is_listed}
 use Rattle.vsw_promise.specs.Jobs.{Placed, aim_of, loose_after, placed_packet}
-use Rattle.vsw_promise.specs.Told.{by_of, line_of}
+use Rattle.vsw_promise.specs.Told.{by_of, line_of, what_of}
 use Rattle.vsw_report.specs.declared.round.Loose.{Loose}
 use Rattle.vsw_report.specs.declared.told.By.{By}
 use Rattle.vsw_report.specs.declared.told.By.TheVariants.{Worker, Controller}
 use Rattle.vsw_switch.specs.Switch.{PortNow, SwitchNow}
+use Rattle.vsw_switch.specs.Tally.{counted_in}
 
 -- ---- one port
 
@@ -32,7 +33,7 @@ abbrev pub told_controllers : List ℕ → By → TextLine → List (List TextLi
 told_controllers cs (Worker n) line controllers = controllers
 told_controllers cs (Controller c) line controllers = told_at (place_of c (ascending cs)) line controllers
 
--- a port after a call: its history has the entry, if it is one, and its caller the line
+-- a port after a call: its history has the entry, if it is one, its caller the line, and its tally what became of the packet
 abbrev pub with_call : Call → PortNow → PortNow
 with_call c p = record {
   number = p.number;
@@ -42,6 +43,8 @@ with_call c p = record {
   before = p.before;
   workers = told_workers (by_of c.deed) (text_of (line_of c)) p.workers;
   controllers = told_controllers p.opening.controllers (by_of c.deed) (text_of (line_of c)) p.controllers;
+  tally = counted_in (what_of c.deed) p.tally;
+  last = p.last;
 }
 
 -- the job is one of the port's workers' or controllers'

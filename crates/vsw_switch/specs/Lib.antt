@@ -1,3 +1,4 @@
+pub mod Tally
 pub mod Switch
 pub mod Does
 pub mod Close

@@ -11,6 +11,7 @@ use Rattle.vsw_promise.specs.Rounds.{opening_of}
 use Rattle.vsw_report.specs.declared.round.LooseCause.{LooseCause}
 use Rattle.vsw_switch.specs.Does.{DoesAll}
 use Rattle.vsw_switch.specs.Switch.{PortNow}
+use Rattle.vsw_switch.specs.Tally.{none}
 
 -- what stays of a port: its number and address, what it began with, and how many workers it has
 pub record Standing : Type 0 where
@@ -40,7 +41,7 @@ pub record ArePorts (workers : ℕ) (numbers macs : List ℕ) (ports : List Port
 
 -- a port before the first round
 abbrev pub port_at_first : ℕ → PortSeen → PortNow
-port_at_first workers p = record { number = p.number; mac = p.mac; opening = opening_of p; journal = []; before = 0; workers = map (λ k. []) (counted 0 workers); controllers = map (λ c. []) (ascending p.controllers) }
+port_at_first workers p = record { number = p.number; mac = p.mac; opening = opening_of p; journal = []; before = 0; workers = map (λ k. []) (counted 0 workers); controllers = map (λ c. []) (ascending p.controllers); tally = none; last = none }
 
 abbrev pub why_of : {A : Type 0} → Result A LooseCause → Option LooseCause
 why_of (Err why) = Some why

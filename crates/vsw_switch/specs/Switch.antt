@@ -11,9 +11,11 @@ use Rattle.vsw_ports.specs.Ports.{PortSeen, ports_of}
 use Rattle.vsw_promise.specs.Jobs.{Setting}
 use Rattle.vsw_promise.specs.Rounds.{opening_of}
 use Rattle.vsw_report.specs.declared.round.Loose.{Loose}
+use Rattle.vsw_switch.specs.Tally.{none}
+use Rattle.vsw_switch.specs.declared.tally.Tally.{Tally}
 
 -- a port: what it began with and its history, how many entries this had when the round began, and what is told so far in the round by
--- each worker, and by each controller in ascending order of their numbers
+-- each worker, and by each controller in ascending order of their numbers; what became of its packets in the round so far, and in the one before
 pub record PortNow : Type 0 where
   pub number : ℕ
   pub mac : ℕ
@@ -22,6 +24,8 @@ pub record PortNow : Type 0 where
   pub before : ℕ
   pub workers : List (List TextLine)
   pub controllers : List (List TextLine)
+  pub tally : Tally
+  pub last : Tally
 
 -- the number of workers, the ports in the policy's order, and the loose packets of the round so far
 pub record SwitchNow : Type 0 where
@@ -39,6 +43,7 @@ pub record StandsAt (workers : ℕ) (p : PortSeen) (h : List Event) (now : PortN
   pub before : now.before ≡ length h
   pub workers_are : now.workers ≡ map (λ k. []) (counted 0 workers)
   pub controllers_are : now.controllers ≡ map (λ c. []) (ascending p.controllers)
+  pub tally : now.tally ≡ none
 
 abbrev pub AllStandAt : ℕ → List PortSeen → List (List Event) → List PortNow → Type 0
 AllStandAt workers [] [] [] = Unit {0}

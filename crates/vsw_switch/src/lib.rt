@@ -5,6 +5,8 @@ mod callers;
 mod live;
 mod numbers;
 mod switch;
+mod tally;
 mod worker;
 
 pub use switch::Switch;
+pub use tally::Tally;

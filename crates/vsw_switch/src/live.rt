@@ -14,6 +14,7 @@ ghost use Rattle.vsw_transit.specs.Transit.{IsOfFrame};
 
 use crate::callers::{callers, tell_packet, tell_reply};
 use crate::numbers::{ascending, place_of};
+use crate::tally::Tally;
 use std::alloc::Global;
 use std::marker::Model;
 use vsw_base::{Crossing, Mac, NoMemory};
@@ -39,6 +40,10 @@ pub(crate) struct Live {
     controllers: Vec<Caller>,
     /// The numbers of the controllers, ascending.
     listed: Vec<u16>,
+    /// What became of its packets.
+    tally: Tally,
+    /// What became of those of the round before.
+    last: Tally,
 }
 
 impl Model for Live {
@@ -48,7 +53,7 @@ impl Model for Live {
 
     ghost Value = { PortNow };
 
-    ghost view = { λ s. record { number = s.number; mac = s.mac; opening = s.core.opening; journal = s.core.journal; before = s.before; workers = s.workers.items; controllers = s.controllers.items } };
+    ghost view = { λ s. record { number = s.number; mac = s.mac; opening = s.core.opening; journal = s.core.journal; before = s.before; workers = s.workers.items; controllers = s.controllers.items; tally = s.tally; last = s.last } };
 
     ghost invariant = { λ s. IsPort s.core.opening s.listed.items s.before (length s.core.journal) s.controllers.items };
 }
@@ -87,6 +92,8 @@ impl Live {
             workers,
             controllers,
             listed,
+            tally: Tally::none(),
+            last: Tally::none(),
         })
     }
 
@@ -104,6 +111,8 @@ impl Live {
     {
         let count = reserve(&mut self.core)?;
         let outcome = transit(&mut self.core, crossing, frame, room);
+        let tally = self.tally.and(Tally::of(outcome.fate))?;
+        self.tally = tally;
         tell_packet(&mut self.workers, crossing, count, outcome, room)
     }
 
@@ -139,6 +148,22 @@ impl Live {
             out,
         )?;
         self.before = after;
+        self.last = self.tally;
+        self.tally = Tally::none();
         Ok(short)
+    }
+
+    /// What became of the packets of the round that was closed last.
+    pub(crate) fn last(&self) -> Tally
+        ensures { result ≡ self.now.last }
+    {
+        self.last
+    }
+
+    /// How many entries its history has.
+    pub(crate) fn entries(&self) -> u32
+        ensures { result ≡ length self.now.journal }
+    {
+        self.core.count()
     }
 }

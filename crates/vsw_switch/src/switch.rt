@@ -11,13 +11,14 @@ ghost use Rattle.vsw_policyfile.specs.Good.{IsGoodPolicy};
 ghost use Rattle.vsw_port.specs.Core.{AreAtMost};
 ghost use Rattle.vsw_ports.specs.Ports.{port_seen, ports_of};
 ghost use Rattle.vsw_promise.specs.Jobs.{crossing_by, worker_of};
-ghost use Rattle.vsw_switch.specs.Close.{AreCounted, IsCounted, begun, is_short_now, next_round, round_now, text_now};
+ghost use Rattle.vsw_switch.specs.Close.{AreCounted, IsCounted, begun, entries_in, is_short_now, last_of, next_round, round_now, text_now};
 ghost use Rattle.vsw_switch.specs.Does.{Asks, DoesAt, Forwards, numbers_in};
 ghost use Rattle.vsw_switch.specs.Stay.{ArePorts, Arrives, port_at_first, standing};
 ghost use Rattle.vsw_switch.specs.Switch.{AreServed, IsAt, IsServed, SwitchNow};
 
 use crate::live::Live;
 use crate::numbers::place_of;
+use crate::tally::{Tally, sum};
 use crate::worker::Worker;
 use std::alloc::Global;
 use std::marker::Model;
@@ -164,6 +165,32 @@ fn close_all(ports: &mut Vec<Live>, out: &mut Vec<u8>) -> Result<bool, NoMemory>
     Ok(short)
 }
 
+/// What became of the packets of the round that was closed last, at these ports.
+fn last_of(ports: &[Live]) -> Result<Tally, NoMemory>
+    ensures { IfOk result (λ tally. tally ≡ last_of ports.now) }
+{
+    match ports.split_first() {
+        None => Ok(Tally::none()),
+        Some((first, rest)) => {
+            let others = last_of(rest)?;
+            first.last().and(others)
+        }
+    }
+}
+
+/// How many entries the histories of these ports have.
+fn entries_in(ports: &[Live]) -> Result<u64, NoMemory>
+    ensures { IfOk result (λ entries. entries ≡ entries_in ports.now) }
+{
+    match ports.split_first() {
+        None => Ok(0),
+        Some((first, rest)) => {
+            let others = entries_in(rest)?;
+            sum(u64::from(first.entries()), others)
+        }
+    }
+}
+
 impl Switch {
     /// The switch of a policy file with so many workers, before the first round.
     pub fn open(alloc: Global, workers: u32, file: &PolicyFile) -> Result<Switch, NoMemory>
@@ -230,6 +257,20 @@ impl Switch {
         loose_part(out, &self.loose)?;
         self.loose.clear();
         Ok(short)
+    }
+
+    /// What became of the packets of the round that was closed last. A number of more than 64 bits counts as want of memory.
+    pub fn last(&self) -> Result<Tally, NoMemory>
+        ensures { IfOk result (λ tally. tally ≡ last_of self.now.ports) }
+    {
+        last_of(&self.ports)
+    }
+
+    /// How many entries the histories of all ports have. A number of more than 64 bits counts as want of memory.
+    pub fn entries(&self) -> Result<u64, NoMemory>
+        ensures { IfOk result (λ entries. entries ≡ entries_in self.now.ports) }
+    {
+        entries_in(&self.ports)
     }
 }
 

@@ -1,0 +1,8 @@
+//! A generated workload run round by round, and its summary.
+#![tactic(auto)]
+
+mod draw;
+mod run;
+mod summary;
+
+pub use run::{WorkloadEnd, run_workload};

@@ -16,7 +16,7 @@ use Rattle.vsw_told_law.proofs.Callers.{one_doer}
 -- ---- sums
 
 pub total_append : {A : Type 0} (f : A → ℕ) (xs ys : List A) → total f (xs ++ ys) ≡ total f xs + total f ys
-total_append f [] ys = refl
+total_append f [] ys = omega arith
 total_append f (x ∷ xs) ys = omega (arith, total_append f xs ys)
 
 pub total_map : {A B : Type 0} (f : B → ℕ) (g : A → B) (xs : List A) → total f (map g xs) ≡ total (λ x. f (g x)) xs
@@ -46,7 +46,7 @@ filter_value f p (c ∷ calls) = by (p c) (filter_value f p calls)
   where
     by : (b : Bool) → total f (filter p calls) ≡ total (λ c. if p c then f c else 0) calls → total f (if b then c ∷ filter p calls else filter p calls) ≡ (if b then f c else 0) + total (λ c. if p c then f c else 0) calls
     by true ih = ap (λ n. f c + n) ih
-    by false ih = ih
+    by false ih = omega (arith, ih)
 
 -- what lists of callers hold in two parts
 flat_parts : (f : Call → ℕ) (g h k : ℕ → List Call) (ks : List ℕ) → ((i : ℕ) → total f (g i) ≡ total f (h i) + total f (k i)) → total f (flat_map g ks) ≡ total f (flat_map h ks) + total f (flat_map k ks)
@@ -58,9 +58,9 @@ reads_parts : (f : Call → ℕ) (cs : List ℕ) (n i : ℕ) (c : Call) (calls :
 reads_parts f cs n i c calls = by (doer cs c.deed == i) (not c.entry && (c.count == n)) refl
   where
     by : (a b : Bool) → (not c.entry && (c.count == n)) ≡ b → total f (reads_at n (if a then c ∷ calls_of cs i calls else calls_of cs i calls)) ≡ total f (reads_at n (if a then c ∷ [] else [])) + total f (reads_at n (calls_of cs i calls))
-    by false b e = refl
+    by false b e = omega arith
     by true true e = rw e (omega arith)
-    by true false e = rw e refl
+    by true false e = rw e (omega arith)
 
 own_call : (cs : List ℕ) (c : Call) → calls_of cs (doer cs c.deed) (c ∷ []) ≡ c ∷ []
 own_call cs c = let t : (doer cs c.deed == doer cs c.deed) ≡ true = eq-eqb (doer cs c.deed) (doer cs c.deed) refl in rw t refl
@@ -136,7 +136,7 @@ here_value : (f : Call → ℕ) (n : ℕ) (c : Call) → c.count ≡ n → read_
 here_value f n c e = by c.entry (c.count == n) (eq-eqb c.count n e)
   where
     by : (a b : Bool) → b ≡ true → (if not a && b then f c else 0) + (if a && b then f c else 0) ≡ f c
-    by true true t = refl
+    by true true t = omega arith
     by false true t = omega arith
     by a false t = absurd (cc t)
 

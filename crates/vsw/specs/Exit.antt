@@ -6,10 +6,10 @@ use Rattle.std_io.specs.declared.io.kind.ErrorKind.{ErrorKind}
 use Rattle.std_io.specs.declared.io.kind.ErrorKind.TheVariants.{OutOfMemory}
 use Rattle.vsw_host.specs.Outside.{Outside, Rose}
 use Rattle.vsw_promise.specs.Complaint.{number_of}
-use Rattle.vsw_promise.specs.IsRun.{IsRun, IsComplete}
+use Rattle.vsw_promise.specs.IsRun.{IsRun, IsComplete, IsCompleteAlone}
 use Rattle.vsw_promise.specs.declared.ending.Status.{Status}
 use Rattle.vsw_promise.specs.declared.ending.Status.TheVariants.{Usage, ReadFault, WriteFault, Memory}
-use Rattle.vsw_request.specs.Words.{request_in}
+use Rattle.vsw_request.specs.Words.{asked_in}
 
 -- how a run ends whose words can't be had: where there was no room for them, Memory; a word that isn't UTF-8 is of no grammar
 abbrev pub status_without : ErrorKind → Status
@@ -22,7 +22,8 @@ pub record Exits (words : List (List ℕ)) (old new : Outside) (code : ExitCode)
   pub status : Status
   pub code_is : exit_status code ≡ number_of status
   pub run : IsRun words old new status
-  pub usage : (status ≡ Usage) ↔ (request_in words ≡ None)
+  pub usage : (status ≡ Usage) ↔ (asked_in words ≡ None)
   pub read_fault : status ≡ ReadFault → Rose old.input_faults new.input_faults
   pub write_fault : status ≡ WriteFault → Rose old.put_faults new.put_faults
   pub complete : IsComplete words old new status
+  pub alone : IsCompleteAlone words old new status

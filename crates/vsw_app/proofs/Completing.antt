@@ -21,14 +21,14 @@ use Rattle.vsw_policyfile.specs.declared.file.ConfigFault.{ConfigFault}
 use Rattle.vsw_policyfile.specs.declared.file.PolicyFile.{PolicyFile}
 use Rattle.vsw_promise.specs.Complaint.{status_of}
 use Rattle.vsw_promise.specs.Files.{InTurn, HasBadPolicy, HasBadCommands, Reaches}
-use Rattle.vsw_promise.specs.IsRun.{AreAdmitted, EndsByTrace, IsComplete, IsRun, Runs, RunsBy, TraceRead}
+use Rattle.vsw_promise.specs.IsRun.{AreAdmitted, EndsByTrace, IsComplete, IsCompleteAlone, IsRun, Runs, RunsBy, RunsGenerated, TraceRead}
 use Rattle.vsw_promise.specs.Jobs.{Setting}
 use Rattle.vsw_promise.specs.Trace.{All, Trace, IsRefused, HasBadHeader, HasBadRecord, HasMore, most_records}
 use Rattle.vsw_promise.specs.declared.ending.Ending.{Ending}
 use Rattle.vsw_promise.specs.declared.ending.Ending.TheVariants as ending
 use Rattle.vsw_promise.specs.declared.ending.Status.{Status}
 use Rattle.vsw_promise.specs.declared.ending.Status.TheVariants as status
-use Rattle.vsw_request.specs.Words.{Request, request_in}
+use Rattle.vsw_request.specs.Words.{Request, Forward, Generate, asked_in}
 
 -- ---- a file that is a capture, of which a trace was read
 
@@ -174,5 +174,22 @@ ends_well words q old new ending.Records c same r =
 -- a run is complete
 pub complete_is : (words : List (List ℕ)) (old new : Outside) (s : Status) → IsRun words old new s → IsComplete words old new s
 complete_is words old new s run admitted n m =
-    let asked : RunsBy (Some admitted.request) old new run.end = subst (λ o. RunsBy o old new run.end) admitted.asked run.runs in
+    let asked : RunsBy (Some (Forward admitted.request)) old new run.end = subst (λ o. RunsBy o old new run.end) admitted.asked run.runs in
     subst (λ t. (t ≡ status.Done) ⊎ (t ≡ status.Memory)) (sym run.status_is) (ends_well words admitted.request old new run.end (record { admitted = admitted; no_read = n; no_put = m }) refl asked)
+
+generated_well : (start packets : ℕ) (old new : Outside) (end : Ending) → ¬ (Rose old.put_faults new.put_faults) → RunsGenerated start packets old new end → (status_of end ≡ status.Done) ⊎ (status_of end ≡ status.Memory)
+generated_well start packets old new ending.Done n r = inl refl
+generated_well start packets old new ending.Memory n r = inr refl
+generated_well start packets old new ending.WriteFault n r = absurd (n r.ends.0)
+generated_well start packets old new ending.Usage n r = absurd r.ends
+generated_well start packets old new ending.ReadFault n r = absurd r.ends
+generated_well start packets old new (ending.Policy why) n r = absurd r.ends
+generated_well start packets old new (ending.Commands why) n r = absurd r.ends
+generated_well start packets old new (ending.Trace bad) n r = absurd r.ends
+generated_well start packets old new ending.Records n r = absurd r.ends
+
+-- so is one over a workload
+pub complete_alone : (words : List (List ℕ)) (old new : Outside) (s : Status) → IsRun words old new s → IsCompleteAlone words old new s
+complete_alone words old new s run start packets asks n =
+    let asked : RunsBy (Some (Generate start packets)) old new run.end = subst (λ o. RunsBy o old new run.end) asks run.runs in
+    subst (λ t. (t ≡ status.Done) ⊎ (t ≡ status.Memory)) (sym run.status_is) (generated_well start packets old new run.end n asked)

@@ -1,5 +1,5 @@
 -- The whole run: what is left behind its complaint, and what its status shows.
-use Rattle.std.proofs.Common.{◌≡◌, ◌⊎◌, ◌↔◌, ℕ, inl, inr, List, [], Option, Some, None, take, refl, sym, ◌∙◌, ap, subst}
+use Rattle.std.proofs.Common.{◌≡◌, ◌⊎◌, ◌↔◌, ℕ, inl, inr, Bool, true, false, List, [], Option, Some, None, take, refl, sym, ◌∙◌, ap, subst}
 use Rattle.vsw_commandfile.specs.declared.fault.CommandsFault.{CommandsFault}
 use Rattle.vsw_commandfile.specs.declared.fault.CommandsFault.TheVariants as commands
 use Rattle.vsw_host.specs.Outside.{Opened, Outside, Grows, Rose, SameInputs}
@@ -9,14 +9,14 @@ use Rattle.vsw_policyfile.specs.declared.file.ConfigFault.{ConfigFault}
 use Rattle.vsw_policyfile.specs.declared.file.ConfigFault.TheVariants as policy
 use Rattle.vsw_promise.specs.Complaint.{policy_status, commands_status, status_of, complaint, Complains}
 use Rattle.vsw_promise.specs.Files.{Opens}
-use Rattle.vsw_promise.specs.IsRun.{Ends, EndsByTrace, BreaksOff, TraceRead, Runs, RunsBy, IsRun}
+use Rattle.vsw_promise.specs.IsRun.{Ends, EndsByTrace, EndsGenerated, BreaksOff, PutsSummary, TraceRead, Runs, RunsBy, IsRun}
 use Rattle.vsw_promise.specs.declared.ending.Ending.{Ending}
 use Rattle.vsw_promise.specs.declared.ending.Ending.TheVariants as ending
 use Rattle.vsw_promise.specs.declared.ending.Status.{Status}
 use Rattle.vsw_promise.specs.declared.ending.Status.TheVariants as status
-use Rattle.vsw_request.specs.Words.{Request, request_in}
+use Rattle.vsw_request.specs.Words.{Request, Asked, Forward, Generate, asked_in}
 use Rattle.vsw_app.specs.Speaks.{KeepsPut}
-use Rattle.vsw_app.specs.Stages.{HasEnded}
+use Rattle.vsw_app.specs.Stages.{HasEnded, HasEndedBy, HasGenerated}
 use Rattle.vsw_app.proofs.Growing.{grows_none, grows_as, rose_as}
 use Rattle.vsw_app.proofs.Running.{read_as}
 
@@ -63,17 +63,43 @@ complains_from : (a b c : Outside) (text : List ℕ) → b.complained ≡ a.comp
 complains_from a b c text e f (inl g) = inl (grows_as b.complained c.complained a.complained c.complained text (sym e) refl g)
 complains_from a b c text e f (inr (n, g, r)) = inr (n, grows_as b.complained c.complained a.complained c.complained (take n text) (sym e) refl g, rose_as b.complain_faults c.complain_faults a.complain_faults c.complain_faults (sym f) refl r)
 
+summary_later : (start packets : ℕ) (old b c : Outside) (short : Bool) → IsLater b c → PutsSummary start packets old b short → PutsSummary start packets old c short
+summary_later start packets old b c short l e = record { text = e.text; summarizes = e.summarizes; puts = grows_later old b c e.text l e.puts }
+
+generated_later : (start packets : ℕ) (old b c : Outside) (end : Ending) → IsLater b c → EndsGenerated start packets old b end → EndsGenerated start packets old c end
+generated_later start packets old b c ending.Done l e = summary_later start packets old b c false l e
+generated_later start packets old b c ending.WriteFault l (rose, e) =
+    (rose_as old.put_faults b.put_faults old.put_faults c.put_faults refl l.put.put_faults rose, record { short = e.short; text = e.text; summarizes = e.summarizes; puts = (e.puts.0, grows_later old b c (take e.puts.0 e.text) l e.puts.1) })
+generated_later start packets old b c ending.Memory l (inl e) = inl (grows_later old b c [] l e)
+generated_later start packets old b c ending.Memory l (inr e) = inr (summary_later start packets old b c true l e)
+generated_later start packets old b c ending.Usage l e = absurd e
+generated_later start packets old b c ending.ReadFault l e = absurd e
+generated_later start packets old b c (ending.Policy why) l e = absurd e
+generated_later start packets old b c (ending.Commands why) l e = absurd e
+generated_later start packets old b c (ending.Trace bad) l e = absurd e
+generated_later start packets old b c ending.Records l e = absurd e
+
 -- the words ask for a run, which ended and was complained of
-pub run_asked : (words : List (List ℕ)) (q : Request) (old now new : Outside) (end : Ending) (s : Status) → request_in words ≡ Some q → HasEnded q old now end → s ≡ status_of end → Complains now new (complaint end) → SameInputs now new → KeepsPut now new → IsRun words old new s
-run_asked words q old now new end s asked h is complains same keeps = record {
-  end = end;
-  status_is = is;
-  runs = subst (λ o. RunsBy o old new end) (sym asked) (record { files = h.runs.files; opens = opens_later q old now new h.runs.files (record { inputs = same; put = keeps }) h.runs.opens; ends = ends_later q old now new h.runs.files end (record { inputs = same; put = keeps }) h.runs.ends });
-  complains = complains_from old now new (complaint end) h.complained h.complain_faults complains;
-}
+pub run_asked : (words : List (List ℕ)) (a : Asked) (old now new : Outside) (end : Ending) (s : Status) → asked_in words ≡ Some a → HasEndedBy a old now end → s ≡ status_of end → Complains now new (complaint end) → SameInputs now new → KeepsPut now new → IsRun words old new s
+run_asked words (Forward q) old now new end s asked h is complains same keeps =
+    let later : IsLater now new = record { inputs = same; put = keeps } in
+    record {
+      end = end;
+      status_is = is;
+      runs = subst (λ o. RunsBy o old new end) (sym asked) (record { files = h.runs.files; opens = opens_later q old now new h.runs.files later h.runs.opens; ends = ends_later q old now new h.runs.files end later h.runs.ends });
+      complains = complains_from old now new (complaint end) h.complained h.complain_faults complains;
+    }
+run_asked words (Generate start packets) old now new end s asked h is complains same keeps =
+    let later : IsLater now new = record { inputs = same; put = keeps } in
+    record {
+      end = end;
+      status_is = is;
+      runs = subst (λ o. RunsBy o old new end) (sym asked) (record { opens = subst (λ i. TellsSince old.inputs i []) (sym same.inputs) h.runs.opens; ends = generated_later start packets old now new end later h.runs.ends });
+      complains = complains_from old now new (complaint end) h.complained h.complain_faults complains;
+    }
 
 -- they are outside the grammar
-pub run_unasked : (words : List (List ℕ)) (old new : Outside) (s : Status) → request_in words ≡ None → s ≡ status.Usage → Complains old new (complaint ending.Usage) → SameInputs old new → KeepsPut old new → IsRun words old new s
+pub run_unasked : (words : List (List ℕ)) (old new : Outside) (s : Status) → asked_in words ≡ None → s ≡ status.Usage → Complains old new (complaint ending.Usage) → SameInputs old new → KeepsPut old new → IsRun words old new s
 run_unasked words old new s unasked is complains same keeps = record {
   end = ending.Usage;
   status_is = is;
@@ -118,26 +144,29 @@ end_of : (words : List (List ℕ)) (old new : Outside) (s t : Status) (r : IsRun
 end_of words old new s t r e = subst (λ u. IsOwn u r.end) (sym r.status_is ∙ e) (own r.end)
 
 -- words outside the grammar have no other status
-usage_by : (o : Option Request) (old new : Outside) (end : Ending) → RunsBy o old new end → (end ≡ ending.Usage) ↔ (o ≡ None)
+usage_by : (o : Option Asked) (old new : Outside) (end : Ending) → RunsBy o old new end → (end ≡ ending.Usage) ↔ (o ≡ None)
 usage_by None old new end r = ((λ e. refl), (λ e. r.usage))
-usage_by (Some q) old new end r = ((λ e. absurd (subst (Ends q old new r.files) e r.ends)), (λ e. absurd (cc e)))
+usage_by (Some (Forward q)) old new end r = ((λ e. absurd (subst (Ends q old new r.files) e r.ends)), (λ e. absurd (cc e)))
+usage_by (Some (Generate start packets)) old new end r = ((λ e. absurd (subst (EndsGenerated start packets old new) e r.ends)), (λ e. absurd (cc e)))
 
-pub usage_is : (words : List (List ℕ)) (old new : Outside) (s : Status) → IsRun words old new s → (s ≡ status.Usage) ↔ (request_in words ≡ None)
+pub usage_is : (words : List (List ℕ)) (old new : Outside) (s : Status) → IsRun words old new s → (s ≡ status.Usage) ↔ (asked_in words ≡ None)
 usage_is words old new s r =
-    let both = usage_by (request_in words) old new r.end r.runs in
+    let both = usage_by (asked_in words) old new r.end r.runs in
     ((λ e. both.0 (end_of words old new s status.Usage r e)), (λ e. r.status_is ∙ ap status_of (both.1 e)))
 
 -- a fault has its cause
-read_by : (o : Option Request) (old new : Outside) (end : Ending) → RunsBy o old new end → end ≡ ending.ReadFault → Rose old.input_faults new.input_faults
+read_by : (o : Option Asked) (old new : Outside) (end : Ending) → RunsBy o old new end → end ≡ ending.ReadFault → Rose old.input_faults new.input_faults
 read_by None old new end r e = absurd (let u = r.usage in cc (u, e))
-read_by (Some q) old new end r e = (subst (Ends q old new r.files) e r.ends).0
+read_by (Some (Forward q)) old new end r e = (subst (Ends q old new r.files) e r.ends).0
+read_by (Some (Generate start packets)) old new end r e = absurd (subst (EndsGenerated start packets old new) e r.ends)
 
 pub read_fault_is : (words : List (List ℕ)) (old new : Outside) (s : Status) → IsRun words old new s → s ≡ status.ReadFault → Rose old.input_faults new.input_faults
-read_fault_is words old new s r e = read_by (request_in words) old new r.end r.runs (end_of words old new s status.ReadFault r e)
+read_fault_is words old new s r e = read_by (asked_in words) old new r.end r.runs (end_of words old new s status.ReadFault r e)
 
-write_by : (o : Option Request) (old new : Outside) (end : Ending) → RunsBy o old new end → end ≡ ending.WriteFault → Rose old.put_faults new.put_faults
+write_by : (o : Option Asked) (old new : Outside) (end : Ending) → RunsBy o old new end → end ≡ ending.WriteFault → Rose old.put_faults new.put_faults
 write_by None old new end r e = absurd (let u = r.usage in cc (u, e))
-write_by (Some q) old new end r e = (subst (Ends q old new r.files) e r.ends).0
+write_by (Some (Forward q)) old new end r e = (subst (Ends q old new r.files) e r.ends).0
+write_by (Some (Generate start packets)) old new end r e = (subst (EndsGenerated start packets old new) e r.ends).0
 
 pub write_fault_is : (words : List (List ℕ)) (old new : Outside) (s : Status) → IsRun words old new s → s ≡ status.WriteFault → Rose old.put_faults new.put_faults
-write_fault_is words old new s r e = write_by (request_in words) old new r.end r.runs (end_of words old new s status.WriteFault r e)
+write_fault_is words old new s r e = write_by (asked_in words) old new r.end r.runs (end_of words old new s status.WriteFault r e)

@@ -4,5 +4,6 @@ pub mod Reading
 pub mod Limits
 pub mod Opening
 pub mod Running
+pub mod Drawing
 pub mod Finishing
 pub mod Completing

@@ -6,10 +6,10 @@ use Rattle.vsw_host.specs.Outside.{Opened, Outside, SameOutputs}
 use Rattle.vsw_policyfile.specs.Policy.{policy_file_of}
 use Rattle.vsw_policyfile.specs.declared.file.PolicyFile.{PolicyFile}
 use Rattle.vsw_promise.specs.Files.{AreCommands, AreCutShort, IsPolicy, Opens}
-use Rattle.vsw_promise.specs.IsRun.{Runs}
+use Rattle.vsw_promise.specs.IsRun.{Runs, RunsGenerated}
 use Rattle.vsw_promise.specs.declared.ending.Ending.{Ending}
 use Rattle.vsw_promise.specs.declared.ending.Ending.TheVariants as ending
-use Rattle.vsw_request.specs.Words.{Request}
+use Rattle.vsw_request.specs.Words.{Request, Asked, Forward, Generate}
 
 -- the bytes of a policy file, judged: what is wrong with them ends the run by that, and want of memory by that
 abbrev pub JudgesPolicy : List ℕ → Result PolicyFile Ending → Type 0
@@ -60,3 +60,14 @@ ReadsPolicy q old new (Err end) = HasEnded q old new end
 abbrev pub ReadsCommands : Request → Outside → Outside → PolicyFile → Result (List Line) Ending → Type 0
 ReadsCommands q old new policy (Ok lines) = HasCommands q old new policy lines
 ReadsCommands q old new policy (Err end) = HasEnded q old new end
+
+-- a run over a generated workload ended, and nothing was complained
+pub record HasGenerated (start packets : ℕ) (old new : Outside) (end : Ending) : Type 0 where
+  pub runs : RunsGenerated start packets old new end
+  pub complained : new.complained ≡ old.complained
+  pub complain_faults : new.complain_faults ≡ old.complain_faults
+
+-- a run ended as it was asked for
+abbrev pub HasEndedBy : Asked → Outside → Outside → Ending → Type 0
+HasEndedBy (Forward q) old new end = HasEnded q old new end
+HasEndedBy (Generate start packets) old new end = HasGenerated start packets old new end

@@ -3,7 +3,7 @@
 ghost use Rattle.std.specs.Prelude.{◌≡◌};
 ghost use Rattle.vsw_host.specs.Outside.{SameInputs};
 ghost use Rattle.vsw_promise.specs.Complaint.{policy_status, commands_status, status_of, complaint, Complains};
-ghost use Rattle.vsw_app.specs.Ending.{ending_of};
+ghost use Rattle.vsw_app.specs.Ending.{drawn_ending, ending_of};
 ghost use Rattle.vsw_app.specs.Speaks.{KeepsPut};
 
 use crate::complaint::say_ending;
@@ -12,6 +12,7 @@ use vsw_host::Host;
 use vsw_policyfile::ConfigFault;
 use vsw_promise::{Ending, Status};
 use vsw_replay::TraceEnd;
+use vsw_workload::WorkloadEnd;
 
 /// The ending of a run by how its trace ended.
 pub fn ending_of(end: TraceEnd) -> Ending
@@ -24,6 +25,17 @@ pub fn ending_of(end: TraceEnd) -> Ending
         TraceEnd::Refused(bad) => Ending::Trace(bad),
         TraceEnd::Records => Ending::Records,
         TraceEnd::Memory => Ending::Memory,
+    }
+}
+
+/// The ending of a run by how its workload ended.
+pub fn drawn_ending(end: WorkloadEnd) -> Ending
+    ensures { result ≡ drawn_ending end }
+{
+    match end {
+        WorkloadEnd::Done => Ending::Done,
+        WorkloadEnd::WriteFault => Ending::WriteFault,
+        WorkloadEnd::Memory => Ending::Memory,
     }
 }
 

@@ -1,27 +1,32 @@
 //! The run of the program.
 
-ghost use Rattle.std.specs.Prelude.{◌≡◌, ◌↔◌, ◌<◌, ◌≤◌, All, IfSome, None, option_map};
+ghost use Rattle.std.specs.Prelude.{◌≡◌, ◌↔◌, ◌<◌, ◌≤◌, ◌^◌, All, None, Ok};
 ghost use Rattle.vsw_commandfile_law.specs.Good.{CanAsk};
 ghost use Rattle.vsw_host.specs.Outside.{Rose};
+ghost use Rattle.vsw_generate.specs.Policy.{policy_text};
 ghost use Rattle.vsw_policyfile.specs.Good.{IsGoodPolicy};
-ghost use Rattle.vsw_promise.specs.IsRun.{IsRun, IsComplete};
+ghost use Rattle.vsw_policyfile.specs.Policy.{policy_file_of};
+ghost use Rattle.vsw_promise.specs.IsRun.{IsRun, IsComplete, IsCompleteAlone};
 ghost use Rattle.vsw_replay.specs.Runs.{RunsTrace};
-ghost use Rattle.vsw_request.specs.Seen.{request_seen};
-ghost use Rattle.vsw_request.specs.Words.{request_in};
-ghost use Rattle.vsw_app.specs.Stages.{HasEnded};
+ghost use Rattle.vsw_request.specs.Seen.{IsWithin, asked_seen, request_seen};
+ghost use Rattle.vsw_request.specs.Words.{asked_in};
+ghost use Rattle.vsw_workload.specs.Runs.{RunsWorkload};
+ghost use Rattle.vsw_app.specs.Stages.{HasEnded, HasEndedBy, HasGenerated};
 
-use crate::ending::{ending_of, finish};
+use crate::ending::{drawn_ending, ending_of, finish};
 use crate::files::{open_commands, open_policy};
 use std::alloc::Global;
 use vsw_base::Items;
 use vsw_commandfile::Line;
+use vsw_generate::Workload;
 use vsw_host::Host;
-use vsw_policyfile::PolicyFile;
+use vsw_policyfile::{PolicyFile, read_policy};
 use vsw_promise::{Ending, Status};
 use vsw_replay::{TraceEnd, run_trace};
 use vsw_request::{Asked, Request, Word, read_words};
 use vsw_schedule::Schedule;
 use vsw_switch::Switch;
+use vsw_workload::{WorkloadEnd, run_workload};
 
 /// Makes the switch of a policy, and runs the trace of this name through it, with these commands.
 fn run_through<H: Host>(
@@ -65,42 +70,77 @@ fn forward<H: Host>(alloc: Global, host: &mut H, request: &Request<'_>) -> Endin
     ending_of(run_through(alloc, host, workers, &policy, lines, request.trace))
 }
 
-/// What the words ask to forward. Words that ask for generated packets are no such words.
-fn forward_words(words: &[Word]) -> Option<Request<'_>>
-    ensures forward { option_map request_seen result ≡ request_in words.now }
-    ensures within { IfSome result (λ request. (0 < request.workers) × (request.workers ≤ 16)) }
+/// Makes the switch of the workload's policy, and runs so many packets, drawn from this number, through it.
+fn run_drawn<H: Host>(
+    alloc: Global,
+    host: &mut H,
+    policy: &PolicyFile,
+    start: u32,
+    packets: u32,
+) -> WorkloadEnd
+    requires start { start < 2 ^ 31 }
+    requires some { 1 ≤ packets }
+    requires few { packets ≤ 1048576 }
+    requires policy { policy_file_of policy_text ≡ Ok policy.now }
+    requires good { IsGoodPolicy policy.now }
+    ensures { RunsWorkload start packets (H.outside host.old) (H.outside host.new) result }
 {
-    match read_words(words) {
-        Some(Asked::Forward(request)) => Some(request),
-        _ => None,
+    let Ok(mut switch) = Switch::open(alloc, 1, policy) else {
+        return WorkloadEnd::Memory;
+    };
+    run_workload(alloc, host, &mut switch, start, packets)
+}
+
+/// Runs over so many generated packets, drawn from this number. Their policy is good, so it isn't read only where memory is wanting.
+fn generate<H: Host>(alloc: Global, host: &mut H, start: u32, packets: u32) -> Ending
+    requires start { start < 2 ^ 31 }
+    requires some { 1 ≤ packets }
+    requires few { packets ≤ 1048576 }
+    ensures { HasGenerated start packets (H.outside host.old) (H.outside host.new) result }
+{
+    match read_policy(alloc, Workload::policy()) {
+        Ok(policy) => drawn_ending(run_drawn(alloc, host, &policy, start, packets)),
+        Err(_) => Ending::Memory,
     }
 }
 
-/// Reads the words, runs over the files that they name, and complains.
+/// Runs as the words ask.
+fn run_asked<H: Host>(alloc: Global, host: &mut H, asked: &Asked<'_>) -> Ending
+    requires within { IsWithin asked.now }
+    ensures { HasEndedBy (asked_seen asked.now) (H.outside host.old) (H.outside host.new) result }
+{
+    match asked {
+        Asked::Forward(request) => forward(alloc, host, request),
+        Asked::Generate { start, packets } => generate(alloc, host, *start, *packets),
+    }
+}
+
+/// Reads the words, runs as they ask, and complains.
 fn run<H: Host>(alloc: Global, words: &[Word], host: &mut H) -> Status
     ensures { IsRun words.now (H.outside host.old) (H.outside host.new) result }
 {
-    match forward_words(words) {
+    match read_words(words) {
         None => finish(host, &Ending::Usage),
-        Some(request) => {
-            let end = forward(alloc, host, &request);
+        Some(asked) => {
+            let end = run_asked(alloc, host, &asked);
             finish(host, &end)
         }
     }
 }
 
-/// The whole program: reads the words and the files that they name, puts the report, and complains
-/// if it ends otherwise.
+/// The whole program: reads the words, and the files that they name or the workload that they ask for, puts the
+/// report or the summary, and complains if it ends otherwise.
 ///
 /// `run` says what was opened, read, put and complained, by the status. `usage` and the two faults
-/// hold of hosts that tell nothing, too. `complete` says when nothing but want of memory keeps a run
-/// from its end.
+/// hold of hosts that tell nothing, too. `complete` and `alone` say when nothing but want of memory keeps a run
+/// over files, and one over a workload, from its end.
 pub fn run_words<H: Host>(alloc: Global, words: &[Word], host: &mut H) -> Status
     ensures run { IsRun words.now (H.outside host.old) (H.outside host.new) result }
-    ensures usage { (result ≡ Status.Usage) ↔ (request_in words.now ≡ None) }
+    ensures usage { (result ≡ Status.Usage) ↔ (asked_in words.now ≡ None) }
     ensures read_fault { result ≡ Status.ReadFault → Rose (H.outside host.old).input_faults (H.outside host.new).input_faults }
     ensures write_fault { result ≡ Status.WriteFault → Rose (H.outside host.old).put_faults (H.outside host.new).put_faults }
     ensures complete { IsComplete words.now (H.outside host.old) (H.outside host.new) result }
+    ensures alone { IsCompleteAlone words.now (H.outside host.old) (H.outside host.new) result }
 {
     run(alloc, words, host)
 }

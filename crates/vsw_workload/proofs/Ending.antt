@@ -2,6 +2,7 @@
 use Rattle.std.proofs.Common.{◌≡◌, ◌<◌, ◌≤◌, inl, inr, ◌+◌, ℕ, zero, suc, Bool, true, false, List, [], ◌∷◌, ◌++◌, length, map, Option, Some, None, Result, Ok, Err, refl, ap, ap₂, sym, ◌∙◌, subst, arith, append-nil, take}
 use Rattle.std.proofs.lemmas.List.{length-map}
 use Rattle.std.specs.Prelude.{⊤}
+use Rattle.vsw_generate.specs.Draws.{after}
 use Rattle.vsw_generate.specs.Policy.{policy_text}
 use Rattle.vsw_generate.specs.Workload.{packets_from}
 use Rattle.vsw_history.specs.declared.event.Event.{Event}
@@ -63,13 +64,13 @@ last_entries counts (r ∷ rs) last c = ap (λ n. entries_after n rs) (sym (tota
 
 no_entries : (ps : List PortSeen) → total (λ n. n) (map (λ p. 0) ps) ≡ 0
 no_entries [] = refl
-no_entries (p ∷ ps) = no_entries ps
+no_entries (p ∷ ps) = omega (arith, no_entries ps)
 
 -- ---- the end
 
 packets_count : (state given left : ℕ) → length (packets_from state given left) ≡ left
 packets_count state given zero = refl
-packets_count state given (suc left) = ap suc (packets_count _ (suc given) left)
+packets_count state given (suc left) = ap suc (packets_count (after state) (suc given) left)
 
 none_left : (w : ℕ × ℕ × ℕ) → w.2 ≡ 0 → records_left w ≡ []
 none_left (state, given, zero) e = refl

@@ -9,7 +9,7 @@ use Rattle.vsw_promise.specs.Jobs.{Setting, cuts_within}
 use Rattle.vsw_promise.specs.Summary.{dropped, in_round, in_rounds, passed, size_of}
 use Rattle.vsw_replay.specs.declared.reading.Stop.{Stop}
 use Rattle.vsw_replay.specs.declared.reading.Stop.TheVariants as stop
-use Rattle.vsw_replay.specs.Cut.{IsCut, IsNextCut}
+use Rattle.vsw_replay.specs.Cut.{is_named_by, IsCut, IsNextCut}
 use Rattle.vsw_replay.specs.Going.{IsAsLong, is_run_of}
 use Rattle.vsw_replay.specs.Sofar.{AreSoFar}
 use Rattle.vsw_replay.proofs.Turning.{rounds_run, short_push}
@@ -64,8 +64,8 @@ rounds_so s first given rounds hs old new switch alone count cut most some few s
     all = omega (arith, length-append given old.batch, count)
 
     by : (length old.batch ≡ 1024) ⊎ (length old.batch < 1024) → AreSoFar s (given ++ old.batch) (cuts_within s.commands (length (given ++ old.batch))) (rounds ++ t.ran.round ∷ []) t.ran.histories
-    by (inl whole) = rounds_run s first (first + 1024) given old.batch rounds hs switch t.told [] new.text.items stop.Full count cut after (omega (arith, all, whole), omega (arith, few, whole)) (some_run (length old.batch) _ some) so t.ran
-    by (inr part) = rounds_run s first (first + 1024) given old.batch rounds hs switch t.told [] new.text.items stop.Fault count cut after (omega (arith, all, part)) (some_run (length old.batch) _ some) so t.ran
+    by (inl whole) = rounds_run s first (first + 1024) given old.batch rounds hs switch t.told [] new.text.items stop.Full count cut after (omega (arith, all, whole), omega (arith, few, whole)) (some_run (length old.batch) ((first == 0) || is_named_by s.commands first) some) so t.ran
+    by (inr part) = rounds_run s first (first + 1024) given old.batch rounds hs switch t.told [] new.text.items stop.Fault count cut after (omega (arith, all, part)) (some_run (length old.batch) ((first == 0) || is_named_by s.commands first) some) so t.ran
 
 -- a run before a round was drawn, and with it
 pub record HasDrawn (old run : Run) : Type 0 where

@@ -1,6 +1,6 @@
 //! Drawing the packets of a round.
 
-ghost use Rattle.std.specs.Prelude.{◌≡◌, ◌≤◌, [], IfOk, OnOk, length};
+ghost use Rattle.std.specs.Prelude.{◌≡◌, ◌≤◌, ◌++◌, ◌∷◌, [], IfOk, OnOk, length, take};
 ghost use Rattle.vsw_workload.specs.Draws.{Draws, DrawsOne};
 
 use vsw_base::NoMemory;

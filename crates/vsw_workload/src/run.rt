@@ -92,9 +92,10 @@ fn run_next(
     run.batch.clear();
     draw(&mut run.workload, &mut run.batch)?;
     let count = run.batch.len();
-    if count != 0 {
-        run_batch(switch, schedule, run, first)?;
+    if count == 0 {
+        return Ok(0);
     }
+    run_batch(switch, schedule, run, first)?;
     Ok(count as u32)
 }
 

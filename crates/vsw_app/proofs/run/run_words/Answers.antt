@@ -1,4 +1,4 @@
-use Rattle.vsw_app.proofs.Completing.{complete_is}
+use Rattle.vsw_app.proofs.Completing.{complete_alone, complete_is}
 use Rattle.vsw_app.proofs.Finishing.{usage_is, read_fault_is, write_fault_is}
 use Rattle.vsw_app.proofs.run.run_words.Goals as goal
 
@@ -13,3 +13,6 @@ returns-clause-write_fault g c = write_fault_is c.args.words.now (g.H.Host.outsi
 
 pub returns-clause-complete : goal.returns-clause-complete
 returns-clause-complete g c = complete_is c.args.words.now (g.H.Host.outside c.args.host.now) (g.H.Host.outside c.run.new.host) c.run.result c.run.ensures
+
+pub returns-clause-alone : goal.returns-clause-alone
+returns-clause-alone g c = complete_alone c.args.words.now (g.H.Host.outside c.args.host.now) (g.H.Host.outside c.run.new.host) c.run.result c.run.ensures

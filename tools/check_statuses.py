@@ -66,6 +66,9 @@ def cases(folder):
 
     yield "a whole report", ["forward", POLICY, COMMANDS, TRACE], 0, b""
     yield "four workers", ["forward", "--workers", "4", POLICY, COMMANDS, TRACE], 0, b""
+    yield "a summary", ["generate", "1", "2"], 0, b""
+    for words in ["01", "5"], ["1", "0"], ["1", "1048577"], ["2147483648", "1"], ["1"], ["1", "1", "1"], ["--", "1", "1"]:
+        yield f"generate {words}", ["generate", *words], 2, b"vsw: usage\n"
     options = ["--workers=0"], ["--workers", "17"], ["--workers=2", "--workers=2"]
     words_of_options = [["forward", *option, POLICY, COMMANDS, TRACE] for option in options]
     for words in [], ["help"], ["forward"], ["forward", "-x", COMMANDS, TRACE], ["forward", b"\xff", COMMANDS, TRACE], *words_of_options:
@@ -105,6 +108,7 @@ def main():
             out.write(b" " * 4_194_304)
         look("little memory", run(large, program=os.path.join(TOP, "crates/vsw/out/vsw"), limit=4_096), 9, b"vsw: memory\n")
     with open("/dev/full", "wb") as full:
+        look("a full disk for a summary", run(["generate", "1", "2"], full), 4, b"vsw: write fault\n")
         look("a full disk", run(["forward", POLICY, COMMANDS, TRACE], full), 4, b"vsw: write fault\n")
     sys.exit(1 if wrong else print("each status came, with its words") or 0)
 

@@ -131,12 +131,7 @@ impl Batch {
 
     /// Appends a record, which came at this moment and had `original` bytes; those that were captured are copied. Where there is
     /// no memory for it, nothing changes.
-    pub fn push(
-        &mut self,
-        moment: Moment,
-        original: u32,
-        bytes: &[u8],
-    ) -> Result<(), NoMemory>
+    pub fn push(&mut self, moment: Moment, original: u32, bytes: &[u8]) -> Result<(), NoMemory>
         ensures ok { OnOk result (self.new ≡ self.old ++ record { moment = moment; original = original; bytes = bytes.now } ∷ []) }
         ensures err { OnErr result (self.new ≡ self.old) }
     {

@@ -18,3 +18,5 @@ mod policies;
 mod rule_tests;
 #[cfg(test)]
 mod running;
+#[cfg(test)]
+mod workload_tests;

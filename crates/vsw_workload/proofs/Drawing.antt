@@ -29,8 +29,7 @@ drawn (state, given, suc left) new moment len room before batch some m l b le n 
     let next : given + 1 ≡ suc given = omega arith in
     let fewer : suc left - 1 ≡ left = omega arith in
     let rest : records_left new ≡ records_left (after state, suc given, left) = ap records_left (n ∙ ap₂ (λ x y. (after state, x, y)) next fewer) in
-    let first : r ≡ whole_record (1000 * given, bytes_of state) = sym (ap (λ t. whole_record (t, bytes_of state)) (sym m) ∙ record_is moment len room (bytes_of state) le b) in
-    (
+    let first : r ≡ whole_record (1000 * given, bytes_of state) = sym (ap (λ t. whole_record (t, bytes_of state)) (sym m) ∙ record_is moment len room (bytes_of state) le b) in (
       ap₂ (λ x y. x ++ y) is rest ∙ (append_assoc before (r ∷ []) (records_left (after state, suc given, left)) ∙ ap (λ q. before ++ q ∷ records_left (after state, suc given, left)) first),
       ap length is ∙ length-append before (r ∷ []),
       ap (λ w. w.2 + 1) n ∙ omega arith,

@@ -91,7 +91,8 @@ fn run_drawn<H: Host>(
     run_workload(alloc, host, &mut switch, start, packets)
 }
 
-/// Runs over so many generated packets, drawn from this number. Their policy is good, so it isn't read only where memory is wanting.
+/// Runs over so many generated packets, drawn from this number. Their policy is good (`vsw_generate_law`), so only want of memory keeps it
+/// from being read.
 fn generate<H: Host>(alloc: Global, host: &mut H, start: u32, packets: u32) -> Ending
     requires start { start < 2 ^ 31 }
     requires some { 1 ≤ packets }

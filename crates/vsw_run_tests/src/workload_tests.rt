@@ -58,6 +58,6 @@ fn a_put_that_fails_ends_the_run(rt: HostRuntime) -> Result<(), Fail> {
     let mut host = MemoryHost::new(alloc, Vec::new(alloc), 1_024, failing)?;
     assert_eq!(rt; run_words(alloc, &words, &mut host), Status::WriteFault);
     assert!(rt; host.written().is_empty());
-    assert!(rt; host.complained() == b"vsw: write fault\n");
+    assert!(rt; host.complained() == b"vsw: write fault\n".as_slice());
     Ok(())
 }

@@ -28,7 +28,7 @@ use Rattle.vsw_promise.specs.declared.ending.Ending.{Ending}
 use Rattle.vsw_promise.specs.declared.ending.Ending.TheVariants as ending
 use Rattle.vsw_promise.specs.declared.ending.Status.{Status}
 use Rattle.vsw_promise.specs.declared.ending.Status.TheVariants as status
-use Rattle.vsw_request.specs.Words.{Request, Forward, Generate, asked_in}
+use Rattle.vsw_request.specs.Words.{Request, Forward, Generate}
 
 -- ---- a file that is a capture, of which a trace was read
 

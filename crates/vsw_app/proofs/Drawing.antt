@@ -1,5 +1,5 @@
 -- A run over a generated workload ended as its workload did.
-use Rattle.std.proofs.Common.{◌≡◌, ℕ, inl, inr, refl, sym, subst}
+use Rattle.std.proofs.Common.{◌≡◌, ℕ, refl, sym, subst}
 use Rattle.vsw_host.specs.Outside.{Outside}
 use Rattle.vsw_host.proofs.CallerLemmas.{TellsSince-SameInputs}
 use Rattle.vsw_promise.specs.declared.ending.Ending.{Ending}

@@ -322,7 +322,6 @@ both words old new other last s t (Some (Forward q)) e same clean also r u m n =
     let b = found q other last same.others u.end same.told_too also (λ k. n (u.status_is ∙ k)) (runs_as words (Some (Forward q)) other last t u e) in
     let agreed = agree q same.files.files old.put new.put other.put last.put r.end u.end a (subst (λ f. Found q f other.put last.put u.end) (sym same.same) b) in
     record { ends = agreed.ends; text = λ w. agreed.text (w q refl) }
-
 both words old new other last s t (Some (Generate start packets)) e same clean also r u m n =
     let a = summarized start packets old new r.end clean (λ k. m (r.status_is ∙ k)) (runs_as words (Some (Generate start packets)) old new s r e) in
     let b = summarized start packets other last u.end also (λ k. n (u.status_is ∙ k)) (runs_as words (Some (Generate start packets)) other last t u e) in

@@ -1,5 +1,5 @@
 -- Packets go from the workload to the batch.
-use Rattle.std.proofs.Common.{◌≡◌, ◌≤◌, ◌+◌, ◌-◌, ◌*◌, ◌==◌, ℕ, zero, suc, Bool, true, false, if◌then◌else◌, List, [], ◌∷◌, ◌++◌, length, map, take, refl, ap, ap₂, sym, ◌∙◌, inl, inr, subst, arith, append_assoc, length-append, length-take}
+use Rattle.std.proofs.Common.{◌≡◌, ◌≤◌, ◌+◌, ◌-◌, ◌*◌, ◌==◌, ℕ, zero, suc, Bool, true, false, if◌then◌else◌, List, [], ◌∷◌, ◌++◌, length, take, refl, ap, ap₂, sym, ◌∙◌, inl, inr, arith, append_assoc, length-append, length-take}
 use Rattle.vsw_generate.specs.Draws.{after, kind_of, size_of}
 use Rattle.vsw_generate.specs.Packets.{bytes_of, len_of}
 use Rattle.vsw_pcap.specs.declared.capture.Record.{Record}

@@ -1,5 +1,5 @@
 -- The summary of a run whose packets were all given.
-use Rattle.std.proofs.Common.{◌≡◌, ◌<◌, ◌≤◌, inl, inr, ◌+◌, ℕ, zero, suc, Bool, true, false, List, [], ◌∷◌, ◌++◌, length, map, Option, Some, None, Result, Ok, Err, refl, ap, ap₂, sym, ◌∙◌, subst, arith, append-nil, take}
+use Rattle.std.proofs.Common.{◌≡◌, ◌<◌, inl, inr, ◌+◌, ℕ, zero, suc, Bool, true, false, List, [], ◌∷◌, ◌++◌, length, map, Option, Some, None, Ok, Err, refl, ap, ap₂, sym, ◌∙◌, subst, arith, append-nil}
 use Rattle.std.proofs.lemmas.List.{length-map}
 use Rattle.std.specs.Prelude.{⊤}
 use Rattle.vsw_generate.specs.Draws.{after}
@@ -8,15 +8,13 @@ use Rattle.vsw_generate.specs.Workload.{packets_from}
 use Rattle.vsw_history.specs.declared.event.Event.{Event}
 use Rattle.vsw_host.specs.Outside.{DoesPut, Grows, Outside}
 use Rattle.vsw_host.specs.declared.host.Failed.{Failed}
-use Rattle.vsw_pcap.specs.declared.capture.Record.{Record}
 use Rattle.vsw_policyfile.specs.Policy.{policy_file_of}
 use Rattle.vsw_policyfile.specs.declared.file.PolicyFile.{PolicyFile}
 use Rattle.vsw_ports.specs.Ports.{PortSeen, ports_of}
 use Rattle.vsw_promise.specs.Generated.{Summarizes, alone_under, generated_records, whole_record}
-use Rattle.vsw_promise.specs.IsRun.{PutsNothing}
 use Rattle.vsw_promise.specs.Jobs.{Setting, cuts, cuts_within}
 use Rattle.vsw_promise.specs.Rounds.{AreChained, AreRounds}
-use Rattle.vsw_promise.specs.Summary.{entries_after, five_lines, in_rounds, summary_text, total}
+use Rattle.vsw_promise.specs.Summary.{entries_after, five_lines, summary_text, total}
 use Rattle.vsw_replay.proofs.Carried.{none_so_far, rounds_of}
 use Rattle.vsw_replay.proofs.Cuts.{all_within, within_none}
 use Rattle.vsw_report.specs.declared.round.Round.{Round}
@@ -26,11 +24,10 @@ use Rattle.vsw_switch.specs.Close.{entries_in}
 use Rattle.vsw_switch.specs.Switch.{AllStandAt, IsAt, PortNow, SwitchNow}
 use Rattle.vsw_switch.specs.Tally.{none}
 use Rattle.vsw_workload.specs.declared.run.Run.{Run}
-use Rattle.vsw_workload.specs.declared.run.WorkloadEnd.{WorkloadEnd}
 use Rattle.vsw_workload.specs.declared.run.WorkloadEnd.TheVariants as end
 use Rattle.vsw_workload.specs.Draws.{records_left}
 use Rattle.vsw_workload.specs.Going.{Goes, end_of}
-use Rattle.vsw_workload.specs.Runs.{Ends, RunsWorkload}
+use Rattle.vsw_workload.specs.Runs.{RunsWorkload}
 
 -- ---- the beginning
 

@@ -2,23 +2,18 @@
 use Rattle.std.proofs.Common.{◌≡◌, ◌<◌, ◌≤◌, ◌⊎◌, inl, inr, ◌+◌, ◌*◌, ◌==◌, ◌||◌, ◌&&◌, not, ℕ, Bool, true, false, List, [], ◌∷◌, ◌++◌, length, refl, ap, ap₂, sym, ◌∙◌, subst, arith, append_assoc, length-append, ne_eqb}
 use native.Mathlib.Decide.{ℕ_discrete}
 use Rattle.vsw_base.specs.declared.fate.Fate.{Fate}
-use Rattle.vsw_commandfile.specs.declared.line.Line.{Line}
 use Rattle.vsw_history.specs.declared.event.Event.{Event}
 use Rattle.vsw_pcap.specs.declared.capture.Record.{Record}
 use Rattle.vsw_promise.specs.Jobs.{Setting, cuts_within}
 use Rattle.vsw_promise.specs.Summary.{dropped, in_round, in_rounds, passed, size_of}
-use Rattle.vsw_replay.specs.declared.reading.Stop.{Stop}
 use Rattle.vsw_replay.specs.declared.reading.Stop.TheVariants as stop
 use Rattle.vsw_replay.specs.Cut.{is_named_by, IsCut, IsNextCut}
-use Rattle.vsw_replay.specs.Going.{IsAsLong, is_run_of}
 use Rattle.vsw_replay.specs.Sofar.{AreSoFar}
 use Rattle.vsw_replay.proofs.Turning.{rounds_run, short_push}
 use Rattle.vsw_report.specs.declared.round.Round.{Round}
 use Rattle.vsw_rounds.proofs.Totals.{total_append}
-use Rattle.vsw_switch.specs.Close.{last_of}
 use Rattle.vsw_switch.specs.Switch.{SwitchNow, IsAt}
 use Rattle.vsw_switch.specs.Tally.{both, tally_in}
-use Rattle.vsw_switch.specs.declared.tally.Tally.{Tally}
 use Rattle.vsw_workload.specs.declared.run.Run.{Run}
 use Rattle.vsw_workload.specs.Draws.{Draws, records_left}
 use Rattle.vsw_workload.specs.Going.{Goes, IsTurn, tally_through}

@@ -1,5 +1,3 @@
-use Rattle.std.proofs.Common.{◌∙◌, ap, sym}
-use Rattle.vsw_policyfile.proofs.Policies as policies
 use Rattle.vsw_app.proofs.Drawing.{generated, ungenerated}
 use Rattle.vsw_app.proofs.run.generate.Goals as goal
 

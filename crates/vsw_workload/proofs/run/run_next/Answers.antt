@@ -1,7 +1,7 @@
 use Rattle.std.proofs.Common.{◌+◌, ◌<◌, length, refl, sym, ◌∙◌, subst, arith}
 use Rattle.vsw_workload.specs.declared.run.Run.{Run}
 use Rattle.vsw_workload.specs.Going.{Goes}
-use Rattle.vsw_workload.proofs.Turning.{HasDrawn, turned, unturned}
+use Rattle.vsw_workload.proofs.Turning.{HasDrawn, turned}
 use Rattle.vsw_workload.proofs.run.run_next.Goals as goal
 
 pub returns-clause-goes : goal.returns-clause-goes

@@ -1,10 +1,8 @@
 -- Of entries in the order of their numbers.
-use Rattle.std.proofs.Common.{suc, ◌≡◌, ◌<◌, ◌≤◌, ℕ, ◌==◌, nat_eq, nat_le, Bool, true, false, cond, if◌then◌else◌, List, [], ◌∷◌, ◌++◌, filter, map, length, Some, refl, sym, ap, ◌∙◌, arith, true≢false}
-use Rattle.std.specs.Map.{keys_of, values_of, lookup, set_value}
+use Rattle.std.proofs.Common.{suc, ◌≡◌, ◌<◌, ◌≤◌, ℕ, ◌==◌, nat_eq, nat_le, Bool, true, false, cond, if◌then◌else◌, List, [], ◌∷◌, ◌++◌, filter, length, None, Some, refl, sym, ap, ◌∙◌, arith, true≢false}
+use Rattle.std.specs.Map.{values_of, lookup, set_value}
 use Rattle.vsw_layerflow.specs.declared.pair.Pair.{Pair}
-use Rattle.vsw_layerflow.specs.Pairs.{number_of, AllBelow}
 use Rattle.vsw_layerflow.specs.Index.{entered, in_order}
-use Rattle.vsw_layerflow.proofs.Lists.{head_is, tail_is}
 use Rattle.vsw_layerflow.proofs.Order.{length-values}
 
 -- the order changes no look-up
@@ -33,42 +31,39 @@ pub length-in_order : (es : List (ℕ × Pair)) → length (in_order es) ≡ len
 length-in_order [] = refl
 length-in_order (e ∷ es) = length-entered e (in_order es) ∙ ap (λ l. suc l) (length-in_order es)
 
--- a new greatest number goes last
-entered-push : (e x : ℕ × Pair) (fs : List (ℕ × Pair)) → e.0 < x.0 → entered e (fs ++ x ∷ []) ≡ entered e fs ++ x ∷ []
-entered-push e x [] h = let w : nat_le e.0 x.0 ≡ true = grind arith in rw w refl
-entered-push e x (f ∷ fs) h =
-    let ih = entered-push e x fs h in
-    elim (nat_le e.0 f.0) as (λ b. (if b then e ∷ f ∷ fs ++ x ∷ [] else f ∷ entered e (fs ++ x ∷ [])) ≡ (if b then e ∷ f ∷ fs else f ∷ entered e fs) ++ x ∷ []) [ true ↦ refl | false ↦ ap (λ l. f ∷ l) ih ]
-
-Below : ℕ → List (ℕ × Pair) → Type 0
-Below n [] = Unit {0}
-Below n (e ∷ es) = (e.0 < n) × Below n es
-
-below-entered : (n : ℕ) (e : ℕ × Pair) (fs : List (ℕ × Pair)) → Below n (entered e fs) → (e.0 < n) × Below n fs
-unfolding Below
-below-entered n e [] = λ h. h
-below-entered n e (f ∷ fs) = by (nat_le e.0 f.0) (below-entered n e fs)
+-- two entries of different numbers are entered in either order
+entered-entered : (e x : ℕ × Pair) (fs : List (ℕ × Pair)) → (x.0 == e.0) ≡ false → entered e (entered x fs) ≡ entered x (entered e fs)
+entered-entered e x [] h = by (nat_le e.0 x.0) (nat_le x.0 e.0) refl refl
   where
-    by : (b : Bool) → (Below n (entered e fs) → (e.0 < n) × Below n fs) → Below n (if b then e ∷ f ∷ fs else f ∷ entered e fs) → (e.0 < n) × Below n (f ∷ fs)
-    by true ih h = h
-    by false ih h = let r = ih h.1 in (r.0, (h.0, r.1))
+    by : (c d : Bool) → nat_le e.0 x.0 ≡ c → nat_le x.0 e.0 ≡ d → entered e (entered x []) ≡ entered x (entered e [])
+    by true true u v = let w : (x.0 == e.0) ≡ true = grind arith in absurd (true≢false (sym w ∙ h))
+    by true false u v = rw (u, v) refl
+    by false true u v = rw (u, v) refl
+    by false false u v = let w : nat_le e.0 x.0 ≡ true = grind arith in absurd (true≢false (sym w ∙ u))
+entered-entered e x (f ∷ fs) h = by (nat_le e.0 f.0) (nat_le x.0 f.0) (nat_le e.0 x.0) (nat_le x.0 e.0) refl refl refl refl (entered-entered e x fs h)
+  where
+    by : (a b c d : Bool) → nat_le e.0 f.0 ≡ a → nat_le x.0 f.0 ≡ b → nat_le e.0 x.0 ≡ c → nat_le x.0 e.0 ≡ d → entered e (entered x fs) ≡ entered x (entered e fs) → entered e (entered x (f ∷ fs)) ≡ entered x (entered e (f ∷ fs))
+    by a b true true s t u v ih = let w : (x.0 == e.0) ≡ true = grind arith in absurd (true≢false (sym w ∙ h))
+    by a b false false s t u v ih = let w : nat_le e.0 x.0 ≡ true = grind arith in absurd (true≢false (sym w ∙ u))
+    by true true true false s t u v ih = rw (s, t, u, v) refl
+    by true true false true s t u v ih = rw (s, t, u, v, s) refl
+    by true false true false s t u v ih = rw (s, t, s, v) refl
+    by true false false true s t u v ih = let w : nat_le x.0 f.0 ≡ true = grind arith in absurd (true≢false (sym w ∙ t))
+    by false true false true s t u v ih = rw (s, t, u, s) refl
+    by false true true false s t u v ih = let w : nat_le e.0 f.0 ≡ true = grind arith in absurd (true≢false (sym w ∙ s))
+    by false false true false s t u v ih = rw (s, t, s, ih) refl
+    by false false false true s t u v ih = rw (s, t, s, ih) refl
 
-in_order-push : (x : ℕ × Pair) (es : List (ℕ × Pair)) → Below x.0 (in_order es) → in_order (es ++ x ∷ []) ≡ in_order es ++ x ∷ []
+-- an entry of a new number, put behind the others, is entered
+pub in_order-push : (x : ℕ × Pair) (es : List (ℕ × Pair)) → lookup (nat_eq x.0) es ≡ None → in_order (es ++ x ∷ []) ≡ entered x (in_order es)
 in_order-push x [] h = refl
-in_order-push x (e ∷ es) h =
-    let r = below-entered x.0 e (in_order es) h in
-    ap (entered e) (in_order-push x es r.1) ∙ entered-push e x (in_order es) r.0
-
-below_from_pairs : (n : ℕ) (es : List (ℕ × Pair)) → keys_of es ≡ map number_of (values_of es) → AllBelow n (values_of es) → Below n es
-unfolding Below
-below_from_pairs n [] k h = tt
-below_from_pairs n (e ∷ es) k h =
-    let i : e.0 ≡ e.1.number = head_is k in
-    let b : e.1.number < n = h.0 in
-    (grind arith, below_from_pairs n es (tail_is k) h.1)
-
-pub order-push : (p : Pair) (es : List (ℕ × Pair)) → keys_of (in_order es) ≡ map number_of (values_of (in_order es)) → AllBelow p.number (values_of (in_order es)) → in_order (es ++ (p.number, p) ∷ []) ≡ in_order es ++ (p.number, p) ∷ []
-order-push p es k h = in_order-push (p.number, p) es (below_from_pairs p.number (in_order es) k h)
+in_order-push x (e ∷ es) h = by (x.0 == e.0) refl (in_order-push x es)
+  where
+    by : (b : Bool) → (x.0 == e.0) ≡ b → (lookup (nat_eq x.0) es ≡ None → in_order (es ++ x ∷ []) ≡ entered x (in_order es)) → in_order (e ∷ es ++ x ∷ []) ≡ entered x (in_order (e ∷ es))
+    by true s ih = let g : Some e.1 ≡ None = sym (ap (λ b. cond b (Some e.1) (lookup (nat_eq x.0) es)) s) ∙ h in grind arith
+    by false s ih =
+        let g : lookup (nat_eq x.0) es ≡ None = sym (ap (λ b. cond b (Some e.1) (lookup (nat_eq x.0) es)) s) ∙ h in
+        ap (entered e) (ih g) ∙ entered-entered e x (in_order es) s
 
 pub count-in_order : (es : List (ℕ × Pair)) → length (values_of (in_order es)) ≡ length es
 count-in_order es = length-values (in_order es) ∙ length-in_order es

@@ -8,7 +8,7 @@ use Rattle.vsw_layerflow.specs.Pairs.{front, back, same_probe, holds, holder, nu
 use Rattle.vsw_layerflow.specs.Index.{IsIndex}
 use Rattle.vsw_layerflow.proofs.Order.{rising-filter, few-filter}
 use Rattle.vsw_layerflow.proofs.Lists.{head_is, tail_is, at_number, at_holder, same_is}
-use Rattle.vsw_layerflow.proofs.Changed.{other_number, other_number-rest}
+use Rattle.vsw_layerflow.proofs.Order.{other_number, other_number-rest}
 use Rattle.vsw_layerflow.proofs.Moved.{some_is}
 
 -- who holds a probe leaves it free in the rest

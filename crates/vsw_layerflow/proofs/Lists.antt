@@ -132,14 +132,6 @@ holder-push k (q ∷ ps) p = by (holds k q) refl (holder-push k ps p)
     by true t ih = rw t refl
     by false f ih = rw f ih
 
-pub numbered-push : (n : ℕ) (ps : List Pair) (p : Pair) → numbered n (ps ++ p ∷ []) ≡ (if is_some (numbered n ps) then numbered n ps else if n == p.number then Some p else None)
-numbered-push n [] p = refl
-numbered-push n (q ∷ ps) p = by (n == q.number) refl (numbered-push n ps p)
-  where
-    by : (b : Bool) → (n == q.number) ≡ b → numbered n (ps ++ p ∷ []) ≡ (if is_some (numbered n ps) then numbered n ps else if n == p.number then Some p else None) → numbered n (q ∷ ps ++ p ∷ []) ≡ (if is_some (numbered n (q ∷ ps)) then numbered n (q ∷ ps) else if n == p.number then Some p else None)
-    by true t ih = rw t refl
-    by false f ih = rw f ih
-
 -- two tests that agree everywhere are one test
 pub one_test : (E : Probe → Probe → Bool) → ((a b : Probe) → E a b ≡ same_probe a b) → (k : Probe) → E k ≡ same_probe k
 one_test E h k = λ j q. h k q j

@@ -1,21 +1,53 @@
 -- Of the order of numbers, and of how many pairs there are.
-use Rattle.std.proofs.Common.{suc, ◌≡◌, ◌<◌, ◌≤◌, ◌+◌, ◌-◌, ◌^◌, ℕ, ◌==◌, Bool, true, false, not, List, [], ◌∷◌, ◌++◌, filter, length, None, refl, ap, ◌∙◌, arith}
+use Rattle.std.proofs.Common.{suc, ◌≡◌, ◌<◌, ◌≤◌, ◌+◌, ◌-◌, ◌^◌, ℕ, ◌==◌, nat_le, Bool, true, false, not, if◌then◌else◌, List, [], ◌∷◌, ◌++◌, filter, length, None, Some, refl, sym, ap, ◌∙◌, arith}
 use Rattle.std.specs.Map.{values_of}
 use Rattle.vsw_base.specs.declared.flow.Track.{Track}
 use Rattle.vsw_layerflow.specs.declared.pair.Pair.{Pair}
-use Rattle.vsw_layerflow.specs.Pairs.{numbered, touched, AllBelow, AllAbove, AreRising}
+use Rattle.vsw_layerflow.specs.Pairs.{numbered, touched, put_by_number, AllBelow, AllAbove, AreRising}
 
-pub below-new : (n : ℕ) (ps : List Pair) → AllBelow n ps → numbered n ps ≡ None
-below-new n [] h = refl
-below-new n (p ∷ ps) h = let i : p.number < n = h.0 in let e : (n == p.number) ≡ false = grind arith in rw (e, below-new n ps h.1) refl
+pub below_new : (n : ℕ) (ps : List Pair) → AllBelow n ps → numbered n ps ≡ None
+below_new n [] h = refl
+below_new n (p ∷ ps) h = let i : p.number < n = h.0 in let e : (n == p.number) ≡ false = grind arith in rw (e, below_new n ps h.1) refl
 
-above-push : (n : ℕ) (ps : List Pair) (p : Pair) → AllAbove n ps → n < p.number → AllAbove n (ps ++ p ∷ [])
-above-push n [] p h i = (i, tt)
-above-push n (q ∷ ps) p h i = (h.0, above-push n ps p h.1 i)
+-- who hasn't a number that is free has another
+pub other_number : (n : ℕ) (ps : List Pair) (q : Pair) → numbered n (q ∷ ps) ≡ None → (n == q.number) ≡ false
+other_number n ps q e = by (n == q.number) refl
+  where
+    by : (b : Bool) → (n == q.number) ≡ b → b ≡ false
+    by true t = grind arith
+    by false f = refl
 
-pub rising-push : (ps : List Pair) (p : Pair) → AreRising ps → AllBelow p.number ps → AreRising (ps ++ p ∷ [])
-rising-push [] p h b = (tt, tt)
-rising-push (q ∷ ps) p h b = (above-push q.number ps p h.0 b.0, rising-push ps p h.1 b.1)
+pub other_number-rest : (n : ℕ) (ps : List Pair) (q : Pair) → numbered n (q ∷ ps) ≡ None → numbered n ps ≡ None
+other_number-rest n ps q e = let f = other_number n ps q e in sym (ap (λ b. if b then Some q else numbered n ps) f) ∙ e
+
+above-less : (n m : ℕ) (ps : List Pair) → n < m → AllAbove m ps → AllAbove n ps
+above-less n m [] i h = tt
+above-less n m (p ∷ ps) i h = let j : m < p.number = h.0 in (grind arith, above-less n m ps i h.1)
+
+above-put : (n : ℕ) (p : Pair) (ps : List Pair) → n < p.number → AllAbove n ps → AllAbove n (put_by_number p ps)
+above-put n p [] i h = (i, tt)
+above-put n p (q ∷ ps) i h =
+    let ih = above-put n p ps i h.1 in
+    elim (nat_le p.number q.number) as (λ b. AllAbove n (if b then p ∷ q ∷ ps else q ∷ put_by_number p ps)) [ true ↦ (i, h) | false ↦ (h.0, ih) ]
+
+pub rising-put : (p : Pair) (ps : List Pair) → AreRising ps → numbered p.number ps ≡ None → AreRising (put_by_number p ps)
+rising-put p [] h n = (tt, tt)
+rising-put p (q ∷ ps) h n = by (nat_le p.number q.number) refl (rising-put p ps h.1 (other_number-rest p.number ps q n))
+  where
+    by : (b : Bool) → nat_le p.number q.number ≡ b → AreRising (put_by_number p ps) → AreRising (if b then p ∷ q ∷ ps else q ∷ put_by_number p ps)
+    by true s ih =
+        let other = other_number p.number ps q n in
+        let i : p.number < q.number = grind arith in
+        ((i, above-less p.number q.number ps i h.0), h)
+    by false s ih = let i : q.number < p.number = grind arith in (above-put q.number p ps i h.0, ih)
+
+-- the greatest number goes last
+pub put-last : (p : Pair) (ps : List Pair) → AllBelow p.number ps → put_by_number p ps ≡ ps ++ p ∷ []
+put-last p [] h = refl
+put-last p (q ∷ ps) h =
+    let i : q.number < p.number = h.0 in
+    let w : nat_le p.number q.number ≡ false = grind arith in
+    rw (w, put-last p ps h.1) refl
 
 above-filter : (f : Pair → Bool) (n : ℕ) (ps : List Pair) → AllAbove n ps → AllAbove n (filter f ps)
 above-filter f n [] h = tt
@@ -45,12 +77,14 @@ pub length-touched : (n : ℕ) (t : Track) (m : ℕ) (ps : List Pair) → length
 length-touched n t m [] = refl
 length-touched n t m (p ∷ ps) = ap (λ l. suc l) (length-touched n t m ps)
 
-pub length-push : (ps : List Pair) (p : Pair) → length (ps ++ p ∷ []) ≡ suc (length ps)
-length-push [] p = refl
-length-push (q ∷ ps) p = ap (λ l. suc l) (length-push ps p)
+length-put : (p : Pair) (ps : List Pair) → length (put_by_number p ps) ≡ suc (length ps)
+length-put p [] = refl
+length-put p (q ∷ ps) =
+    let ih = length-put p ps in
+    elim (nat_le p.number q.number) as (λ b. length (if b then p ∷ q ∷ ps else q ∷ put_by_number p ps) ≡ suc (suc (length ps))) [ true ↦ refl | false ↦ ap (λ l. suc l) ih ]
 
-pub few-push : (ps : List Pair) (p : Pair) → length ps < 2 ^ 32 - 1 → length (ps ++ p ∷ []) < 2 ^ 32
-few-push ps p h = let e = length-push ps p in rw e (grind arith)
+pub few-put : (p : Pair) (ps : List Pair) → length ps < 2 ^ 32 - 1 → length (put_by_number p ps) < 2 ^ 32
+few-put p ps h = let e = length-put p ps in rw e (grind arith)
 
 one_more : (a b c : ℕ) → a + b ≡ c → a + suc b ≡ suc c
 one_more a b c e = grind arith

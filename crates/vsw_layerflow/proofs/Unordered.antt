@@ -1,29 +1,34 @@
 -- The two maps after a change, whatever order the first has its entries in.
-use Rattle.std.proofs.Common.{◌≡◌, ◌<◌, ◌≤◌, ◌-◌, ◌^◌, ℕ, ◌==◌, nat_eq, Bool, not, cond, List, [], ◌∷◌, ◌++◌, filter, length, None, Some, is_some, sym, ap, ◌∙◌}
+use Rattle.std.proofs.Common.{◌≡◌, ◌<◌, ◌≤◌, ◌-◌, ◌^◌, ℕ, ◌==◌, nat_eq, Bool, not, cond, List, [], ◌∷◌, ◌++◌, filter, map, length, None, Some, is_some, sym, ap, ◌∙◌}
 use Rattle.std.specs.Map.{keys_of, values_of, lookup, set_value}
 use Rattle.std.specs.List.{IsDistinct}
 use Rattle.std.proofs.lemmas.Map.Entries.{option_filter}
 use Rattle.vsw_base.specs.declared.flow.Track.{Track}
 use Rattle.vsw_layerflow.specs.declared.pair.Probe.{Probe}
 use Rattle.vsw_layerflow.specs.declared.pair.Pair.{Pair}
-use Rattle.vsw_layerflow.specs.Pairs.{front, back, same_probe, holder, with_use, touched, without, AllBelow}
+use Rattle.vsw_layerflow.specs.Pairs.{front, back, same_probe, holder, with_use, touched, without, numbered, number_of, put_by_number}
 use Rattle.vsw_layerflow.specs.Index.{in_order, IsIndex}
+use Rattle.vsw_layerflow.proofs.Lists.{at_number}
 use Rattle.vsw_layerflow.proofs.Order.{counted}
-use Rattle.vsw_layerflow.proofs.Changed.{added, values-push}
+use Rattle.vsw_layerflow.proofs.Changed.{added, values-entered}
 use Rattle.vsw_layerflow.proofs.Moved.{touch}
 use Rattle.vsw_layerflow.proofs.Kept.{removed, remove-filter, swept, values-filter}
-use Rattle.vsw_layerflow.proofs.InOrder.{lookup-in_order, length-in_order, order-push, filter-in_order, set-in_order}
+use Rattle.vsw_layerflow.proofs.InOrder.{lookup-in_order, length-in_order, in_order-push, filter-in_order, set-in_order}
 use Rattle.vsw_layerflow.proofs.Taken.{taken}
 
+-- a pair's number is free among the entries where it is free among the pairs
+pub number_free : (n : ℕ) (es : List (ℕ × Pair)) → keys_of (in_order es) ≡ map number_of (values_of (in_order es)) → numbered n (values_of (in_order es)) ≡ None → lookup (nat_eq n) es ≡ None
+number_free n es k h = sym (lookup-in_order n es) ∙ at_number n (in_order es) k ∙ h
+
 pub added-in_order : (es : List (ℕ × Pair)) (ls : List (Probe × ℕ)) (p : Pair) (ms : List (Probe × ℕ)) → IsIndex (in_order es) ls
-    → holder (front p) (values_of (in_order es)) ≡ None → holder (back p) (values_of (in_order es)) ≡ None → AllBelow p.number (values_of (in_order es)) → length (values_of (in_order es)) < 2 ^ 32 - 1
+    → holder (front p) (values_of (in_order es)) ≡ None → holder (back p) (values_of (in_order es)) ≡ None → numbered p.number (values_of (in_order es)) ≡ None → length (values_of (in_order es)) < 2 ^ 32 - 1
     → ((k : Probe) → lookup (same_probe k) ms ≡ cond (same_probe (back p) k) (Some p.number) (cond (same_probe (front p) k) (Some p.number) (lookup (same_probe k) ls)))
     → IsIndex (in_order (es ++ (p.number, p) ∷ [])) ms
-added-in_order es ls p ms h f b l w u = rw (order-push p es h.keyed l) (added (in_order es) ls p ms h f b l w u)
+added-in_order es ls p ms h f b n w u = rw (in_order-push (p.number, p) es (number_free p.number es h.keyed n)) (added (in_order es) ls p ms h f b n w u)
 
-pub added-pairs : (es : List (ℕ × Pair)) (ls : List (Probe × ℕ)) (p : Pair) → IsIndex (in_order es) ls → AllBelow p.number (values_of (in_order es))
-    → values_of (in_order (es ++ (p.number, p) ∷ [])) ≡ values_of (in_order es) ++ p ∷ []
-added-pairs es ls p h l = ap values_of (order-push p es h.keyed l) ∙ values-push (in_order es) p
+pub added-pairs : (es : List (ℕ × Pair)) (ls : List (Probe × ℕ)) (p : Pair) → IsIndex (in_order es) ls → numbered p.number (values_of (in_order es)) ≡ None
+    → values_of (in_order (es ++ (p.number, p) ∷ [])) ≡ put_by_number p (values_of (in_order es))
+added-pairs es ls p h n = ap values_of (in_order-push (p.number, p) es (number_free p.number es h.keyed n)) ∙ values-entered p (in_order es) h.keyed
 
 pub touched-in_order : (n : ℕ) (t : Track) (m : ℕ) (es fs : List (ℕ × Pair)) (ls : List (Probe × ℕ)) → IsIndex (in_order es) ls
     → ((p : Pair) → lookup (nat_eq n) es ≡ Some p → fs ≡ set_value (nat_eq n) es (with_use t m p))

@@ -1,5 +1,5 @@
 -- The pairs of a layer, as a list in order of number.
-use Rattle.std.specs.Prelude.{◌≡◌, ℕ, ◌<◌, ◌==◌, ◌&&◌, ◌||◌, List, [], ◌∷◌, Bool, true, false, not, filter, get_or, map, Option, Some, None, if◌then◌else◌}
+use Rattle.std.specs.Prelude.{◌≡◌, ℕ, ◌<◌, ◌==◌, ◌&&◌, ◌||◌, List, [], ◌∷◌, nat_le, Bool, true, false, not, filter, get_or, map, Option, Some, None, if◌then◌else◌}
 use Rattle.vsw_base.specs.declared.packet.Dir.{Dir}
 use Rattle.vsw_base.specs.declared.packet.Dir.TheVariants.{Out, In}
 use Rattle.vsw_base.specs.Direction.{same_dir}
@@ -78,6 +78,11 @@ pub record Pairs : Type 0 where
 
 abbrev pub number_of : Pair → ℕ
 number_of p = p.number
+
+-- a pair at its place by number: before the first whose number isn't less
+abbrev pub put_by_number : Pair → List Pair → List Pair
+put_by_number p [] = p ∷ []
+put_by_number p (q ∷ qs) = if nat_le p.number q.number then p ∷ q ∷ qs else q ∷ put_by_number p qs
 
 -- every pair has a number below this
 abbrev pub AllBelow : ℕ → List Pair → Type 0

@@ -2,7 +2,7 @@
 
 ghost use Rattle.std.specs.Prelude.{◌≡◌, ◌≤◌, ◌<◌, ◌+◌, ◌-◌, ◌^◌, ◌++◌, ◌∷◌, [], OnOk, None, option_copied, length, filter, not};
 ghost use Rattle.vsw_layerflow.specs.declared.pair.Pair.{Pair};
-ghost use Rattle.vsw_layerflow.specs.Pairs.{pair_of, turned, touched, without, of_rule, of_marked, AllApart, AllBelow, AreRising};
+ghost use Rattle.vsw_layerflow.specs.Pairs.{pair_of, turned, touched, without, numbered, put_by_number, of_rule, of_marked, AllApart, AllBelow, AreRising};
 ghost use Rattle.vsw_layerflow.specs.Life.{is_over};
 
 use crate::maps::{
@@ -79,14 +79,15 @@ impl Flows {
         Ok(())
     }
 
-    /// Adds a pair. It takes no memory.
+    /// Adds a pair of a new number, at its place by number. It takes no memory.
     pub fn add(&mut self, pair: Pair)
         requires room { 1 ≤ self.old.spare }
         requires forward_free { pair_of pair.dir pair.forward self.old.pairs ≡ None }
         requires reverse_free { pair_of (turned pair.dir) pair.reverse self.old.pairs ≡ None }
-        requires number_last { AllBelow pair.number self.old.pairs }
+        requires number_new { numbered pair.number self.old.pairs ≡ None }
         requires few { length self.old.pairs < 2 ^ 32 - 1 }
-        ensures added { self.new.pairs ≡ self.old.pairs ++ pair ∷ [] }
+        ensures added { self.new.pairs ≡ put_by_number pair self.old.pairs }
+        ensures last { AllBelow pair.number self.old.pairs → self.new.pairs ≡ self.old.pairs ++ pair ∷ [] }
         ensures spare { self.old.spare ≤ self.new.spare + 1 }
     {
         let front = pair.front();

@@ -1,7 +1,7 @@
 //! Pairs found either way, kept apart, touched, taken away and swept, and a full layer of them.
 
-ghost use Rattle.std.specs.Prelude.{◌≡◌, ◌+◌, [], IsTrue};
-ghost use Rattle.vsw_layerflow.specs.Pairs.{AllBelow};
+ghost use Rattle.std.specs.Prelude.{◌≡◌, ◌+◌, [], None, IsTrue};
+ghost use Rattle.vsw_layerflow.specs.Pairs.{AllBelow, numbered, put_by_number};
 
 use std::process::Abort;
 use vsw_base::{Dir, Ip4, LayerKey, Moment, Set, Track};
@@ -73,7 +73,7 @@ fn back_of(number: u32) -> LayerKey {
 }
 
 /// Adds a pair whose keys are free, and tells whether it did.
-#[tactic(auto, using(vsw_layerflow::proofs::Order::below_next, vsw_layerflow::proofs::Order::below_push))]
+#[tactic(auto, using(vsw_layerflow::proofs::Order::below_new, vsw_layerflow::proofs::Order::below_next, vsw_layerflow::proofs::Order::below_push))]
 fn put(flows: &mut Flows, pair: Pair) -> bool
     requires number_last { AllBelow pair.number flows.old.pairs }
     ensures number_last { AllBelow (pair.number + 1) flows.new.pairs }
@@ -182,6 +182,50 @@ fn a_pair_is_found_either_way_until_it_goes(rt: HostRuntime) {
     assert_eq!(rt; flows.len(), 0);
     assert_eq!(rt; found_by_both(&flows), NOTHING);
 }
+
+/// Adds a pair of any new number, if its keys are free, and tells whether it did.
+fn put_new(flows: &mut Flows, pair: Pair) -> bool
+    requires number_new { numbered pair.number flows.old.pairs ≡ None }
+    ensures added { IsTrue result → flows.new.pairs ≡ put_by_number pair flows.old.pairs }
+{
+    if flows.find(pair.dir, &pair.forward).is_some() {
+        return false;
+    }
+    if flows.find(pair.back().dir, &pair.reverse).is_some() {
+        return false;
+    }
+    if flows.len() == u32::MAX || flows.reserve_one().is_err() {
+        return false;
+    }
+    flows.add(pair);
+    true
+}
+
+/// Adds pair 7 and then pair 3, and tells whether it did.
+fn put_backwards(flows: &mut Flows) -> bool
+    requires none { flows.old.pairs ≡ [] }
+{
+    if !put_new(flows, pair(7, Dir::Out, there(), back())) {
+        return false;
+    }
+    put_new(
+        flows,
+        pair(3, Dir::Out, there_from_next(), there_from_next()),
+    )
+}
+
+#[test]
+fn pairs_come_in_any_order_of_their_numbers(rt: HostRuntime) {
+    let mut flows = Flows::new(rt.alloc());
+    assert!(rt; put_backwards(&mut flows));
+    assert_eq!(rt; found(&flows, Dir::Out, &there_from_next()), LATER);
+    flows.remove(7);
+    assert_eq!(rt; found(&flows, Dir::Out, &there_from_next()), LATER);
+    assert_eq!(rt; flows.len(), 1);
+}
+
+// A pair that came after one of a greater number.
+const LATER: Found = Some((3, Track::Opening));
 
 /// The key of `there` from the next port.
 fn there_from_next() -> LayerKey {

@@ -69,7 +69,7 @@ pub fn pair(number: u32, group: u16, rule: u16, port: u16) -> Pair
 }
 
 /// Adds a pair whose keys are free, and tells whether it did.
-#[tactic(auto, using(vsw_layerflow::proofs::Order::below_next, vsw_layerflow::proofs::Order::below_push))]
+#[tactic(auto, using(vsw_layerflow::proofs::Order::below_new, vsw_layerflow::proofs::Order::below_next, vsw_layerflow::proofs::Order::below_push))]
 fn put(flows: &mut Flows, pair: Pair) -> bool
     requires number_last { AllBelow pair.number flows.old.pairs }
     ensures number_last { AllBelow (pair.number + 1) flows.new.pairs }

@@ -9,8 +9,10 @@ use Rattle.vsw_base.specs.declared.flow.Crossing.{Crossing}
 use Rattle.vsw_base.specs.declared.header.Header.{Header}
 use Rattle.vsw_base.specs.declared.packet.Control.{Control}
 use Rattle.vsw_base.specs.declared.packet.Dir.{Dir}
-use Rattle.vsw_choice.specs.Choice.{Chosen, better, pick, choose, decided, applies}
-use Rattle.vsw_choice.specs.Choice as choice
+use Rattle.vsw_choice.specs.Choice.{Chosen, better, pick, choose, applies}
+use Rattle.vsw_choice.specs.Private.FromEnd.{decided, from_end}
+use Rattle.vsw_choice.specs.Private.FromEnd as choice
+use Rattle.vsw_choice.proofs.FromEnd.{choose_is}
 use Rattle.vsw_commit.specs.Cross.{all_done, cross_of, made_by, made_after, makes}
 use Rattle.vsw_compose.specs.Edit.{edited, kept_after}
 use Rattle.vsw_walk.specs.declared.scratch.Wanted.{Wanted}
@@ -79,13 +81,16 @@ after_fine : (g : ℕ) (o : Option Rule) (c : Option Chosen) → FineRule o → 
 after_fine g None c f k = k
 after_fine g (Some r) c f k = decided_fine g r c f k
 
-choose_fine : (d : Dir) (gs : List Group) (hs : List Header) → Each IsPlainGroup gs → FineChosen (choose d gs hs)
-choose_fine d [] hs e = tt
-choose_fine d (g ∷ gs) hs e = by (applies d hs g) (choose_fine d gs hs e.1)
+from_end_fine : (d : Dir) (gs : List Group) (hs : List Header) → Each IsPlainGroup gs → FineChosen (from_end d gs hs)
+from_end_fine d [] hs e = tt
+from_end_fine d (g ∷ gs) hs e = by (applies d hs g) (from_end_fine d gs hs e.1)
   where
-    by : (b : Bool) → FineChosen (choose d gs hs) → FineChosen (if b then choice.after g.number (pick g.rules hs) (choose d gs hs) else choose d gs hs)
-    by true ih = after_fine g.number (pick g.rules hs) (choose d gs hs) (pick_fine g.rules hs e.0) ih
+    by : (b : Bool) → FineChosen (from_end d gs hs) → FineChosen (if b then choice.after g.number (pick g.rules hs) (from_end d gs hs) else from_end d gs hs)
+    by true ih = after_fine g.number (pick g.rules hs) (from_end d gs hs) (pick_fine g.rules hs e.0) ih
     by false ih = ih
+
+choose_fine : (d : Dir) (gs : List Group) (hs : List Header) → Each IsPlainGroup gs → FineChosen (choose d gs hs)
+choose_fine d gs hs e = subst FineChosen (sym (choose_is d gs hs)) (from_end_fine d gs hs e)
 
 -- ---- what is wanted: nothing
 

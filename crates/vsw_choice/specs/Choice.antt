@@ -1,5 +1,7 @@
 -- Which rule of a layer's groups a packet meets.
-use Rattle.std.specs.Prelude.{◌≡◌, ℕ, ◌<◌, ◌≤◌, ◌&&◌, List, [], ◌∷◌, ◌++◌, Bool, true, false, nat_le, Option, Some, None, if◌then◌else◌}
+use Rattle.std.specs.Prelude.{◌≡◌, ℕ, ◌<◌, ◌≤◌, ◌&&◌, List, [], ◌∷◌, ◌++◌, Bool, true, false, nat_le, Option, Some, None, option_map, if◌then◌else◌}
+use Rattle.std.specs.List.{filter_map, find, last_or}
+use Rattle.std.specs.Option.{option_or}
 use Rattle.vsw_base.specs.Direction.{same_dir}
 use Rattle.vsw_base.specs.declared.header.Header.{Header}
 use Rattle.vsw_base.specs.declared.packet.Dir.{Dir}
@@ -26,19 +28,23 @@ pub record Chosen : Type 0 where
   pub group : ℕ
   pub rule : Rule
 
--- a pick marked last is chosen at once; any other gives way to what later groups choose
-abbrev pub decided : ℕ → Rule → Option Chosen → Option Chosen
-decided g r None = Some (record { group = g; rule = r })
-decided g r (Some c) = Some (if r.last then record { group = g; rule = r } else c)
+abbrev pub of_group : ℕ → Rule → Chosen
+of_group n r = record { group = n; rule = r }
 
-abbrev pub after : ℕ → Option Rule → Option Chosen → Option Chosen
-after g None later = later
-after g (Some r) later = decided g r later
+-- the pick of a group that applies
+abbrev pub pick_in : Dir → List Header → Group → Option Chosen
+pick_in d hs g = if applies d hs g then option_map (of_group g.number) (pick g.rules hs) else None
 
--- over the groups that apply, in order: the first pick marked last, else the last pick
+-- the picks of the groups that apply, in the order of these
+abbrev pub picks_of : Dir → List Group → List Header → List Chosen
+picks_of d gs hs = filter_map (pick_in d hs) gs
+
+abbrev pub is_last : Chosen → Bool
+is_last c = c.rule.last
+
+-- the first pick that is marked last; where none is, the last pick
 abbrev pub choose : Dir → List Group → List Header → Option Chosen
-choose d [] hs = None
-choose d (g ∷ gs) hs = if applies d hs g then after g.number (pick g.rules hs) (choose d gs hs) else choose d gs hs
+choose d gs hs = option_or (find is_last (picks_of d gs hs)) (last_or None (picks_of d gs hs))
 
 -- every rule is such
 abbrev pub Each : (Rule → Type 0) → List Rule → Type 0

@@ -5,6 +5,7 @@ ghost use Rattle.vsw_base.specs.declared.header.Header.{Header};
 ghost use Rattle.vsw_choice.specs.Choice.{Chosen};
 ghost use Rattle.vsw_choice.specs.Choice as spec;
 ghost use Rattle.vsw_choice.specs.ChoiceSeen.{seen};
+ghost use Rattle.vsw_choice.specs.Private.FromEnd.{after, from_end};
 
 use vsw_base::{Dir, Stack};
 use vsw_rule::{Group, Packet, Rule, all_hold};
@@ -60,7 +61,7 @@ fn applies(group: &Group, dir: Dir, packet: &Packet<'_>) -> bool
 /// Whether a packet of this direction can meet a rule of the group.
 #[inline(always)]
 fn asks(group: &Group, dir: Dir) -> bool
-    ensures { (hs : List Header) (later : Option Chosen) → result ≡ false → (if spec.applies dir hs group.now then spec.after group.now.number (spec.pick group.now.rules hs) later else later) ≡ later }
+    ensures { (hs : List Header) (later : Option Chosen) → result ≡ false → (if spec.applies dir hs group.now then after group.now.number (spec.pick group.now.rules hs) later else later) ≡ later }
 {
     group.dir == dir && !group.rules.is_empty()
 }
@@ -69,7 +70,7 @@ fn asks(group: &Group, dir: Dir) -> bool
 #[inline(always)]
 fn asked(dir: Dir, groups: &[Group]) -> usize
     ensures within { result ≤ length groups.now }
-    ensures rest { (hs : List Header) → spec.choose dir (drop result groups.now) hs ≡ None }
+    ensures rest { (hs : List Header) → from_end dir (drop result groups.now) hs ≡ None }
 {
     let mut left = groups.len();
     while left > 0 {
@@ -98,8 +99,8 @@ fn choose_among<'a>(
     stack: &Stack,
 ) -> Option<Choice<'a>>
     requires within { count ≤ length groups.now }
-    requires rest { spec.choose dir (drop count groups.now) stack.now ≡ None }
-    ensures { option_map seen result ≡ spec.choose dir groups.now stack.now }
+    requires rest { from_end dir (drop count groups.now) stack.now ≡ None }
+    ensures { option_map seen result ≡ from_end dir groups.now stack.now }
 {
     let packet = Packet::of(stack);
     let mut found: Option<&'a Rule> = None;
@@ -126,8 +127,8 @@ fn choose_among<'a>(
     }
 }
 
-/// The choice among a layer's groups: over those of the packet's direction whose conditions hold, in
-/// order, the first pick marked last, else the last pick.
+/// The choice among a layer's groups: of the picks of those that are of the packet's direction and whose
+/// conditions hold, the first that is marked last; where none is, the last pick.
 #[inline(always)]
 pub fn choose<'a>(dir: Dir, groups: &'a [Group], stack: &Stack) -> Option<Choice<'a>>
     ensures { option_map seen result ≡ spec.choose dir groups.now stack.now }

@@ -1,11 +1,13 @@
 -- The action of a rule that is chosen can be done.
-use Rattle.std.proofs.Common.{◌≡◌, ℕ, ◌&&◌, ◌||◌, true, false, not, List, [], ◌∷◌, Option, Some, None, subst}
+use Rattle.std.proofs.Common.{◌≡◌, ℕ, ◌&&◌, ◌||◌, true, false, not, List, [], ◌∷◌, Option, Some, None, sym, subst, ◌∙◌}
 use Rattle.std.specs.Prelude.{if◌then◌else◌}
 use Rattle.vsw_base.specs.declared.header.Header.{Header}
 use Rattle.vsw_base.specs.declared.packet.Dir.{Dir}
 use Rattle.vsw_base.specs.Shape.{inner}
 use Rattle.vsw_base.proofs.Truths.{both}
-use Rattle.vsw_choice.specs.Choice.{Chosen, Picks, pick, applies, after, choose}
+use Rattle.vsw_choice.specs.Choice.{Chosen, Picks, pick, applies, choose}
+use Rattle.vsw_choice.specs.Private.FromEnd.{after, from_end}
+use Rattle.vsw_choice.proofs.FromEnd.{choose_is}
 use Rattle.vsw_choice.proofs.Picks.{pick_is}
 use Rattle.vsw_rule.specs.declared.rule.Rule.{Rule}
 use Rattle.vsw_rule.specs.declared.rule.Group.{Group}
@@ -31,12 +33,12 @@ decided hs g None later p l = l
 decided hs g (Some r) None p l = p
 decided hs g (Some r) (Some c) p l = elim r.last as (λ b. ChosenCan hs (Some (if b then record { group = g; rule = r } else c))) [ true ↦ p | false ↦ l ]
 
-chosen : (d : Dir) (gs : List Group) (hs : List Header) → ChosenCan hs (choose d gs hs)
+chosen : (d : Dir) (gs : List Group) (hs : List Header) → ChosenCan hs (from_end d gs hs)
 chosen d [] hs = tt
 chosen d (g ∷ gs) hs =
     let rest = chosen d gs hs in
-    let here = decided hs g.number (pick g.rules hs) (choose d gs hs) (picked g.rules hs (pick g.rules hs) (pick_is g.rules hs)) rest in
-    elim (applies d hs g) as (λ b. ChosenCan hs (if b then after g.number (pick g.rules hs) (choose d gs hs) else choose d gs hs)) [ true ↦ here | false ↦ rest ]
+    let here = decided hs g.number (pick g.rules hs) (from_end d gs hs) (picked g.rules hs (pick g.rules hs) (pick_is g.rules hs)) rest in
+    elim (applies d hs g) as (λ b. ChosenCan hs (if b then after g.number (pick g.rules hs) (from_end d gs hs) else from_end d gs hs)) [ true ↦ here | false ↦ rest ]
 
 pub chosen_can : (d : Dir) (gs : List Group) (hs : List Header) (c : Chosen) → choose d gs hs ≡ Some c → can_do c.rule.action hs ≡ true
-chosen_can d gs hs c e = subst (ChosenCan hs) e (chosen d gs hs)
+chosen_can d gs hs c e = subst (ChosenCan hs) (sym (choose_is d gs hs) ∙ e) (chosen d gs hs)

@@ -1,11 +1,11 @@
 use Rattle.std.proofs.Common.{◌≡◌, ◌≤◌, List, None, length, drop}
 use Rattle.vsw_base.specs.declared.header.Header.{Header}
-use Rattle.vsw_choice.specs.Choice.{choose}
+use Rattle.vsw_choice.specs.Private.FromEnd.{from_end}
 use Rattle.vsw_choice.proofs.choice.asked.Given as goal
 
 abbrev pub invariant-loop-left : goal.invariant-loop-left
 invariant-loop-left l = record {
-  rest : (hs : List Header) → choose l.dir (drop l.left l.groups) hs ≡ None;
+  rest : (hs : List Header) → from_end l.dir (drop l.left l.groups) hs ≡ None;
   within : l.left ≤ length l.groups;
 }
 

@@ -1,6 +1,6 @@
 -- What a walk makes of a packet's stack: encapsulations go and come, and inner headers keep their kinds.
 use Rattle.std.proofs.Common.{◌≡◌, ◌≢◌, ◌≤◌, ◌<◌, ◌∙◌, ℕ, zero, suc, ◌-◌, ◌*◌, ◌==◌, Bool, true, false, List, [], ◌∷◌, ◌++◌, map, take, drop, Option, Some, None, refl, sym, subst, arith}
-use Rattle.std.specs.Prelude.{if◌then◌else◌}
+use Rattle.std.specs.Prelude.{min, if◌then◌else◌}
 use Rattle.std.proofs.lemmas.Bool.Decides.{nat_tests}
 use Rattle.vsw_base.specs.declared.fate.Verdict.{Verdict}
 use Rattle.vsw_base.specs.declared.fate.Verdict.TheVariants.{Default, Rule}
@@ -82,10 +82,9 @@ covers : (encap : Option Outer) (most n kept : ℕ) (core hs : List Header) → 
 covers None most n kept core hs c f h = record { number = n; carries = c; of_first = f; of_edited = h }
 covers (Some o) most n kept core hs c f h = record { number = suc n; carries = c; of_first = f; of_edited = omega (arith, h) }
 
--- a decap takes a kept encapsulation only where all are kept
-taken : (n kept : ℕ) (b : Bool) → (n == kept) ≡ b → 0 < n → kept ≤ n → ((if b then kept - 1 else kept) ≤ kept) × ((if b then kept - 1 else kept) ≤ n - 1)
-taken n kept true e p l = (omega arith, omega (arith, l))
-taken n kept false e p l = let f : n ≢ kept = grind (arith, nat_tests) in (omega arith, omega (arith, f, p, l))
+-- a decap leaves at most as many as were kept, and at most as many as there are behind the one that it takes
+taken : (n kept : ℕ) → (min kept (n - 1) ≤ kept) × (min kept (n - 1) ≤ n - 1)
+taken n kept = (omega arith, omega arith)
 
 follows_on : (a : Action) (core : List Header) (most : ℕ) (hs : List Header) (kept : ℕ) → can_do a hs ≡ true → Follows core most hs kept → Follows core most (edited a hs) (kept_after a hs kept)
 follows_on Allow core most hs kept t f = f
@@ -94,7 +93,7 @@ follows_on (Edit false set encap) core most hs kept t f = covers encap most f.nu
 follows_on (Edit true set encap) core most hs kept t f =
     let count : encaps hs ≡ f.number = carries_count f.number core hs f.carries in
     let some : 0 < encaps hs = grind (arith, nat_tests) in
-    let left = taken (encaps hs) kept (encaps hs == kept) refl some (omega (arith, f.of_edited, count)) in
+    let left = taken (encaps hs) kept in
     let rest : Carries (f.number - 1) core (drop 3 hs) = uncovers f.number core hs (omega (arith, some, count)) f.carries in
     covers encap most (f.number - 1) (kept_after (Edit true set encap) hs kept) core (with_set set (drop 3 hs)) (carries_set set (f.number - 1) core (drop 3 hs) rest) (omega (arith, left.0, f.of_first)) (omega (arith, left.1, count))
 

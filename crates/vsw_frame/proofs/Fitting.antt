@@ -13,7 +13,8 @@ use Rattle.vsw_transpose.specs.declared.act.Act.TheVariants.{Push, Pop, Modify, 
 use Rattle.vsw_transpose.specs.Apply.{apply, changed}
 use Rattle.vsw_transpose.specs.Form.{are_stays, are_late, are_ordered, pops, is_form}
 use Rattle.vsw_transpose.specs.Form as form
-use Rattle.vsw_transpose.specs.Fits.{suits, outer, fits, kept}
+use Rattle.vsw_transpose.specs.Fits.{outer, fits, kept}
+use Rattle.vsw_transpose.specs.Private.Suits.{suits}
 use Rattle.vsw_transpose.proofs.Kept.{fits_parts, form_parts, rest_is}
 use Rattle.vsw_transpose.proofs.Parts.{has_parts, left, outer_after, stays_pops, stays_pushed}
 use Rattle.vsw_frame.specs.Bytes.{IsLike, AreLike, IsEdit, kept_headers}

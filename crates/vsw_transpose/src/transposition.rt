@@ -8,6 +8,7 @@ ghost use Rattle.vsw_transpose.specs.declared.act.Act.TheVariants.{Ignore};
 ghost use Rattle.vsw_transpose.specs.Apply as spec;
 ghost use Rattle.vsw_transpose.specs.Fits as fit;
 ghost use Rattle.vsw_transpose.specs.Form.{is_form, pops};
+ghost use Rattle.vsw_transpose.specs.Private.Suits.{suits};
 
 use crate::act::Act;
 use crate::acts::Acts;
@@ -141,6 +142,7 @@ impl Transposition {
     /// Whether it can be done to the stack: each header has its act and each act but a push its header,
     /// encapsulations are popped whole, fields are written into inner headers of their kind alone, and a
     /// stack comes out, of at most two encapsulations.
+    #[tactic(auto, using(crate::proofs::Suits::fits_is))]
     pub fn fits(&self, stack: &Stack) -> bool
         ensures { result ≡ fit.fits self.now stack.now }
     {
@@ -222,7 +224,7 @@ impl Transposition {
 /// Whether acts that suit the stack make a stack of it.
 fn makes_stack(acts: &[Act], stack: &Stack) -> bool
     requires room { length acts.now ≤ 18 }
-    requires suit { IsTrue (fit.suits (fit.outer stack.now) acts.now stack.now) }
+    requires suit { IsTrue (suits (fit.outer stack.now) acts.now stack.now) }
     ensures { result ≡ is_stack (spec.apply acts.now stack.now) }
 {
     let headers = stack.headers();

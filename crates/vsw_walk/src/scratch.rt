@@ -296,8 +296,8 @@ fn is_nothing(set: &Set) -> bool
 fn left_of(kept: u8, decap: bool, stack: &Stack) -> u8
     ensures { (set : Set) (encap : Option Outer) → result ≡ kept_after (Edit decap set encap) stack.now kept }
 {
-    if decap && stack.encaps() == kept {
-        kept.saturating_sub(1)
+    if decap {
+        kept.min(stack.encaps().saturating_sub(1))
     } else {
         kept
     }

@@ -32,18 +32,42 @@ ports_of (ether ∷ ip ∷ Ip src dst proto part ∷ hs) = (0, 0)
 ports_of (ether ∷ ip ∷ Vxlan vni ∷ hs) = (0, 0)
 ports_of (ether ∷ ip ∷ Ports proto src dst ∷ hs) = (src, dst)
 
--- the key of a stack; what it hasn't is 0
+-- what a key has of a stack, each 0 or false where the stack hasn't it: the network of the encapsulation at a place
+abbrev pub vni_at : ℕ → List Header → ℕ
+vni_at place hs = get_or (vnis hs) place 0
+
+-- the inner IP header's source, destination, protocol, and whether it is of a fragment
+abbrev pub src_of : List Header → ℕ
+src_of hs = (packet_of (inner hs)).0
+
+abbrev pub dst_of : List Header → ℕ
+dst_of hs = (packet_of (inner hs)).1
+
+abbrev pub proto_of : List Header → ℕ
+proto_of hs = (packet_of (inner hs)).2
+
+abbrev pub is_part : List Header → Bool
+is_part hs = (packet_of (inner hs)).3
+
+-- the inner ports
+abbrev pub src_port_of : List Header → ℕ
+src_port_of hs = (ports_of (inner hs)).0
+
+abbrev pub dst_port_of : List Header → ℕ
+dst_port_of hs = (ports_of (inner hs)).1
+
+-- the key of a stack
 abbrev pub key_from : List Header → LayerKey
 key_from hs = record {
   encaps = encaps hs;
-  vni_outer = get_or (vnis hs) 0 0;
-  vni_second = get_or (vnis hs) 1 0;
-  src = (packet_of (inner hs)).0;
-  dst = (packet_of (inner hs)).1;
-  proto = (packet_of (inner hs)).2;
-  part = (packet_of (inner hs)).3;
-  src_port = (ports_of (inner hs)).0;
-  dst_port = (ports_of (inner hs)).1;
+  vni_outer = vni_at 0 hs;
+  vni_second = vni_at 1 hs;
+  src = src_of hs;
+  dst = dst_of hs;
+  proto = proto_of hs;
+  part = is_part hs;
+  src_port = src_port_of hs;
+  dst_port = dst_port_of hs;
 }
 
 -- the key with source and destination exchanged

@@ -61,17 +61,23 @@ within (RemoveRule n g k) l = with_parts (changed (is_group g) (without_rule k) 
 within (SetDefault n dir allow) l = with_spec (defaulting dir allow l.spec) l
 within (Sweep n now) l = with_parts l.groups (filter (λ p. not (is_over now l.spec.idle l.spec.linger p)) l.pairs) l
 
--- the layers after a command that isn't refused
+-- the number of the layer that a command names
+abbrev pub layer_named : Command → ℕ
+layer_named (AddLayer s) = s.layer
+layer_named (RemoveLayer n) = n
+layer_named (AddGroup n g dir when) = n
+layer_named (RemoveGroup n g) = n
+layer_named (PutRules n g rs) = n
+layer_named (AddRule n g r) = n
+layer_named (RemoveRule n g k) = n
+layer_named (SetDefault n dir allow) = n
+layer_named (Sweep n now) = n
+
+-- the layers after a command that isn't refused: one more, one less, or another one in place of the layer that it names
 abbrev pub after : List ℕ → List LayerSeen → ℕ → Command → List LayerSeen
 after cs ls c (AddLayer s) = placed cs (empty_layer c s) ls
 after cs ls c (RemoveLayer n) = removed (is_layer c n) ls
-after cs ls c (AddGroup n g dir when) = changed (is_layer c n) (within (AddGroup n g dir when)) ls
-after cs ls c (RemoveGroup n g) = changed (is_layer c n) (within (RemoveGroup n g)) ls
-after cs ls c (PutRules n g rs) = changed (is_layer c n) (within (PutRules n g rs)) ls
-after cs ls c (AddRule n g r) = changed (is_layer c n) (within (AddRule n g r)) ls
-after cs ls c (RemoveRule n g k) = changed (is_layer c n) (within (RemoveRule n g k)) ls
-after cs ls c (SetDefault n dir allow) = changed (is_layer c n) (within (SetDefault n dir allow)) ls
-after cs ls c (Sweep n now) = changed (is_layer c n) (within (Sweep n now)) ls
+after cs ls c m = changed (is_layer c (layer_named m)) (within m) ls
 
 -- the first that applies
 abbrev pub first_refusal : List (Bool × Refusal) → Option Refusal

@@ -15,7 +15,7 @@ use Rattle.vsw_frame.specs.Layout.{IsAround, AreLaid}
 use Rattle.vsw_change.specs.Room.{HasPacket, HasFrame}
 use Rattle.vsw_frame.specs.Tiles.{Surrounds, outermost}
 use Rattle.vsw_frame.proofs.Alike.{ip_bounds, tcp_bounds, udp_bounds}
-use Rattle.vsw_frame.proofs.Ends.{within_long}
+use Rattle.vsw_frame.proofs.Payloads.{within_long}
 use Rattle.vsw_frame.proofs.Tiles.{ether_rest, ip_payload, ip_trailer, udp_payload, udp_slack, opened_ends, vxlan_follows, inner_ends}
 use Rattle.vsw_frame.proofs.Cases.{EndCases, OpenedCases, FrameCases, end_cases, opened_cases, frame_cases, read_in}
 use Rattle.vsw_base.proofs.Readings.{ether_bound}

@@ -4,7 +4,7 @@ pub mod Finds
 pub mod Added
 pub mod Tiles
 pub mod Alike
-pub mod Ends
+pub mod Payloads
 pub mod Cases
 pub mod Laid
 pub mod Opens

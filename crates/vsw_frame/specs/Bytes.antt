@@ -37,7 +37,11 @@ pushes edited kept = encaps edited - kept
 abbrev pub outgoing : Parts → List Header → ℕ → List ℕ
 outgoing p edited kept = pushed (source_port edited) (take (3 * pushes edited kept) edited) (levels_changed (inner p.stack) (inner edited) (drop (drops p kept) p.levels))
 
--- how many they are, told by the frame's sizes: those of the frame without the dropped encapsulations, and 50 for each that is pushed
+-- bytes at the front of a room, behind which it is as it was
+abbrev pub over : List ℕ → List ℕ → List ℕ
+over bytes room = bytes ++ drop (length bytes) room
+
+-- how many bytes go out, told by the frame's sizes: those of the frame without the dropped encapsulations, and 50 for each that is pushed
 abbrev pub outgoing_size : Parts → List Header → ℕ → ℕ
 outgoing_size p edited kept = size_at (drops p kept) p.levels + 50 * pushes edited kept
 

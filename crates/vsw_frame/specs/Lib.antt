@@ -1,7 +1,6 @@
 pub mod Frame
 pub mod Seen
 pub mod Tiles
-pub mod Ends
 pub mod Bytes
 pub mod Layout
 pub mod Levels

@@ -1,11 +1,11 @@
 //! Rewriting frames.
 
-ghost use Rattle.std.specs.Prelude.{◌≡◌, ◌≤◌, ◌<◌, ◌+◌, ◌*◌, ◌++◌, IfOk, IsTrue, OnOk, OnErr, length, take, drop};
+ghost use Rattle.std.specs.Prelude.{◌≡◌, ◌≤◌, ◌<◌, ◌+◌, ◌*◌, IfOk, IsTrue, OnOk, OnErr, length, take};
 ghost use Rattle.vsw_base.specs.Shape as shape;
 ghost use Rattle.vsw_base.specs.Shape.{encaps, inner, is_stack};
 ghost use Rattle.vsw_change.specs.Push.{pushed, AreEncaps};
 ghost use Rattle.vsw_frame.specs.Bytes as bytes;
-ghost use Rattle.vsw_frame.specs.Bytes.{AreLike, IsEdit, answer, levels_changed, outgoing, outgoing_size, total_over};
+ghost use Rattle.vsw_frame.specs.Bytes.{AreLike, IsEdit, answer, levels_changed, outgoing, outgoing_size, over, total_over};
 ghost use Rattle.vsw_frame.specs.Frame.{parts};
 ghost use Rattle.vsw_frame.specs.Levels.{levels_of, Stand};
 ghost use Rattle.vsw_transpose.specs.Apply.{apply};
@@ -105,7 +105,7 @@ pub fn rewrite_to(
     requires room { 65700 ≤ length out.old }
     ensures answer { result ≡ answer (parts frame.now) edited.now kept }
     ensures size { IfOk result (λ len. len ≡ outgoing_size (parts frame.now) edited.now kept) }
-    ensures written { OnOk result (out.new ≡ outgoing (parts frame.now) edited.now kept ++ drop (length (outgoing (parts frame.now) edited.now kept)) out.old) }
+    ensures written { OnOk result (out.new ≡ over (outgoing (parts frame.now) edited.now kept) out.old) }
     ensures unchanged { OnErr result (out.new ≡ out.old) }
 {
     let stack = frame.stack();
@@ -127,7 +127,7 @@ pub fn rewrite(frame: &Frame<'_>, by: &Transposition, out: &mut [u8]) -> Result<
     requires room { 65700 ≤ length out.old }
     ensures answer { result ≡ answer (parts frame.now) (apply by.now (parts frame.now).stack) (kept by.now) }
     ensures size { IfOk result (λ len. len ≡ outgoing_size (parts frame.now) (apply by.now (parts frame.now).stack) (kept by.now)) }
-    ensures written { OnOk result (out.new ≡ outgoing (parts frame.now) (apply by.now (parts frame.now).stack) (kept by.now) ++ drop (length (outgoing (parts frame.now) (apply by.now (parts frame.now).stack) (kept by.now))) out.old) }
+    ensures written { OnOk result (out.new ≡ over (outgoing (parts frame.now) (apply by.now (parts frame.now).stack) (kept by.now)) out.old) }
     ensures unchanged { OnErr result (out.new ≡ out.old) }
 {
     let stack = frame.stack();

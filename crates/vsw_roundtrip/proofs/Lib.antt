@@ -25,3 +25,4 @@ pub mod ByActs
 pub mod Written
 pub mod Bounded
 pub mod Rewrites
+pub mod Unread

@@ -12,7 +12,7 @@ use Rattle.vsw_frame.specs.Bytes.{levels_changed}
 use Rattle.vsw_change.specs.Differ.{differ}
 use Rattle.vsw_change.specs.Kept.{udp_at, udp_kept}
 use Rattle.vsw_change.specs.Push.{pushed}
-use Rattle.vsw_frame.specs.Ends.{lengths}
+use Rattle.vsw_roundtrip.specs.Ends.{lengths}
 use Rattle.vsw_frame.specs.Layout.{AreLaid, IsAround}
 use Rattle.vsw_roundtrip.specs.RoundTrip.{levels_kept, levels_pushed}
 use Rattle.vsw_roundtrip.specs.Sums.{AreAsTheyWere, IsAsItWas, innermost, sum_kept}

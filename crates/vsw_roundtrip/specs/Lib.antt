@@ -4,3 +4,4 @@ pub mod Numbers
 pub mod Sums
 pub mod Rewritten
 pub mod Vectors
+pub mod Ends

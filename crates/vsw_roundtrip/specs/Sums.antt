@@ -13,7 +13,7 @@ use Rattle.vsw_change.specs.Differ.{differ}
 use Rattle.vsw_change.specs.Kept.{udp_at}
 use Rattle.vsw_roundtrip.specs.Inner.{packet_of, segment_of}
 use Rattle.vsw_roundtrip.specs.RoundTrip.{IsRewriting, levels_kept, levels_pushed, levels_staying, levels_written, written}
-use Rattle.vsw_frame.specs.Ends.{lengths}
+use Rattle.vsw_roundtrip.specs.Ends.{lengths}
 use Rattle.vsw_frame.specs.Tiles.{Tiles}
 
 -- the levels that are written are the bytes, each within the one before, also where a reader would look deeper

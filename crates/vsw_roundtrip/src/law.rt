@@ -1,13 +1,17 @@
-//! What holds of the bytes that are written.
+//! What holds of the bytes that are read, and of those that are written.
 
+ghost use Rattle.vsw_roundtrip.specs.Ends.{EndsAreUnread};
 ghost use Rattle.vsw_roundtrip.specs.RoundTrip.{IsByActs, ReadsDeeper, RoundTrip};
 ghost use Rattle.vsw_roundtrip.specs.Sums.{KeepEncapsulations, LevelsAreWritten, PushRight, StayRight, StayWrong};
 
+/// Other bytes in slacks and trailers change nothing that is read of a frame.
+///
 /// What is written for a frame by a transposition that fits it is read as the edited stack, but
 /// exactly where its innermost datagram looks like one more encapsulation. The inner checksums that
 /// are right in a frame are right in what is written, and wrong ones wrong; kept encapsulations are as
 /// they were but for their UDP checksum; and the IPv4 checksums of pushed ones are right.
 pub fn laws()
+    ensures ends { EndsAreUnread }
     ensures by_acts { IsByActs }
     ensures round_trip { RoundTrip }
     ensures deeper { ReadsDeeper }

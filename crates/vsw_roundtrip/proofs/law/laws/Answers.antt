@@ -2,7 +2,11 @@ use Rattle.vsw_roundtrip.proofs.SumsPushed.{push_right}
 use Rattle.vsw_roundtrip.proofs.SumsTrip.{keep_encapsulations, levels_are_written, stay_right, stay_wrong}
 use Rattle.vsw_roundtrip.proofs.Trip.{reads_more, round_trip}
 use Rattle.vsw_roundtrip.proofs.ByActs.{by_acts}
+use Rattle.vsw_roundtrip.proofs.Unread.{ends_are_unread}
 use Rattle.vsw_roundtrip.proofs.law.laws.Goals as goal
+
+pub returns-clause-ends : goal.returns-clause-ends
+returns-clause-ends c = ends_are_unread
 
 pub returns-clause-round_trip : goal.returns-clause-round_trip
 returns-clause-round_trip c = round_trip

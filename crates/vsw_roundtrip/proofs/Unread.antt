@@ -17,11 +17,12 @@ use Rattle.vsw_base.specs.Frame.{Level, Parts, Opened, End, within, frame_of, en
 use Rattle.vsw_frame.proofs.Alike.{vni_like, ether_like, ip_like, ip_before, ip_bounds, tcp_like, tcp_before, tcp_bounds, udp_like, udp_before, udp_bounds}
 use Rattle.vsw_frame.proofs.Tiles.{ether_rest, ip_payload, ip_trailer, tcp_payload, udp_payload, udp_slack, frame_tiles}
 use Rattle.vsw_frame.proofs.Within.{looked, looked_in}
-use Rattle.vsw_frame.specs.Ends.{SameHeaders, OtherEnds, SaysAs, IsReadAs, EndsAreUnread, lengths}
+use Rattle.vsw_roundtrip.specs.Ends.{SameHeaders, OtherEnds, SaysAs, IsReadAs, EndsAreUnread, lengths}
 use Rattle.vsw_frame.specs.Tiles.{Tiles, TilesAt, outermost}
 use Rattle.vsw_base.specs.Vxlan.{vni_of, vxlan_port}
 use Rattle.vsw_base.proofs.Readings.{ether_bound, vni_long}
 use Rattle.vsw_frame.proofs.Cases.{read_in}
+use Rattle.vsw_frame.proofs.Payloads.{udp_within, vxlan_at, within_long}
 
 take_less : (m n : ℕ) (xs ys : List ℕ) → m ≤ n → take n ys ≡ take n xs → take m ys ≡ take m xs
 take_less m n xs ys h e = sym (take-take m n ys h) ∙ ap (take m) e ∙ take-take m n xs h
@@ -254,24 +255,6 @@ plain_as bytes other o h s =
         sizes = ap (λ (n : ℕ). n ∷ []) s.4;
       },
     )
-
--- a payload with a VXLAN header before an inner frame
-abbrev vxlan_at : Option ℕ → List ℕ → Option (ℕ × List ℕ)
-vxlan_at r p = option_map (λ vni. (vni, drop 8 p)) r
-
-udp_within : (b : Bool) (r : Option ℕ) (v : ℕ) (p inner : List ℕ) → cond b (vxlan_at r p) None ≡ Some (v, inner) → (b ≡ true) × (r ≡ Some v) × (drop 8 p ≡ inner)
-udp_within false r v p inner h = absurd (cc)
-udp_within true None v p inner h = absurd (cc)
-udp_within true (Some u) v p inner h =
-    let e : (u, drop 8 p) ≡ (v, inner) = cc in
-    (refl, ap (λ (x : ℕ × List ℕ). Some x.0) e, ap (λ (x : ℕ × List ℕ). x.1) e)
-
-pub within_long : (end : End) (v : ℕ) (inner : List ℕ) → within end ≡ Some (v, inner) → length (payload_in end) ≡ 8 + length inner
-within_long (frame.Rest p) v inner h = absurd (cc)
-within_long (frame.OverTcp t) v inner h = absurd (cc)
-within_long (frame.OverUdp u) v inner h =
-    let w = udp_within (u.dst == vxlan_port) (vni_of u.payload) v u.payload inner h in
-    omega (arith, vni_long v u.payload w.1, length-drop 8 u.payload, ap length w.2)
 
 within_other : (end : End) (v : ℕ) (inner q s : List ℕ) → within end ≡ Some (v, inner) → length q ≡ length (payload_in end) → take 8 q ≡ take 8 (payload_in end) → within (with_payload end q s) ≡ Some (v, drop 8 q)
 within_other (frame.Rest p) v inner q s h l t = absurd (cc)

@@ -1,10 +1,15 @@
 -- A core keeps its layers as its history leaves them.
 use Rattle.std.proofs.Common.{◌≡◌, ◌+◌, ℕ, Bool, true, false, not, true≢false, List, [], ◌∷◌, ◌++◌, length, Result, Ok, Err, refl, sym, ap, subst, ◌∙◌, arith, length-append, append-nil, OnErr}
 use Rattle.vsw_base.specs.declared.fate.Fate.{Fate}
+use Rattle.vsw_base.specs.Frame.{Parts}
+use Rattle.vsw_commit.specs.Cross.{cross_of}
+use Rattle.vsw_commit.specs.Fate.{fate_at}
 use Rattle.vsw_base.specs.declared.flow.Crossing.{Crossing}
 use Rattle.vsw_history.specs.declared.event.Event.{Event}
 use Rattle.vsw_history.specs.declared.event.Event.TheVariants as event
 use Rattle.vsw_history.specs.History.{Opening, IsRight, after, after_all, left_by, replay, reply_in}
+use Rattle.vsw_history.specs.Calls.{Carried}
+use Rattle.vsw_history.specs.Next.{IsDone, Enters, Reading, Wanting}
 use Rattle.vsw_history.proofs.Next.{right_more, still}
 use Rattle.vsw_layer.specs.Layer.{LayerSeen}
 use Rattle.vsw_policy.specs.declared.command.Command.{Command}
@@ -14,7 +19,7 @@ use Rattle.vsw_policy.specs.Layers.{PolicySeen}
 use Rattle.vsw_policy.specs.Obey.{is_memory, obey, told}
 use Rattle.vsw_policy.specs.Refusals.{reply_of}
 use Rattle.vsw_port.specs.Core.{AreAtMost, IsHeld, entered}
-use Rattle.vsw_port.specs.Crossed.{Crossed, crossed, is_short}
+use Rattle.vsw_port.specs.Crossed.{Crossed, MayBeShort, crossed, is_short}
 use Rattle.vsw_port.proofs.Numbers.{crossed_grows, more_at_most, obeyed_at_most}
 
 after_more : (cs : List ℕ) (ls : List LayerSeen) (h : List Event) (e : Event) → after_all cs ls (h ++ e ∷ []) ≡ after cs (after_all cs ls h) e
@@ -70,6 +75,26 @@ pub crossed_held : (o : Opening) (h g : List Event) (p q : PolicySeen) (x : Cros
     → record { fate = fate; layers = replay o g; entry = entry } ≡ crossed (is_short fate) (replay o h) x
 crossed_held o h g p q x fate entry before after e =
     subst (λ (ls : List LayerSeen). record { fate = fate; layers = ls; entry = entry } ≡ crossed (is_short fate) (replay o h) x) after.layers (subst (λ (ls : List LayerSeen). record { fate = fate; layers = q.layers; entry = entry } ≡ crossed (is_short fate) ls x) before.layers e)
+
+-- and what was told of it is right at the end of the history
+pub crossed_done : (o : Opening) (h : List Event) (p : PolicySeen) (x : Crossing) (parts : Parts) (fate : Fate) (layers : List LayerSeen) (entry : Bool) (bytes : List ℕ) → IsHeld o h p → record { fate = fate; layers = layers; entry = entry } ≡ crossed (is_short fate) p.layers x
+    → MayBeShort (is_short fate) p.layers x → IsDone o h (Carried x parts fate bytes) entry
+crossed_done o h p x parts fate layers entry bytes held e m =
+    by (is_short fate) (subst (λ (ls : List LayerSeen). record { fate = fate; layers = layers; entry = entry } ≡ crossed (is_short fate) ls x) held.layers e) (subst (λ (ls : List LayerSeen). MayBeShort (is_short fate) ls x) held.layers m)
+  where
+    by : (b : Bool) → record { fate = fate; layers = layers; entry = entry } ≡ crossed b (replay o h) x → MayBeShort b (replay o h) x → IsDone o h (Carried x parts fate bytes) entry
+    by true f m = Wanting (ap (λ (c : Crossed). c.entry) f) (ap (λ (c : Crossed). c.fate) f, m)
+    by false f m = answered entry refl
+      where
+        right : fate ≡ fate_at (replay o h) x
+        right = ap (λ (c : Crossed). c.fate) f
+
+        changes : entry ≡ (cross_of (replay o h) x).changed
+        changes = ap (λ (c : Crossed). c.entry) f
+
+        answered : (b : Bool) → entry ≡ b → IsDone o h (Carried x parts fate bytes) entry
+        answered true is = Enters is (right, sym changes ∙ is)
+        answered false is = Reading is (right, sym changes ∙ is)
 
 memory_answer : (answer : Result (Unit {0}) Refusal) → is_memory answer ≡ true → answer ≡ Err refusal.Memory
 memory_answer (Err refusal.Memory) e = refl

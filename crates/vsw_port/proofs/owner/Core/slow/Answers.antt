@@ -1,6 +1,6 @@
 use Rattle.std.proofs.Common.{subst, sym}
 use Rattle.vsw_port.specs.Core.{IsHeld, opening_of}
-use Rattle.vsw_port.proofs.Held.{crossed_held, held_crossed}
+use Rattle.vsw_port.proofs.Held.{crossed_done, crossed_held, held_crossed}
 use Rattle.vsw_port.proofs.owner.Core.slow.Goals as goal
 
 pub invariant_of-self : goal.invariant_of-self
@@ -11,3 +11,8 @@ invariant_of-self c =
 pub returns-clause-exact : goal.returns-clause-exact
 returns-clause-exact c =
     rw (← c.self.view_is) (crossed_held (opening_of c.self.inside.began.value) c.self.inside.journal.items c.enter_crossing.new.journal.items c.self.inside.policy c.cross-outcome.new.policy c.args.crossing.now c.cross-outcome.result.fate c.cross-outcome.result.entry c.self.invariant (invariant_of-self c) c.cross-outcome.ensures.exact)
+
+pub returns-clause-done : goal.returns-clause-done
+returns-clause-done c =
+    λ p bytes.
+    rw (← c.self.view_is) (crossed_done (opening_of c.self.inside.began.value) c.self.inside.journal.items c.self.inside.policy c.args.crossing.now p c.cross-outcome.result.fate c.cross-outcome.new.policy.layers c.cross-outcome.result.entry bytes c.self.invariant c.cross-outcome.ensures.exact c.cross-outcome.ensures.memory)

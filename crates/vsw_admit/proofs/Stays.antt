@@ -4,8 +4,9 @@ use Rattle.std.specs.Prelude.{if◌then◌else◌}
 use Rattle.std.specs.List.{slice_get}
 use Rattle.std.proofs.lemmas.Map.Entries.{option_filter}
 use Rattle.vsw_admit.specs.declared.stop.Stop.{Stop}
-use Rattle.vsw_admit.specs.Admit.{left_at, refused, refused_at, staying}
-use Rattle.vsw_admit.specs.Told.{CanHold, HasLeft, LeftThere, other_than}
+use Rattle.vsw_admit.specs.Admit.{refused, refused_at, staying}
+use Rattle.vsw_admit.specs.Holds.{CanHold}
+use Rattle.vsw_admit.specs.Private.Threaded.{HasLeft, LeftThere, left_at, other_than}
 use Rattle.vsw_layer.specs.Layer.{LayerSeen}
 use Rattle.vsw_layerflow.specs.declared.pair.Pair.{Pair}
 use Rattle.vsw_layerflow.specs.declared.pair.Probe.{Probe}
@@ -59,8 +60,8 @@ left_here ls place (Some left) m l t f e = rw f (by (place == left.0) refl)
 pub refused_is : (o : Option LayerSeen) (left m : Option ℕ) (l : LayerSeen) (p : Pair) (r : Option Stop) → Some l ≡ o → m ≡ left → r ≡ refused l (staying m l.pairs) p → r ≡ refused_at o left p
 refused_is o left m l p r e f g = rw (← e, ← f) g
 
-pub holds_there : (o : Option LayerSeen) (left m : Option ℕ) (l k : LayerSeen) → Some l ≡ o → m ≡ left → CanHold m l → o ≡ Some k → CanHold left k
-holds_there o left m l k e f h g = rw (← f, ← some_is (e ∙ g)) h
+pub holds_there : (o : Option LayerSeen) (l k : LayerSeen) → Some l ≡ o → CanHold l → o ≡ Some k → CanHold k
+holds_there o l k e h g = rw (← some_is (e ∙ g)) h
   where
     some_is : {x y : LayerSeen} → Some x ≡ Some y → x ≡ y
     some_is {x} e = ap (λ o. elim o [ None ↦ x | Some z ↦ z ]) e

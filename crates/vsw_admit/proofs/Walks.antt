@@ -3,7 +3,7 @@ use Rattle.std.proofs.Common.{◌≡◌, ℕ, suc, ◌+◌, ◌==◌, Bool, true
 use Rattle.std.specs.Prelude.{if◌then◌else◌}
 use Rattle.std.specs.List.{slice_get}
 use Rattle.std.proofs.lemmas.List.{reverse-append}
-use Rattle.vsw_admit.specs.Told.{AllThere, IsThere, ThereIn}
+use Rattle.vsw_admit.specs.Private.Threaded.{AllThere, IsThere, ThereIn}
 use Rattle.vsw_admit.proofs.Visits.{IsVisit, MayLeave, visits}
 use Rattle.vsw_base.specs.declared.flow.Crossing.{Crossing}
 use Rattle.vsw_base.specs.declared.header.Header.{Header}

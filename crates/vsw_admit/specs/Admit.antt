@@ -1,6 +1,6 @@
 -- Why a packet is dropped after its walk, but for want of memory.
 use Rattle.std.specs.Prelude.{ℕ, ◌==◌, List, [], ◌∷◌, length, nat_le, Option, Some, None, if◌then◌else◌}
-use Rattle.std.specs.List.{slice_get}
+use Rattle.std.specs.List.{filter_map, slice_get}
 use Rattle.vsw_admit.specs.declared.stop.Stop.{Stop}
 use Rattle.vsw_admit.specs.declared.stop.Stop.TheVariants.{Long, Full, Taken, Memory}
 use Rattle.vsw_admit.specs.Long.{is_long}
@@ -29,25 +29,31 @@ taken_by l (Some q) = Some (Taken l.controller l.spec.layer q.number)
 abbrev pub refused : LayerSeen → List Pair → Pair → Option Stop
 refused l stay p = if nat_le l.spec.pairs (length stay) then Some (Full l.controller l.spec.layer) else taken_by l (holder (back p) stay)
 
+-- where there is such a layer
 abbrev pub refused_at : Option LayerSeen → Option ℕ → Pair → Option Stop
 refused_at None left p = None
 refused_at (Some l) left p = refused l (staying left l.pairs) p
 
--- the number of the pair that leaves the layer at a place, of what was told to leave last: a place and a number
-abbrev pub left_at : ℕ → Option (ℕ × ℕ) → Option ℕ
-left_at place None = None
-left_at place (Some left) = if place == left.0 then Some left.1 else None
+-- the number of the pair that leaves the layer at a place, if one does
+abbrev pub left_in : ℕ → List Wanted → Option ℕ
+left_in place [] = None
+left_in place (Make at p ∷ ws) = left_in place ws
+left_in place (Touch at number state last ∷ ws) = left_in place ws
+left_in place (Leave at number ∷ ws) = if at == place then Some number else left_in place ws
 
-abbrev pub or_next : Option Stop → Option Stop → Option Stop
-or_next (Some stop) next = Some stop
-or_next None next = next
+-- the refusal of a pair by the layer in which it is to be made; which pair leaves which layer is given
+abbrev pub refused_of : List LayerSeen → (ℕ → Option ℕ) → Wanted → Option Stop
+refused_of ls left (Make place p) = refused_at (slice_get ls place) (left place) p
+refused_of ls left (Touch place number state last) = None
+refused_of ls left (Leave place number) = None
 
--- the first refusal of a wanted pair. The pair that leaves a layer is told right before the one that is wanted there
-abbrev pub refusal : List LayerSeen → Option (ℕ × ℕ) → List Wanted → Option Stop
-refusal ls left [] = None
-refusal ls left (Make place p ∷ ws) = or_next (refused_at (slice_get ls place) (left_at place left) p) (refusal ls None ws)
-refusal ls left (Touch place number state last ∷ ws) = refusal ls None ws
-refusal ls left (Leave place number ∷ ws) = refusal ls (Some (place, number)) ws
+-- the refusals of all that a packet wants, in the order in which it crossed the layers
+abbrev pub refusals : List LayerSeen → List Wanted → List Stop
+refusals ls ws = filter_map (refused_of ls (λ place. left_in place ws)) ws
+
+-- the first refusal
+abbrev pub refusal : List LayerSeen → List Wanted → Option Stop
+refusal ls ws = slice_get (refusals ls ws) 0
 
 abbrev pub on_pass : Verdict → Option Stop → Option Stop
 on_pass Pass stop = stop
@@ -55,7 +61,7 @@ on_pass verdict stop = None
 
 -- a packet that its walk drops isn't stopped. Any other is, where it gets too long, and else by the first refusal of a pair that it wants
 abbrev pub stop_of : List LayerSeen → Crossing → Walk → Option Stop
-stop_of ls x w = on_pass w.verdict (if is_long x w.stack w.kept then Some Long else refusal ls None w.changes)
+stop_of ls x w = on_pass w.verdict (if is_long x w.stack w.kept then Some Long else refusal ls w.changes)
 
 abbrev pub cause_of : Stop → Cause
 cause_of Long = cause.Long

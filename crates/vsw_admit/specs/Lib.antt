@@ -1,5 +1,6 @@
 pub mod Admit
 pub mod Long
-pub mod Told
+pub mod Holds
 pub mod Law
 pub mod Walked
+pub mod Private

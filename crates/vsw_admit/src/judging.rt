@@ -1,8 +1,9 @@
 //! A walk is judged.
 
 ghost use Rattle.std.specs.Prelude.{◌≡◌, None, map};
-ghost use Rattle.vsw_admit.specs.Admit.{refusal, stop_of};
-ghost use Rattle.vsw_admit.specs.Told.{AllThere, AllHold, LeftThere};
+ghost use Rattle.vsw_admit.specs.Admit.{stop_of};
+ghost use Rattle.vsw_admit.specs.Holds.{AllHold};
+ghost use Rattle.vsw_admit.specs.Private.Threaded.{AllThere, LeftThere, refusal_after};
 ghost use Rattle.vsw_admit.specs.Walked.{IsWalk};
 ghost use Rattle.vsw_base.specs.declared.fate.Verdict.TheVariants.{Pass};
 ghost use Rattle.vsw_walk.specs.Walk.{walk_of};
@@ -20,8 +21,8 @@ use vsw_walk::{Scratch, Walked, Wanted};
 fn judge_changes(layers: &[Layer], left: Option<(u32, u32)>, changes: &[Wanted]) -> Option<Stop>
     requires left { LeftThere (map seen layers.now) left }
     requires there { AllThere (map seen layers.now) changes.now }
-    ensures exact { result ≡ refusal (map seen layers.now) left changes.now }
-    ensures hold { result ≡ None → AllHold (map seen layers.now) left changes.now }
+    ensures exact { result ≡ refusal_after (map seen layers.now) left changes.now }
+    ensures hold { result ≡ None → AllHold (map seen layers.now) changes.now }
 {
     let [change, rest @ ..] = changes else {
         return None;
@@ -39,6 +40,7 @@ fn judge_changes(layers: &[Layer], left: Option<(u32, u32)>, changes: &[Wanted])
 }
 
 /// Why the packet is dropped after this walk of it, but for want of memory.
+#[tactic(auto, using(crate::proofs::Firsts::refusal_is))]
 pub fn judge(
     policy: &Policy,
     crossing: &Crossing,
@@ -47,7 +49,7 @@ pub fn judge(
 ) -> Option<Stop>
     requires walk { IsWalk policy.now.layers crossing.now walked.now scratch.now }
     ensures exact { result ≡ stop_of policy.now.layers crossing.now (walk_of policy.now.layers crossing.now) }
-    ensures hold { result ≡ None → walked.now.verdict ≡ Pass → AllHold policy.now.layers None scratch.now.changes }
+    ensures hold { result ≡ None → walked.now.verdict ≡ Pass → AllHold policy.now.layers scratch.now.changes }
 {
     let Verdict::Pass = walked.verdict else {
         return None;

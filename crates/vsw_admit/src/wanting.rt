@@ -1,10 +1,12 @@
 //! A pair that is wanted of a layer.
 
-ghost use Rattle.std.specs.Prelude.{◌≡◌, ◌<◌, ◌-◌, ◌^◌, None, Some, false, length, map, nat_le, option_copied, option_map};
+ghost use Rattle.std.specs.Prelude.{◌≡◌, ◌<◌, ◌^◌, None, Some, false, length, map, nat_le, option_copied, option_map};
 ghost use Rattle.std.specs.List.{slice_get};
 ghost use Rattle.vsw_admit.specs.Admit as spec;
 ghost use Rattle.vsw_admit.specs.Admit.{staying};
-ghost use Rattle.vsw_admit.specs.Told.{CanHold, HasLeft, LeftThere, other_than};
+ghost use Rattle.vsw_admit.specs.Holds.{CanHold};
+ghost use Rattle.vsw_admit.specs.Private.Threaded as threaded;
+ghost use Rattle.vsw_admit.specs.Private.Threaded.{HasLeft, LeftThere, other_than};
 ghost use Rattle.vsw_layer.specs.Layer.{LayerSeen, seen};
 ghost use Rattle.vsw_layerflow.specs.Pairs.{AllApart, back, holder, number_of};
 
@@ -49,7 +51,7 @@ fn taker(flows: &Flows, left: Option<u32>, pair: &Pair) -> Option<u32>
 /// Whether so many pairs are as many as a layer may have.
 fn is_full(limit: u32, count: u32) -> bool
     ensures full { result ≡ nat_le limit count }
-    ensures few { result ≡ false → count < 2 ^ 32 - 1 }
+    ensures bound { limit < 2 ^ 32 }
 {
     limit <= count
 }
@@ -58,7 +60,7 @@ fn is_full(limit: u32, count: u32) -> bool
 fn refused(layer: &Layer, left: Option<u32>, pair: &Pair) -> Option<Stop>
     requires there { HasLeft left layer.now.flows.pairs }
     ensures exact { result ≡ spec.refused (seen layer.now) (staying left layer.now.flows.pairs) pair.now }
-    ensures holds { result ≡ None → CanHold left (seen layer.now) }
+    ensures holds { result ≡ None → CanHold (seen layer.now) }
 {
     if is_full(layer.spec.pairs, count_staying(&layer.flows, left)) {
         return Some(Stop::Full {
@@ -77,7 +79,7 @@ fn refused(layer: &Layer, left: Option<u32>, pair: &Pair) -> Option<Stop>
 /// The number of the pair that leaves the layer at a place, of what was told to leave last: a place and
 /// a number.
 fn left_at(place: u32, left: Option<(u32, u32)>) -> Option<u32>
-    ensures { result ≡ spec.left_at place left }
+    ensures { result ≡ threaded.left_at place left }
 {
     let (at, number) = left?;
     if place == at { Some(number) } else { None }
@@ -97,8 +99,8 @@ pub fn refused_at(
     pair: &Pair,
 ) -> Option<Stop>
     requires there { LeftThere (map seen layers.now) left }
-    ensures exact { result ≡ spec.refused_at (slice_get (map seen layers.now) place) (spec.left_at place left) pair.now }
-    ensures holds { result ≡ None → (l : LayerSeen) → slice_get (map seen layers.now) place ≡ Some l → CanHold (spec.left_at place left) l }
+    ensures exact { result ≡ spec.refused_at (slice_get (map seen layers.now) place) (threaded.left_at place left) pair.now }
+    ensures holds { result ≡ None → (l : LayerSeen) → slice_get (map seen layers.now) place ≡ Some l → CanHold l }
 {
     let Some(layer) = layer_at(layers, place) else {
         return None;

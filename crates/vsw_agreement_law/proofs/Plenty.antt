@@ -3,7 +3,8 @@ use Rattle.std.proofs.Common.{◌≡◌, ◌≢◌, ◌-◌, ◌||◌, ℕ, suc,
 use Rattle.std.specs.List.{list_any, slice_get}
 use Rattle.vsw_admit.specs.declared.stop.Stop.{Stop}
 use Rattle.vsw_admit.specs.declared.stop.Stop.TheVariants as stop
-use Rattle.vsw_admit.specs.Admit.{stop_of, on_pass, refusal, refused_at, refused, taken_by, left_at, staying, or_next}
+use Rattle.vsw_admit.specs.Admit.{stop_of, on_pass, refusal, refused_at, refused, taken_by, left_in, staying}
+use Rattle.vsw_admit.proofs.Firsts.{of_first}
 use Rattle.vsw_admit.specs.Long.{is_long}
 use Rattle.vsw_base.specs.declared.fate.Verdict.{Verdict}
 use Rattle.vsw_base.specs.declared.fate.Verdict.TheVariants as verdict
@@ -60,15 +61,8 @@ at_not : (o : Option LayerSeen) (left : Option ℕ) (p : Pair) → NotShort (ref
 at_not None left p = tt
 at_not (Some l) left p = refused_not l (staying left l.pairs) p
 
-or_not : (a b : Option Stop) → NotShort a → NotShort b → NotShort (or_next a b)
-or_not None b x y = y
-or_not (Some s) b x y = x
-
-refusal_not : (ls : List LayerSeen) (left : Option (ℕ × ℕ)) (ws : List Wanted) → NotShort (refusal ls left ws)
-refusal_not ls left [] = tt
-refusal_not ls left (Make place p ∷ ws) = or_not (refused_at (slice_get ls place) (left_at place left) p) (refusal ls None ws) (at_not (slice_get ls place) (left_at place left) p) (refusal_not ls None ws)
-refusal_not ls left (Touch place number state last ∷ ws) = refusal_not ls None ws
-refusal_not ls left (Leave place number ∷ ws) = refusal_not ls (Some (place, number)) ws
+refusal_not : (ls : List LayerSeen) (ws : List Wanted) → NotShort (refusal ls ws)
+refusal_not ls ws = of_first NotShort ls (λ place. left_in place ws) tt at_not ws
 
 pass_not : (v : Verdict) (o : Option Stop) → NotShort o → NotShort (on_pass v o)
 pass_not verdict.Pass o n = n
@@ -78,9 +72,9 @@ pass_not (verdict.Default a b c) o n = tt
 stop_not : (ls : List LayerSeen) (x : Crossing) → NotShort (stop_of ls x (walk_of ls x))
 stop_not ls x = pass_not (walk_of ls x).verdict _ (by (is_long x (walk_of ls x).stack (walk_of ls x).kept))
   where
-    by : (b : Bool) → NotShort (if b then Some stop.Long else refusal ls None (walk_of ls x).changes)
+    by : (b : Bool) → NotShort (if b then Some stop.Long else refusal ls (walk_of ls x).changes)
     by true = λ e. cc e
-    by false = refusal_not ls None (walk_of ls x).changes
+    by false = refusal_not ls (walk_of ls x).changes
 
 fate_not : (x : Crossing) (v : Verdict) (o : Option Stop) (hs : List Header) (kept : ℕ) (bytes : List ℕ) → NotShort o → tells_short (what.Fate (fate_by x (fate_after v o hs kept)) bytes) ≡ false
 fate_not x verdict.Pass None hs kept bytes n = refl

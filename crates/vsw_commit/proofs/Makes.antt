@@ -6,9 +6,12 @@ use Rattle.std.proofs.lemmas.Option.{slice_get_within}
 use Rattle.std.proofs.lemmas.Map.Entries.{option_filter}
 use Rattle.vsw_admit.specs.declared.stop.Stop.{Stop}
 use Rattle.vsw_admit.specs.declared.stop.Stop.TheVariants.{Long, Full, Taken, Memory}
-use Rattle.vsw_admit.specs.Admit.{left_at, on_pass, or_next, refusal, refused, refused_at, staying, stop_of, taken_by}
+use Rattle.vsw_admit.specs.Admit.{left_in, on_pass, refusal, refused, refused_at, staying, stop_of, taken_by}
 use Rattle.vsw_admit.specs.Long.{is_long}
-use Rattle.vsw_admit.specs.Told.{AllHold, CanHold}
+use Rattle.vsw_admit.specs.Holds.{AllHold, CanHold}
+use Rattle.vsw_admit.proofs.Apart.{crossed_apart, flip, same_place}
+use Rattle.vsw_admit.proofs.Firsts.{of_first, refusal_is}
+use Rattle.vsw_admit.specs.Private.Threaded.{left_at, or_next, refusal_after}
 use Rattle.vsw_admit.proofs.Visits.{IsVisit, Leaves, Wants, visits}
 use Rattle.vsw_admit.proofs.Walks.{each_as, each_crossed, each_told, places, told_by}
 use Rattle.vsw_base.specs.declared.fate.Verdict.{Verdict}
@@ -20,7 +23,7 @@ use Rattle.vsw_base.specs.declared.packet.Dir.{Dir}
 use Rattle.vsw_base.specs.Shape.{encaps}
 use Rattle.vsw_commit.specs.Can.{AreApart, CanAll, IsWithin, NotMade}
 use Rattle.vsw_commit.specs.Cross.{is_memory}
-use Rattle.vsw_commit.proofs.Places.{at_get, crossed_apart, flip, get_beside, get_changed, same_place}
+use Rattle.vsw_commit.proofs.Places.{at_get, get_beside, get_changed}
 use Rattle.vsw_compose.specs.Edit.{edited, kept_after}
 use Rattle.vsw_walk.specs.declared.scratch.Wanted.{Wanted}
 use Rattle.vsw_walk.specs.declared.scratch.Wanted.TheVariants as wanted
@@ -60,6 +63,16 @@ reverse_free l ps p e = by (nat_le l.spec.pairs (length ps)) refl
         absurd (true≢false (ap is_some g))
     by false f = no_taker l (holder (back p) ps) (sym (ap (λ b. if b then Some (Full l.controller l.spec.layer) else taken_by l (holder (back p) ps)) f) ∙ e)
 
+-- a layer that isn't full has a number of 32 bits left
+few_stay : (l : LayerSeen) (ps : List Pair) (p : Pair) → refused l ps p ≡ None → l.spec.pairs < 2 ^ 32 → length ps < 2 ^ 32 - 1
+few_stay l ps p e h = by (nat_le l.spec.pairs (length ps)) refl
+  where
+    by : (b : Bool) → nat_le l.spec.pairs (length ps) ≡ b → length ps < 2 ^ 32 - 1
+    by true f =
+        let g : Some (Full l.controller l.spec.layer) ≡ None = sym (ap (λ b. if b then Some (Full l.controller l.spec.layer) else taken_by l (holder (back p) ps)) f) ∙ e in
+        absurd (true≢false (ap is_some g))
+    by false f = let less : length ps < l.spec.pairs = grind arith in omega (arith, less, h)
+
 -- the layer without the pair that leaves
 abbrev pub without_left : Option ℕ → LayerSeen → LayerSeen
 without_left None l = l
@@ -68,13 +81,13 @@ without_left (Some n) l = without_pair n l
 same_number : (n : ℕ) → (n == n) ≡ true
 same_number n = grind arith
 
-can_take : (l : LayerSeen) (d : Dir) (hs : List Header) (left : Option ℕ) (p : Pair) → Wants l d hs left (Some (Make p)) → HasNumbers l → refused l (staying left l.pairs) p ≡ None → CanHold left l → CanTake p (without_left left l)
+can_take : (l : LayerSeen) (d : Dir) (hs : List Header) (left : Option ℕ) (p : Pair) → Wants l d hs left (Some (Make p)) → HasNumbers l → refused l (staying left l.pairs) p ≡ None → CanHold l → CanTake p (without_left left l)
 can_take l d hs None p w n r h = record {
   forward_free = ap (λ q. holder q l.pairs) w.1 ∙ w.2;
   reverse_free = reverse_free l l.pairs p r;
   number_next = w.0;
   number_last = n.0;
-  few = h.1;
+  few = few_stay l l.pairs p r h.1;
   numbers_left = n.1;
 }
 can_take l d hs (Some k) p w n r h = record {
@@ -82,7 +95,7 @@ can_take l d hs (Some k) p w n r h = record {
   reverse_free = reverse_free l (without k l.pairs) p r;
   number_next = w.0;
   number_last = below_filter (λ q. not (k == q.number)) l.next_pair l.pairs n.0;
-  few = h.1;
+  few = few_stay l (without k l.pairs) p r h.1;
   numbers_left = n.1;
 }
   where
@@ -111,39 +124,38 @@ beside_left ls now left f k n (e ∷ es) h r =
 -- where a layer that wants a pair isn't refused, it can take it
 made : (ls now : List LayerSeen) (d : Dir) (hs : List Header) (e : ℕ × LayerSeen) (left : Option (ℕ × ℕ)) (m : Option ℕ) (p : Pair) → slice_get ls e.0 ≡ Some e.1 → slice_get now e.0 ≡ Some (without_left m e.1)
     → HasNumbers e.1 → left_at e.0 left ≡ m → Wants e.1 d hs m (Some (Make p)) → refused_at (slice_get ls e.0) (left_at e.0 left) p ≡ None
-    → ((l : LayerSeen) → slice_get ls e.0 ≡ Some l → CanHold (left_at e.0 left) l) → At e.0 (CanTake p) now
+    → ((l : LayerSeen) → slice_get ls e.0 ≡ Some l → CanHold l) → At e.0 (CanTake p) now
 made ls now d hs e left m p here there n own w r h =
     let none : refused e.1 (staying m e.1.pairs) p ≡ None = sym (ap (λ o. refused_at o (left_at e.0 left) p) here ∙ ap (λ k. refused_at (Some e.1) k p) own) ∙ r in
-    let hold : CanHold m e.1 = subst (λ k. CanHold k e.1) own (h e.1 here) in
-    at_get (CanTake p) now e.0 (without_left m e.1) there (can_take e.1 d hs m p w n none hold)
+    at_get (CanTake p) now e.0 (without_left m e.1) there (can_take e.1 d hs m p w n none (h e.1 here))
 
 -- one layer's changes can be made, and then those of the others
 walk_can : (ls : List LayerSeen) (d : Dir) (c : Control) (moment : ℕ) (es : List (ℕ × LayerSeen)) (now : List LayerSeen) (left : Option (ℕ × ℕ)) → sound.AreApart same_place es → Each (Ready ls now left) es
-    → (hs : List Header) (kept : ℕ) → refusal ls left (along d c moment es hs kept).changes ≡ None → AllHold ls left (along d c moment es hs kept).changes → CanAll (along d c moment es hs kept).changes now
+    → (hs : List Header) (kept : ℕ) → refusal_after ls left (along d c moment es hs kept).changes ≡ None → AllHold ls (along d c moment es hs kept).changes → CanAll (along d c moment es hs kept).changes now
 walk_can ls d c moment [] now left a r hs kept f h = tt
 walk_can ls d c moment (e ∷ es) now left a r hs kept f h =
     by (visit_of e.1 d c moment hs) (visits e.1 d c moment hs) f h (λ m k s. walk_can ls d c moment es m k a.1 s)
   where
     Rest : Type 0
     Rest = (m : List LayerSeen) (k : Option (ℕ × ℕ)) → Each (Ready ls m k) es → (ks : List Header) (j : ℕ)
-        → refusal ls k (along d c moment es ks j).changes ≡ None → AllHold ls k (along d c moment es ks j).changes → CanAll (along d c moment es ks j).changes m
+        → refusal_after ls k (along d c moment es ks j).changes ≡ None → AllHold ls (along d c moment es ks j).changes → CanAll (along d c moment es ks j).changes m
 
     within : e.0 < length now
     within = slice_get_within now e.0 e.1 r.0.there
 
-    by : (v : Visit) → IsVisit e.1 d hs v → refusal ls left (by_visit e.0 hs kept v (λ ks j. along d c moment es ks j)).changes ≡ None → AllHold ls left (by_visit e.0 hs kept v (λ ks j. along d c moment es ks j)).changes
+    by : (v : Visit) → IsVisit e.1 d hs v → refusal_after ls left (by_visit e.0 hs kept v (λ ks j. along d c moment es ks j)).changes ≡ None → AllHold ls (by_visit e.0 hs kept v (λ ks j. along d c moment es ks j)).changes
         → Rest → CanAll (by_visit e.0 hs kept v (λ ks j. along d c moment es ks j)).changes now
     by (Stops verdict) i f h ih = tt
     by (Goes action None None) i f h ih = ih now left r.1 (edited action hs) (kept_after action hs kept) f h
     by (Goes action None (Some (Touch n s t))) i f h ih =
-        (within, ih (changed_at e.0 (with_touched n s t) now) None (beside ls now left (with_touched n s t) e.0 es a.0 r.1) (edited action hs) (kept_after action hs kept) f h)
+        (within, ih (changed_at e.0 (with_touched n s t) now) None (beside ls now left (with_touched n s t) e.0 es a.0 r.1) (edited action hs) (kept_after action hs kept) f h.1)
     by (Goes action None (Some (Make p))) i f h ih =
-        let parts = none_first (refused_at (slice_get ls e.0) (left_at e.0 left) p) (refusal ls None (along d c moment es (edited action hs) (kept_after action hs kept)).changes) f in (
+        let parts = none_first (refused_at (slice_get ls e.0) (left_at e.0 left) p) (refusal_after ls None (along d c moment es (edited action hs) (kept_after action hs kept)).changes) f in (
           made ls now d hs e left None p r.0.here r.0.there r.0.numbers r.0.stays i.1 parts.0 h.0,
           ih (changed_at e.0 (with_pair p) now) None (beside ls now left (with_pair p) e.0 es a.0 r.1) (edited action hs) (kept_after action hs kept) parts.1 h.1,
         )
     by (Goes action (Some n) None) i f h ih =
-        (within, ih (changed_at e.0 (without_pair n) now) (Some (e.0, n)) (beside_left ls now left (without_pair n) e.0 n es a.0 r.1) (edited action hs) (kept_after action hs kept) f h)
+        (within, ih (changed_at e.0 (without_pair n) now) (Some (e.0, n)) (beside_left ls now left (without_pair n) e.0 n es a.0 r.1) (edited action hs) (kept_after action hs kept) f h.1)
     by (Goes action (Some n) (Some (Touch k s t))) i f h ih =
         let new = changed_at e.0 (without_pair n) now in
         let ready = beside_left ls now left (without_pair n) e.0 n es a.0 r.1 in
@@ -151,7 +163,7 @@ walk_can ls d c moment (e ∷ es) now left a r hs kept f h =
           within,
           (
             slice_get_within new e.0 (without_pair n e.1) there,
-            ih (changed_at e.0 (with_touched k s t) new) None (beside ls new (Some (e.0, n)) (with_touched k s t) e.0 es a.0 ready) (edited action hs) (kept_after action hs kept) f h,
+            ih (changed_at e.0 (with_touched k s t) new) None (beside ls new (Some (e.0, n)) (with_touched k s t) e.0 es a.0 ready) (edited action hs) (kept_after action hs kept) f h.1.1,
           ),
         )
     by (Goes action (Some n) (Some (Make p))) i f h ih =
@@ -159,11 +171,11 @@ walk_can ls d c moment (e ∷ es) now left a r hs kept f h =
         let ready = beside_left ls now left (without_pair n) e.0 n es a.0 r.1 in
         let there = get_changed (without_pair n) now e.0 e.1 r.0.there in
         let own : left_at e.0 (Some (e.0, n)) ≡ Some n = ap (λ b. if b then Some n else None) (same_number e.0) in
-        let parts = none_first (refused_at (slice_get ls e.0) (left_at e.0 (Some (e.0, n))) p) (refusal ls None (along d c moment es (edited action hs) (kept_after action hs kept)).changes) f in (
+        let parts = none_first (refused_at (slice_get ls e.0) (left_at e.0 (Some (e.0, n))) p) (refusal_after ls None (along d c moment es (edited action hs) (kept_after action hs kept)).changes) f in (
           within,
           (
-            made ls new d hs e (Some (e.0, n)) (Some n) p r.0.here there r.0.numbers own i.1 parts.0 h.0,
-            ih (changed_at e.0 (with_pair p) new) None (beside ls new (Some (e.0, n)) (with_pair p) e.0 es a.0 ready) (edited action hs) (kept_after action hs kept) parts.1 h.1,
+            made ls new d hs e (Some (e.0, n)) (Some n) p r.0.here there r.0.numbers own i.1 parts.0 h.1.0,
+            ih (changed_at e.0 (with_pair p) new) None (beside ls new (Some (e.0, n)) (with_pair p) e.0 es a.0 ready) (edited action hs) (kept_after action hs kept) parts.1 h.1.1,
           ),
         )
 
@@ -177,14 +189,18 @@ numbers cs [] g h = tt
 numbers cs (l ∷ ls) g h = ((g.0.4, h.0), numbers cs ls g.1 h.1)
 
 -- all that a walk wants can be made
-pub can : (cs : List ℕ) (ls : List LayerSeen) (x : Crossing) → Each (sound.IsGoodLayer cs) ls → Each (λ l. l.next_pair < 2 ^ 32 - 1) ls
-    → refusal ls None (walk_of ls x).changes ≡ None → AllHold ls None (walk_of ls x).changes → CanAll (walk_of ls x).changes ls
+told_can : (cs : List ℕ) (ls : List LayerSeen) (x : Crossing) → Each (sound.IsGoodLayer cs) ls → Each (λ l. l.next_pair < 2 ^ 32 - 1) ls
+    → refusal_after ls None (walk_of ls x).changes ≡ None → AllHold ls (walk_of ls x).changes → CanAll (walk_of ls x).changes ls
 unfolding walk_of
-can cs ls x g n f h =
+told_can cs ls x g n f h =
     walk_can ls x.id.dir x.control x.moment (crossed x.id.dir (placed 0 ls)) ls None (crossed_apart x.id.dir ls)
     (each_as (λ e. slice_get ls e.0 ≡ Some e.1) (Ready ls ls None) (λ e i. record { here = i; there = i; numbers = each_get HasNumbers ls e.0 e.1 i (numbers cs ls g n); stays = refl })
     (crossed x.id.dir (placed 0 ls)) (each_crossed (λ e. slice_get ls e.0 ≡ Some e.1) x.id.dir (placed 0 ls) (places ls)))
     x.id.stack (encaps x.id.stack) f h
+
+pub can : (cs : List ℕ) (ls : List LayerSeen) (x : Crossing) → Each (sound.IsGoodLayer cs) ls → Each (λ l. l.next_pair < 2 ^ 32 - 1) ls
+    → refusal ls (walk_of ls x).changes ≡ None → AllHold ls (walk_of ls x).changes → CanAll (walk_of ls x).changes ls
+can cs ls x g n f h = told_can cs ls x g n (refusal_is ls x ∙ f) h
 
 -- what one layer tells is within the layers
 told_within : (count place : ℕ) → place < count → (v : Visit) → Each (IsWithin count) (told_by place v)
@@ -240,17 +256,17 @@ unfolding walk_of
 walk_apart ls x = along_apart x.id.dir x.control x.moment (crossed x.id.dir (placed 0 ls)) (crossed_apart x.id.dir ls) x.id.stack (encaps x.id.stack)
 
 -- a packet that passes and isn't stopped isn't refused a pair
-pub not_refused : (ls : List LayerSeen) (x : Crossing) (w : Walk) → w.verdict ≡ Pass → stop_of ls x w ≡ None → refusal ls None w.changes ≡ None
+pub not_refused : (ls : List LayerSeen) (x : Crossing) (w : Walk) → w.verdict ≡ Pass → stop_of ls x w ≡ None → refusal ls w.changes ≡ None
 not_refused ls x w p e = by (is_long x w.stack w.kept) refl
   where
-    chosen : (if is_long x w.stack w.kept then Some Long else refusal ls None w.changes) ≡ None
-    chosen = sym (ap (λ v. on_pass v (if is_long x w.stack w.kept then Some Long else refusal ls None w.changes)) p) ∙ e
+    chosen : (if is_long x w.stack w.kept then Some Long else refusal ls w.changes) ≡ None
+    chosen = sym (ap (λ v. on_pass v (if is_long x w.stack w.kept then Some Long else refusal ls w.changes)) p) ∙ e
 
-    by : (b : Bool) → is_long x w.stack w.kept ≡ b → refusal ls None w.changes ≡ None
+    by : (b : Bool) → is_long x w.stack w.kept ≡ b → refusal ls w.changes ≡ None
     by true f =
-        let g : Some Long ≡ None = sym (ap (λ b. if b then Some Long else refusal ls None w.changes) f) ∙ chosen in
+        let g : Some Long ≡ None = sym (ap (λ b. if b then Some Long else refusal ls w.changes) f) ∙ chosen in
         absurd (true≢false (ap is_some g))
-    by false f = sym (ap (λ b. if b then Some Long else refusal ls None w.changes) f) ∙ chosen
+    by false f = sym (ap (λ b. if b then Some Long else refusal ls w.changes) f) ∙ chosen
 
 -- what stops a packet that was judged isn't want of memory
 abbrev pub memory_in : Option Stop → Bool
@@ -272,16 +288,8 @@ refused_other (Some l) left p =
       | false ↦ taker_other l (holder (back p) (staying left l.pairs))
     ]
 
-next_other : (o p : Option Stop) → memory_in o ≡ false → memory_in p ≡ false → memory_in (or_next o p) ≡ false
-next_other None p e f = f
-next_other (Some s) p e f = e
-
-refusal_other : (ls : List LayerSeen) (left : Option (ℕ × ℕ)) (ws : List Wanted) → memory_in (refusal ls left ws) ≡ false
-refusal_other ls left [] = refl
-refusal_other ls left (wanted.Make place p ∷ ws) =
-    next_other (refused_at (slice_get ls place) (left_at place left) p) (refusal ls None ws) (refused_other (slice_get ls place) (left_at place left) p) (refusal_other ls None ws)
-refusal_other ls left (wanted.Touch place number state last ∷ ws) = refusal_other ls None ws
-refusal_other ls left (wanted.Leave place number ∷ ws) = refusal_other ls (Some (place, number)) ws
+refusal_other : (ls : List LayerSeen) (ws : List Wanted) → memory_in (refusal ls ws) ≡ false
+refusal_other ls ws = of_first (λ o. memory_in o ≡ false) ls (λ place. left_in place ws) refl refused_other ws
 
 pass_other : (v : Verdict) (o : Option Stop) → memory_in o ≡ false → memory_in (on_pass v o) ≡ false
 pass_other Pass o e = e
@@ -289,8 +297,8 @@ pass_other (Rule controller layer group rule) o e = refl
 pass_other (Default controller layer dir) o e = refl
 
 stop_other : (ls : List LayerSeen) (x : Crossing) (w : Walk) → memory_in (stop_of ls x w) ≡ false
-stop_other ls x w = pass_other w.verdict (if is_long x w.stack w.kept then Some Long else refusal ls None w.changes)
-    (elim (is_long x w.stack w.kept) as (λ b. memory_in (if b then Some Long else refusal ls None w.changes) ≡ false) [ true ↦ refl | false ↦ refusal_other ls None w.changes ])
+stop_other ls x w = pass_other w.verdict (if is_long x w.stack w.kept then Some Long else refusal ls w.changes)
+    (elim (is_long x w.stack w.kept) as (λ b. memory_in (if b then Some Long else refusal ls w.changes) ≡ false) [ true ↦ refl | false ↦ refusal_other ls w.changes ])
 
 memory_is : (s : Stop) → memory_in (Some s) ≡ is_memory (Err s)
 memory_is Long = refl

@@ -5,6 +5,7 @@ use Rattle.std.specs.List.{slice_get}
 use Rattle.std.proofs.lemmas.Bool.Decides.{nat_tests}
 use Rattle.vsw_admit.specs.declared.stop.Stop.{Stop}
 use Rattle.vsw_admit.specs.Admit.{stop_of}
+use Rattle.vsw_admit.proofs.Apart.{IsElsewhere, crossed_apart, elsewhere, flip, same_place}
 use Rattle.vsw_admit.proofs.Visits.{IsVisit, MayLeave, visits}
 use Rattle.vsw_admit.proofs.Walks.{each_as, each_crossed, each_told, held_there, places, told_by}
 use Rattle.vsw_base.specs.declared.fate.Verdict.{Verdict}
@@ -20,7 +21,7 @@ use Rattle.vsw_base.specs.Shape.{encaps}
 use Rattle.vsw_choice.specs.Choice.{Chosen, choose}
 use Rattle.vsw_commit.specs.Cross.{all_done, made_after, made_by}
 use Rattle.vsw_commit.specs.Law.{ChangesTell}
-use Rattle.vsw_commit.proofs.Places.{crossed_apart, flip, get_beside, get_changed, same_place}
+use Rattle.vsw_commit.proofs.Places.{get_beside, get_changed}
 use Rattle.vsw_compose.specs.Edit.{edited, kept_after}
 use Rattle.vsw_walk.specs.declared.scratch.Wanted.{Wanted}
 use Rattle.vsw_walk.specs.declared.scratch.Wanted.TheVariants as wanted
@@ -174,21 +175,6 @@ told_here place l ls (Goes action None (Some (Touch n s t))) e = get_changed (wi
 told_here place l ls (Goes action (Some k) None) e = get_changed (without_pair k) ls place l e
 told_here place l ls (Goes action (Some k) (Some (Make p))) e = get_changed (with_pair p) _ place (without_pair k l) (get_changed (without_pair k) ls place l e)
 told_here place l ls (Goes action (Some k) (Some (Touch n s t))) e = get_changed (with_touched n s t) _ place (without_pair k l) (get_changed (without_pair k) ls place l e)
-
--- the change is in another layer than the one at this place
-abbrev IsElsewhere : ℕ → Wanted → Type 0
-IsElsewhere k (wanted.Make place p) = (place == k) ≡ false
-IsElsewhere k (wanted.Touch place number state last) = (place == k) ≡ false
-IsElsewhere k (wanted.Leave place number) = (place == k) ≡ false
-
-elsewhere : (k place : ℕ) → (place == k) ≡ false → (v : Visit) → Each (IsElsewhere k) (told_by place v)
-elsewhere k place h (Stops verdict) = tt
-elsewhere k place h (Goes action None None) = tt
-elsewhere k place h (Goes action None (Some (Make p))) = (h, tt)
-elsewhere k place h (Goes action None (Some (Touch n s t))) = (h, tt)
-elsewhere k place h (Goes action (Some j) None) = (h, tt)
-elsewhere k place h (Goes action (Some j) (Some (Make p))) = (h, (h, tt))
-elsewhere k place h (Goes action (Some j) (Some (Touch n s t))) = (h, (h, tt))
 
 stays_at : (k : ℕ) (ws : List Wanted) (ls : List LayerSeen) → Each (IsElsewhere k) ws → slice_get (all_done ws ls) k ≡ slice_get ls k
 stays_at k [] ls h = refl

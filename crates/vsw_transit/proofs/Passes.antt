@@ -51,11 +51,11 @@ is_none (Some stop) = false
 not_long : (ls : List LayerSeen) (x : Crossing) (w : Walk) → w.verdict ≡ verdict.Pass → stop_of ls x w ≡ None → is_long x w.stack w.kept ≡ false
 not_long ls x w e f = by (is_long x w.stack w.kept) refl
   where
-    passed : on_pass verdict.Pass (if is_long x w.stack w.kept then Some Long else refusal ls None w.changes) ≡ None
-    passed = ap (λ v. on_pass v (if is_long x w.stack w.kept then Some Long else refusal ls None w.changes)) (sym e) ∙ f
+    passed : on_pass verdict.Pass (if is_long x w.stack w.kept then Some Long else refusal ls w.changes) ≡ None
+    passed = ap (λ v. on_pass v (if is_long x w.stack w.kept then Some Long else refusal ls w.changes)) (sym e) ∙ f
 
     by : (b : Bool) → is_long x w.stack w.kept ≡ b → is_long x w.stack w.kept ≡ false
-    by true g = absurd (true≢false (sym (ap is_none (ap (λ b. on_pass verdict.Pass (if b then Some Long else refusal ls None w.changes)) (sym g) ∙ passed))))
+    by true g = absurd (true≢false (sym (ap is_none (ap (λ b. on_pass verdict.Pass (if b then Some Long else refusal ls w.changes)) (sym g) ∙ passed))))
     by false g = g
 
 -- the fate that a core tells of a packet for which memory sufficed

@@ -1,6 +1,6 @@
 use Rattle.std.proofs.Common.{map, option_copied, option_map, ap, sym, ◌∙◌}
 use Rattle.std.specs.List.{slice_get}
-use Rattle.vsw_admit.specs.Admit as spec
+use Rattle.vsw_admit.specs.Private.Threaded as threaded
 use Rattle.vsw_admit.proofs.Stays.{left_here, refused_is, holds_there}
 use Rattle.vsw_layer.specs.Layer.{seen}
 use Rattle.vsw_admit.proofs.wanting.refused_at.Goals as goal
@@ -13,9 +13,9 @@ refused-requires c =
 pub returns-clause-exact : goal.returns-clause-exact
 returns-clause-exact c =
     let here = sym (ap (λ o. option_map seen (option_copied o)) c.in-Some.is) ∙ c.layer_at.ensures in
-    refused_is (slice_get (map seen c.args.layers.now) c.args.place) (spec.left_at c.args.place c.args.left) c.left_at.result (seen c.in-Some.layer.now) c.args.pair.now c.refused.result here c.left_at.ensures c.refused.ensures.exact
+    refused_is (slice_get (map seen c.args.layers.now) c.args.place) (threaded.left_at c.args.place c.args.left) c.left_at.result (seen c.in-Some.layer.now) c.args.pair.now c.refused.result here c.left_at.ensures c.refused.ensures.exact
 
 pub returns-clause-holds : goal.returns-clause-holds
 returns-clause-holds c =
     let here = sym (ap (λ o. option_map seen (option_copied o)) c.in-Some.is) ∙ c.layer_at.ensures in
-    λ e l f. holds_there (slice_get (map seen c.args.layers.now) c.args.place) (spec.left_at c.args.place c.args.left) c.left_at.result (seen c.in-Some.layer.now) l here c.left_at.ensures (c.refused.ensures.holds e) f
+    λ e l f. holds_there (slice_get (map seen c.args.layers.now) c.args.place) (seen c.in-Some.layer.now) l here (c.refused.ensures.holds e) f

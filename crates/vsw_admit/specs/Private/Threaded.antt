@@ -1,13 +1,29 @@
--- What holds of the changes that a walk tells: the pairs that leave are there. And what holds of layers that aren't refused a pair.
-use Rattle.std.specs.Prelude.{◌≡◌, ◌<◌, ◌-◌, ◌^◌, ◌==◌, ℕ, List, [], ◌∷◌, true, length, Option, Some, None, is_some, if◌then◌else◌}
+-- The first refusal as it is found on the way: the pair that leaves a layer is told right before the one that is wanted there.
+use Rattle.std.specs.Prelude.{◌≡◌, ◌==◌, ℕ, List, [], ◌∷◌, true, Option, Some, None, is_some, if◌then◌else◌}
 use Rattle.std.specs.List.{slice_get}
-use Rattle.vsw_admit.specs.Admit.{left_at, staying}
+use Rattle.vsw_admit.specs.declared.stop.Stop.{Stop}
+use Rattle.vsw_admit.specs.Admit.{refused_at}
 use Rattle.vsw_walk.specs.declared.scratch.Wanted.{Wanted}
 use Rattle.vsw_walk.specs.declared.scratch.Wanted.TheVariants.{Make, Touch, Leave}
 use Rattle.vsw_layer.specs.Layer.{LayerSeen}
 use Rattle.vsw_layerflow.specs.declared.pair.Pair.{Pair}
-use Rattle.vsw_layerflow.specs.Pairs.{AllApart, numbered}
+use Rattle.vsw_layerflow.specs.Pairs.{numbered}
 use Rattle.vsw_policy.specs.Sound.{Each}
+
+-- the number of the pair that leaves the layer at a place, of what was told to leave last: a place and a number
+abbrev pub left_at : ℕ → Option (ℕ × ℕ) → Option ℕ
+left_at place None = None
+left_at place (Some left) = if place == left.0 then Some left.1 else None
+
+abbrev pub or_next : Option Stop → Option Stop → Option Stop
+or_next (Some stop) next = Some stop
+or_next None next = next
+
+abbrev pub refusal_after : List LayerSeen → Option (ℕ × ℕ) → List Wanted → Option Stop
+refusal_after ls left [] = None
+refusal_after ls left (Make place p ∷ ws) = or_next (refused_at (slice_get ls place) (left_at place left) p) (refusal_after ls None ws)
+refusal_after ls left (Touch place number state last ∷ ws) = refusal_after ls None ws
+refusal_after ls left (Leave place number ∷ ws) = refusal_after ls (Some (place, number)) ws
 
 -- the pair that leaves is among these
 abbrev pub HasLeft : Option ℕ → List Pair → Type 0
@@ -35,14 +51,3 @@ ThereIn ls (Leave place number) = IsThere ls place number
 -- each pair that leaves is in its layer
 abbrev pub AllThere : List LayerSeen → List Wanted → Type 0
 AllThere ls ws = Each (ThereIn ls) ws
-
--- no probe and no number is held twice in the layer, and there are numbers for one more pair
-abbrev pub CanHold : Option ℕ → LayerSeen → Type 0
-CanHold left l = AllApart l.pairs × (length (staying left l.pairs) < 2 ^ 32 - 1)
-
--- this is so of each layer that wants a pair
-abbrev pub AllHold : List LayerSeen → Option (ℕ × ℕ) → List Wanted → Type 0
-AllHold ls left [] = Unit {0}
-AllHold ls left (Make place p ∷ ws) = ((l : LayerSeen) → slice_get ls place ≡ Some l → CanHold (left_at place left) l) × AllHold ls None ws
-AllHold ls left (Touch place number state last ∷ ws) = AllHold ls None ws
-AllHold ls left (Leave place number ∷ ws) = AllHold ls (Some (place, number)) ws

@@ -28,12 +28,12 @@ use Rattle.vsw_replay.specs.declared.reading.Stop.{Stop}
 use Rattle.vsw_replay.specs.declared.reading.Stop.TheVariants as stop
 use Rattle.vsw_replay.specs.declared.trace.Run.{Run}
 use Rattle.vsw_replay.specs.declared.trace.Stretch.{Stretch}
-use Rattle.vsw_replay.specs.Cut.{IsNextCut}
-use Rattle.vsw_replay.specs.Going.{Since, IsFilled, IsOpened, IsFirst, unheaded_of}
-use Rattle.vsw_replay.specs.Passed.{IsPassed}
-use Rattle.vsw_replay.specs.Reads.{IsRead, Holds, Says}
+use Rattle.vsw_replay.specs.Private.Cut.{IsNextCut}
+use Rattle.vsw_replay.specs.Private.Going.{Since, IsFilled, IsOpened, IsFirst, unheaded_of}
+use Rattle.vsw_replay.specs.Private.Passed.{IsPassed}
+use Rattle.vsw_replay.specs.Private.Reads.{IsRead, Holds, Says}
 use Rattle.vsw_replay.specs.Runs.{Reads, RunsTrace}
-use Rattle.vsw_replay.specs.Sofar.{AreSoFar}
+use Rattle.vsw_replay.specs.Private.SoFar.{AreSoFar}
 use Rattle.vsw_replay.proofs.Carried.{none_so_far}
 use Rattle.vsw_replay.proofs.Completing.{read_to, header_follows, some_tells}
 use Rattle.vsw_replay.proofs.Cuts.{within_none}

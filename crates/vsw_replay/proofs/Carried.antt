@@ -12,7 +12,7 @@ use Rattle.vsw_report.specs.declared.round.PortRound.{PortRound}
 use Rattle.vsw_report.specs.declared.round.Round.{Round}
 use Rattle.vsw_rounds.specs.Round.{RunsRound}
 use Rattle.vsw_switch.specs.Switch.{SwitchNow}
-use Rattle.vsw_replay.specs.Sofar.{AreSoFar}
+use Rattle.vsw_replay.specs.Private.SoFar.{AreSoFar}
 use Rattle.vsw_replay.proofs.Ordered.{Has, Ascends, ascends_lower}
 
 -- ---- packets of a front of a trace

@@ -19,9 +19,9 @@ use Rattle.vsw_promise.specs.declared.ending.Ending.TheVariants as ending
 use Rattle.vsw_report.specs.Print.{head_line, round_text, report_text}
 use Rattle.vsw_report.specs.Short.{are_short}
 use Rattle.vsw_report.specs.declared.round.Round.{Round}
-use Rattle.vsw_replay.specs.Cut.{IsCut, cuts_until, AreBehind}
-use Rattle.vsw_replay.specs.Passed.{IsPassed}
-use Rattle.vsw_replay.specs.Sofar.{AreSoFar}
+use Rattle.vsw_replay.specs.Private.Cut.{IsCut, cuts_until, AreBehind}
+use Rattle.vsw_replay.specs.Private.Passed.{IsPassed}
+use Rattle.vsw_replay.specs.Private.SoFar.{AreSoFar}
 use Rattle.vsw_replay.proofs.Ordered.{Has}
 use Rattle.vsw_replay.proofs.Cuts.{until_below, within_below, within_more, within_none, until_ascends, until_more}
 use Rattle.vsw_replay.proofs.Carried.{AreLow, low_of, none_so_far, rounds_follow, rounds_of}

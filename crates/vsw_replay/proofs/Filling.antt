@@ -20,12 +20,12 @@ use Rattle.vsw_replay.specs.declared.reading.Reading.{Reading}
 use Rattle.vsw_replay.specs.declared.reading.Stop.{Stop}
 use Rattle.vsw_replay.specs.declared.reading.Stop.TheVariants as stop
 use Rattle.vsw_replay.specs.declared.trace.Run.{Run}
-use Rattle.vsw_replay.specs.Cut.{IsCut, IsNextCut}
-use Rattle.vsw_replay.specs.Going.{ShowsStop, IsAsLong, IsFilled, IsBetween, CanRead, IsNear}
-use Rattle.vsw_replay.specs.Passed.{IsPassed, Pauses}
-use Rattle.vsw_replay.specs.Reads.{IsRead, IsOpen, Holds, Says, StopsSo, Fills, Peeks}
+use Rattle.vsw_replay.specs.Private.Cut.{IsCut, IsNextCut}
+use Rattle.vsw_replay.specs.Private.Going.{ShowsStop, IsAsLong, IsFilled, IsBetween, CanRead, IsNear}
+use Rattle.vsw_replay.specs.Private.Passed.{IsPassed, Pauses}
+use Rattle.vsw_replay.specs.Private.Reads.{IsRead, IsOpen, Holds, Says, StopsSo, Fills, Peeks}
 use Rattle.vsw_replay.specs.Runs.{RunsTrace}
-use Rattle.vsw_replay.specs.Sofar.{AreSoFar}
+use Rattle.vsw_replay.specs.Private.SoFar.{AreSoFar}
 use Rattle.vsw_replay.proofs.Completing.{read_to, passed_first, passed_more, header_more, splits_more, tells_within, front_follows}
 use Rattle.vsw_replay.proofs.Sources.{reads_stopped, since_read, grows_read, runs_so, ends_so, breaks_after}
 use Rattle.vsw_replay.proofs.Splitting.{Passed, splits_shorter, stops_at, stands_passed}

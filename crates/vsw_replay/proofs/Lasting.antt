@@ -9,9 +9,9 @@ use Rattle.vsw_report.specs.Print.{report_text}
 use Rattle.vsw_schedule.specs.Schedule.{next_at}
 use Rattle.vsw_switch.specs.Switch.{SwitchNow}
 use Rattle.vsw_replay.specs.declared.ending.TraceEnd.TheVariants as end
-use Rattle.vsw_replay.specs.Going.{IsPast, clean_of}
+use Rattle.vsw_replay.specs.Private.Going.{IsPast, clean_of}
 use Rattle.vsw_replay.specs.Runs.{RunsTrace}
-use Rattle.vsw_replay.specs.Sofar.{AreSoFar}
+use Rattle.vsw_replay.specs.Private.SoFar.{AreSoFar}
 use Rattle.vsw_replay.proofs.Completing.{read_to, all_tells}
 use Rattle.vsw_replay.proofs.Cuts.{until_last, next_some}
 use Rattle.vsw_replay.proofs.Sources.{reads_whole, runs_so, ends_so}

@@ -8,7 +8,7 @@ use Rattle.vsw_pcap.specs.Reader.{Stands}
 use Rattle.vsw_pcap.specs.declared.capture.Record.{Record}
 use Rattle.vsw_replay.specs.declared.reading.Reading.{Reading}
 use Rattle.vsw_replay.specs.declared.reading.Stop.TheVariants as stop
-use Rattle.vsw_replay.specs.Reads.{IsRead, IsBehind, Feeds, Peeks}
+use Rattle.vsw_replay.specs.Private.Reads.{IsRead, IsBehind, Feeds, Peeks}
 
 -- the reading of a file by its number
 reading_as : (start now : Outside) (name : List ℕ) (a b : ℕ) (got : List ℕ) → a ≡ b → IsReading start now name a got → IsReading start now name b got

@@ -24,11 +24,11 @@ use Rattle.vsw_replay.specs.declared.reading.Stop.{Stop}
 use Rattle.vsw_replay.specs.declared.reading.Stop.TheVariants as stop
 use Rattle.vsw_replay.specs.declared.trace.Run.{Run}
 use Rattle.vsw_replay.specs.declared.trace.Stretch.{Stretch}
-use Rattle.vsw_replay.specs.Cut.{IsCut, IsNextCut, cuts_until, AreBehind}
-use Rattle.vsw_replay.specs.Going.{Since, ShowsStop, IsAsLong, IsFilled, IsPast, AfterPut, PutsStretch, PutsRound, is_run_of}
-use Rattle.vsw_replay.specs.Passed.{IsPassed, Pauses}
+use Rattle.vsw_replay.specs.Private.Cut.{IsCut, IsNextCut, cuts_until, AreBehind}
+use Rattle.vsw_replay.specs.Private.Going.{Since, ShowsStop, IsAsLong, IsFilled, IsPast, AfterPut, PutsStretch, PutsRound, is_run_of}
+use Rattle.vsw_replay.specs.Private.Passed.{IsPassed, Pauses}
 use Rattle.vsw_replay.specs.Runs.{Reads, RunsTrace}
-use Rattle.vsw_replay.specs.Sofar.{AreSoFar}
+use Rattle.vsw_replay.specs.Private.SoFar.{AreSoFar}
 use Rattle.vsw_replay.proofs.Cuts.{next_some}
 use Rattle.vsw_replay.proofs.Completing.{read_to, passed_first, Follows, follows_none, tells_within, front_follows, past_follows}
 use Rattle.vsw_replay.proofs.Growing.{grows_then, grows_is, front_then}

@@ -11,8 +11,8 @@ use Rattle.vsw_replay.specs.declared.ending.TraceEnd.{TraceEnd}
 use Rattle.vsw_replay.specs.declared.reading.Reading.{Reading}
 use Rattle.vsw_replay.specs.declared.reading.Stop.{Stop}
 use Rattle.vsw_replay.specs.declared.reading.Stop.TheVariants as stop
-use Rattle.vsw_replay.specs.Going.{Since, ShowsStop}
-use Rattle.vsw_replay.specs.Reads.{IsRead, IsOpen}
+use Rattle.vsw_replay.specs.Private.Going.{Since, ShowsStop}
+use Rattle.vsw_replay.specs.Private.Reads.{IsRead, IsOpen}
 use Rattle.vsw_replay.specs.Runs.{Reads, EndsSo, BreaksOff, Ends, RunsTrace}
 use Rattle.vsw_replay.proofs.Completing.{read_to, Follows}
 use Rattle.vsw_replay.proofs.Growing.{grows_is, front_more}

@@ -15,7 +15,7 @@ use Rattle.vsw_pcap.specs.declared.fault.BadTrace.{BadTrace}
 use Rattle.vsw_replay.specs.declared.reading.Reading.{Reading}
 use Rattle.vsw_replay.specs.declared.reading.Stop.{Stop}
 use Rattle.vsw_replay.specs.declared.reading.Stop.TheVariants as stop
-use Rattle.vsw_replay.specs.Reads.{IsRead, IsBehind, IsOpen, TakesPiece, Holds, StopsSo, Steps}
+use Rattle.vsw_replay.specs.Private.Reads.{IsRead, IsBehind, IsOpen, TakesPiece, Holds, StopsSo, Steps}
 
 -- what a reader found, whatever it was fed and gave
 abbrev pub Finds : Progress → Progress → List Record → List Record → Found → Type 0

@@ -14,9 +14,9 @@ use Rattle.vsw_schedule.specs.Schedule.{next_at}
 use Rattle.vsw_switch.specs.Switch.{SwitchNow}
 use Rattle.vsw_replay.specs.declared.reading.Stop.{Stop}
 use Rattle.vsw_replay.specs.declared.reading.Stop.TheVariants as stop
-use Rattle.vsw_replay.specs.Cut.{is_named_by, IsCut, IsNextCut, cuts_until, AreBehind}
-use Rattle.vsw_replay.specs.Going.{IsAsLong, is_run_of}
-use Rattle.vsw_replay.specs.Sofar.{AreSoFar}
+use Rattle.vsw_replay.specs.Private.Cut.{is_named_by, IsCut, IsNextCut, cuts_until, AreBehind}
+use Rattle.vsw_replay.specs.Private.Going.{IsAsLong, is_run_of}
+use Rattle.vsw_replay.specs.Private.SoFar.{AreSoFar}
 use Rattle.vsw_replay.proofs.Cuts.{IsCutOf, cut_of, until_ascends, until_below, within_step, until_first, until_none, until_next, next_some}
 use Rattle.vsw_replay.proofs.Carried.{low_of, take_most, drop_size, numbered_size, drop_numbered, round_more, rounds_only}
 use Rattle.vsw_replay.proofs.Completing.{take_front, within_low, report_append}

@@ -1,7 +1,7 @@
 //! Where rounds begin.
 
 ghost use Rattle.std.specs.Prelude.{◌≡◌, ◌≤◌};
-ghost use Rattle.vsw_replay.specs.Cut.{is_named_by, IsNextCut};
+ghost use Rattle.vsw_replay.specs.Private.Cut.{is_named_by, IsNextCut};
 
 use vsw_schedule::Schedule;
 

@@ -5,7 +5,7 @@ ghost use Rattle.vsw_host.specs.Outside.{Outside, SameOutputs};
 ghost use Rattle.vsw_host.specs.Source.{IsReading};
 ghost use Rattle.vsw_pcap.specs.declared.capture.Record.{Record};
 ghost use Rattle.vsw_replay.specs.declared.reading.Stop.TheVariants.{Full};
-ghost use Rattle.vsw_replay.specs.Reads.{IsRead, IsOpen, Feeds, TakesPiece, Holds, Steps, Fills, Peeks};
+ghost use Rattle.vsw_replay.specs.Private.Reads.{IsRead, IsOpen, Feeds, TakesPiece, Holds, Steps, Fills, Peeks};
 
 use std::alloc::Global;
 use vsw_base::NoMemory;

@@ -6,8 +6,8 @@ ghost use Rattle.vsw_history.specs.declared.event.Event.{Event};
 ghost use Rattle.vsw_host.specs.Outside.{Outside, SameInputs};
 ghost use Rattle.vsw_promise.specs.Jobs.{Setting};
 ghost use Rattle.vsw_ports.specs.Ports.{ports_of};
-ghost use Rattle.vsw_replay.specs.Going.{IsFilled, IsBetween, IsPast, IsOpened, IsFirst, IsNear, IsTurn, PutsRound, PutsStretch, PutsNext, GoesOn, is_run_of, unheaded_of, clean_of};
-ghost use Rattle.vsw_replay.specs.Reads.{IsOpen};
+ghost use Rattle.vsw_replay.specs.Private.Going.{IsFilled, IsBetween, IsPast, IsOpened, IsFirst, IsNear, IsTurn, PutsRound, PutsStretch, PutsNext, GoesOn, is_run_of, unheaded_of, clean_of};
+ghost use Rattle.vsw_replay.specs.Private.Reads.{IsOpen};
 ghost use Rattle.vsw_replay.specs.Runs.{RunsTrace};
 ghost use Rattle.vsw_switch.specs.Switch.{AreServed, IsAt, SwitchNow};
 

@@ -1,7 +1,7 @@
 use Rattle.std.proofs.Common.{◌<◌, ℕ, List, length}
 use Rattle.vsw_host.specs.Outside.{Outside, SameOutputs}
 use Rattle.vsw_pcap.specs.declared.capture.Record.{Record}
-use Rattle.vsw_replay.specs.Reads.{IsOpen, Holds}
+use Rattle.vsw_replay.specs.Private.Reads.{IsOpen, Holds}
 use Rattle.vsw_replay.proofs.reading.fill.Given as goal
 
 abbrev pub invariant-loop : goal.invariant-loop

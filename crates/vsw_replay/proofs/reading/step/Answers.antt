@@ -1,5 +1,5 @@
 use Rattle.std.proofs.Common.{nat_lt, if◌then◌else◌, Some, None, Ok, subst, ap, ◌∙◌}
-use Rattle.vsw_replay.specs.Reads.{TakesPiece}
+use Rattle.vsw_replay.specs.Private.Reads.{TakesPiece}
 use Rattle.vsw_replay.specs.declared.reading.Stop.TheVariants.{Full}
 use Rattle.vsw_replay.proofs.Steps.{Finds, step_record, step_end, step_bad, step_unread, step_on, step_fault, step_unfed, open_more, unfinished}
 use Rattle.vsw_replay.proofs.reading.step.Goals as goal

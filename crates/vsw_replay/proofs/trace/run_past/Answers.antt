@@ -1,5 +1,5 @@
 use Rattle.std.proofs.Common.{Ok, sym, ◌∙◌, ap, subst}
-use Rattle.vsw_replay.specs.Going.{PutsNext}
+use Rattle.vsw_replay.specs.Private.Going.{PutsNext}
 use Rattle.vsw_replay.specs.Runs.{RunsTrace}
 use Rattle.vsw_replay.proofs.trace.run_past.Goals as goal
 

@@ -1,5 +1,5 @@
 use Rattle.std.proofs.Common.{subst}
-use Rattle.vsw_replay.specs.Going.{AfterPut}
+use Rattle.vsw_replay.specs.Private.Going.{AfterPut}
 use Rattle.vsw_replay.proofs.trace.run_stretch.Goals as goal
 
 pub returns-in-Full-clause-goes : goal.returns-in-Full-clause-goes

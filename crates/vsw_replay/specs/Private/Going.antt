@@ -25,11 +25,11 @@ use Rattle.vsw_replay.specs.declared.reading.Stop.{Stop}
 use Rattle.vsw_replay.specs.declared.reading.Stop.TheVariants as stop
 use Rattle.vsw_replay.specs.declared.trace.Run.{Run}
 use Rattle.vsw_replay.specs.declared.trace.Stretch.{Stretch}
-use Rattle.vsw_replay.specs.Cut.{is_named_by, IsCut, IsNextCut, cuts_until, AreBehind}
-use Rattle.vsw_replay.specs.Passed.{IsPassed, Pauses}
-use Rattle.vsw_replay.specs.Reads.{IsRead, IsOpen, StopsSo}
+use Rattle.vsw_replay.specs.Private.Cut.{is_named_by, IsCut, IsNextCut, cuts_until, AreBehind}
+use Rattle.vsw_replay.specs.Private.Passed.{IsPassed, Pauses}
+use Rattle.vsw_replay.specs.Private.Reads.{IsRead, IsOpen, StopsSo}
 use Rattle.vsw_replay.specs.Runs.{RunsTrace}
-use Rattle.vsw_replay.specs.Sofar.{AreSoFar}
+use Rattle.vsw_replay.specs.Private.SoFar.{AreSoFar}
 
 -- nothing was complained since, and the faults of puts only rose
 pub record Since (start now : Outside) : Type 0 where

@@ -1,6 +1,7 @@
 pub mod Callers
 pub mod Covers
 pub mod Endings
+pub mod Entries
 pub mod Isolated
 pub mod Ones
 pub mod Replies

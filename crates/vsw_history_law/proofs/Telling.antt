@@ -18,20 +18,20 @@ ordered cs n (suc m) = reads_at n cs ++ (entry_at n cs ++ ordered cs (suc n) m)
 abbrev read_test : ℕ → Call → Bool
 read_test n c = not c.entry && (c.count == n)
 
-abbrev entry_test : ℕ → Call → Bool
+abbrev pub entry_test : ℕ → Call → Bool
 entry_test n c = c.entry && (c.count == n)
 
-keeps : (p : Call → Bool) (c : Call) (cs : List Call) → p c ≡ true → filter p (c ∷ cs) ≡ c ∷ filter p cs
+pub keeps : (p : Call → Bool) (c : Call) (cs : List Call) → p c ≡ true → filter p (c ∷ cs) ≡ c ∷ filter p cs
 keeps p c cs e = rw e refl
 
-drops : (p : Call → Bool) (c : Call) (cs : List Call) → p c ≡ false → filter p (c ∷ cs) ≡ filter p cs
+pub drops : (p : Call → Bool) (c : Call) (cs : List Call) → p c ≡ false → filter p (c ∷ cs) ≡ filter p cs
 drops p c cs e = rw e refl
 
 not_at : (b : Bool) (x : Bool) → x ≡ false → ((not b && x) ≡ false) × ((b && x) ≡ false)
 not_at true x e = (refl, e)
 not_at false x e = (e, refl)
 
-elsewhere : (n : ℕ) (c : Call) → c.count ≢ n → (read_test n c ≡ false) × (entry_test n c ≡ false)
+pub elsewhere : (n : ℕ) (c : Call) → c.count ≢ n → (read_test n c ≡ false) × (entry_test n c ≡ false)
 elsewhere n c ne = not_at c.entry (c.count == n) (ne_eqb c.count n ne)
 
 pub order_high : (low high : ℕ) (cs : List Call) → InOrder low cs high → low ≤ high
@@ -39,7 +39,7 @@ order_high low high [] p = p
 order_high low high (c ∷ cs) p = omega (arith, p.0, count_next c, order_high (next_count c) high cs p.1)
 
 -- no call is at a count below the first
-none_below : (n low high : ℕ) (cs : List Call) → n < low → InOrder low cs high → (reads_at n cs ≡ []) × (entry_at n cs ≡ [])
+pub none_below : (n low high : ℕ) (cs : List Call) → n < low → InOrder low cs high → (reads_at n cs ≡ []) × (entry_at n cs ≡ [])
 none_below n low high [] lt p = (refl, refl)
 none_below n low high (c ∷ cs) lt p =
     let t = elsewhere n c (λ e. omega (arith, e, lt, p.0)) in

@@ -1,5 +1,5 @@
 -- What holds of histories and reports.
-use Rattle.std.specs.Prelude.{◌≡◌, ◌≢◌, ◌<◌, ◌≤◌, ◌⊎◌, ℕ, ◌==◌, List, [], ◌∷◌, ◌++◌, length, map, filter, Some, Bool, true, false, codes, if◌then◌else◌}
+use Rattle.std.specs.Prelude.{◌≡◌, ◌≢◌, ◌<◌, ◌≤◌, ◌⊎◌, ℕ, ◌==◌, ◌&&◌, List, [], ◌∷◌, ◌++◌, length, map, filter, Some, Bool, true, false, codes, if◌then◌else◌}
 use Rattle.std.specs.List.{slice_get, list_any, flat_map}
 use Rattle.vsw_promise.specs.declared.ending.Status.{Status}
 use Rattle.vsw_promise.specs.declared.ending.Status.TheVariants as status
@@ -21,7 +21,7 @@ use Rattle.vsw_report.specs.declared.told.By.TheVariants.{Worker, Controller}
 use Rattle.vsw_report.specs.declared.told.ToldLine.{ToldLine}
 use Rattle.vsw_report.specs.declared.told.What.{What}
 use Rattle.vsw_report.specs.declared.told.What.TheVariants as what
-use Rattle.vsw_history.specs.Calls.{Job, Carry, Ask, Call, job_of, job_item, job_doer, jobs_by, calls_of, Legal, HasBytes}
+use Rattle.vsw_history.specs.Calls.{Job, Carry, Ask, Call, event_of, job_of, job_item, job_doer, jobs_by, calls_of, Legal, HasBytes}
 use Rattle.vsw_promise.specs.IsRun.{IsRun}
 use Rattle.vsw_request.specs.Words.{Request, Forward, asked_in}
 use Rattle.vsw_promise.specs.Agree.{lines_at}
@@ -57,6 +57,23 @@ LinesAreCalls = (workers : ℕ) (p : PortSeen) (h : List Event) (jobs : Jobs) (r
 abbrev pub NoOtherLines : Type 0
 NoOtherLines = (workers : ℕ) (p : PortSeen) (h : List Event) (jobs : Jobs) (r : PortRound) → IsPortRound workers p h jobs r
     → Each (λ l. list_any (λ j. job_doer p.controllers j == line_doer p.controllers l) (jobs.first ++ jobs.later) ≡ true) r.lines
+
+-- the lines that tell of the entry of this number
+abbrev pub entry_lines : ℕ → List ToldLine → List ToldLine
+entry_lines n lines = filter (λ l. l.entry && (l.count == n)) lines
+
+-- an entry of a round has one line: that of a call which stands in the history as this entry. So the line names its event, the crossing of its
+-- packet or its command
+pub record HasLine (h : List Event) (n : ℕ) (e : Event) (lines : List ToldLine) : Type 0 where
+  pub call : Call
+  pub count : call.count ≡ n
+  pub event : event_of call.deed ≡ e
+  pub line : entry_lines n lines ≡ line_of call ∷ []
+
+-- this is so of each entry of a round
+abbrev pub EachEntryIsTold : Type 0
+EachEntryIsTold = (workers : ℕ) (p : PortSeen) (h : List Event) (jobs : Jobs) (r : PortRound) (n : ℕ) (e : Event) → IsPortRound workers p h jobs r
+    → r.before ≤ n → n < r.after → slice_get h n ≡ Some e → HasLine h n e r.lines
 
 -- ---- whole runs
 

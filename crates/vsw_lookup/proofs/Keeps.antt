@@ -100,7 +100,7 @@ inside (x ∷ xs) zero g is up = omega arith
 inside (x ∷ xs) (suc r) g is up = let ih = inside xs r g is up in omega (arith, ih)
 
 -- where a stamp and a word stand in the table
-stamp_there : (w : ℕ) (stamps rest : List ℕ) (r i : ℕ) → r < length stamps → i ≡ r + 1 → get_or (w ∷ stamps ++ rest) i 0 ≡ get_or stamps r 0
+pub stamp_there : (w : ℕ) (stamps rest : List ℕ) (r i : ℕ) → r < length stamps → i ≡ r + 1 → get_or (w ∷ stamps ++ rest) i 0 ≡ get_or stamps r 0
 stamp_there w stamps rest r i lt is =
     let at : i - 1 ≡ r = omega (arith, is) in
     behind w (stamps ++ rest) i (omega (arith, is)) ∙ (ap (λ (j : ℕ). get_or (stamps ++ rest) j 0) at ∙ get_or_append_left stamps rest 0 r lt)

@@ -4,6 +4,7 @@
 mod look;
 mod lookup;
 mod put;
+mod read;
 mod rule;
 mod steps;
 mod view;

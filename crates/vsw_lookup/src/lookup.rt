@@ -1,11 +1,12 @@
 //! The lookup, its writer, its passes and their notes.
-ghost use Rattle.std.specs.Prelude.{◌≡◌, ◌+◌, ◌<◌, ◌≤◌, ◌++◌, [], ◌∷◌, ℕ, ◌%◌, ◌*◌, replicate, slice_set, true, false, length, IfOk, Some, Bool, if◌then◌else◌};
+ghost use Rattle.std.specs.Prelude.{◌≡◌, ◌+◌, ◌<◌, ◌≤◌, ◌++◌, [], ◌∷◌, ℕ, ◌%◌, ◌*◌, ◌==◌, replicate, slice_index_or, slice_set, true, false, length, IfOk, Some, Bool, if◌then◌else◌};
 ghost use mathlib.Core.List.{IsPrefix};
 ghost use Rattle.vsw_lookup.specs.Rules.{by_caller, AllBelow, permits_of, first_view, one_more, newcomer, Meets, after_entry, passed, stamp_at, row_at, IsRead, Missed};
 ghost use Rattle.vsw_lookup.specs.Answers.{IfHit, IfMiss};
 
 use crate::look::look_from;
 use crate::put::{put_row, put_stamp};
+use crate::read::{is_current, word_of};
 use crate::rule;
 use crate::rule::{Kept, Key, More, Tell};
 use crate::steps::{add, grant, lend, part};
@@ -138,6 +139,15 @@ impl<S: Story> Lookup<S> {
         }
     }
 
+    /// How many rows there are.
+    pub fn rows(&self) -> u32
+        ensures rows { result ≡ self.now.2 }
+        ensures range { (8 ≤ result) × (result ≤ 16384) }
+        ensures table { self.now.0.words ≡ 1 + 74 * result }
+    {
+        self.rows
+    }
+
     /// Looks for a row with this key among the eight from `slot` on. After a hit `body` is the rest of it, and what it holds after a miss isn't said.
     pub fn look(&self, pass: &mut Pass<S>, slot: u32, key: &[u64; 16], body: &mut [u64; 57]) -> Look
         requires { (pass.old.table ≡ self.now.0) × (slot < self.now.2) × (pass.old.view.opening ≡ Some self.now.1) }
@@ -249,9 +259,41 @@ impl<S: Story> Writer<S> {
 
     /// How many rows there are.
     pub fn rows(&self) -> u32
-        ensures { result ≡ length self.now.view.stamps }
+        ensures stamps { result ≡ length self.now.view.stamps }
+        ensures words { result ≡ length self.now.view.rows }
+        ensures table { self.now.table.words ≡ 1 + 74 * result }
     {
         self.rows
+    }
+
+    /// Whether the row is current: its stamp is the generation.
+    pub fn is_current(&mut self, lookup: &Lookup<S>, row: u32) -> bool
+        requires table { (self.old.table ≡ lookup.now.0) × (row < lookup.now.2) }
+        ensures same { self.new ≡ self.old }
+        ensures current { result ≡ (stamp_at self.old.view.stamps row == self.old.view.generation) }
+    {
+        is_current(
+            &lookup.table.shared,
+            &mut self.seat,
+            self.rows as usize,
+            row as usize,
+        )
+    }
+
+    /// The word at a place of the row.
+    pub fn word(&mut self, lookup: &Lookup<S>, row: u32, place: u32) -> u64
+        requires table { (self.old.table ≡ lookup.now.0) × (row < lookup.now.2) }
+        requires place { place < 73 }
+        ensures same { self.new ≡ self.old }
+        ensures word { result ≡ slice_index_or (row_at self.old.view.rows row) place 0 }
+    {
+        word_of(
+            &lookup.table.shared,
+            &mut self.seat,
+            self.rows as usize,
+            row as usize,
+            place as usize,
+        )
     }
 
     /// Makes the row's words these, and the row current. Words that the row has already aren't stored.

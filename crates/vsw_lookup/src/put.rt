@@ -8,7 +8,7 @@ use atomic_table::{Seat, Shared};
 use vsw_machine::Story;
 
 /// Loads a word of the table. Only the writer stores, so it finds what its view keeps.
-fn find<S: Story>(
+pub(crate) fn find<S: Story>(
     shared: &Shared<S::Entry, View<S::Opening, S::Entry>, Key<S::Opening>, Kept<S>>,
     writer: &mut Seat<S::Entry, View<S::Opening, S::Entry>>,
     place: usize,

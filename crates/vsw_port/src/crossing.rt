@@ -1,4 +1,4 @@
-//! A packet crosses the layers of its port.
+//! A packet's walk is settled at its port.
 
 ghost use Rattle.std.specs.Prelude.{◌≡◌, ◌-◌, ◌<◌, ◌^◌, false};
 ghost use Rattle.vsw_admit.specs.Walked.{IsWalk};
@@ -11,7 +11,7 @@ use vsw_admit::outgoing_size;
 use vsw_base::{Cause, Crossing, Fate, Verdict};
 use vsw_commit::commit;
 use vsw_policy::Policy;
-use vsw_walk::{Scratch, Walked, walk};
+use vsw_walk::{Scratch, Walked};
 
 /// What became of a packet at its port.
 #[derive(Clone, Copy, Debug, PartialEq, Eq)]
@@ -56,17 +56,22 @@ fn pass(policy: &mut Policy, crossing: &Crossing, walked: &Walked, scratch: &Scr
     }
 }
 
-/// A packet crosses the layers. Where it passes, the scratch holds its edited stack.
-pub fn cross(policy: &mut Policy, crossing: &Crossing, scratch: &mut Scratch) -> Outcome
+/// A packet's walk is settled: committed where it passes, and dropped else.
+pub fn settle(
+    policy: &mut Policy,
+    crossing: &Crossing,
+    walked: &Walked,
+    scratch: &Scratch,
+) -> Outcome
     requires numbers { Each (λ l. l.next_pair < 2 ^ 32 - 1) policy.old.layers }
+    requires walk { IsWalk policy.old.layers crossing.now walked.now scratch.now }
     ensures exact { record { fate = result.fate; layers = policy.new.layers; entry = result.entry } ≡ crossed (is_short result.fate) policy.old.layers crossing.now }
     ensures memory { MayBeShort (is_short result.fate) policy.old.layers crossing.now }
     ensures controllers { policy.new.controllers ≡ policy.old.controllers }
-    ensures edits { EditsPass policy.old.layers crossing.now scratch.new.stack result.kept result.fate }
+    ensures edits { EditsPass policy.old.layers crossing.now scratch.now.stack result.kept result.fate }
 {
-    let walked = walk(policy, crossing, scratch);
     match walked.verdict {
-        Verdict::Pass => pass(policy, crossing, &walked, scratch),
+        Verdict::Pass => pass(policy, crossing, walked, scratch),
         Verdict::Rule {
             controller,
             layer,

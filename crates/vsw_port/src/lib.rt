@@ -4,7 +4,9 @@
 
 mod copies;
 mod crossing;
+mod ledger;
 mod owner;
 
 pub use crossing::Outcome;
+pub use ledger::Ledger;
 pub use owner::Core;

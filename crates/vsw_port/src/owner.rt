@@ -1,6 +1,6 @@
-//! The owner of a port's layers and of their history.
+//! A port as one thread has it.
 
-ghost use Rattle.std.specs.Prelude.{◌≡◌, ◌≤◌, ◌<◌, ◌+◌, ◌-◌, ◌^◌, ◌++◌, [], ℕ, List, not, true, length, vec_capacity, IfOk, OnOk, OnErr};
+ghost use Rattle.std.specs.Prelude.{◌≡◌, ◌≤◌, ◌<◌, ◌+◌, ◌-◌, ◌^◌, ◌++◌, [], ℕ, List, not, true, length, IfOk, OnOk, OnErr};
 ghost use Rattle.vsw_base.specs.Frame.{Parts};
 ghost use Rattle.vsw_commandfile.specs.declared.line.Line.{Line};
 ghost use Rattle.vsw_history.specs.declared.event.Event.TheVariants as event;
@@ -9,39 +9,31 @@ ghost use Rattle.vsw_history.specs.Next.{IsDone};
 ghost use Rattle.vsw_policy.specs.Obey.{is_memory, rules_given};
 ghost use Rattle.vsw_policy.specs.Refusals.{reply_of};
 ghost use Rattle.vsw_policy.specs.Sound.{Each, IsGoodRule, is_listed};
-ghost use Rattle.vsw_port.specs.Core.{AreAtMost, CoreSeen, IsHeld, entered, layers_of, opening_of};
+ghost use Rattle.vsw_port.specs.Core.{AreAtMost, IsHeld, entered, layers_of, opening_of};
 ghost use Rattle.vsw_port.specs.Crossed.{EditsPass, MayBeShort, crossed, is_short};
 
-use crate::copies::copy_command;
-use crate::crossing::{Outcome, cross};
+use crate::crossing::Outcome;
+use crate::ledger::Ledger;
 use std::alloc::Global;
 use std::marker::Model;
-use std::snapshot::Snapshot;
-use vsw_base::{Crossing, NoMemory, Stack, Ufid};
+use vsw_base::{Crossing, NoMemory, Stack};
 use vsw_history::Event;
-use vsw_policy::{Command, Policy, Refusal, Reply};
-use vsw_walk::Scratch;
+use vsw_policy::{Command, Policy, Refusal};
+use vsw_walk::{Scratch, walk};
 
-/// A port's layers and its history. The layers are what the history leaves of those that the port began
-/// with; contracts see what it began with, and the history.
+/// A port's ledger, with room for a walk. Contracts see what the port began with, and the history.
 #[derive(Drop)]
 pub struct Core {
-    alloc: Global,
-    policy: Policy,
-    journal: Vec<Event>,
+    ledger: Ledger,
     scratch: Scratch,
-    began: Snapshot<Policy>,
 }
 
 impl Model for Core {
-    ghost use Rattle.std.specs.Prelude.{◌-◌, length, vec_capacity};
-    ghost use Rattle.vsw_port.specs.Core.{CoreSeen, IsHeld, opening_of};
+    ghost use Rattle.vsw_port.specs.Core.{CoreSeen};
 
     ghost Value = { CoreSeen };
 
-    ghost view = { λ c. record { opening = opening_of c.began.value; journal = c.journal.items; room = vec_capacity c.journal - length c.journal.items; edited = c.scratch.stack } };
-
-    ghost invariant = { λ c. IsHeld (opening_of c.began.value) c.journal.items c.policy };
+    ghost view = { λ c. record { opening = c.ledger.opening; journal = c.ledger.journal; room = c.ledger.room; edited = c.scratch.stack } };
 }
 
 impl Core {
@@ -52,13 +44,9 @@ impl Core {
         ensures journal { IfOk result (λ core. core.journal ≡ []) }
     {
         let scratch = Scratch::new(alloc)?;
-        let began = Snapshot::of(&policy);
         Ok(Core {
-            alloc,
-            policy,
-            journal: Vec::new(alloc),
+            ledger: Ledger::open(alloc, policy),
             scratch,
-            began,
         })
     }
 
@@ -66,7 +54,7 @@ impl Core {
     pub fn journal(&self) -> &[Event]
         ensures journal { result.now ≡ self.now.journal }
     {
-        &self.journal
+        self.ledger.journal()
     }
 
     /// How many entries there are.
@@ -74,14 +62,14 @@ impl Core {
         requires { length self.now.journal < 2 ^ 32 }
         ensures { result ≡ length self.now.journal }
     {
-        self.journal.len() as u32
+        self.ledger.journal().len() as u32
     }
 
     /// The layers as they stand, with the controllers that they belong to.
     pub fn policy(&self) -> &Policy
         ensures { IsHeld self.now.opening self.now.journal result.now }
     {
-        &self.policy
+        self.ledger.policy()
     }
 
     /// Takes room for so many further entries.
@@ -92,10 +80,7 @@ impl Core {
         ensures kept { self.old.room ≤ self.new.room }
         ensures refused { OnErr result (self.new ≡ self.old) }
     {
-        match self.journal.reserve(more as usize) {
-            Ok(()) => Ok(()),
-            Err(_) => Err(NoMemory),
-        }
+        self.ledger.reserve(more)
     }
 
     /// The stack with which the last packet leaves that crossed the layers, where it passed.
@@ -118,9 +103,8 @@ impl Core {
         ensures opening { self.new.opening ≡ self.old.opening }
         ensures room { self.old.room ≤ self.new.room + 1 }
     {
-        let outcome = cross(&mut self.policy, crossing, &mut self.scratch);
-        enter_crossing(&mut self.journal, crossing, outcome);
-        outcome
+        let walked = walk(self.ledger.policy(), crossing, &mut self.scratch);
+        self.ledger.settle(crossing, &walked, &self.scratch)
     }
 
     /// Does what a controller asks, or refuses it. Either is an entry, with the number of the command's line;
@@ -134,67 +118,6 @@ impl Core {
         ensures opening { self.new.opening ≡ self.old.opening }
         ensures room { self.old.room ≤ self.new.room + 1 }
     {
-        let Ok(copy) = copy_command(self.alloc, command) else {
-            return Err(Refusal::Memory);
-        };
-        let answer = self.policy.command(controller, command);
-        enter_command(&mut self.journal, line, controller, copy, answer);
-        answer
+        self.ledger.command(line, controller, command)
     }
-}
-
-/// The same packet once more, with a stack of its own, since a journal keeps it.
-fn copied(crossing: &Crossing) -> Crossing
-    ensures { result ≡ crossing.now }
-{
-    Crossing {
-        caller: crossing.caller,
-        packet: crossing.packet,
-        id: Ufid {
-            dir: crossing.id.dir,
-            stack: crossing.id.stack.copy(),
-        },
-        control: crossing.control,
-        moment: crossing.moment,
-        sizes: crossing.sizes,
-    }
-}
-
-/// Enters a packet that changed the layers.
-fn enter_crossing(journal: &mut Vec<Event>, crossing: &Crossing, outcome: Outcome)
-    requires room { 1 + length journal.old.items ≤ vec_capacity journal.old }
-    ensures items { journal.new.items ≡ journal.old.items ++ entered outcome.entry (event.Crossing crossing.now outcome.fate) }
-    ensures capacity { vec_capacity journal.new ≡ vec_capacity journal.old }
-{
-    if outcome.entry {
-        journal.push_reserved(Event::Crossing {
-            crossing: copied(crossing),
-            fate: outcome.fate,
-        });
-    }
-}
-
-/// Enters a command with its reply, unless memory was wanting for it.
-fn enter_command(
-    journal: &mut Vec<Event>,
-    line: u32,
-    controller: u16,
-    command: Command,
-    answer: Result<(), Refusal>,
-)
-    requires room { 1 + length journal.old.items ≤ vec_capacity journal.old }
-    ensures items { journal.new.items ≡ journal.old.items ++ entered (not (is_memory answer)) (event.Command controller line command (reply_of answer)) }
-    ensures capacity { vec_capacity journal.new ≡ vec_capacity journal.old }
-{
-    let reply = match answer {
-        Ok(()) => Reply::Ok,
-        Err(Refusal::Memory) => return,
-        Err(refusal) => Reply::Refused(refusal),
-    };
-    journal.push_reserved(Event::Command {
-        controller,
-        line,
-        command,
-        reply,
-    });
 }

@@ -1,7 +1,7 @@
 use Rattle.std.proofs.Common.{subst, sym}
 use Rattle.vsw_port.specs.Core.{IsHeld, opening_of}
 use Rattle.vsw_port.proofs.Held.{held_asked}
-use Rattle.vsw_port.proofs.owner.Core.command.Goals as goal
+use Rattle.vsw_port.proofs.ledger.Ledger.command.Goals as goal
 
 pub invariant_of-self : goal.invariant_of-self
 invariant_of-self c =

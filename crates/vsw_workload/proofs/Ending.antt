@@ -18,7 +18,7 @@ use Rattle.vsw_promise.specs.Summary.{entries_after, five_lines, summary_text, t
 use Rattle.vsw_replay.proofs.Carried.{none_so_far, rounds_of}
 use Rattle.vsw_replay.proofs.Cuts.{all_within, within_none}
 use Rattle.vsw_report.specs.declared.round.Round.{Round}
-use Rattle.vsw_replay.specs.Sofar.{AreSoFar}
+use Rattle.vsw_replay.specs.Private.SoFar.{AreSoFar}
 use Rattle.vsw_rounds.proofs.Totals.{total_map}
 use Rattle.vsw_switch.specs.Close.{entries_in}
 use Rattle.vsw_switch.specs.Switch.{AllStandAt, IsAt, PortNow, SwitchNow}

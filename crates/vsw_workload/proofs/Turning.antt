@@ -7,8 +7,8 @@ use Rattle.vsw_pcap.specs.declared.capture.Record.{Record}
 use Rattle.vsw_promise.specs.Jobs.{Setting, cuts_within}
 use Rattle.vsw_promise.specs.Summary.{dropped, in_round, in_rounds, passed, size_of}
 use Rattle.vsw_replay.specs.declared.reading.Stop.TheVariants as stop
-use Rattle.vsw_replay.specs.Cut.{is_named_by, IsCut, IsNextCut}
-use Rattle.vsw_replay.specs.Sofar.{AreSoFar}
+use Rattle.vsw_replay.specs.Private.Cut.{is_named_by, IsCut, IsNextCut}
+use Rattle.vsw_replay.specs.Private.SoFar.{AreSoFar}
 use Rattle.vsw_replay.proofs.Turning.{rounds_run, short_push}
 use Rattle.vsw_report.specs.declared.round.Round.{Round}
 use Rattle.vsw_rounds.proofs.Totals.{total_append}

@@ -4,8 +4,8 @@ use Rattle.vsw_history.specs.declared.event.Event.{Event}
 use Rattle.vsw_pcap.specs.declared.capture.Record.{Record}
 use Rattle.vsw_promise.specs.Jobs.{Setting, cuts_within}
 use Rattle.vsw_promise.specs.Summary.{dropped, in_rounds, passed, size_of}
-use Rattle.vsw_replay.specs.Cut.{IsCut}
-use Rattle.vsw_replay.specs.Sofar.{AreSoFar}
+use Rattle.vsw_replay.specs.Private.Cut.{IsCut}
+use Rattle.vsw_replay.specs.Private.SoFar.{AreSoFar}
 use Rattle.vsw_report.specs.declared.round.Round.{Round}
 use Rattle.vsw_report.specs.Short.{are_short}
 use Rattle.vsw_rounds.specs.Round.{RunsRound}

@@ -1,0 +1,76 @@
+-- The rows of a port, as its writer sees them: which are current, what they say, and which of them is shaken.
+use Rattle.std.specs.Prelude.{◌≡◌, ◌⊎◌, ◌≤◌, ◌*◌, ℕ, List, Bool, true, false, length}
+use Rattle.vsw_history.specs.declared.event.Event.{Event}
+use Rattle.vsw_history.specs.History.{after, replay}
+use Rattle.vsw_layer.specs.Layer.{LayerSeen}
+use Rattle.vsw_lean.specs.Good.{IsGoodLeaning, LeaningRow, Row}
+use Rattle.vsw_lean.specs.Leant.{Leant}
+use Rattle.vsw_lean.specs.Shaken.{shake}
+use Rattle.vsw_lean.specs.Way.{looks}
+use Rattle.vsw_lean_law.specs.Entries.{entry_shakes}
+use Rattle.vsw_lookup.specs.Rules.{Held, row_at, stamp_at}
+use Rattle.vsw_policy.specs.Layers.{PolicySeen}
+use Rattle.vsw_story.specs.Rows.{opening_of, words_of}
+use Rattle.vsw_walk.specs.declared.scratch.Looked.{Looked}
+use Rattle.vsw_walk.specs.declared.scratch.Wanted.{Wanted}
+use Rattle.vsw_words.specs.Law.{IsId}
+use Rattle.vsw_words.specs.Reading.{IsBody}
+
+-- the right to write rows: its table, the history, the generation, and the stamps and words of the rows
+abbrev pub Writing : Type 0
+Writing = Held PolicySeen Event
+
+-- rows, and what they lean on
+pub record RowsSeen : Type 0 where
+  pub writer : Writing
+  pub leant : Leant
+
+-- the layers after a history that began with this policy
+abbrev pub layers_after : PolicySeen → List Event → List LayerSeen
+layers_after p h = replay (opening_of p) h
+
+-- the layers after one more entry
+abbrev pub layers_then : PolicySeen → List LayerSeen → Event → List LayerSeen
+layers_then p ls e = after p.controllers ls e
+
+-- a row is current where its stamp is the generation
+abbrev pub IsCurrent : Writing → ℕ → Type 0
+IsCurrent v place = stamp_at v.view.stamps place ≡ v.view.generation
+
+-- words that say a row
+pub record Says (words : List ℕ) (r : Row) : Type 0 where
+  pub words_is : words ≡ words_of r
+  pub id : IsId r.id
+  pub body : IsBody r.verdict r.acts
+
+-- a row leans on all that the packets of its identity look for
+abbrev pub leaning : List LayerSeen → Row → LeaningRow
+leaning ls r = record { row = r; looks = looks ls r.id }
+
+-- changes of these layers shake a current row: one of them shakes a look of the packets that it answers
+pub record ShakesOne (ls : List LayerSeen) (ws : List Wanted) (v : Writing) : Type 0 where
+  pub place : ℕ
+  pub row : Row
+  pub current : IsCurrent v place
+  pub says : Says (row_at v.view.rows place) row
+  pub shaken : shake ls ws (looks ls row.id) ≡ true
+
+-- a test that is true exactly where they do
+pub record IsShaking (ls : List LayerSeen) (ws : List Wanted) (v : Writing) (test : Bool) : Type 0 where
+  pub told : test ≡ true → ShakesOne ls ws v
+  pub back : ShakesOne ls ws v → test ≡ true
+
+-- an entry at these layers shakes no current row
+abbrev pub Spares : List LayerSeen → Event → Writing → Type 0
+Spares ls e v = (place : ℕ) (row : Row) → IsCurrent v place → Says (row_at v.view.rows place) row → entry_shakes ls e (leaning ls row) ≡ false
+
+-- words and looks that are those of a good row at these layers
+pub record IsFresh (ls : List LayerSeen) (words : List ℕ) (qs : List Looked) : Type 0 where
+  pub row : Row
+  pub says : Says words row
+  pub good : IsGoodLeaning ls (record { row = row; looks = qs })
+
+-- there is room for the looks of all rows after an entry: the layers are as many as before, or no row is current any more and there is room
+-- for one look of each in each layer
+abbrev pub HasRoom : List LayerSeen → List LayerSeen → Bool → ℕ → ℕ → Type 0
+HasRoom ls now raised rows room = (length now ≡ length ls) ⊎ ((raised ≡ true) × (rows * length now ≤ room))

@@ -1,0 +1,6 @@
+//! The rows of a port under its writer: which are current stays good, and what they lean on is known.
+#![tactic(auto)]
+
+mod rows;
+
+pub use rows::Rows;

@@ -1,5 +1,5 @@
 -- What a walk wants can be made, where nothing of it is refused.
-use Rattle.std.proofs.Common.{◌≡◌, ◌<◌, ◌-◌, ◌^◌, ◌==◌, ℕ, zero, suc, Bool, true, false, not, cond, List, [], ◌∷◌, length, nat_le, Option, Some, None, Err, refl, sym, ap, subst, ◌∙◌, arith, true≢false, is_some}
+use Rattle.std.proofs.Common.{◌≡◌, ◌<◌, ◌-◌, ◌^◌, ◌==◌, ℕ, zero, suc, Bool, true, false, not, cond, List, [], ◌∷◌, length, nat_le, Option, Some, None, Err, refl, sym, ap, ◌∙◌, arith, true≢false, is_some}
 use Rattle.std.specs.Prelude.{if◌then◌else◌}
 use Rattle.std.specs.List.{slice_get}
 use Rattle.std.proofs.lemmas.Option.{slice_get_within}
@@ -26,7 +26,6 @@ use Rattle.vsw_commit.specs.Cross.{is_memory}
 use Rattle.vsw_commit.proofs.Places.{at_get, get_beside, get_changed}
 use Rattle.vsw_compose.specs.Edit.{edited, kept_after}
 use Rattle.vsw_walk.specs.declared.scratch.Wanted.{Wanted}
-use Rattle.vsw_walk.specs.declared.scratch.Wanted.TheVariants as wanted
 use Rattle.vsw_walk.specs.Walk.{Walk, along, by_visit, crossed, placed, walk_of}
 use Rattle.vsw_flowid.specs.Key.{key_from}
 use Rattle.vsw_layer.specs.Layer.{LayerSeen, CanTake, with_pair, with_touched, without_pair}

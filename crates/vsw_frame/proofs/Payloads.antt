@@ -1,5 +1,5 @@
 -- What is within the payload of a datagram.
-use Rattle.std.proofs.Common.{◌≡◌, ℕ, ◌+◌, ◌==◌, length, List, [], Bool, true, false, cond, drop, Option, Some, None, option_map, refl, ap, arith, length-drop}
+use Rattle.std.proofs.Common.{◌≡◌, ℕ, ◌+◌, ◌==◌, length, List, Bool, true, false, cond, drop, Option, Some, None, option_map, refl, ap, arith, length-drop}
 use Rattle.vsw_base.specs.Frame as frame
 use Rattle.vsw_base.specs.Frame.{End, within, payload_in}
 use Rattle.vsw_base.specs.Vxlan.{vni_of, vxlan_port}

@@ -1,5 +1,5 @@
 -- The two maps after a pair came.
-use Rattle.std.proofs.Common.{◌≡◌, ℕ, ◌==◌, nat_le, Bool, true, false, cond, if◌then◌else◌, ◌||◌, List, [], ◌∷◌, map, Option, None, Some, option_map, refl, sym, ap, subst, ◌∙◌, arith, length, ◌<◌, ◌-◌, ◌^◌}
+use Rattle.std.proofs.Common.{◌≡◌, ℕ, ◌==◌, nat_le, Bool, true, false, cond, if◌then◌else◌, ◌||◌, List, [], ◌∷◌, map, None, Some, option_map, refl, sym, ap, subst, ◌∙◌, arith, length, ◌<◌, ◌-◌, ◌^◌}
 use Rattle.std.specs.Map.{keys_of, values_of, lookup}
 use Rattle.vsw_layerflow.specs.declared.pair.Probe.{Probe}
 use Rattle.vsw_layerflow.specs.declared.pair.Pair.{Pair}

@@ -1,5 +1,5 @@
 -- Other bytes in slacks and trailers are not read.
-use Rattle.std.proofs.Common.{◌≡◌, ℕ, zero, suc, ◌+◌, ◌-◌, ◌≤◌, ◌==◌, nat_lt, length, List, [], ◌∷◌, ◌++◌, Bool, true, false, cond, take, drop, Option, Some, None, Result, Ok, Err, refl, sym, ◌∙◌, ap, subst, arith, option_map, length-drop, length-take, length-append}
+use Rattle.std.proofs.Common.{◌≡◌, ℕ, zero, suc, ◌+◌, ◌-◌, ◌≤◌, ◌==◌, nat_lt, length, List, [], ◌∷◌, ◌++◌, Bool, true, false, cond, take, drop, Option, Some, None, Result, Ok, Err, refl, sym, ◌∙◌, ap, subst, arith, length-drop, length-take, length-append}
 use Rattle.std.proofs.lemmas.List.{take-take, drop-take, drop-drop}
 use Rattle.std.proofs.Math.Seq.{take-length, take-append_seam, drop-append_seam}
 use Rattle.vsw_base.specs.declared.header.Header.{Header}
@@ -20,7 +20,7 @@ use Rattle.vsw_frame.proofs.Within.{looked, looked_in}
 use Rattle.vsw_roundtrip.specs.Ends.{SameHeaders, OtherEnds, SaysAs, IsReadAs, EndsAreUnread, lengths}
 use Rattle.vsw_frame.specs.Tiles.{Tiles, TilesAt, outermost}
 use Rattle.vsw_base.specs.Vxlan.{vni_of, vxlan_port}
-use Rattle.vsw_base.proofs.Readings.{ether_bound, vni_long}
+use Rattle.vsw_base.proofs.Readings.{ether_bound}
 use Rattle.vsw_frame.proofs.Cases.{read_in}
 use Rattle.vsw_frame.proofs.Payloads.{udp_within, vxlan_at, within_long}
 

@@ -1,5 +1,4 @@
-use Rattle.std.proofs.Common.{◌∙◌, sym, ap, drop, ℕ}
-use Rattle.vsw_choice.specs.Private.FromEnd.{from_end}
+use Rattle.std.proofs.Common.{◌∙◌, sym}
 use Rattle.vsw_choice.proofs.FromEnd.{choose_is, none_asked}
 use Rattle.vsw_choice.proofs.choice.choose.Goals as goal
 

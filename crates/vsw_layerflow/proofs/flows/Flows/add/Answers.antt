@@ -1,4 +1,4 @@
-use Rattle.std.proofs.Common.{◌∙◌, ◌∷◌, ◌++◌, [], ap, cond, Some, Option, ℕ}
+use Rattle.std.proofs.Common.{◌∙◌, ap, cond, Some, Option, ℕ}
 use Rattle.std.specs.Map.{values_of}
 use Rattle.vsw_layerflow.specs.declared.pair.Probe.{Probe}
 use Rattle.vsw_layerflow.specs.Pairs.{same_probe, back, put_by_number}

@@ -9,14 +9,14 @@ use vsw_base::{Cause, Control, Dir, Fate, Moment};
 use vsw_policy::{Command, Refusal, Reply};
 use vsw_rule::Action;
 
-const TCP: u8 = 6;
+pub const TCP: u8 = 6;
 
 const UDP: u8 = 17;
 
-const PASS: Fate = Fate::Pass { len: 44 };
+pub const PASS: Fate = Fate::Pass { len: 44 };
 
 /// A port with layer 10 of controller 1, and rule 5 in its outbound group 1: three entries.
-fn port(alloc: Global, stateful: bool) -> Option<Trial> {
+pub fn port(alloc: Global, stateful: bool) -> Option<Trial> {
     let mut trial = Trial::new(alloc)?;
     trial.ask(1, 1, &add_layer(10))?;
     trial.ask(2, 1, &add_group(alloc, 10, 1))?;
@@ -28,7 +28,7 @@ fn port(alloc: Global, stateful: bool) -> Option<Trial> {
 }
 
 /// Sends packet `number`.
-fn send(trial: &mut Trial, number: u32, dir: Dir, proto: u8, control: Control) -> Told<Fate> {
+pub fn send(trial: &mut Trial, number: u32, dir: Dir, proto: u8, control: Control) -> Told<Fate> {
     let crossing = packet(number, dir, proto, control)?;
     trial.send(&crossing)
 }
@@ -45,7 +45,7 @@ fn connection(trial: &mut Trial) -> [Told<Fate>; 6] {
     ]
 }
 
-const CONNECTED: [Told<Fate>; 6] = [
+pub const CONNECTED: [Told<Fate>; 6] = [
     Some((true, 3, PASS)),
     Some((true, 4, PASS)),
     Some((false, 5, PASS)),

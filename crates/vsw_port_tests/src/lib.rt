@@ -6,6 +6,8 @@ mod commands;
 #[cfg(test)]
 mod history_tests;
 #[cfg(test)]
+mod memory_tests;
+#[cfg(test)]
 mod packets;
 #[cfg(test)]
 mod refusal_tests;

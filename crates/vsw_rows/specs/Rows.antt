@@ -1,5 +1,5 @@
 -- The rows of a port, as its writer sees them: which are current, what they say, and which of them is shaken.
-use Rattle.std.specs.Prelude.{◌≡◌, ◌⊎◌, ◌≤◌, ◌*◌, ℕ, List, Bool, true, false, length}
+use Rattle.std.specs.Prelude.{◌≡◌, ◌⊎◌, ◌<◌, ◌≤◌, ◌+◌, ◌*◌, ◌%◌, ℕ, List, Bool, true, false, length, slice_index_or, take}
 use Rattle.vsw_history.specs.declared.event.Event.{Event}
 use Rattle.vsw_history.specs.History.{after, replay}
 use Rattle.vsw_layer.specs.Layer.{LayerSeen}
@@ -10,11 +10,14 @@ use Rattle.vsw_lean.specs.Way.{looks}
 use Rattle.vsw_lean_law.specs.Entries.{entry_shakes}
 use Rattle.vsw_lookup.specs.Rules.{Held, row_at, stamp_at}
 use Rattle.vsw_policy.specs.Layers.{PolicySeen}
+use Rattle.vsw_rows.specs.declared.rows.Found.{Found}
+use Rattle.vsw_rows.specs.declared.rows.Found.TheVariants.{Own, Stale, Full}
 use Rattle.vsw_story.specs.Rows.{opening_of, words_of}
 use Rattle.vsw_walk.specs.declared.scratch.Looked.{Looked}
 use Rattle.vsw_walk.specs.declared.scratch.Wanted.{Wanted}
 use Rattle.vsw_words.specs.Law.{IsId}
 use Rattle.vsw_words.specs.Reading.{IsBody}
+use Rattle.vsw_words.specs.Slot.{slot}
 
 -- the right to write rows: its table, the history, the generation, and the stamps and words of the rows
 abbrev pub Writing : Type 0
@@ -42,6 +45,34 @@ pub record Says (words : List ℕ) (r : Row) : Type 0 where
   pub words_is : words ≡ words_of r
   pub id : IsId r.id
   pub body : IsBody r.verdict r.acts
+
+-- words of no row: a row's first word isn't 0
+abbrev pub IsEmpty : List ℕ → Type 0
+IsEmpty words = slice_index_or words 0 0 ≡ 0
+
+-- words that are empty, or say a row
+abbrev pub IsFormed : List ℕ → Type 0
+IsFormed words = IsEmpty words ⊎ ((r : Row) × Says words r)
+
+-- the place is one of the eight, of so many rows, at which a row with these key words may stand
+pub record IsProbed (rows : ℕ) (key : List ℕ) (place : ℕ) : Type 0 where
+  pub step : ℕ
+  pub few : step < 8
+  pub is : place ≡ (slot key rows + step) % rows
+
+-- the row at the place has these key words
+abbrev pub HasKey : Writing → List ℕ → ℕ → Type 0
+HasKey v key place = take 16 (row_at v.view.rows place) ≡ key
+
+-- no current row at these places has them
+abbrev pub NoneHasKey : ℕ → List ℕ → Writing → Type 0
+NoneHasKey rows key v = (place : ℕ) → IsProbed rows key place → IsCurrent v place → HasKey v key place → ⊥
+
+-- what stands at these places: a current row with the key words; else a row that isn't current; else eight current ones with others
+abbrev pub IsFound : ℕ → List ℕ → Writing → Found → Type 0
+IsFound rows key v (Own place) = IsProbed rows key place × IsCurrent v place × HasKey v key place
+IsFound rows key v (Stale place) = IsProbed rows key place × (stamp_at v.view.stamps place < v.view.generation) × NoneHasKey rows key v
+IsFound rows key v Full = ((place : ℕ) → IsProbed rows key place → IsCurrent v place) × NoneHasKey rows key v
 
 -- a row leans on all that the packets of its identity look for
 abbrev pub leaning : List LayerSeen → Row → LeaningRow

@@ -3,4 +3,4 @@
 
 mod rows;
 
-pub use rows::Rows;
+pub use rows::{Found, Rows};

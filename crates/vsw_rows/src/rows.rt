@@ -1,13 +1,15 @@
 //! The rows of a port, and what the current ones lean on.
 
-ghost use Rattle.std.specs.Prelude.{◌≡◌, ◌≤◌, ◌<◌, ◌+◌, ◌*◌, ◌++◌, [], ◌∷◌, ℕ, Some, false, true, length, map, slice_set, IfOk, OnOk};
+ghost use Rattle.std.specs.Prelude.{◌≡◌, ◌≤◌, ◌<◌, ◌+◌, ◌*◌, ◌++◌, ◌==◌, [], ◌∷◌, ℕ, Some, false, true, length, map, slice_set, IfOk, OnOk};
 ghost use mathlib.Core.List.{IsPrefix};
 ghost use Rattle.vsw_history.specs.Calls.{named};
 ghost use Rattle.vsw_history.specs.History.{IsRight};
 ghost use Rattle.vsw_layer.specs.Layer.{seen};
-ghost use Rattle.vsw_lookup.specs.Rules.{Meets, after_entry, passed, stamp_at};
+ghost use Rattle.vsw_lookup.specs.Rules.{Meets, after_entry, passed, row_at, stamp_at};
 ghost use Rattle.vsw_policy.specs.Layers.{PolicySeen};
-ghost use Rattle.vsw_rows.specs.Rows.{HasRoom, IsFresh, IsShaking, Spares, layers_after, layers_then};
+ghost use Rattle.vsw_rows.specs.Rows.{HasRoom, IsFormed, IsFound, IsFresh, IsShaking, Spares, layers_after, layers_then};
+ghost use Rattle.vsw_rows.specs.declared.rows.Found.TheVariants.{Own};
+ghost use Rattle.vsw_story.specs.Rows.{IsGoodRow, opening_of};
 
 use std::alloc::Global;
 use std::marker::Model;
@@ -18,6 +20,17 @@ use vsw_lean::Leaning;
 use vsw_lookup::{Lookup, Pass, Writer};
 use vsw_story::PortStory;
 use vsw_walk::{Looked, Wanted};
+
+/// What stands at the eight places at which a row with some key words may stand.
+#[derive(Clone, Copy, Debug, PartialEq, Eq)]
+pub enum Found {
+    /// A current row with these key words.
+    Own { row: u32 },
+    /// No such row, and this one isn't current.
+    Stale { row: u32 },
+    /// Eight current rows with other key words.
+    Full,
+}
 
 /// The rows of a port under its writer. Each current row is good at the layers that the history leaves, and what
 /// it leans on is known, so whether a change shakes one is told without looking at the rows.
@@ -136,5 +149,39 @@ impl Rows {
         let _ = rows_of(lookup, &self.writer);
         self.writer.put(lookup, row, words);
         self.leaning.enter(looks);
+    }
+
+    /// Whether the row is current.
+    pub fn is_current(&mut self, lookup: &Lookup<PortStory>, row: u32) -> bool
+        requires stub { ⊥ }
+        requires table { (self.old.writer.table ≡ lookup.now.0) × (row < lookup.now.2) }
+        ensures same { self.new ≡ self.old }
+        ensures current { result ≡ (stamp_at self.old.writer.view.stamps row == self.old.writer.view.generation) }
+    {
+        unreachable!()
+    }
+
+    /// Looks at the eight places at which a row with these key words may stand.
+    pub fn find(&mut self, lookup: &Lookup<PortStory>, key: &[u64; 16]) -> Found
+        requires stub { ⊥ }
+        requires table { self.old.writer.table ≡ lookup.now.0 }
+        requires opens { self.old.writer.view.opening ≡ Some lookup.now.1 }
+        ensures same { self.new ≡ self.old }
+        ensures found { IsFound lookup.now.2 key.now self.old.writer result }
+        ensures good { (place : ℕ) → result ≡ Own place → IsGoodRow (opening_of lookup.now.1) self.old.writer.view.history (row_at self.old.writer.view.rows place) }
+    {
+        unreachable!()
+    }
+
+    /// The words of a row, current or not.
+    pub fn words(&mut self, lookup: &Lookup<PortStory>, row: u32, out: &mut [u64; 73])
+        requires stub { ⊥ }
+        requires table { (self.old.writer.table ≡ lookup.now.0) × (row < lookup.now.2) }
+        requires opens { self.old.writer.view.opening ≡ Some lookup.now.1 }
+        ensures same { self.new ≡ self.old }
+        ensures words { out.new ≡ row_at self.old.writer.view.rows row }
+        ensures formed { IsFormed out.new }
+    {
+        unreachable!()
     }
 }

@@ -1,0 +1,4 @@
+pub mod Core
+pub mod Calls
+pub mod Publishing
+pub mod Reconciling

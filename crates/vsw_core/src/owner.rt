@@ -1,0 +1,198 @@
+//! The port under its lock.
+
+ghost use Rattle.std.specs.Prelude.{◌≡◌, ◌≤◌, ◌<◌, ◌+◌, ℕ, List, not, true, false, length, slice_set, IfOk, IsOk, OnOk, OnErr};
+ghost use mathlib.Core.List.{IsPrefix};
+ghost use Rattle.vsw_base.specs.Frame.{Parts};
+ghost use Rattle.vsw_base.specs.declared.packet.Control.TheVariants as control;
+ghost use Rattle.vsw_commandfile.specs.declared.line.Line.{Line};
+ghost use Rattle.vsw_core.specs.Calls.{Raises, called, grown};
+ghost use Rattle.vsw_core.specs.Core.{Begins, IsOf, layers_of};
+ghost use Rattle.vsw_core.specs.Publishing.{HasPlace, IsSettled, StandsUntil, WritesOne};
+ghost use Rattle.vsw_core.specs.Reconciling.{OthersStay, Reconciles};
+ghost use Rattle.vsw_history.specs.declared.event.Event.TheVariants as event;
+ghost use Rattle.vsw_history.specs.Calls.{Asked, Carried, controller_at, named};
+ghost use Rattle.vsw_history.specs.History.{AllRight};
+ghost use Rattle.vsw_history.specs.Next.{IsDone};
+ghost use Rattle.vsw_lookup.specs.Rules.{Meets, one_if};
+ghost use Rattle.vsw_policy.specs.Obey.{is_memory, rules_given};
+ghost use Rattle.vsw_policy.specs.Refusals.{reply_of};
+ghost use Rattle.vsw_policy.specs.Sound.{Each, IsGoodRule, is_listed};
+ghost use Rattle.vsw_lean_law.specs.Entries.{is_obeyed};
+ghost use Rattle.vsw_port.specs.Core.{AreAtMost, entered};
+ghost use Rattle.vsw_port.specs.Crossed.{EditsPass, MayBeShort, is_short};
+ghost use Rattle.vsw_story.specs.Rows.{opening_of};
+
+use crate::rooms::Rooms;
+use std::alloc::Global;
+use std::marker::Model;
+use vsw_base::{Crossing, NoMemory, Stack};
+use vsw_history::Event;
+use vsw_lookup::{Lookup, Pass, Writer};
+use vsw_policy::{Command, Policy, Refusal};
+use vsw_port::{Ledger, Outcome};
+use vsw_rows::Rows;
+use vsw_story::PortStory;
+use vsw_walk::Scratch;
+
+/// What became of a row that was compared with the layers of now.
+#[derive(Clone, Copy, Debug, PartialEq, Eq)]
+pub enum Reconciled {
+    /// It was current already.
+    Fresh,
+    /// It says what is so, and is current.
+    Kept,
+    /// It said what isn't so any more. A good row of its identity is there now, and current.
+    Changed,
+    /// It is empty, or packets of its identity would make a pair. It stays as it was.
+    Cleared,
+}
+
+/// A port under its lock. It answers packets and commands at the end of the port's history, adds what changed
+/// something, and leaves rows that answer later packets without the lock. The generation rises exactly where an
+/// entry shakes a current row.
+#[derive(Drop)]
+pub struct Core {
+    ledger: Ledger,
+    rows: Rows,
+    /// The walk of the last packet.
+    scratch: Scratch,
+    /// The walk over the layers of now, of which a row is made.
+    again: Scratch,
+    rooms: Rooms,
+    /// How many entries the passes may still make together, at most. The journal has room for them.
+    permits: u64,
+}
+
+impl Model for Core {
+    ghost use Rattle.vsw_core.specs.Core.{CoreSeen, IsOwned};
+
+    ghost Value = { CoreSeen };
+
+    ghost view = { λ c. record { writer = c.rows.writer; edited = c.scratch.stack } };
+
+    ghost invariant = { λ c. IsOwned c.ledger c.rows.writer c.permits };
+}
+
+impl Core {
+    /// A port that begins with the policy of its writer, none of whose layers has made a pair. Memory is taken so that
+    /// a packet takes some only to make a pair, whatever rows it leaves.
+    pub fn open(
+        alloc: Global,
+        policy: Policy,
+        writer: Writer<PortStory>,
+    ) -> Result<Core, NoMemory>
+        requires pairs { AreAtMost 0 policy.layers }
+        requires begins { Begins policy writer }
+        ensures writer { IfOk result (λ core. core.writer ≡ writer) }
+    {
+        Err(NoMemory)
+    }
+
+    /// The entries of the history, oldest first.
+    pub fn journal(&self) -> &[Event]
+        ensures journal { result.now ≡ self.now.writer.view.history }
+    {
+        self.ledger.journal()
+    }
+
+    /// The stack with which the last packet leaves that crossed the layers here, where it passed.
+    pub fn edited(&self) -> &Stack
+        ensures { result.now ≡ self.now.edited }
+    {
+        self.scratch.stack()
+    }
+
+    /// Takes room for `more` further entries, which the pass may make. The pass has then seen the whole history.
+    /// With 0 for `more` it takes no memory.
+    pub fn grant(
+        &mut self,
+        lookup: &Lookup<PortStory>,
+        pass: &mut Pass<PortStory>,
+        more: u32,
+    ) -> Result<(), NoMemory>
+        requires stub { ⊥ }
+        requires core { IsOf lookup.now self.old.writer }
+        requires pass { IsOf lookup.now pass.old }
+        requires few { length pass.old.view.receipts + pass.old.view.permits + more ≤ 134217728 }
+        ensures writer { OnOk result (self.new.writer ≡ record self.old.writer { view = record self.old.writer.view { kept = slice_set self.old.writer.view.kept pass.old.view.number (pass.old.view.permits + more) } }) }
+        ensures edited { self.new.edited ≡ self.old.edited }
+        ensures pass { OnOk result (pass.new ≡ record pass.old { view = record pass.old.view { front = self.old.writer.view.history; permits = pass.old.view.permits + more } }) }
+        ensures tells { OnOk result (Meets (λ p e. named p.controllers e) lookup.now.1 self.new.writer.view pass.new.view) }
+        ensures right { OnOk result (AllRight (opening_of lookup.now.1) self.new.writer.view.history) }
+        ensures seen { OnOk result (IsPrefix pass.old.view.front pass.new.view.front) }
+        ensures nothing { more ≡ 0 → IsOk result }
+        ensures refused { OnErr result ((self.new ≡ self.old) × (pass.new ≡ pass.old)) }
+    {
+        unreachable!()
+    }
+
+    /// A packet crosses the layers. It is an entry exactly where it changes them. Where it passes, `edited` tells
+    /// its headers. Memory is taken only to make a pair. A packet without a control that would now change nothing
+    /// leaves a row for those of its identity that follow, if one of the row's eight places can be had.
+    pub fn slow(
+        &mut self,
+        lookup: &Lookup<PortStory>,
+        pass: &mut Pass<PortStory>,
+        crossing: &Crossing,
+    ) -> Outcome
+        requires stub { ⊥ }
+        requires core { IsOf lookup.now self.old.writer }
+        requires pass { IsOf lookup.now pass.old }
+        requires caller { crossing.now.caller ≡ pass.old.view.number }
+        requires permit { 0 < pass.old.view.permits }
+        ensures done { (p : Parts) (bytes : List ℕ) → IsDone (opening_of lookup.now.1) self.old.writer.view.history (Carried crossing.now p result.fate bytes) result.entry }
+        ensures memory { MayBeShort (is_short result.fate) (layers_of lookup.now.1 self.old) crossing.now }
+        ensures edits { EditsPass (layers_of lookup.now.1 self.old) crossing.now self.new.edited result.kept result.fate }
+        ensures writer { self.new.writer ≡ record self.old.writer { view = grown self.old.writer.view pass.old.view (entered result.entry (event.Crossing crossing.now result.fate)) self.new.writer.view } }
+        ensures pass { pass.new ≡ record pass.old { view = called pass.old.view self.new.writer.view.history (entered result.entry (event.Crossing crossing.now result.fate)) } }
+        ensures raises { Raises (layers_of lookup.now.1 self.old) (entered result.entry (event.Crossing crossing.now result.fate)) self.old.writer self.new.writer }
+        ensures right { AllRight (opening_of lookup.now.1) self.new.writer.view.history }
+        ensures seen { IsPrefix pass.old.view.front self.old.writer.view.history }
+        ensures rows { WritesOne self.old.writer self.new.writer }
+        ensures stands { crossing.now.control ≡ control.None → IsSettled (layers_of lookup.now.1 self.new) crossing.now → HasPlace lookup.now.2 self.old.writer crossing.now.id crossing.now.moment → StandsUntil lookup.now.2 self.new.writer crossing.now.id crossing.now.moment }
+    {
+        unreachable!()
+    }
+
+    /// Does what a controller asks, or refuses it. Either is an entry, with the number of the command's line; only where
+    /// memory is wanting there is none. The generation rises exactly where it is done.
+    pub fn command(
+        &mut self,
+        lookup: &Lookup<PortStory>,
+        pass: &mut Pass<PortStory>,
+        line: u32,
+        controller: u16,
+        command: &Command,
+    ) -> Result<(), Refusal>
+        requires stub { ⊥ }
+        requires core { IsOf lookup.now self.old.writer }
+        requires pass { IsOf lookup.now pass.old }
+        requires caller { controller_at lookup.now.1.controllers controller ≡ pass.old.view.number }
+        requires permit { 0 < pass.old.view.permits }
+        requires listed { is_listed lookup.now.1.controllers controller ≡ true }
+        requires good { Each IsGoodRule (rules_given command.now) }
+        ensures done { (l : Line) → l.number ≡ line → l.controller ≡ controller → l.command ≡ command.now → IsDone (opening_of lookup.now.1) self.old.writer.view.history (Asked l (reply_of result)) (not (is_memory result)) }
+        ensures writer { self.new.writer ≡ record self.old.writer { view = grown self.old.writer.view pass.old.view (entered (not (is_memory result)) (event.Command controller line command.now (reply_of result))) self.new.writer.view } }
+        ensures pass { pass.new ≡ record pass.old { view = called pass.old.view self.new.writer.view.history (entered (not (is_memory result)) (event.Command controller line command.now (reply_of result))) } }
+        ensures raises { self.new.writer.view.generation ≡ self.old.writer.view.generation + one_if (is_obeyed (reply_of result)) }
+        ensures right { AllRight (opening_of lookup.now.1) self.new.writer.view.history }
+        ensures seen { IsPrefix pass.old.view.front self.old.writer.view.history }
+        ensures rows { (self.new.writer.view.stamps ≡ self.old.writer.view.stamps) × (self.new.writer.view.rows ≡ self.old.writer.view.rows) }
+        ensures edited { self.new.edited ≡ self.old.edited }
+    {
+        unreachable!()
+    }
+
+    /// Compares a row with the layers of now, and makes it current where that can be.
+    pub fn reconcile(&mut self, lookup: &Lookup<PortStory>, row: u32) -> Reconciled
+        requires stub { ⊥ }
+        requires core { IsOf lookup.now self.old.writer }
+        requires row { row < lookup.now.2 }
+        ensures reconciles { Reconciles (layers_of lookup.now.1 self.old) self.old.writer self.new.writer row result }
+        ensures others { OthersStay self.old.writer self.new.writer row }
+        ensures writer { self.new.writer ≡ record self.old.writer { view = record self.old.writer.view { stamps = self.new.writer.view.stamps; rows = self.new.writer.view.rows } } }
+        ensures edited { self.new.edited ≡ self.old.edited }
+    {
+        unreachable!()
+    }
+}

@@ -741,6 +741,7 @@ module _ {O E : Type 0} (who : O → E → ℕ) (good : O → List E → List �
                 permits = sym (kept_here t t.number (t.permits + k) (omega (arith, d.kept, p.1)));
                 short = (omega (arith, few), omega (arith, few, d.raised.1));
               }),
+          self.permits crosses,
         ),
       )
 

@@ -194,6 +194,10 @@ module _ {O E : Type 0} where
   abbrev pub Finds : Step E → Me E (View O E) → ℕ → Me E (View O E) → Type 0
   Finds s v n w = (w ≡ v) × (n ≡ slice_index_or (words_of v.0) s.word 0) × (length v.0.history < 4294967295)
 
+  -- the permits of the lent pass are those that the writer keeps for it
+  abbrev pub IsHeld : View O E → Type 0
+  IsHeld t = t.permits ≡ permits_of t t.number
+
   -- what the lent seat's look tells, which also grants permits
   pub record Tells (who : O → E → ℕ) (t : View O E) (o : O) : Type 0 where
     pub opens : t.opening ≡ Some o
@@ -204,7 +208,7 @@ module _ {O E : Type 0} where
     pub short : (length t.history < 4294967295) × (t.generation < 4294967295)
 
   abbrev pub Grants : (O → E → ℕ) → Step E → Me E (View O E) → ℕ → Me E (View O E) → Type 0
-  Grants who s v n w = (w ≡ (granted v.0 s.first, v.1)) × (n ≡ word_of v.0) × ((o : O) → v.0.opening ≡ Some o → Tells who w.0 o)
+  Grants who s v n w = (w ≡ (granted v.0 s.first, v.1)) × (n ≡ word_of v.0) × ((o : O) → v.0.opening ≡ Some o → Tells who w.0 o) × IsHeld v.0
 
   abbrev pub Adds : (O → E → ℕ) → Step E → Me E (View O E) → ℕ → Me E (View O E) → Type 0
   Adds who s v n w = (e : E) → s.said ≡ some e → w ≡ (advanced v.0 e (s.second / 4294967296), v.1)

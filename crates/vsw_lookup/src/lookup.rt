@@ -231,6 +231,7 @@ impl<S: Story> Writer<S> {
         ensures writer { self.new ≡ record self.old { view = record self.old.view { kept = slice_set self.old.view.kept pass.old.view.number (pass.old.view.permits + more) } } }
         ensures pass { pass.new ≡ record pass.old { view = record pass.old.view { front = self.old.view.history; permits = pass.old.view.permits + more } } }
         ensures tells { Meets S.who lookup.now.1 self.new.view pass.new.view }
+        ensures held { pass.old.view.permits ≡ permits_of self.old.view pass.old.view.number }
         ensures seen { IsPrefix pass.old.view.front pass.new.view.front }
     {
         let shared = &lookup.table.shared;

@@ -1,6 +1,6 @@
 //! The writer's steps on the history, with a pass that is lent to it.
 ghost use Rattle.std.specs.Prelude.{◌≡◌, ◌+◌, ◌++◌, ◌∷◌, ℕ, slice_set, ◌*◌, ◌<◌, ◌≤◌, [], true, false, length, Some};
-ghost use Rattle.vsw_lookup.specs.Rules.{lent, spent, granted, advanced, writer_of, pass_of, word_of, one_if, Tells, stamp_at, row_at};
+ghost use Rattle.vsw_lookup.specs.Rules.{lent, spent, granted, advanced, writer_of, pass_of, word_of, one_if, IsHeld, Tells, stamp_at, row_at};
 
 use crate::rule::{Add, Grant, Kept, Key, Leave, Lend};
 use crate::view::View;
@@ -35,6 +35,7 @@ pub(crate) fn grant<S: Story>(
     ensures seat { (writer.new.table_id ≡ writer.old.table_id) × (writer.new.me ≡ (granted writer.old.me.0 more, [])) }
     ensures word { result ≡ word_of writer.old.me.0 }
     ensures tells { Tells S.who writer.new.me.0 shared.now.key.opening.value }
+    ensures held { IsHeld writer.old.me.0 }
 {
     shared.fetch_max::<Grant<S>>(writer, 0, u64::from(more))
 }

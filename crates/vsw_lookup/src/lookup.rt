@@ -287,6 +287,7 @@ impl<S: Story> Writer<S> {
         requires place { place < 73 }
         ensures same { self.new ≡ self.old }
         ensures word { result ≡ slice_index_or (row_at self.old.view.rows row) place 0 }
+        ensures wide { length (row_at self.old.view.rows row) ≡ 73 }
     {
         word_of(
             &lookup.table.shared,

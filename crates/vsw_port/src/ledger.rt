@@ -102,7 +102,7 @@ impl Ledger {
         ensures edits { EditsPass (layers_in self.old) crossing.now scratch.now.stack result.kept result.fate }
         ensures journal { self.new.journal ≡ self.old.journal ++ entered result.entry (event.Crossing crossing.now result.fate) }
         ensures opening { self.new.opening ≡ self.old.opening }
-        ensures room { self.old.room ≤ self.new.room + 1 }
+        ensures room { self.old.room ≤ self.new.room + length (entered result.entry (event.Crossing crossing.now result.fate)) }
     {
         let outcome = settle(&mut self.policy, crossing, walked, scratch);
         enter_crossing(&mut self.journal, crossing, outcome);
@@ -118,7 +118,7 @@ impl Ledger {
         ensures done { (l : Line) → l.number ≡ line → l.controller ≡ controller → l.command ≡ command.now → IsDone self.old.opening self.old.journal (Asked l (reply_of result)) (not (is_memory result)) }
         ensures journal { self.new.journal ≡ self.old.journal ++ entered (not (is_memory result)) (event.Command controller line command.now (reply_of result)) }
         ensures opening { self.new.opening ≡ self.old.opening }
-        ensures room { self.old.room ≤ self.new.room + 1 }
+        ensures room { self.old.room ≤ self.new.room + length (entered (not (is_memory result)) (event.Command controller line command.now (reply_of result))) }
     {
         let Ok(copy) = copy_command(self.alloc, command) else {
             return Err(Refusal::Memory);

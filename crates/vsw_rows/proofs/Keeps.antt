@@ -19,7 +19,7 @@ use Rattle.vsw_lean_law.proofs.Leaves.{entry_leaves}
 use Rattle.vsw_lookup.specs.Rules.{after_entry, row_at, stamp_at}
 use Rattle.vsw_policy.specs.Layers.{PolicySeen}
 use Rattle.vsw_policy.specs.Sound.{Each}
-use Rattle.vsw_rows.specs.Rows.{HasRoom, IsCurrent, IsFresh, IsShaking, RowsSeen, Says, ShakesOne, Spares, Writing, layers_after, layers_then}
+use Rattle.vsw_rows.specs.Rows.{HasRoom, IsCurrent, IsFormed, IsFresh, IsShaking, RowsSeen, Says, ShakesOne, Spares, Writing, layers_after, layers_then}
 use Rattle.vsw_rows.proofs.Counts.{none_counted, one_counted, one_left}
 use Rattle.vsw_rows.proofs.Few.{looks_few}
 use Rattle.vsw_rows.specs.Standing.{AreStanding, Has, IsStanding, Standing, StandsIn, count, kept_of}
@@ -118,15 +118,16 @@ pub then : (p : PolicySeen) (h : List Event) (e : Event) → layers_after p (h +
 then p h e = after_more p.controllers p.layers h e
 
 -- no row is current: nothing is leant on
-pub none_stands : (ls : List LayerSeen) (v : Writing) (leant : Leant) → ((place : ℕ) → stamp_at v.view.stamps place < v.view.generation) → StandsFor [] leant.spots
+pub none_stands : (ls : List LayerSeen) (v : Writing) (leant : Leant) → ((place : ℕ) → stamp_at v.view.stamps place < v.view.generation) → ((place : ℕ) → IsFormed (row_at v.view.rows place)) → StandsFor [] leant.spots
     → length v.view.stamps * length ls ≤ leant.spare → length v.view.stamps * length ls ≤ leant.room → IsStanding ls v leant
-none_stands ls v leant low stands spare room = record {
+none_stands ls v leant low formed stands spare room = record {
   all = [];
   good = tt;
   there = tt;
   each = λ place is. absurd (omega (arith, low place, is));
   stands = stands;
   low = λ place. omega (arith, low place);
+  formed = formed;
   spare = let none = none_counted v.view.generation v.view.stamps low in rw none (omega (arith, spare));
   room = room;
 }
@@ -140,6 +141,7 @@ roomier ls v leant new s spare room same = record {
   each = s.each;
   stands = same (all_looks (kept_of s.all)) s.stands;
   low = s.low;
+  formed = s.formed;
   spare = omega (arith, s.spare, spare);
   room = omega (arith, s.room, room);
 }
@@ -153,6 +155,7 @@ same_rows ls v w leant stamps rows generation s = record {
   each = λ place is. s.each place (sym (ap (λ ns. stamp_at ns place) stamps) ∙ (is ∙ generation));
   stands = s.stands;
   low = λ place. rw (stamps, generation) (s.low place);
+  formed = λ place. rw rows (s.formed place);
   spare = rw (stamps, generation) s.spare;
   room = rw stamps s.room;
 }
@@ -174,23 +177,26 @@ stays p h e v leant right spares same s = subst (λ ls. IsStanding ls v leant) (
   each = s.each;
   stands = s.stands;
   low = s.low;
+  formed = s.formed;
   spare = rw same s.spare;
   room = rw same s.room;
 })
 
 -- an entry that raises the generation leaves no row current
-pub raises : (ls now : List LayerSeen) (v w : Writing) (leant new : Leant) → w.view.stamps ≡ v.view.stamps → w.view.generation ≡ v.view.generation + 1 → IsStanding ls v leant → StandsFor [] new.spots → leant.room ≤ new.spare → leant.room ≤ new.room
-    → (length now ≡ length ls) ⊎ (length v.view.stamps * length now ≤ leant.room) → IsStanding now w new
-raises ls now v w leant new stamps generation s none spare room many =
+pub raises : (ls now : List LayerSeen) (v w : Writing) (leant new : Leant) → w.view.stamps ≡ v.view.stamps → w.view.rows ≡ v.view.rows → w.view.generation ≡ v.view.generation + 1 → IsStanding ls v leant → StandsFor [] new.spots → leant.room ≤ new.spare → leant.room ≤ new.room
+    → (length now ≤ length ls) ⊎ (length v.view.stamps * length now ≤ leant.room) → IsStanding now w new
+raises ls now v w leant new stamps rows generation s none spare room many =
     let low : (place : ℕ) → stamp_at w.view.stamps place < w.view.generation = λ place. rw (stamps, generation) (below place) in
     let enough : length v.view.stamps * length now ≤ leant.room = fits many in
-    none_stands now w new low none (rw stamps (omega (arith, enough, spare))) (rw stamps (omega (arith, enough, room)))
+    none_stands now w new low (λ place. rw rows (s.formed place)) none (rw stamps (omega (arith, enough, spare))) (rw stamps (omega (arith, enough, room)))
   where
     below : (place : ℕ) → stamp_at v.view.stamps place < v.view.generation + 1
     below place = omega (arith, s.low place)
 
-    fits : (length now ≡ length ls) ⊎ (length v.view.stamps * length now ≤ leant.room) → length v.view.stamps * length now ≤ leant.room
-    fits (inl e) = rw e s.room
+    fits : (length now ≤ length ls) ⊎ (length v.view.stamps * length now ≤ leant.room) → length v.view.stamps * length now ≤ leant.room
+    fits (inl e) =
+        let fewer : length v.view.stamps * length now ≤ length v.view.stamps * length ls = mul-le (length v.view.stamps) (length now) (length v.view.stamps) (length ls) (omega arith) e in
+        omega (arith, fewer, s.room)
     fits (inr h) = h
 
 -- a fresh row is put where none is current
@@ -221,6 +227,7 @@ puts ls v w leant new k words qs lt even low stamps rows generation fresh s ente
   each = has;
   stands = subst (λ rs. StandsFor rs new.spots) (sym all_are) (enters (all_looks (kept_of s.all)) s.stands);
   low = at_most;
+  formed = formed;
   spare = enough;
   room = rw (stamps, long) (omega (arith, s.room, room));
 }
@@ -271,6 +278,13 @@ puts ls v w leant new k words qs lt even low stamps rows generation fresh s ente
     at_most : (place : ℕ) → stamp_at w.view.stamps place ≤ w.view.generation
     at_most place = rw (stamps, generation) (low_by place (either_is place))
 
+    formed_by : (place : ℕ) → (place ≡ k) ⊎ (place ≢ k) → IsFormed (row_at (set v.view.rows k words) place)
+    formed_by place (inl e) = subst IsFormed (sym (ap (row_at (set v.view.rows k words)) e ∙ get_or-set_same v.view.rows k words [] (omega (arith, lt, even)))) (inr (fresh.row, fresh.says))
+    formed_by place (inr ne) = subst IsFormed (sym (get_or-set_other v.view.rows k place words [] ne)) (s.formed place)
+
+    formed : (place : ℕ) → IsFormed (row_at w.view.rows place)
+    formed place = rw rows (formed_by place (either_is place))
+
     few : length qs ≤ length ls
     few = let same : length qs ≡ length (looks ls fresh.row.id) = ap length fresh.good.leans in omega (arith, same, looks_few ls fresh.row.id)
 
@@ -288,11 +302,11 @@ puts ls v w leant new k words qs lt even low stamps rows generation fresh s ente
 some_is : (p o : PolicySeen) → Some p ≡ Some o → p ≡ o
 some_is p o e = ap (λ q. elim q [ None ↦ p | Some r ↦ r ]) e
 
-pub opened : (v : Writing) (layers : ℕ) (leant : Leant) → ((place : ℕ) → stamp_at v.view.stamps place < v.view.generation) → ((o : PolicySeen) → v.view.opening ≡ Some o → length (layers_after o v.view.history) ≡ layers) → StandsFor [] leant.spots
+pub opened : (v : Writing) (layers : ℕ) (leant : Leant) → ((place : ℕ) → stamp_at v.view.stamps place < v.view.generation) → ((place : ℕ) → IsFormed (row_at v.view.rows place)) → ((o : PolicySeen) → v.view.opening ≡ Some o → length (layers_after o v.view.history) ≡ layers) → StandsFor [] leant.spots
     → length v.view.stamps * layers ≤ leant.spare → length v.view.stamps * layers ≤ leant.room → AreStanding v leant
-opened v layers leant low are none spare room o is =
+opened v layers leant low formed are none spare room o is =
     let e : length (layers_after o v.view.history) ≡ layers = are o is in
-    none_stands (layers_after o v.view.history) v leant low none (rw e spare) (rw e room)
+    none_stands (layers_after o v.view.history) v leant low formed none (rw e spare) (rw e room)
 
 pub reserved : (v : Writing) (leant new : Leant) → AreStanding v leant → leant.spare ≤ new.spare → leant.room ≤ new.room → ((qs : List Looked) → StandsFor qs leant.spots → StandsFor qs new.spots) → AreStanding v new
 reserved v leant new s spare room same o is = roomier (layers_after o v.view.history) v leant new (s o is) spare room same
@@ -304,9 +318,9 @@ same_count : (ls now : List LayerSeen) (rows room : ℕ) → HasRoom ls now fals
 same_count ls now rows room (inl e) = e
 same_count ls now rows room (inr h) = absurd (true≢false (sym h.0))
 
-room_then : (ls now : List LayerSeen) (rows room : ℕ) → HasRoom ls now true rows room → (length now ≡ length ls) ⊎ (rows * length now ≤ room)
-room_then ls now rows room (inl e) = inl e
-room_then ls now rows room (inr h) = inr h.1
+room_then : (ls now : List LayerSeen) (rows room : ℕ) → HasRoom ls now true rows room → (length now ≤ length ls) ⊎ (rows * length now ≤ room)
+room_then ls now rows room (inl e) = inl (omega (arith, e))
+room_then ls now rows room (inr h) = h.1
 
 pub spared_entry : (p : PolicySeen) (v q : Writing) (e : Event) (leant : Leant) → v.view.opening ≡ Some p → history.IsRight p.controllers (layers_after p v.view.history) e → Spares (layers_after p v.view.history) e v
     → HasRoom (layers_after p v.view.history) (layers_then p (layers_after p v.view.history) e) false (length v.view.stamps) leant.room → AreStanding v leant → AreStanding (record v { view = after_entry v.view q.view e false }) leant
@@ -325,7 +339,7 @@ raised_entry p v q e leant new opens none spare more room s o is =
     let now = layers_then p ls e in
     let many = room_then ls now (length v.view.stamps) leant.room room in
     subst (λ r. IsStanding (layers_after r (v.view.history ++ e ∷ [])) w new) (some_is p o (sym opens ∙ is))
-    (subst (λ ms. IsStanding ms w new) (sym (then p v.view.history e)) (raises ls now v w leant new refl refl (s p opens) none spare more many))
+    (subst (λ ms. IsStanding ms w new) (sym (then p v.view.history e)) (raises ls now v w leant new refl refl refl (s p opens) none spare more many))
 
 -- a row is good at a history: what the writer's call asks
 pub good_there : (p : PolicySeen) (v : Writing) (e : Event) (leant : Leant) → v.view.opening ≡ Some p → history.IsRight p.controllers (layers_after p v.view.history) e → Spares (layers_after p v.view.history) e v

@@ -1,3 +1,4 @@
 pub mod Few
 pub mod Counts
 pub mod Keeps
+pub mod Searched

@@ -101,7 +101,7 @@ pub record IsFresh (ls : List LayerSeen) (words : List ℕ) (qs : List Looked) :
   pub says : Says words row
   pub good : IsGoodLeaning ls (record { row = row; looks = qs })
 
--- there is room for the looks of all rows after an entry: the layers are as many as before, or no row is current any more and there is room
--- for one look of each in each layer
+-- there is room for the looks of all rows after an entry: the layers are as many as before, or no row is current any more, and they are no more than
+-- before, or there is room for one look of each row in each of them
 abbrev pub HasRoom : List LayerSeen → List LayerSeen → Bool → ℕ → ℕ → Type 0
-HasRoom ls now raised rows room = (length now ≡ length ls) ⊎ ((raised ≡ true) × (rows * length now ≤ room))
+HasRoom ls now raised rows room = (length now ≡ length ls) ⊎ ((raised ≡ true) × ((length now ≤ length ls) ⊎ (rows * length now ≤ room)))

@@ -1,4 +1,4 @@
--- What the rows of a port keep: each current row is good and leans on what is known to be leant on.
+-- What the rows of a port keep: each row is empty or says a row, and each current one is good and leans on what is known to be leant on.
 use Rattle.std.specs.Prelude.{◌≡◌, ◌⊎◌, ◌≤◌, ◌+◌, ◌*◌, ◌==◌, ℕ, suc, List, [], ◌∷◌, length, Some, if◌then◌else◌}
 use Rattle.vsw_layer.specs.Layer.{LayerSeen}
 use Rattle.vsw_lean.specs.Good.{IsGoodLeaning, LeaningRow, all_looks}
@@ -6,7 +6,7 @@ use Rattle.vsw_lean.specs.Leant.{Leant, StandsFor}
 use Rattle.vsw_lookup.specs.Rules.{row_at, stamp_at}
 use Rattle.vsw_policy.specs.Layers.{PolicySeen}
 use Rattle.vsw_policy.specs.Sound.{Each}
-use Rattle.vsw_rows.specs.Rows.{IsCurrent, Says, Writing, layers_after}
+use Rattle.vsw_rows.specs.Rows.{IsCurrent, IsFormed, Says, Writing, layers_after}
 
 -- a row that stands at a place, and leans on these looks
 pub record Standing : Type 0 where
@@ -36,6 +36,7 @@ pub record IsStanding (ls : List LayerSeen) (v : Writing) (leant : Leant) : Type
   pub each : (place : ℕ) → IsCurrent v place → Has place all
   pub stands : StandsFor (all_looks (kept_of all)) leant.spots
   pub low : (place : ℕ) → stamp_at v.view.stamps place ≤ v.view.generation
+  pub formed : (place : ℕ) → IsFormed (row_at v.view.rows place)
   pub spare : length v.view.stamps * length ls ≤ leant.spare + count v.view.generation v.view.stamps * length ls
   pub room : length v.view.stamps * length ls ≤ leant.room
 

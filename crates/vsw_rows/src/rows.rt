@@ -5,12 +5,13 @@ ghost use mathlib.Core.List.{IsPrefix};
 ghost use Rattle.vsw_history.specs.Calls.{named};
 ghost use Rattle.vsw_history.specs.History.{IsRight};
 ghost use Rattle.vsw_layer.specs.Layer.{seen};
-ghost use Rattle.vsw_lookup.specs.Rules.{Meets, after_entry, passed, row_at, stamp_at};
+ghost use Rattle.vsw_lookup.specs.Rules.{Meets, after_entry, passed, permits_of, row_at, stamp_at};
 ghost use Rattle.vsw_policy.specs.Layers.{PolicySeen};
 ghost use Rattle.vsw_rows.specs.Rows.{HasRoom, IsFormed, IsFound, IsFresh, IsShaking, Spares, layers_after, layers_then};
 ghost use Rattle.vsw_rows.specs.declared.rows.Found.TheVariants.{Own};
 ghost use Rattle.vsw_story.specs.Rows.{IsGoodRow, opening_of};
 
+use crate::places::{read_words, search};
 use std::alloc::Global;
 use std::marker::Model;
 use vsw_base::NoMemory;
@@ -67,6 +68,7 @@ impl Rows {
     /// Rows of which none is current yet, with room for one look of each in each of so many layers.
     pub fn open(alloc: Global, writer: Writer<PortStory>, layers: usize) -> Result<Rows, NoMemory>
         requires old { (place : ℕ) → stamp_at writer.view.stamps place < writer.view.generation }
+        requires formed { (place : ℕ) → IsFormed (row_at writer.view.rows place) }
         requires layers { (o : PolicySeen) → writer.view.opening ≡ Some o → length (layers_after o writer.view.history) ≡ layers }
         requires few { layers ≤ 128 }
         ensures writer { IfOk result (λ rows. rows.writer ≡ writer) }
@@ -97,6 +99,7 @@ impl Rows {
         ensures leant { self.new.leant ≡ self.old.leant }
         ensures pass { pass.new ≡ record pass.old { view = record pass.old.view { front = self.old.writer.view.history; permits = pass.old.view.permits + more } } }
         ensures tells { Meets (λ p e. named p.controllers e) lookup.now.1 self.new.writer.view pass.new.view }
+        ensures held { pass.old.view.permits ≡ permits_of self.old.writer.view pass.old.view.number }
         ensures seen { IsPrefix pass.old.view.front pass.new.view.front }
     {
         self.writer.meet(lookup, pass, more);
@@ -153,35 +156,32 @@ impl Rows {
 
     /// Whether the row is current.
     pub fn is_current(&mut self, lookup: &Lookup<PortStory>, row: u32) -> bool
-        requires stub { ⊥ }
         requires table { (self.old.writer.table ≡ lookup.now.0) × (row < lookup.now.2) }
         ensures same { self.new ≡ self.old }
         ensures current { result ≡ (stamp_at self.old.writer.view.stamps row == self.old.writer.view.generation) }
     {
-        unreachable!()
+        self.writer.is_current(lookup, row)
     }
 
     /// Looks at the eight places at which a row with these key words may stand.
     pub fn find(&mut self, lookup: &Lookup<PortStory>, key: &[u64; 16]) -> Found
-        requires stub { ⊥ }
         requires table { self.old.writer.table ≡ lookup.now.0 }
         requires opens { self.old.writer.view.opening ≡ Some lookup.now.1 }
         ensures same { self.new ≡ self.old }
         ensures found { IsFound lookup.now.2 key.now self.old.writer result }
         ensures good { (place : ℕ) → result ≡ Own place → IsGoodRow (opening_of lookup.now.1) self.old.writer.view.history (row_at self.old.writer.view.rows place) }
     {
-        unreachable!()
+        search(&mut self.writer, lookup, key)
     }
 
     /// The words of a row, current or not.
     pub fn words(&mut self, lookup: &Lookup<PortStory>, row: u32, out: &mut [u64; 73])
-        requires stub { ⊥ }
         requires table { (self.old.writer.table ≡ lookup.now.0) × (row < lookup.now.2) }
         requires opens { self.old.writer.view.opening ≡ Some lookup.now.1 }
         ensures same { self.new ≡ self.old }
         ensures words { out.new ≡ row_at self.old.writer.view.rows row }
         ensures formed { IsFormed out.new }
     {
-        unreachable!()
+        read_words(&mut self.writer, lookup, row, out);
     }
 }

@@ -187,6 +187,14 @@ impl<S: Story> Lookup<S> {
 }
 
 impl<S: Story> Pass<S> {
+    /// The entries and permits of a pass are few together, so it can always `meet` without further permits.
+    pub fn bound(&self)
+        ensures few { length self.now.view.receipts + self.now.view.permits ≤ 134217728 }
+    {
+        // It tells the proof what a pass keeps.
+        let _ = &self.seat;
+    }
+
     /// What the pass has seen, to be handed to another.
     pub fn note(&mut self, lookup: &Lookup<S>) -> Note<S>
         requires { self.old.table ≡ lookup.now.0 }

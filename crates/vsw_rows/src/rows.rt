@@ -146,6 +146,7 @@ impl Rows {
         requires opens { self.old.writer.view.opening ≡ Some lookup.now.1 }
         requires fresh { IsFresh (layers_after lookup.now.1 self.old.writer.view.history) words.now looks.now }
         ensures writer { self.new.writer ≡ record self.old.writer { view = record self.old.writer.view { rows = slice_set self.old.writer.view.rows row words.now; stamps = slice_set self.old.writer.view.stamps row self.old.writer.view.generation } } }
+        ensures there { (row < length self.old.writer.view.stamps) × (row < length self.old.writer.view.rows) }
         ensures room { self.old.leant.room ≤ self.new.leant.room }
     {
         // It tells the proof that the row is one of the stamps that are counted.

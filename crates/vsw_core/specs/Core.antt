@@ -50,5 +50,5 @@ pub record Begins (p : PolicySeen) (v : Writing) : Type 0 where
 pub record IsOwned (c : LedgerSeen) (v : Writing) (permits : ℕ) : Type 0 where
   pub opening : (p : PolicySeen) → v.view.opening ≡ Some p → c.opening ≡ opening_of p
   pub journal : c.journal ≡ v.view.history
-  pub permits : total v.view.kept ≤ permits
+  pub granted : total v.view.kept ≤ permits
   pub room : permits ≤ c.room

@@ -1,4 +1,5 @@
 pub mod Core
 pub mod Calls
+pub mod Adding
 pub mod Publishing
 pub mod Reconciling

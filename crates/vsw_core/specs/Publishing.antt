@@ -22,14 +22,14 @@ pub record Stands (rows : ℕ) (v : Writing) (id : Ufid) (place : ℕ) (row : Ro
   pub probed : IsPlaceOf rows id place
   pub current : IsCurrent v place
   pub says : Says (row_at v.view.rows place) row
-  pub id : row.id ≡ id
+  pub same : row.id ≡ id
 
 -- one stands that may answer at this moment
 pub record StandsUntil (rows : ℕ) (v : Writing) (id : Ufid) (moment : ℕ) : Type 0 where
   pub place : ℕ
   pub row : Row
   pub stands : Stands rows v id place row
-  pub moment : moment ≤ row.until
+  pub lasts : moment ≤ row.until
 
 -- there is a place for a row: one of the eight isn't current, or has the identity's own row, which is late
 pub data HasPlace (rows : ℕ) (v : Writing) (id : Ufid) (moment : ℕ) : Type 0 where

@@ -1,6 +1,8 @@
 //! A port under its lock: its layers and history, and its rows under their writer.
 #![tactic(auto)]
 
+mod commanding;
+mod granting;
 mod owner;
 mod rooms;
 

@@ -22,6 +22,8 @@ ghost use Rattle.vsw_port.specs.Core.{AreAtMost, entered};
 ghost use Rattle.vsw_port.specs.Crossed.{EditsPass, MayBeShort, is_short};
 ghost use Rattle.vsw_story.specs.Rows.{opening_of};
 
+use crate::commanding;
+use crate::granting;
 use crate::rooms::Rooms;
 use std::alloc::Global;
 use std::marker::Model;
@@ -85,7 +87,17 @@ impl Core {
         requires begins { Begins policy writer }
         ensures writer { IfOk result (λ core. core.writer ≡ writer) }
     {
-        Err(NoMemory)
+        let scratch = Scratch::new(alloc)?;
+        let again = Scratch::new(alloc)?;
+        let rows = Rows::open(alloc, writer, policy.layers().len())?;
+        Ok(Core {
+            ledger: Ledger::open(alloc, policy),
+            rows,
+            scratch,
+            again,
+            rooms: Rooms::new(),
+            permits: 0,
+        })
     }
 
     /// The entries of the history, oldest first.
@@ -110,7 +122,6 @@ impl Core {
         pass: &mut Pass<PortStory>,
         more: u32,
     ) -> Result<(), NoMemory>
-        requires stub { ⊥ }
         requires core { IsOf lookup.now self.old.writer }
         requires pass { IsOf lookup.now pass.old }
         requires few { length pass.old.view.receipts + pass.old.view.permits + more ≤ 134217728 }
@@ -123,7 +134,14 @@ impl Core {
         ensures nothing { more ≡ 0 → IsOk result }
         ensures refused { OnErr result ((self.new ≡ self.old) × (pass.new ≡ pass.old)) }
     {
-        unreachable!()
+        granting::grant(
+            &mut self.ledger,
+            &mut self.rows,
+            &mut self.permits,
+            lookup,
+            pass,
+            more,
+        )
     }
 
     /// A packet crosses the layers. It is an entry exactly where it changes them. Where it passes, `edited` tells
@@ -164,7 +182,6 @@ impl Core {
         controller: u16,
         command: &Command,
     ) -> Result<(), Refusal>
-        requires stub { ⊥ }
         requires core { IsOf lookup.now self.old.writer }
         requires pass { IsOf lookup.now pass.old }
         requires caller { controller_at lookup.now.1.controllers controller ≡ pass.old.view.number }
@@ -180,7 +197,16 @@ impl Core {
         ensures rows { (self.new.writer.view.stamps ≡ self.old.writer.view.stamps) × (self.new.writer.view.rows ≡ self.old.writer.view.rows) }
         ensures edited { self.new.edited ≡ self.old.edited }
     {
-        unreachable!()
+        commanding::command(
+            &mut self.ledger,
+            &mut self.rows,
+            &mut self.permits,
+            lookup,
+            pass,
+            line,
+            controller,
+            command,
+        )
     }
 
     /// Compares a row with the layers of now, and makes it current where that can be.

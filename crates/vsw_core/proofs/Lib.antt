@@ -1,2 +1,5 @@
 pub mod Permits
 pub mod Commands
+pub mod Walked
+pub mod Entered
+pub mod Published

@@ -3,3 +3,5 @@ pub mod Calls
 pub mod Adding
 pub mod Publishing
 pub mod Reconciling
+pub mod Walks
+pub mod Private

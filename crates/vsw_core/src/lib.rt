@@ -2,8 +2,10 @@
 #![tactic(auto)]
 
 mod commanding;
+mod crossing;
 mod granting;
 mod owner;
 mod rooms;
+mod writing;
 
 pub use owner::{Core, Reconciled};

@@ -23,6 +23,7 @@ ghost use Rattle.vsw_port.specs.Crossed.{EditsPass, MayBeShort, is_short};
 ghost use Rattle.vsw_story.specs.Rows.{opening_of};
 
 use crate::commanding;
+use crate::crossing::cross;
 use crate::granting;
 use crate::rooms::Rooms;
 use std::alloc::Global;
@@ -153,7 +154,6 @@ impl Core {
         pass: &mut Pass<PortStory>,
         crossing: &Crossing,
     ) -> Outcome
-        requires stub { ⊥ }
         requires core { IsOf lookup.now self.old.writer }
         requires pass { IsOf lookup.now pass.old }
         requires caller { crossing.now.caller ≡ pass.old.view.number }
@@ -169,7 +169,17 @@ impl Core {
         ensures rows { WritesOne self.old.writer self.new.writer }
         ensures stands { crossing.now.control ≡ control.None → IsSettled (layers_of lookup.now.1 self.new) crossing.now → HasPlace lookup.now.2 self.old.writer crossing.now.id crossing.now.moment → StandsUntil lookup.now.2 self.new.writer crossing.now.id crossing.now.moment }
     {
-        unreachable!()
+        cross(
+            lookup,
+            pass,
+            crossing,
+            &mut self.permits,
+            &mut self.ledger,
+            &mut self.rows,
+            &mut self.scratch,
+            &mut self.again,
+            &mut self.rooms,
+        )
     }
 
     /// Does what a controller asks, or refuses it. Either is an entry, with the number of the command's line; only where

@@ -1,0 +1,13 @@
+//! Tests of a port's core over rows: which rows stand after packets and commands, as those see them who read without the lock.
+#![tactic(auto)]
+
+#[cfg(test)]
+mod desk;
+#[cfg(test)]
+mod given;
+#[cfg(test)]
+mod packets;
+#[cfg(test)]
+mod policies;
+#[cfg(test)]
+mod row_tests;

@@ -160,6 +160,7 @@ impl Rows {
         requires table { (self.old.writer.table ≡ lookup.now.0) × (row < lookup.now.2) }
         ensures same { self.new ≡ self.old }
         ensures current { result ≡ (stamp_at self.old.writer.view.stamps row == self.old.writer.view.generation) }
+        ensures low { self.old.writer.view.opening ≡ Some lookup.now.1 → stamp_at self.old.writer.view.stamps row ≤ self.old.writer.view.generation }
     {
         self.writer.is_current(lookup, row)
     }

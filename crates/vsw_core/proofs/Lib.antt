@@ -3,3 +3,4 @@ pub mod Commands
 pub mod Walked
 pub mod Entered
 pub mod Published
+pub mod Compared

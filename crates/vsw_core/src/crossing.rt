@@ -129,7 +129,7 @@ fn enter(
 }
 
 /// Whether the packet of the walk would change something.
-fn wants_change(walked: &Walked, scratch: &Scratch) -> bool
+pub fn wants_change(walked: &Walked, scratch: &Scratch) -> bool
     ensures { result ≡ wants_change walked.now.verdict scratch.now.changes }
 {
     match walked.verdict {

@@ -5,6 +5,7 @@ mod commanding;
 mod crossing;
 mod granting;
 mod owner;
+mod reconciling;
 mod rooms;
 mod writing;
 

@@ -1,0 +1,209 @@
+//! A row that isn't current, compared with what the layers of now make of its packets.
+
+ghost use Rattle.std.specs.Prelude.{◌≡◌, ◌<◌, ◌+◌, ◌∷◌, length, false, true, drop, take, slice_set};
+ghost use Rattle.vsw_base.specs.declared.fate.Verdict.TheVariants.{Pass};
+ghost use Rattle.vsw_core.specs.Core.{IsOf};
+ghost use Rattle.vsw_core.specs.Private.Comparing.{IsCompared, IsRead, IsSame, row_by};
+ghost use Rattle.vsw_core.specs.Reconciling.{IsOld, OthersStay, Reconciles};
+ghost use Rattle.vsw_core.specs.Walks.{IsWholeWalk};
+ghost use Rattle.vsw_layer.specs.Layer.{LayerSeen};
+ghost use Rattle.vsw_lean.specs.Good.{Row};
+ghost use Rattle.vsw_lean.specs.Way.{plain};
+ghost use Rattle.vsw_lookup.specs.Rules.{row_at};
+ghost use Rattle.vsw_port.specs.Ledger.{layers_in};
+ghost use Rattle.vsw_rows.specs.Rows.{IsEmpty, IsFormed, IsFresh, Says, layers_after};
+ghost use Rattle.vsw_transpose.specs.Apply.{apply};
+ghost use Rattle.vsw_transpose.specs.Fits as fit;
+ghost use Rattle.vsw_words.specs.Law.{IsId};
+ghost use Rattle.vsw_words.specs.Key as key;
+
+use crate::crossing::{walk_now, wants_change};
+use crate::owner::Reconciled;
+use crate::rooms::{Former, Rooms};
+use crate::writing::write_row;
+use vsw_base::{Control, Crossing, Moment, Sizes, Stack, Verdict};
+use vsw_identity::identity_to;
+use vsw_lookup::Lookup;
+use vsw_port::Ledger;
+use vsw_rows::Rows;
+use vsw_story::PortStory;
+use vsw_transpose::Transposition;
+use vsw_walk::{Scratch, Walked};
+use vsw_words::{Body, body_to, row_of};
+
+/// Compares a row with the layers of now, and makes it current where that can be.
+pub fn reconcile(
+    lookup: &Lookup<PortStory>,
+    ledger: &Ledger,
+    rows: &mut Rows,
+    row: u32,
+    again: &mut Scratch,
+    former: &mut Former,
+    rooms: &mut Rooms,
+) -> Reconciled
+    requires core { IsOf lookup.now rows.old.writer }
+    requires row { row < lookup.now.2 }
+    requires layers { layers_in ledger.now ≡ layers_after lookup.now.1 rows.old.writer.view.history }
+    ensures reconciles { Reconciles (layers_after lookup.now.1 rows.old.writer.view.history) rows.old.writer rows.new.writer row result }
+    ensures others { OthersStay rows.old.writer rows.new.writer row }
+    ensures writer { rows.new.writer ≡ record rows.old.writer { view = record rows.old.writer.view { stamps = rows.new.writer.view.stamps; rows = rows.new.writer.view.rows } } }
+{
+    if rows.is_current(lookup, row) {
+        return Reconciled::Fresh;
+    }
+    if !read_row(lookup, rows, row, &mut rooms.words, former) {
+        return Reconciled::Cleared;
+    }
+    renew(lookup, ledger, rows, row, again, former, rooms)
+}
+
+/// The same of a row that isn't current and was read.
+fn renew(
+    lookup: &Lookup<PortStory>,
+    ledger: &Ledger,
+    rows: &mut Rows,
+    row: u32,
+    again: &mut Scratch,
+    former: &mut Former,
+    rooms: &mut Rooms,
+) -> Reconciled
+    requires core { IsOf lookup.now rows.old.writer }
+    requires row { row < lookup.now.2 }
+    requires layers { layers_in ledger.now ≡ layers_after lookup.now.1 rows.old.writer.view.history }
+    requires old { IsOld rows.old.writer row }
+    requires read { IsRead (row_at rows.old.writer.view.rows row) former.old.crossing former.old.body }
+    ensures reconciles { Reconciles (layers_after lookup.now.1 rows.old.writer.view.history) rows.old.writer rows.new.writer row result }
+    ensures others { OthersStay rows.old.writer rows.new.writer row }
+    ensures writer { rows.new.writer ≡ record rows.old.writer { view = record rows.old.writer.view { stamps = rows.new.writer.view.stamps; rows = rows.new.writer.view.rows } } }
+{
+    let walked = walk_now(ledger, &former.crossing, again);
+    // At moment 0 no last use is renewed, so what a packet wants changed is a pair that is made.
+    if wants_change(&walked, again) {
+        return Reconciled::Cleared;
+    }
+    if is_same(&former.crossing, &former.body, &walked, again, &mut former.stack) {
+        keep(lookup, rows, row, former, &walked, again, &mut rooms.words);
+        return Reconciled::Kept;
+    }
+    write_row(lookup, rows, row, &former.crossing, &walked, again, rooms);
+    Reconciled::Changed
+}
+
+/// Whether the row isn't empty. What it says of which packets is then read.
+fn read_row(
+    lookup: &Lookup<PortStory>,
+    rows: &mut Rows,
+    row: u32,
+    words: &mut [u64; 73],
+    out: &mut Former,
+) -> bool
+    requires core { IsOf lookup.now rows.old.writer }
+    requires row { row < lookup.now.2 }
+    ensures same { rows.new ≡ rows.old }
+    ensures empty { result ≡ false → IsEmpty (row_at rows.old.writer.view.rows row) }
+    ensures read { result ≡ true → IsRead (row_at rows.old.writer.view.rows row) out.new.crossing out.new.body }
+{
+    rows.words(lookup, row, words);
+    if words[0] == 0 {
+        return false;
+    }
+    // Words that aren't empty say a row, so neither is refused.
+    read_packet(words, &mut out.crossing);
+    read_body(words, &mut out.body);
+    true
+}
+
+/// The packet of a row's identity of which nothing else shows.
+fn read_packet(words: &[u64; 73], out: &mut Crossing)
+    ensures { (r : Row) → Says words.now r → out.new ≡ plain r.id }
+{
+    out.caller = 0;
+    out.packet = 0;
+    out.control = Control::None;
+    out.moment = Moment::of(0);
+    out.sizes = Sizes {
+        whole: 0,
+        one: 0,
+        two: 0,
+    };
+    if let Some(key) = words.first_chunk::<16>() {
+        let _ = identity_to(key, &mut out.id);
+    }
+}
+
+/// What a row says of these packets.
+fn read_body(words: &[u64; 73], out: &mut Body)
+    ensures { (r : Row) → Says words.now r → (out.new.verdict ≡ r.verdict) × (out.new.by ≡ r.acts) × (out.new.until ≡ r.until) }
+{
+    if let Some(body) = words.last_chunk::<57>() {
+        let _ = body_to(body, out);
+    }
+}
+
+/// Whether the row still says what the walk of its packets came to.
+fn is_same(
+    crossing: &Crossing,
+    body: &Body,
+    walked: &Walked,
+    again: &Scratch,
+    room: &mut Stack,
+) -> bool
+    ensures told { result ≡ true → IsSame crossing.now.id.stack body.now walked.now again.now }
+    ensures back { IsSame crossing.now.id.stack body.now walked.now again.now → result ≡ true }
+{
+    if body.verdict != walked.verdict {
+        return false;
+    }
+    match body.verdict {
+        Verdict::Pass => makes_same(&body.by, &crossing.id.stack, walked.kept, again.stack(), room),
+        Verdict::Rule { .. } => true,
+        Verdict::Default { .. } => true,
+    }
+}
+
+/// Whether the acts make this stack of the first one, and keep so many of its encapsulations.
+fn makes_same(
+    by: &Transposition,
+    first: &Stack,
+    kept: u8,
+    last: &Stack,
+    room: &mut Stack,
+) -> bool
+    ensures told { result ≡ true → (fit.fits by.now first.now ≡ true) × (apply by.now first.now ≡ last.now) × (fit.kept by.now ≡ kept) }
+    ensures back { fit.fits by.now first.now ≡ true → apply by.now first.now ≡ last.now → fit.kept by.now ≡ kept → result ≡ true }
+{
+    if !by.fits(first) {
+        return false;
+    }
+    by.apply_to(first, room);
+    room.is_same(last) && by.kept() == kept
+}
+
+/// Makes a row current that says what is so, until when that holds now.
+fn keep(
+    lookup: &Lookup<PortStory>,
+    rows: &mut Rows,
+    row: u32,
+    former: &Former,
+    walked: &Walked,
+    again: &Scratch,
+    words: &mut [u64; 73],
+)
+    requires core { IsOf lookup.now rows.old.writer }
+    requires row { row < lookup.now.2 }
+    requires old { IsOld rows.old.writer row }
+    requires compared { IsCompared (layers_after lookup.now.1 rows.old.writer.view.history) (row_at rows.old.writer.view.rows row) former.now.crossing former.now.body walked.now again.now }
+    requires same { IsSame former.now.crossing.id.stack former.now.body walked.now again.now }
+    ensures writer { rows.new.writer ≡ record rows.old.writer { view = record rows.old.writer.view { rows = slice_set rows.old.writer.view.rows row words.new; stamps = slice_set rows.old.writer.view.stamps row rows.old.writer.view.generation } } }
+    ensures there { (row < length rows.old.writer.view.stamps) × (row < length rows.old.writer.view.rows) }
+    ensures says { Says words.new (record (row_by former.now.crossing former.now.body) { until = walked.now.until }) }
+{
+    row_of(
+        &former.crossing.id,
+        &former.body.verdict,
+        &former.body.by,
+        walked.until,
+        words,
+    );
+    rows.put(lookup, row, words, again.looked());
+}

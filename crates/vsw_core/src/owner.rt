@@ -25,7 +25,8 @@ ghost use Rattle.vsw_story.specs.Rows.{opening_of};
 use crate::commanding;
 use crate::crossing::cross;
 use crate::granting;
-use crate::rooms::Rooms;
+use crate::reconciling;
+use crate::rooms::{Former, Rooms};
 use std::alloc::Global;
 use std::marker::Model;
 use vsw_base::{Crossing, NoMemory, Stack};
@@ -62,6 +63,8 @@ pub struct Core {
     /// The walk over the layers of now, of which a row is made.
     again: Scratch,
     rooms: Rooms,
+    /// The row that was reconciled last.
+    former: Former,
     /// How many entries the passes may still make together, at most. The journal has room for them.
     permits: u64,
 }
@@ -97,6 +100,7 @@ impl Core {
             scratch,
             again,
             rooms: Rooms::new(),
+            former: Former::room(),
             permits: 0,
         })
     }
@@ -221,7 +225,6 @@ impl Core {
 
     /// Compares a row with the layers of now, and makes it current where that can be.
     pub fn reconcile(&mut self, lookup: &Lookup<PortStory>, row: u32) -> Reconciled
-        requires stub { ⊥ }
         requires core { IsOf lookup.now self.old.writer }
         requires row { row < lookup.now.2 }
         ensures reconciles { Reconciles (layers_of lookup.now.1 self.old) self.old.writer self.new.writer row result }
@@ -229,6 +232,14 @@ impl Core {
         ensures writer { self.new.writer ≡ record self.old.writer { view = record self.old.writer.view { stamps = self.new.writer.view.stamps; rows = self.new.writer.view.rows } } }
         ensures edited { self.new.edited ≡ self.old.edited }
     {
-        unreachable!()
+        reconciling::reconcile(
+            lookup,
+            &self.ledger,
+            &mut self.rows,
+            row,
+            &mut self.again,
+            &mut self.former,
+            &mut self.rooms,
+        )
     }
 }

@@ -1,5 +1,6 @@
 -- A packet's entry follows the history.
 use Rattle.std.proofs.Common.{◌≡◌, ◌≢◌, ◌≤◌, ◌<◌, ◌+◌, ◌-◌, ◌==◌, not, ℕ, zero, suc, Bool, true, false, true≢false, List, [], ◌∷◌, ◌++◌, length, set, slice_set, length-set, get_or, get_or-set_same, append-nil, length-append, inl, refl, sym, ap, subst, ◌∙◌, arith, Option, Some, None}
+use Rattle.std.proofs.lemmas.List.{set-set}
 use mathlib.Core.List.{IsPrefix}
 use Rattle.vsw_admit.specs.declared.stop.Stop.{Stop}
 use Rattle.vsw_base.specs.declared.fate.Fate.{Fate}
@@ -9,7 +10,6 @@ use Rattle.vsw_base.specs.declared.flow.Crossing.{Crossing}
 use Rattle.vsw_commit.specs.Cross.{all_done, cross_of, made_after, made_by}
 use Rattle.vsw_admit.specs.Admit.{stop_of}
 use Rattle.vsw_core.specs.Calls.{OneShakes, Raises, ShakesCurrent, called, grown}
-use Rattle.vsw_core.specs.Core.{IsOwned, total}
 use Rattle.vsw_core.specs.Private.Steps.{Steps, advanced, passing}
 use Rattle.vsw_history.specs.declared.event.Event.{Event}
 use Rattle.vsw_history.specs.declared.event.Event.TheVariants as event
@@ -20,7 +20,7 @@ use Rattle.vsw_lean.specs.Shaken.{shake}
 use Rattle.vsw_lean.specs.Way.{looks}
 use Rattle.vsw_lean.proofs.Stays.{length_all}
 use Rattle.vsw_lean_law.specs.Entries.{entry_shakes}
-use Rattle.vsw_lookup.specs.Rules.{after_entry, one_if, passed, permits_of, row_at}
+use Rattle.vsw_lookup.specs.Rules.{after_entry, one_if, passed, row_at}
 use Rattle.vsw_policy.specs.Layers.{PolicySeen}
 use Rattle.vsw_port.specs.Core.{entered}
 use Rattle.vsw_port.specs.Crossed.{Crossed, crossed, is_short}
@@ -91,12 +91,6 @@ zero_more n = omega arith
 one_spent : (n : ℕ) → n + 0 - 1 ≡ n - 1
 one_spent n = omega arith
 
--- what is set twice has what was set last
-pub set_twice : (ks : List ℕ) (n a b : ℕ) → set (set ks n a) n b ≡ set ks n b
-set_twice [] n a b = refl
-set_twice (k ∷ ks) zero a b = refl
-set_twice (k ∷ ks) (suc n) a b = ap (λ ms. k ∷ ms) (set_twice ks n a b)
-
 still : (ls : List LayerSeen) (v s : Writing) → IsPrefix s.view.front v.view.history → Steps ls [] v (meeting v s) s (met v s)
 still ls v s seen = record {
   writer = λ i. record v { view = record v.view { history = sym (append-nil v.view.history) i; kept = slice_set v.view.kept s.view.number (zero_more s.view.permits i) } };
@@ -122,7 +116,7 @@ one ls e v s raise seen told back = record {
 }
   where
     kept : slice_set (slice_set v.view.kept s.view.number (s.view.permits + 0)) s.view.number (s.view.permits + 0 - 1) ≡ slice_set v.view.kept s.view.number (s.view.permits - 1)
-    kept = set_twice v.view.kept s.view.number (s.view.permits + 0) (s.view.permits + 0 - 1) ∙ ap (λ k. slice_set v.view.kept s.view.number k) (one_spent s.view.permits)
+    kept = set-set v.view.kept s.view.number (s.view.permits + 0) (s.view.permits + 0 - 1) ∙ ap (λ k. slice_set v.view.kept s.view.number k) (one_spent s.view.permits)
 
 -- a test of the changes tells whether the entry shakes a current row
 shaking_told : (ls : List LayerSeen) (x : Crossing) (fate : Fate) (ws : List Wanted) (v s : Writing) (test : Bool) → made_by ls x ≡ ws → IsShaking ls ws (meeting v s) test → test ≡ true → ShakesCurrent ls (event.Crossing x fate) v
@@ -158,91 +152,32 @@ steps p x fate entry test ws v m w s t u c =
 
 -- ---- permits
 
--- where a pass has a permit, the writer keeps it at its number
-kept_there : (ks : List ℕ) (n : ℕ) → 0 < get_or ks n 0 → n < length ks
-kept_there [] n h = absurd (omega (arith, h))
-kept_there (k ∷ ks) zero h = omega arith
-kept_there (k ∷ ks) (suc n) h = let ih = kept_there ks n h in omega (arith, ih)
+-- an entry takes one permit, a read none
+pub few_entries : (entry : Bool) (e : Event) (n : ℕ) → 0 < n → length (entered entry e) ≤ n
+few_entries true e n some = some
+few_entries false e n some = omega arith
 
-total_set : (ks : List ℕ) (n r : ℕ) → n < length ks → total (set ks n r) + get_or ks n 0 ≡ total ks + r
-total_set [] n r h = absurd (omega (arith, h))
-total_set (k ∷ ks) zero r h = omega arith
-total_set (k ∷ ks) (suc n) r h = let ih = total_set ks n r (omega (arith, h)) in omega (arith, ih)
-
--- there is a permit to be spent
-pub one_permit : (ks : List ℕ) (n : ℕ) → 0 < get_or ks n 0 → 1 ≤ total ks
-one_permit [] n h = absurd (omega (arith, h))
-one_permit (k ∷ ks) zero h = let g : 0 < k = h in omega (arith, g)
-one_permit (k ∷ ks) (suc n) h = let ih = one_permit ks n h in omega (arith, ih)
-
-entries_one : (entry : Bool) (e : Event) → length (entered entry e) ≡ one_if entry
-entries_one true e = refl
-entries_one false e = refl
-
-one_or_none : (b : Bool) → one_if b ≤ 1
-one_or_none true = omega arith
-one_or_none false = omega arith
-
-total_spent : (ks : List ℕ) (n q spent : ℕ) → q ≡ get_or ks n 0 → 0 < q → spent ≤ 1 → total (set ks n (q - spent)) + spent ≡ total ks
-total_spent ks n q spent is some few =
-    let there = kept_there ks n (omega (arith, is, some)) in
-    let sum = total_set ks n (q - spent) there in
-    omega (arith, sum, is, some, few)
-
--- where the pass of a port has a permit, there is room for its entry
-pub permit_room : (l : LedgerSeen) (v s : Writing) (permits : ℕ) → IsOwned l v permits → s.view.permits ≡ permits_of v.view s.view.number → 0 < s.view.permits → 1 ≤ l.room
-permit_room l v s permits o held some =
-    let one = one_permit v.view.kept s.view.number (subst (λ n. 0 < n) held some) in
-    let granted = o.granted in
-    let room = o.room in
-    omega (arith, one, granted, room)
-
-pub permit_left : (l : LedgerSeen) (v s : Writing) (permits : ℕ) → IsOwned l v permits → s.view.permits ≡ permits_of v.view s.view.number → 0 < s.view.permits → 1 ≤ permits
-permit_left l v s permits o held some =
-    let one = one_permit v.view.kept s.view.number (subst (λ n. 0 < n) held some) in
-    let granted = o.granted in
-    omega (arith, one, granted)
-
--- what a port keeps, after a call that made this entry
-pub owned_then : (p : PolicySeen) (x : Crossing) (fate : Fate) (entry : Bool) (l k : LedgerSeen) (v w s u : Writing) (permits left : ℕ) → IsOwned l v permits → Steps (layers_after p v.view.history) (entered entry (event.Crossing x fate)) v w s u
-    → s.view.permits ≡ permits_of v.view s.view.number → 0 < s.view.permits → k.opening ≡ l.opening → k.journal ≡ l.journal ++ entered entry (event.Crossing x fate) → l.room ≤ k.room + length (entered entry (event.Crossing x fate)) → left + one_if entry ≡ permits → IsOwned k w left
-owned_then p x fate entry l k v w s u permits left o st held some opening journal room spent =
-    let es = entered entry (event.Crossing x fate) in
-    let one : length es ≡ one_if entry = entries_one entry (event.Crossing x fate) in
-    let kept : w.view.kept ≡ set v.view.kept s.view.number (s.view.permits - length es) = ap (λ (q : Writing). q.view.kept) st.writer in
-    let same : total w.view.kept ≡ total (set v.view.kept s.view.number (s.view.permits - one_if entry)) = ap total (kept ∙ ap (λ n. set v.view.kept s.view.number (s.view.permits - n)) one) in
-    let sum = total_spent v.view.kept s.view.number s.view.permits (one_if entry) held some (one_or_none entry) in
-    let before = o.granted in
-    let enough = o.room in
-    record {
-      opening = λ q is. opening ∙ o.opening q (sym (ap (λ (r : Writing). r.view.opening) st.writer) ∙ is);
-      journal = journal ∙ (ap (λ h. h ++ es) o.journal ∙ sym (ap (λ (q : Writing). q.view.history) st.writer));
-      granted = omega (arith, same, sum, before, spent);
-      room = omega (arith, enough, room, spent, one);
-    }
+pub spent_entries : (entry : Bool) (e : Event) (left permits : ℕ) → left + one_if entry ≡ permits → left + length (entered entry e) ≡ permits
+spent_entries true e left permits h = h
+spent_entries false e left permits h = h
 
 -- ---- the entry itself
 
-at_end : (h : List Event) (e d : Event) → get_or (h ++ e ∷ []) (length h) d ≡ e
-at_end [] e d = refl
-at_end (x ∷ h) e d = at_end h e d
+-- the journal ends with it
+pub entry_there : (items journal h : List Event) (entry : Bool) (e : Event) → items ≡ journal → journal ≡ h ++ entered entry e → not entry ≡ false → items ≡ h ++ e ∷ []
+entry_there items journal h true e same grown is = same ∙ grown
+entry_there items journal h false e same grown is = absurd (true≢false is)
+
+pub some_there : (items h : List Event) (e : Event) → items ≡ h ++ e ∷ [] → 0 < length items
+some_there items h e is = let n = ap length is in let m = length-append h (e ∷ []) in omega (arith, n, m)
 
 pub is_entry : (b : Bool) → not b ≡ false → b ≡ true
 is_entry true e = refl
 is_entry false e = absurd (true≢false e)
 
--- the last of a journal is the entry that was made
-pub entry_is : (items journal h : List Event) (entry : Bool) (e last : Event) → items ≡ journal → journal ≡ h ++ entered entry e → entry ≡ true → last ≡ get_or items (length items - 1) last → last ≡ e
-entry_is items journal h entry e last same grown is at =
-    let all : items ≡ h ++ e ∷ [] = same ∙ (grown ∙ ap (λ b. h ++ entered b e) is) in
-    let long : length items - 1 ≡ length h = let n = ap length all in let m = length-append h (e ∷ []) in omega (arith, n, m) in
-    at ∙ ((λ i. get_or (all i) (long i) last) ∙ at_end h e last)
-
 -- and it is right
-pub entry_right : (o q : Opening) (journal h : List Event) (entry : Bool) (e : Event) → q ≡ o → journal ≡ h ++ entered entry e → entry ≡ true → AllRight q journal → IsRight o.controllers (replay o h) e
-entry_right o q journal h entry e same grown is right =
-    let all : journal ≡ h ++ e ∷ [] = grown ∙ ap (λ b. h ++ entered b e) is in
-    last_right o h e (subst (λ (w : Opening × List Event). AllRight w.0 w.1) (λ i. (same i, all i)) right)
+pub entry_right : (o q : Opening) (journal h : List Event) (e : Event) → q ≡ o → journal ≡ h ++ e ∷ [] → AllRight q journal → IsRight o.controllers (replay o h) e
+entry_right o q journal h e same grown right = last_right o h e (subst (λ (w : Opening × List Event). AllRight w.0 w.1) (λ i. (same i, grown i)) right)
 
 -- what is told of a packet that is settled
 pub record Settled (p : PolicySeen) (x : Crossing) (fate : Fate) (entry test : Bool) (ws : List Wanted) (l k : LedgerSeen) (v m s : Writing) : Type 0 where

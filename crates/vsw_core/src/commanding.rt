@@ -62,7 +62,7 @@ fn is_done(answer: Result<(), Refusal>) -> bool
 }
 
 /// The last entry.
-fn last_of(journal: &[Event]) -> &Event
+pub(crate) fn last_of(journal: &[Event]) -> &Event
     requires { 0 < length journal.now }
     ensures { (h : List Event) (e : Event) → journal.now ≡ h ++ e ∷ [] → result.now ≡ e }
 {

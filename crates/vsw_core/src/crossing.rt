@@ -22,6 +22,7 @@ ghost use Rattle.vsw_story.specs.Rows.{opening_of};
 ghost use Rattle.vsw_walk.specs.Walk.{greatest};
 ghost use mathlib.Core.List.{IsPrefix};
 
+use crate::commanding::last_of;
 use crate::rooms::Rooms;
 use crate::writing::write_row;
 use vsw_base::{Control, Crossing, Moment, Verdict};
@@ -53,7 +54,7 @@ fn is_shaken(ledger: &Ledger, rows: &Rows, scratch: &Scratch) -> bool
     rows.is_shaken(ledger.policy().layers(), scratch.changes())
 }
 
-/// The journal's last entry, where there is one, is added to the history. The generation rises where it shakes a
+/// The packet's entry, where it is one, is added to the history. The generation rises where it shakes a
 /// current row.
 fn follow(
     lookup: &Lookup<PortStory>,
@@ -79,9 +80,7 @@ fn follow(
     }
     // It tells the proof that the entry is right.
     let _ = ledger.policy();
-    if let Some(entry) = ledger.journal().last() {
-        rows.advance(lookup, pass, entry, shaken);
-    }
+    rows.advance(lookup, pass, last_of(ledger.journal()), shaken);
 }
 
 /// An entry takes a permit.

@@ -1,11 +1,15 @@
-use Rattle.std.proofs.Common.{◌≡◌, ◌≤◌, subst, sym, ap}
-use Rattle.vsw_core.proofs.Entered.{Called, Settled, owned_then, permit_left, permit_room, settled_made, settled_shaking, settled_spares, steps}
+use Rattle.std.proofs.Common.{subst}
+use Rattle.vsw_core.proofs.Entered.{Called, Settled, few_entries, settled_made, settled_shaking, settled_spares, spent_entries, steps}
+use Rattle.vsw_core.proofs.Permits.{has_permit, owned_grown}
+use Rattle.vsw_history.specs.declared.event.Event.{Event}
+use Rattle.vsw_history.specs.declared.event.Event.TheVariants as event
 use Rattle.vsw_history.specs.Calls.{Carried}
 use Rattle.vsw_history.specs.Next.{IsDone}
+use Rattle.vsw_port.specs.Core.{entered}
 use Rattle.vsw_core.proofs.crossing.enter.Goals as goal
 
 pub settle-outcome-requires-clause-room : goal.settle-outcome-requires-clause-room
-settle-outcome-requires-clause-room c = permit_room c.args.ledger.now c.args.rows.now.writer c.args.pass.now c.args.permits.now c.requires.owned c.meet.ensures.held c.requires.permit
+settle-outcome-requires-clause-room c = (has_permit c.args.ledger.now c.args.rows.now.writer c.args.permits.now c.args.pass.now.view.number c.args.pass.now.view.permits c.requires.owned c.meet.ensures.held c.requires.permit).1
 
 pub follow-requires-clause-spares : goal.follow-requires-clause-spares
 follow-requires-clause-spares c =
@@ -13,7 +17,7 @@ follow-requires-clause-spares c =
     (record { opening = c.requires.opening; journal = c.requires.owned.journal; opens = c.requires.core.opens; meets = c.meet.ensures.writer; changes = c.walk_now-walked.ensures.walk.changes; exact = c.settle-outcome.ensures.exact; shaking = c.is_shaken-shaken.ensures.exact })
 
 pub spend-requires : goal.spend-requires
-spend-requires c = record { one = permit_left c.args.ledger.now c.args.rows.now.writer c.args.pass.now c.args.permits.now c.requires.owned c.meet.ensures.held c.requires.permit }
+spend-requires c = record { one = (has_permit c.args.ledger.now c.args.rows.now.writer c.args.permits.now c.args.pass.now.view.number c.args.pass.now.view.permits c.requires.owned c.meet.ensures.held c.requires.permit).0 }
 
 pub returns-clause-done : goal.returns-clause-done
 returns-clause-done c p bytes =
@@ -38,5 +42,6 @@ returns-clause-steps c =
 
 pub returns-clause-owned : goal.returns-clause-owned
 returns-clause-owned c =
-    owned_then c.args.lookup.now.1 c.args.crossing.now c.settle-outcome.result.fate c.settle-outcome.result.entry c.args.ledger.now c.settle-outcome.new.self c.args.rows.now.writer c.follow.new.rows.writer c.args.pass.now c.follow.new.pass c.args.permits.now c.spend.new.permits
-    c.requires.owned (returns-clause-steps c) c.meet.ensures.held c.requires.permit c.settle-outcome.ensures.opening c.settle-outcome.ensures.journal c.settle-outcome.ensures.room c.spend.ensures.spent
+    let e : Event = event.Crossing c.args.crossing.now c.settle-outcome.result.fate in
+    owned_grown c.args.ledger.now c.settle-outcome.new.self c.args.rows.now.writer c.follow.new.rows.writer c.args.pass.now c.args.permits.now c.spend.new.permits (entered c.settle-outcome.result.entry e) c.requires.owned c.meet.ensures.held (returns-clause-steps c).writer
+    c.settle-outcome.ensures.opening c.settle-outcome.ensures.journal c.settle-outcome.ensures.room (few_entries c.settle-outcome.result.entry e c.args.pass.now.view.permits c.requires.permit) (spent_entries c.settle-outcome.result.entry e c.spend.new.permits c.args.permits.now c.spend.ensures.spent)

@@ -9,5 +9,5 @@ mod wanting;
 
 pub use judging::judge;
 pub use law::laws;
-pub use length::outgoing_size;
+pub use length::{is_long, outgoing_size};
 pub use stop::Stop;

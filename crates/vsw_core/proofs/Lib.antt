@@ -1,3 +1,4 @@
+pub mod Begins
 pub mod Permits
 pub mod Commands
 pub mod Walked

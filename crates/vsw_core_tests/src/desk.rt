@@ -1,14 +1,16 @@
 //! A core with its lookup, and the pass of worker 0.
 
-ghost use Rattle.std.specs.Prelude.{◌≡◌, ◌≤◌, ◌+◌, ◌<◌, IsTrue};
+ghost use Rattle.std.specs.Prelude.{◌≡◌, ◌≤◌, [], IsTrue, map};
+ghost use Rattle.vsw_core.specs.Core.{Begins, IsOf};
+ghost use Rattle.vsw_layer.specs.Layer.{seen};
 ghost use Rattle.vsw_port.specs.Core.{AreAtMost};
 
 use std::alloc::Global;
 use std::marker::Model;
-use vsw_base::{Crossing, Dir, Fate, Moment, Ufid, Verdict};
+use vsw_base::{Crossing, Fate, Ufid, Verdict};
 use vsw_core::Core;
 use vsw_layer::Layer;
-use vsw_lookup::{Look, Lookup, Opened, Pass};
+use vsw_lookup::{Look, Lookup, Opened, Pass, Writer};
 use vsw_policy::Policy;
 use vsw_story::PortStory;
 use vsw_words::{body_of, key_words, slot_of};
@@ -26,15 +28,14 @@ pub struct Desk {
 }
 
 impl Model for Desk {
-    ghost use Rattle.std.specs.Prelude.{◌≡◌, ◌≤◌};
-    ghost use Rattle.vsw_core.specs.Core.{IsOf};
-    ghost use Rattle.vsw_rows.specs.Rows.{Writing};
+    ghost use Rattle.std.specs.Prelude.{ℕ};
+    ghost use Rattle.vsw_core_tests.specs.Desks.{Sits};
 
-    ghost Value = { Writing };
+    ghost Value = { ℕ };
 
-    ghost view = { λ d. d.core.writer };
+    ghost view = { λ d. d.left };
 
-    ghost invariant = { λ d. IsOf d.lookup d.core.writer × IsOf d.lookup d.pass × (d.pass.view.number ≡ 0) × (d.left ≤ d.pass.view.permits) };
+    ghost invariant = { λ d. Sits d.lookup d.core d.pass d.left };
 }
 
 /// What a look tells: a row that says this verdict until this moment, as a count of entries has it; or the
@@ -61,18 +62,31 @@ fn are_fresh(layers: &[Layer]) -> bool
     }
 }
 
+/// The pass of worker 0, the first that the writer gives out.
+fn first_pass(lookup: &Lookup<PortStory>, writer: &mut Writer<PortStory>) -> Pass<PortStory>
+    requires table { writer.old.table ≡ lookup.now.0 }
+    requires begins { Begins lookup.now.1 writer.old × (writer.old.view.passes ≡ 0) }
+    ensures table { writer.new.table ≡ lookup.now.0 }
+    ensures begins { Begins lookup.now.1 writer.new }
+    ensures pass { IsOf lookup.now result × (result.view.number ≡ 0) }
+    ensures fresh { (result.view.permits ≡ 0) × (result.view.receipts ≡ []) }
+{
+    writer.pass(lookup)
+}
+
 impl Desk {
-    /// A core of this policy, with so many rows.
+    /// A core of this policy, whose layers have made no pair, with so many rows.
     pub fn open(alloc: Global, policy: Policy, rows: u32) -> Option<Desk>
         requires { (8 ≤ rows) × (rows ≤ 16384) }
     {
         if !are_fresh(policy.layers()) {
             return None;
         }
-        let Ok(Opened { lookup, mut writer }) = Lookup::<PortStory>::open(alloc, rows, &policy) else {
+        let Ok(opened) = Lookup::<PortStory>::open(alloc, rows, &policy) else {
             return None;
         };
-        let mut pass = writer.pass(&lookup);
+        let Opened { lookup, mut writer } = opened;
+        let mut pass = first_pass(&lookup, &mut writer);
         let Ok(mut core) = Core::open(alloc, policy, writer) else {
             return None;
         };

@@ -26,14 +26,14 @@ fn edit(set: Set) -> Action {
     }
 }
 
-/// A layer that drops by default, whose pairs live for 240 seconds.
-fn add_layer(policy: &mut Policy, controller: u16, layer: u16, order: u16) -> bool {
+/// A layer that drops by default, and holds so many pairs, which live for 240 seconds.
+fn add_layer(policy: &mut Policy, controller: u16, layer: u16, pairs: u32) -> bool {
     let spec = LayerSpec {
         layer,
-        order,
+        order: layer,
         allow_out: false,
         allow_in: false,
-        pairs: 100,
+        pairs,
         idle: 240,
         linger: 10,
     };
@@ -94,7 +94,7 @@ pub fn plain(alloc: Global) -> Option<Policy> {
         return None;
     };
     let near = within(alloc, Field::DstIp, 0x0a00_0000, 0x0a00_00ff);
-    let made = add_layer(&mut policy, 1, 10, 1)
+    let made = add_layer(&mut policy, 1, 10, 100)
         && add_group(alloc, &mut policy, 1, 10, 1, Dir::Out)
         && add_rule(&mut policy, 1, 10, 1, 5, near, Action::Allow, false);
     if made { Some(policy) } else { None }
@@ -111,7 +111,7 @@ pub fn published(alloc: Global) -> Option<Policy> {
         dst_port: Some(1234),
         ..UNSET
     });
-    let made = add_layer(&mut policy, 1, 10, 1)
+    let made = add_layer(&mut policy, 1, 10, 100)
         && add_group(alloc, &mut policy, 1, 10, 1, Dir::Out)
         && add_rule(
             &mut policy,
@@ -128,12 +128,12 @@ pub fn published(alloc: Global) -> Option<Policy> {
     if made { Some(policy) } else { None }
 }
 
-/// A layer that makes a pair of all that goes out.
-pub fn tracked(alloc: Global) -> Option<Policy> {
+/// A layer that makes a pair of all that goes out, and holds so many.
+pub fn tracked(alloc: Global, pairs: u32) -> Option<Policy> {
     let Ok(mut policy) = Policy::new(alloc, &[1]) else {
         return None;
     };
-    let made = add_layer(&mut policy, 1, 10, 1)
+    let made = add_layer(&mut policy, 1, 10, pairs)
         && add_group(alloc, &mut policy, 1, 10, 1, Dir::Out)
         && add_rule(
             &mut policy,
@@ -160,7 +160,7 @@ pub fn hiding(alloc: Global) -> Option<Policy> {
         src_port: Some(40_000),
         ..UNSET
     });
-    let made = add_layer(&mut policy, 1, 10, 1)
+    let made = add_layer(&mut policy, 1, 10, 100)
         && add_group(alloc, &mut policy, 1, 10, 1, Dir::Out)
         && add_rule(
             &mut policy,
@@ -172,7 +172,7 @@ pub fn hiding(alloc: Global) -> Option<Policy> {
             Action::Allow,
             true,
         )
-        && add_layer(&mut policy, 2, 20, 2)
+        && add_layer(&mut policy, 2, 20, 100)
         && add_group(alloc, &mut policy, 2, 20, 1, Dir::Out)
         && add_rule(&mut policy, 2, 20, 1, 1, own, hidden, true);
     if made { Some(policy) } else { None }

@@ -17,16 +17,16 @@ use Rattle.vsw_commit.specs.Fate.{fate_at, fate_by}
 use Rattle.vsw_core.specs.Calls.{Raises, called, grown}
 use Rattle.vsw_core.specs.Core.{IsOwned, total}
 use Rattle.vsw_core.specs.Private.Steps.{Publishes, Steps, wants_change}
-use Rattle.vsw_core.specs.Publishing.{HasPlace, IsByWalk, IsPlaceOf, IsSettled, Late, Stale, Stands, StandsUntil, WritesOne}
+use Rattle.vsw_core.specs.Publishing.{HasPlace, IsByWalk, IsPlaceOf, IsSettled, Late, MayWrite, Stale, Stands, StandsUntil, WritesOne}
 use Rattle.vsw_core.specs.Publishing as publishing
 use Rattle.vsw_core.specs.Walks.{IsWholeWalk, SaysRowOf}
 use Rattle.vsw_history.specs.declared.event.Event.{Event}
 use Rattle.vsw_layer.specs.Layer.{LayerSeen}
-use Rattle.vsw_lean.specs.Good.{Row}
+use Rattle.vsw_lean.specs.Good.{Good, Row}
 use Rattle.vsw_lean.specs.Law.{IsOfWay, wants_none}
 use Rattle.vsw_lean.specs.Way.{way_of}
 use Rattle.vsw_lean.proofs.Answered.{quiet_until}
-use Rattle.vsw_lean.proofs.Ways.{moment_unseen}
+use Rattle.vsw_lean.proofs.Ways.{moment_unseen, walk_makes}
 use Rattle.vsw_lookup.specs.Rules.{one_if, row_at, stamp_at}
 use Rattle.vsw_policy.specs.Layers.{PolicySeen}
 use Rattle.vsw_port.specs.Ledger.{LedgerSeen}
@@ -99,7 +99,7 @@ key_of row =
     let bs = body_words row.verdict row.acts row.until in
     ap (take 16) (words_are row) ∙ (ap (λ n. take n (ks ++ bs)) (sym (key_length row.id.dir row.id.stack)) ∙ take-append_seam ks bs)
 
-pub nothing_left : (rows : ℕ) (ls : List LayerSeen) (x : Crossing) (v : Writing) → (x.control ≡ control.None → IsSettled ls x → HasPlace rows v x.id x.moment → StandsUntil rows v x.id x.moment) → Publishes rows ls x v v
+pub nothing_left : (rows : ℕ) (ls : List LayerSeen) (x : Crossing) (v : Writing) → (x.control ≡ control.None → IsSettled ls x → HasPlace rows v x.id x.moment → StandsUntil rows ls v x.id x.moment) → Publishes rows ls x v v
 nothing_left rows ls x v h = record { same = refl; writes = publishing.None refl refl; stands = h }
 
 -- what is known where a row is looked for
@@ -119,13 +119,18 @@ own_stands p rows x key place v l f g = nothing_left rows (layers_after p v.view
     same : row.id ≡ x.id
     same = apart row.id x.id g.id l.id (sym (key_of row) ∙ (ap (take 16) (sym g.words_is) ∙ (f.2 ∙ l.key_is)))
 
-    stands : StandsUntil rows v x.id x.moment
+    stands : StandsUntil rows (layers_after p v.view.history) v x.id x.moment
     stands = record {
       place = place;
       row = row;
       stands = record { probed = subst (λ k. IsProbed rows k place) l.key_is f.0; current = f.1; says = record { words_is = g.words_is; id = g.id; body = g.body }; same = same };
+      good = g.good;
       lasts = subst (λ n. x.moment ≤ n) (sym (g.good.until ∙ ap (λ i. (way_of (layers_after p v.view.history) i).until) same)) (in_time (layers_after p v.view.history) x l.plain l.small l.still);
     }
+
+-- the row of a walk is good
+good_of : (ls : List LayerSeen) (x : Crossing) (words : List ℕ) (s : SaysRowOf ls x words) → Good ls s.row
+good_of ls x words s = (walk_makes ls x s.row s.walked).good
 
 -- the writer once a row was put
 abbrev pub with_row : Writing → ℕ → List ℕ → Writing
@@ -135,11 +140,11 @@ row_put : (p : PolicySeen) (rows : ℕ) (x : Crossing) (key : List ℕ) (place :
     → Publishes rows (layers_after p v.view.history) x v (with_row v place words)
 row_put p rows x key place words v l f there wide s = record {
   same = refl;
-  writes = publishing.One place words f.1 refl refl;
+  writes = publishing.One place words (record { plain = l.plain; probed = subst (λ k. IsProbed rows k place) l.key_is f.0; row = s.row; same = s.walked.id; says = s.says; good = good_of (layers_after p v.view.history) x words s }) f.1 refl refl;
   stands = λ c settled h. stands;
 }
   where
-    stands : StandsUntil rows (with_row v place words) x.id x.moment
+    stands : StandsUntil rows (layers_after p v.view.history) (with_row v place words) x.id x.moment
     stands = record {
       place = place;
       row = s.row;
@@ -149,6 +154,7 @@ row_put p rows x key place words v l f there wide s = record {
         says = subst (λ ws. Says ws s.row) (sym (get_or-set_same v.view.rows place words [] wide)) s.says;
         same = s.walked.id;
       };
+      good = good_of (layers_after p v.view.history) x words s;
       lasts = subst (λ n. x.moment ≤ n) (sym (s.walked.until ∙ (moment_unseen (layers_after p v.view.history) x l.plain).0.until)) (in_time (layers_after p v.view.history) x l.plain l.small l.still);
     }
 
@@ -216,20 +222,20 @@ crossed_raises p rows x es v w z s u c =
     let r = c.steps.raises in
     record { raised = r.raised; generation = sym (generation_same p rows x es v w z s u c) ∙ r.generation; told = r.told; back = r.back }
 
-pub crossed_rows : (p : PolicySeen) (rows : ℕ) (x : Crossing) (es : List Event) (v w z s u : Writing) → Crossed p rows x es v w z s u → WritesOne v z
-crossed_rows p rows x es v w z s u c = by c.left.writes
+pub crossed_rows : (p : PolicySeen) (rows : ℕ) (x : Crossing) (es : List Event) (v w z s u : Writing) → Crossed p rows x es v w z s u → WritesOne rows (layers_after p z.view.history) x v z
+crossed_rows p rows x es v w z s u c = subst (λ hs. WritesOne rows (layers_after p hs) x v z) (history_same p rows x es v w z s u c) (by c.left.writes)
   where
     st : Steps (layers_after p v.view.history) es v w s u
     st = c.steps
 
-    by : WritesOne w z → WritesOne v z
+    by : WritesOne rows (layers_after p w.view.history) x w z → WritesOne rows (layers_after p w.view.history) x v z
     by (publishing.None a b) = publishing.None (a ∙ st.stamps) (b ∙ st.rows)
-    by (publishing.One place words low a b) = publishing.One place words (subst (λ ns. stamp_at ns place < z.view.generation) st.stamps low) (a ∙ ap (λ ns. slice_set ns place z.view.generation) st.stamps) (b ∙ ap (λ rs. slice_set rs place words) st.rows)
+    by (publishing.One place words may low a b) = publishing.One place words may (subst (λ ns. stamp_at ns place < z.view.generation) st.stamps low) (a ∙ ap (λ ns. slice_set ns place z.view.generation) st.stamps) (b ∙ ap (λ rs. slice_set rs place words) st.rows)
 
 pub crossed_stands : (p : PolicySeen) (rows : ℕ) (x : Crossing) (es : List Event) (v w z s u : Writing) → Crossed p rows x es v w z s u
-    → x.control ≡ control.None → IsSettled (layers_after p z.view.history) x → HasPlace rows v x.id x.moment → StandsUntil rows z x.id x.moment
-crossed_stands p rows x es v w z s u c plain settled h =
-    c.left.stands plain (subst (λ hs. IsSettled (layers_after p hs) x) (sym (history_same p rows x es v w z s u c)) settled) (place_stays rows (layers_after p v.view.history) es x.id x.moment v w s u c.steps h)
+    → x.control ≡ control.None → IsSettled (layers_after p z.view.history) x → HasPlace rows v x.id x.moment → StandsUntil rows (layers_after p z.view.history) z x.id x.moment
+crossed_stands p rows x es v w z s u c plain settled h = subst (λ hs. StandsUntil rows (layers_after p hs) z x.id x.moment) (history_same p rows x es v w z s u c)
+    (c.left.stands plain (subst (λ hs. IsSettled (layers_after p hs) x) (sym (history_same p rows x es v w z s u c)) settled) (place_stays rows (layers_after p v.view.history) es x.id x.moment v w s u c.steps h))
 
 pub crossed_owned : (p : PolicySeen) (rows : ℕ) (x : Crossing) (es : List Event) (k : LedgerSeen) (permits : ℕ) (v w z s u : Writing) → Crossed p rows x es v w z s u → IsOwned k w permits → IsOwned k z permits
 crossed_owned p rows x es k permits v w z s u c o = record {

@@ -5,10 +5,11 @@ use Rattle.vsw_base.specs.declared.fate.Fate.{Fate}
 use Rattle.vsw_base.specs.declared.fate.Fate.TheVariants.{Pass, Drop}
 use Rattle.vsw_base.specs.declared.flow.Crossing.{Crossing}
 use Rattle.vsw_base.specs.declared.flow.Ufid.{Ufid}
+use Rattle.vsw_base.specs.declared.packet.Control.TheVariants as control
 use Rattle.vsw_commit.specs.Cross.{cross_of}
 use Rattle.vsw_commit.specs.Fate.{fate_at}
 use Rattle.vsw_layer.specs.Layer.{LayerSeen}
-use Rattle.vsw_lean.specs.Good.{Row}
+use Rattle.vsw_lean.specs.Good.{Good, Row}
 use Rattle.vsw_lookup.specs.Rules.{row_at, stamp_at}
 use Rattle.vsw_rows.specs.Rows.{IsCurrent, IsProbed, Says, Writing}
 use Rattle.vsw_words.specs.Key.{key_words}
@@ -24,11 +25,12 @@ pub record Stands (rows : ℕ) (v : Writing) (id : Ufid) (place : ℕ) (row : Ro
   pub says : Says (row_at v.view.rows place) row
   pub same : row.id ≡ id
 
--- one stands that may answer at this moment
-pub record StandsUntil (rows : ℕ) (v : Writing) (id : Ufid) (moment : ℕ) : Type 0 where
+-- one stands that is good at these layers, and may answer at this moment
+pub record StandsUntil (rows : ℕ) (ls : List LayerSeen) (v : Writing) (id : Ufid) (moment : ℕ) : Type 0 where
   pub place : ℕ
   pub row : Row
   pub stands : Stands rows v id place row
+  pub good : Good ls row
   pub lasts : moment ≤ row.until
 
 -- there is a place for a row: one of the eight isn't current, or has the identity's own row, which is late
@@ -48,8 +50,17 @@ pub record IsSettled (ls : List LayerSeen) (x : Crossing) : Type 0 where
   pub still : (cross_of ls x).changed ≡ false
   pub fate : IsByWalk (fate_at ls x)
 
--- at most one row was written, which wasn't current
-pub data WritesOne (v w : Writing) : Type 0 where
-  None : w.view.stamps ≡ v.view.stamps → w.view.rows ≡ v.view.rows → WritesOne v w
-  One : (place : ℕ) (words : List ℕ) → stamp_at v.view.stamps place < w.view.generation → w.view.stamps ≡ slice_set v.view.stamps place w.view.generation
-      → w.view.rows ≡ slice_set v.view.rows place words → WritesOne v w
+-- a row that a packet may write: it is of the packet's identity, at one of its places, and good at these layers. The packet has no control
+pub record MayWrite (rows : ℕ) (ls : List LayerSeen) (x : Crossing) (place : ℕ) (words : List ℕ) : Type 0 where
+  pub plain : x.control ≡ control.None
+  pub probed : IsPlaceOf rows x.id place
+  pub row : Row
+  pub same : row.id ≡ x.id
+  pub says : Says words row
+  pub good : Good ls row
+
+-- at most one row was written, such a one, where none was current
+pub data WritesOne (rows : ℕ) (ls : List LayerSeen) (x : Crossing) (v w : Writing) : Type 0 where
+  None : w.view.stamps ≡ v.view.stamps → w.view.rows ≡ v.view.rows → WritesOne rows ls x v w
+  One : (place : ℕ) (words : List ℕ) → MayWrite rows ls x place words → stamp_at v.view.stamps place < w.view.generation
+      → w.view.stamps ≡ slice_set v.view.stamps place w.view.generation → w.view.rows ≡ slice_set v.view.rows place words → WritesOne rows ls x v w

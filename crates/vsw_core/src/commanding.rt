@@ -11,7 +11,7 @@ ghost use Rattle.vsw_history.specs.Calls.{Asked, controller_at};
 ghost use Rattle.vsw_history.specs.History.{AllRight};
 ghost use Rattle.vsw_history.specs.Next.{IsDone};
 ghost use Rattle.vsw_lean_law.specs.Entries.{is_obeyed};
-ghost use Rattle.vsw_lookup.specs.Rules.{one_if};
+ghost use Rattle.vsw_lookup.specs.Rules.{one_if, permits_of};
 ghost use Rattle.vsw_policy.specs.Obey.{is_memory, rules_given};
 ghost use Rattle.vsw_policy.specs.Refusals.{reply_of};
 ghost use Rattle.vsw_policy.specs.Sound.{Each, IsGoodRule, is_listed};
@@ -94,6 +94,8 @@ pub(crate) fn command(
     ensures pass { pass.new ≡ record pass.old { view = called pass.old.view rows.new.writer.view.history (entered (not (is_memory result)) (event.Command controller line command.now (reply_of result))) } }
     ensures raises { rows.new.writer.view.generation ≡ rows.old.writer.view.generation + one_if (is_obeyed (reply_of result)) }
     ensures right { AllRight (opening_of lookup.now.1) rows.new.writer.view.history }
+    ensures held { pass.old.view.permits ≡ permits_of rows.old.writer.view pass.old.view.number }
+    ensures short { length rows.old.writer.view.history < 4294967295 }
     ensures seen { IsPrefix pass.old.view.front rows.old.writer.view.history }
     ensures rows { (rows.new.writer.view.stamps ≡ rows.old.writer.view.stamps) × (rows.new.writer.view.rows ≡ rows.old.writer.view.rows) }
 {

@@ -12,7 +12,7 @@ ghost use Rattle.vsw_history.specs.Calls.{Carried};
 ghost use Rattle.vsw_history.specs.History.{AllRight};
 ghost use Rattle.vsw_history.specs.Next.{IsDone};
 ghost use Rattle.vsw_history.specs.declared.event.Event.TheVariants as event;
-ghost use Rattle.vsw_lookup.specs.Rules.{one_if};
+ghost use Rattle.vsw_lookup.specs.Rules.{one_if, permits_of};
 ghost use Rattle.vsw_policy.specs.Layers.{PolicySeen};
 ghost use Rattle.vsw_port.specs.Core.{entered};
 ghost use Rattle.vsw_port.specs.Crossed.{EditsPass, MayBeShort, is_short};
@@ -114,6 +114,8 @@ fn enter(
     ensures edits { EditsPass (layers_after lookup.now.1 rows.old.writer.view.history) crossing.now scratch.new.stack result.outcome.kept result.outcome.fate }
     ensures steps { Steps (layers_after lookup.now.1 rows.old.writer.view.history) (entered result.outcome.entry (event.Crossing crossing.now result.outcome.fate)) rows.old.writer rows.new.writer pass.old pass.new }
     ensures walk { result.outcome.entry ≡ false → IsWholeWalk (layers_after lookup.now.1 rows.new.writer.view.history) crossing.now result.walked scratch.new }
+    ensures held { pass.old.view.permits ≡ permits_of rows.old.writer.view pass.old.view.number }
+    ensures short { length rows.old.writer.view.history < 4294967295 }
     ensures opening { ledger.new.opening ≡ ledger.old.opening }
     ensures owned { IsOwned ledger.new rows.new.writer permits.new }
 {
@@ -231,9 +233,11 @@ pub fn cross(
     ensures pass { pass.new ≡ record pass.old { view = called pass.old.view rows.new.writer.view.history (entered result.entry (event.Crossing crossing.now result.fate)) } }
     ensures raises { Raises (layers_after lookup.now.1 rows.old.writer.view.history) (entered result.entry (event.Crossing crossing.now result.fate)) rows.old.writer rows.new.writer }
     ensures right { AllRight (opening_of lookup.now.1) rows.new.writer.view.history }
+    ensures held { pass.old.view.permits ≡ permits_of rows.old.writer.view pass.old.view.number }
+    ensures short { length rows.old.writer.view.history < 4294967295 }
     ensures seen { IsPrefix pass.old.view.front rows.old.writer.view.history }
-    ensures rows { WritesOne rows.old.writer rows.new.writer }
-    ensures stands { crossing.now.control ≡ control.None → IsSettled (layers_after lookup.now.1 rows.new.writer.view.history) crossing.now → HasPlace lookup.now.2 rows.old.writer crossing.now.id crossing.now.moment → StandsUntil lookup.now.2 rows.new.writer crossing.now.id crossing.now.moment }
+    ensures rows { WritesOne lookup.now.2 (layers_after lookup.now.1 rows.new.writer.view.history) crossing.now rows.old.writer rows.new.writer }
+    ensures stands { crossing.now.control ≡ control.None → IsSettled (layers_after lookup.now.1 rows.new.writer.view.history) crossing.now → HasPlace lookup.now.2 rows.old.writer crossing.now.id crossing.now.moment → StandsUntil lookup.now.2 (layers_after lookup.now.1 rows.new.writer.view.history) rows.new.writer crossing.now.id crossing.now.moment }
 {
     let entered = enter(lookup, pass, crossing, permits, ledger, rows, scratch);
     publish(lookup, crossing, &entered, ledger, scratch, rows, again, rooms);

@@ -5,7 +5,7 @@ ghost use mathlib.Core.List.{IsPrefix};
 ghost use Rattle.vsw_core.specs.Core.{IsOf, IsOwned};
 ghost use Rattle.vsw_history.specs.Calls.{named};
 ghost use Rattle.vsw_history.specs.History.{AllRight};
-ghost use Rattle.vsw_lookup.specs.Rules.{Meets};
+ghost use Rattle.vsw_lookup.specs.Rules.{Meets, permits_of};
 ghost use Rattle.vsw_story.specs.Rows.{opening_of};
 
 use vsw_base::NoMemory;
@@ -55,6 +55,7 @@ pub(crate) fn grant(
     ensures tells { OnOk result (Meets (λ p e. named p.controllers e) lookup.now.1 rows.new.writer.view pass.new.view) }
     ensures right { OnOk result (AllRight (opening_of lookup.now.1) rows.new.writer.view.history) }
     ensures seen { OnOk result (IsPrefix pass.old.view.front pass.new.view.front) }
+    ensures held { OnOk result (pass.old.view.permits ≡ permits_of rows.old.writer.view pass.old.view.number) }
     ensures nothing { more ≡ 0 → IsOk result }
     ensures refused { OnErr result ((rows.new.writer ≡ rows.old.writer) × (pass.new ≡ pass.old)) }
 {

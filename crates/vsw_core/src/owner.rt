@@ -13,7 +13,7 @@ ghost use Rattle.vsw_history.specs.declared.event.Event.TheVariants as event;
 ghost use Rattle.vsw_history.specs.Calls.{Asked, Carried, controller_at, named};
 ghost use Rattle.vsw_history.specs.History.{AllRight};
 ghost use Rattle.vsw_history.specs.Next.{IsDone};
-ghost use Rattle.vsw_lookup.specs.Rules.{Meets, one_if};
+ghost use Rattle.vsw_lookup.specs.Rules.{Meets, one_if, permits_of};
 ghost use Rattle.vsw_policy.specs.Obey.{is_memory, rules_given};
 ghost use Rattle.vsw_policy.specs.Refusals.{reply_of};
 ghost use Rattle.vsw_policy.specs.Sound.{Each, IsGoodRule, is_listed};
@@ -52,8 +52,8 @@ pub enum Reconciled {
 }
 
 /// A port under its lock. It answers packets and commands at the end of the port's history, adds what changed
-/// something, and leaves rows that answer later packets without the lock. The generation rises exactly where an
-/// entry shakes a current row.
+/// something, and leaves rows that answer later packets without the lock. The generation rises with each command
+/// that is done, and exactly where a packet's entry shakes a current row.
 #[derive(Drop)]
 pub struct Core {
     ledger: Ledger,
@@ -136,6 +136,7 @@ impl Core {
         ensures tells { OnOk result (Meets (λ p e. named p.controllers e) lookup.now.1 self.new.writer.view pass.new.view) }
         ensures right { OnOk result (AllRight (opening_of lookup.now.1) self.new.writer.view.history) }
         ensures seen { OnOk result (IsPrefix pass.old.view.front pass.new.view.front) }
+        ensures held { OnOk result (pass.old.view.permits ≡ permits_of self.old.writer.view pass.old.view.number) }
         ensures nothing { more ≡ 0 → IsOk result }
         ensures refused { OnErr result ((self.new ≡ self.old) × (pass.new ≡ pass.old)) }
     {
@@ -169,9 +170,11 @@ impl Core {
         ensures pass { pass.new ≡ record pass.old { view = called pass.old.view self.new.writer.view.history (entered result.entry (event.Crossing crossing.now result.fate)) } }
         ensures raises { Raises (layers_of lookup.now.1 self.old) (entered result.entry (event.Crossing crossing.now result.fate)) self.old.writer self.new.writer }
         ensures right { AllRight (opening_of lookup.now.1) self.new.writer.view.history }
+        ensures held { pass.old.view.permits ≡ permits_of self.old.writer.view pass.old.view.number }
+        ensures short { length self.old.writer.view.history < 4294967295 }
         ensures seen { IsPrefix pass.old.view.front self.old.writer.view.history }
-        ensures rows { WritesOne self.old.writer self.new.writer }
-        ensures stands { crossing.now.control ≡ control.None → IsSettled (layers_of lookup.now.1 self.new) crossing.now → HasPlace lookup.now.2 self.old.writer crossing.now.id crossing.now.moment → StandsUntil lookup.now.2 self.new.writer crossing.now.id crossing.now.moment }
+        ensures rows { WritesOne lookup.now.2 (layers_of lookup.now.1 self.new) crossing.now self.old.writer self.new.writer }
+        ensures stands { crossing.now.control ≡ control.None → IsSettled (layers_of lookup.now.1 self.new) crossing.now → HasPlace lookup.now.2 self.old.writer crossing.now.id crossing.now.moment → StandsUntil lookup.now.2 (layers_of lookup.now.1 self.new) self.new.writer crossing.now.id crossing.now.moment }
     {
         cross(
             lookup,
@@ -207,6 +210,8 @@ impl Core {
         ensures pass { pass.new ≡ record pass.old { view = called pass.old.view self.new.writer.view.history (entered (not (is_memory result)) (event.Command controller line command.now (reply_of result))) } }
         ensures raises { self.new.writer.view.generation ≡ self.old.writer.view.generation + one_if (is_obeyed (reply_of result)) }
         ensures right { AllRight (opening_of lookup.now.1) self.new.writer.view.history }
+        ensures held { pass.old.view.permits ≡ permits_of self.old.writer.view pass.old.view.number }
+        ensures short { length self.old.writer.view.history < 4294967295 }
         ensures seen { IsPrefix pass.old.view.front self.old.writer.view.history }
         ensures rows { (self.new.writer.view.stamps ≡ self.old.writer.view.stamps) × (self.new.writer.view.rows ≡ self.old.writer.view.rows) }
         ensures edited { self.new.edited ≡ self.old.edited }

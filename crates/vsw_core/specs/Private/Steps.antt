@@ -43,5 +43,5 @@ wants_change verdict ws = false
 -- now changes nothing, and there is a place, a row that may answer it is current
 pub record Publishes (rows : ℕ) (ls : List LayerSeen) (x : Crossing) (v w : Writing) : Type 0 where
   pub same : w ≡ record v { view = record v.view { stamps = w.view.stamps; rows = w.view.rows } }
-  pub writes : WritesOne v w
-  pub stands : x.control ≡ control.None → IsSettled ls x → HasPlace rows v x.id x.moment → StandsUntil rows w x.id x.moment
+  pub writes : WritesOne rows ls x v w
+  pub stands : x.control ≡ control.None → IsSettled ls x → HasPlace rows v x.id x.moment → StandsUntil rows ls w x.id x.moment

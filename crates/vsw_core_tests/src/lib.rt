@@ -1,6 +1,9 @@
-//! Tests of a port's core over rows: which rows stand after packets and commands, as those see them who read without the lock.
+//! Tests of a port's core over rows: what its commands leave, and which rows stand after packets and commands, as those see them who
+//! read without the lock.
 #![tactic(auto)]
 
+#[cfg(test)]
+mod command_tests;
 #[cfg(test)]
 mod desk;
 #[cfg(test)]
@@ -11,3 +14,5 @@ mod packets;
 mod policies;
 #[cfg(test)]
 mod row_tests;
+#[cfg(test)]
+mod trial;

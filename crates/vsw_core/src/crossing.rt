@@ -240,7 +240,9 @@ pub fn cross(
     ensures stands { crossing.now.control ≡ control.None → IsSettled (layers_after lookup.now.1 rows.new.writer.view.history) crossing.now → HasPlace lookup.now.2 rows.old.writer crossing.now.id crossing.now.moment → StandsUntil lookup.now.2 (layers_after lookup.now.1 rows.new.writer.view.history) rows.new.writer crossing.now.id crossing.now.moment }
 {
     let entered = enter(lookup, pass, crossing, permits, ledger, rows, scratch);
-    publish(lookup, crossing, &entered, ledger, scratch, rows, again, rooms);
+    publish(
+        lookup, crossing, &entered, ledger, scratch, rows, again, rooms,
+    );
     // It tells the proof that the history is right.
     let _ = ledger.policy();
     entered.outcome

@@ -27,7 +27,7 @@ returns-clause-done c p bytes =
 pub returns-clause-steps : goal.returns-clause-steps
 returns-clause-steps c =
     let t : Settled c.args.lookup.now.1 c.args.crossing.now c.settle-outcome.result.fate c.settle-outcome.result.entry c.is_shaken-shaken.result c.walk_now-walked.new.scratch.changes c.args.ledger.now c.settle-outcome.new.self c.args.rows.now.writer c.meet.new.self.writer c.args.pass.now =
-        record { opening = c.requires.opening; journal = c.requires.owned.journal; opens = c.requires.core.opens; meets = c.meet.ensures.writer; changes = c.walk_now-walked.ensures.walk.changes; exact = c.settle-outcome.ensures.exact; shaking = c.is_shaken-shaken.ensures.exact }
+    record { opening = c.requires.opening; journal = c.requires.owned.journal; opens = c.requires.core.opens; meets = c.meet.ensures.writer; changes = c.walk_now-walked.ensures.walk.changes; exact = c.settle-outcome.ensures.exact; shaking = c.is_shaken-shaken.ensures.exact }
     in
     steps c.args.lookup.now.1 c.args.crossing.now c.settle-outcome.result.fate c.settle-outcome.result.entry c.is_shaken-shaken.result c.walk_now-walked.new.scratch.changes c.args.rows.now.writer c.meet.new.self.writer c.follow.new.rows.writer c.args.pass.now c.meet.new.pass c.follow.new.pass
     (record {

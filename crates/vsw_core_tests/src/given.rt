@@ -16,7 +16,7 @@ fn are_good(rules: &[Rule]) -> bool
     }
 }
 
-fn is_good(command: &Command) -> bool
+pub fn is_good(command: &Command) -> bool
     ensures { IsTrue result → Each IsGoodRule (rules_given command.now) }
 {
     match command {

@@ -13,6 +13,8 @@ mod packets;
 #[cfg(test)]
 mod policies;
 #[cfg(test)]
+mod reconciling;
+#[cfg(test)]
 mod row_tests;
 #[cfg(test)]
 mod trial;

@@ -6,5 +6,5 @@ mod passing;
 mod room;
 
 pub use law::laws;
-pub use passing::transit;
+pub use passing::{leave, transit};
 pub use room::Room;

@@ -14,8 +14,8 @@ use vsw_base::{Crossing, Fate, Stack};
 use vsw_frame::{Frame, rewrite_to};
 use vsw_port::{Core, Outcome};
 
-/// A frame that passes leaves with its outgoing bytes at the front of `out`.
-fn leave(frame: &Frame<'_>, edited: &Stack, outcome: Outcome, out: &mut Vec<u8>)
+/// Writes the outgoing bytes of a frame that passes to the front of `out`.
+fn write(frame: &Frame<'_>, edited: &Stack, outcome: Outcome, out: &mut Vec<u8>)
     requires can { CanLeave (parts frame.now) edited.now outcome.kept outcome.fate }
     requires room { length out.old.items ≡ 65700 }
     ensures leaves { Leaves (parts frame.now) edited.now outcome.kept outcome.fate out.new.items }
@@ -24,6 +24,14 @@ fn leave(frame: &Frame<'_>, edited: &Stack, outcome: Outcome, out: &mut Vec<u8>)
     if let Fate::Pass { .. } = outcome.fate {
         let _ = rewrite_to(frame, edited, outcome.kept, out);
     }
+}
+
+/// A frame that passes leaves with its outgoing bytes at the front of the room.
+pub fn leave(frame: &Frame<'_>, edited: &Stack, outcome: Outcome, room: &mut Room)
+    requires can { CanLeave (parts frame.now) edited.now outcome.kept outcome.fate }
+    ensures leaves { Leaves (parts frame.now) edited.now outcome.kept outcome.fate room.new }
+{
+    write(frame, edited, outcome, &mut room.out);
 }
 
 /// A frame crosses the layers of its port: the next call of the port's history. Where it passes, its
@@ -43,6 +51,6 @@ pub fn transit(core: &mut Core, crossing: &Crossing, frame: &Frame<'_>, room: &m
     // It tells the proof that the packet's headers are those of a frame.
     let _ = crossing.id.stack.headers();
     let outcome = core.slow(crossing);
-    leave(frame, core.edited(), outcome, &mut room.out);
+    leave(frame, core.edited(), outcome, room);
     outcome
 }

@@ -1,0 +1,5 @@
+pub mod Answered
+pub mod Callers
+pub mod Crossed
+pub mod Opened
+pub mod Listed

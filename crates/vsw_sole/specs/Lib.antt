@@ -1,0 +1,3 @@
+pub mod Sole
+pub mod Answered
+pub mod Callers

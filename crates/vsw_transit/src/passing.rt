@@ -1,18 +1,20 @@
 //! A frame crosses the layers of its port.
 
-ghost use Rattle.std.specs.Prelude.{◌≡◌, ◌≤◌, ◌<◌, ◌-◌, ◌^◌, ◌++◌, length};
+ghost use Rattle.std.specs.Prelude.{◌≡◌, ◌≤◌, ◌<◌, ◌++◌, length};
 ghost use Rattle.vsw_frame.specs.Frame.{parts};
 ghost use Rattle.vsw_history.specs.declared.event.Event.TheVariants as event;
 ghost use Rattle.vsw_history.specs.Calls.{Carried};
 ghost use Rattle.vsw_history.specs.Next.{IsNext};
-ghost use Rattle.vsw_port.specs.Core.{entered, layers_of};
+ghost use Rattle.vsw_port.specs.Core.{entered};
 ghost use Rattle.vsw_port.specs.Crossed.{MayBeShort, is_short};
+ghost use Rattle.vsw_sole.specs.Sole.{layers_of};
 ghost use Rattle.vsw_transit.specs.Transit.{CanLeave, IsOfFrame, Leaves, bytes_in, len_of, met, told};
 
 use crate::room::Room;
 use vsw_base::{Crossing, Fate, Stack};
 use vsw_frame::{Frame, rewrite_to};
-use vsw_port::{Core, Outcome};
+use vsw_port::Outcome;
+use vsw_sole::SolePort;
 
 /// Writes the outgoing bytes of a frame that passes to the front of `out`.
 fn write(frame: &Frame<'_>, edited: &Stack, outcome: Outcome, out: &mut Vec<u8>)
@@ -37,20 +39,26 @@ pub fn leave(frame: &Frame<'_>, edited: &Stack, outcome: Outcome, room: &mut Roo
 /// A frame crosses the layers of its port: the next call of the port's history. Where it passes, its
 /// outgoing bytes stand at the front of the room. A drop changes nothing; `memory` tells when it may be for
 /// want of memory.
-pub fn transit(core: &mut Core, crossing: &Crossing, frame: &Frame<'_>, room: &mut Room) -> Outcome
-    requires room { 1 ≤ core.old.room }
-    requires few { length core.old.journal < 2 ^ 32 - 1 }
+pub fn transit(
+    port: &mut SolePort,
+    crossing: &Crossing,
+    frame: &Frame<'_>,
+    room: &mut Room,
+) -> Outcome
+    requires room { 1 ≤ port.old.room }
+    requires caller { crossing.now.caller < port.old.workers }
     requires of { IsOfFrame crossing.now (parts frame.now) }
-    ensures next { IsNext core.old.opening core.old.journal (record { deed = Carried crossing.now (parts frame.now) result.fate (bytes_in result.fate room.new); entry = result.entry; count = length core.old.journal }) }
-    ensures exact { told result.fate result.entry room.new (layers_of core.new) ≡ met (is_short result.fate) (layers_of core.old) crossing.now (parts frame.now) }
-    ensures memory { MayBeShort (is_short result.fate) (layers_of core.old) crossing.now }
-    ensures journal { core.new.journal ≡ core.old.journal ++ entered result.entry (event.Crossing crossing.now result.fate) }
-    ensures opening { core.new.opening ≡ core.old.opening }
+    ensures next { IsNext port.old.opening port.old.journal (record { deed = Carried crossing.now (parts frame.now) result.fate (bytes_in result.fate room.new); entry = result.entry; count = length port.old.journal }) }
+    ensures exact { told result.fate result.entry room.new (layers_of port.new) ≡ met (is_short result.fate) (layers_of port.old) crossing.now (parts frame.now) }
+    ensures memory { MayBeShort (is_short result.fate) (layers_of port.old) crossing.now }
+    ensures journal { port.new.journal ≡ port.old.journal ++ entered result.entry (event.Crossing crossing.now result.fate) }
+    ensures opening { port.new.opening ≡ port.old.opening }
+    ensures workers { port.new.workers ≡ port.old.workers }
     ensures len { len_of result.fate ≤ 65700 }
 {
     // It tells the proof that the packet's headers are those of a frame.
     let _ = crossing.id.stack.headers();
-    let outcome = core.slow(crossing);
-    leave(frame, core.edited(), outcome, room);
+    let outcome = port.cross(crossing);
+    leave(frame, port.edited(), outcome, room);
     outcome
 }

@@ -13,8 +13,9 @@ use Rattle.vsw_merge.specs.Line.{TextLine, text_of}
 use Rattle.vsw_policy.specs.declared.refusal.Reply.{Reply}
 use Rattle.vsw_policy.specs.Layers.{place_of}
 use Rattle.vsw_policy.specs.Sound.{is_listed}
-use Rattle.vsw_port.specs.Core.{CoreSeen, entered}
+use Rattle.vsw_port.specs.Core.{entered}
 use Rattle.vsw_report.specs.declared.told.By.TheVariants as by
+use Rattle.vsw_sole.specs.Sole.{SoleSeen}
 use Rattle.vsw_report.specs.declared.told.What.TheVariants as what
 use Rattle.vsw_switch.specs.Does.{Does, told_at}
 use Rattle.vsw_switch.specs.Switch.{PortNow}
@@ -25,8 +26,8 @@ entered_is : (b : Bool) (d : Deed) (n : ℕ) → entered b (event_of d) ≡ entr
 entered_is true d n = refl
 entered_is false d n = refl
 
--- a core before a call, with room, and after it
-pub record Moves (old mid new : CoreSeen) (d : Deed) (entry : Bool) (count : ℕ) : Type 0 where
+-- a port before a call, with room, and after it
+pub record Moves (old mid new : SoleSeen) (d : Deed) (entry : Bool) (count : ℕ) : Type 0 where
   pub mid_opening : mid.opening ≡ old.opening
   pub mid_journal : mid.journal ≡ old.journal
   pub count_is : count ≡ length old.journal
@@ -36,14 +37,14 @@ pub record Moves (old mid new : CoreSeen) (d : Deed) (entry : Bool) (count : ℕ
 abbrev pub call_of : Deed → Bool → ℕ → Call
 call_of d entry count = record { deed = d; entry = entry; count = count }
 
-opening_is : (old mid new : CoreSeen) (d : Deed) (entry : Bool) (count : ℕ) → Moves old mid new d entry count → new.opening ≡ old.opening
+opening_is : (old mid new : SoleSeen) (d : Deed) (entry : Bool) (count : ℕ) → Moves old mid new d entry count → new.opening ≡ old.opening
 opening_is old mid new d entry count m = m.opening ∙ m.mid_opening
 
-journal_is : (old mid new : CoreSeen) (d : Deed) (entry : Bool) (count : ℕ) → Moves old mid new d entry count → new.journal ≡ old.journal ++ entries_of (call_of d entry count ∷ [])
+journal_is : (old mid new : SoleSeen) (d : Deed) (entry : Bool) (count : ℕ) → Moves old mid new d entry count → new.journal ≡ old.journal ++ entries_of (call_of d entry count ∷ [])
 journal_is old mid new d entry count m = m.journal ∙ ap₂ (λ x y. x ++ y) m.mid_journal (entered_is entry d count)
 
 -- the call of a packet
-pub carried : (number mac before : ℕ) (old mid new : CoreSeen) (ws us cs : List (List TextLine)) (tally after last : Tally) (p : PortNow) (x : Crossing) (parts : Parts) (fate : Fate) (bytes : List ℕ) (entry : Bool) (count : ℕ) (r : Result ⊤ NoMemory)
+pub carried : (number mac before : ℕ) (old mid new : SoleSeen) (ws us cs : List (List TextLine)) (tally after last : Tally) (p : PortNow) (x : Crossing) (parts : Parts) (fate : Fate) (bytes : List ℕ) (entry : Bool) (count : ℕ) (r : Result ⊤ NoMemory)
     → record { number = number; mac = mac; opening = old.opening; journal = old.journal; before = before; workers = ws; controllers = cs; tally = tally; last = last } ≡ p → after ≡ both tally (tally_of fate)
     → Moves old mid new (Carried x parts fate bytes) entry count → IsNext mid.opening mid.journal (call_of (Carried x parts fate bytes) entry (length mid.journal)) → x.caller < length p.workers
     → OnOk r (us ≡ told_at x.caller (text_of (record { by = by.Worker x.caller; item = x.packet; entry = entry; count = count; what = what.Fate fate bytes })) ws)
@@ -64,7 +65,7 @@ carried number mac before old mid new ws us cs tally after last p x parts fate b
     })
 
 -- the call of a command
-pub asked : (number mac before : ℕ) (old mid new : CoreSeen) (ws cs ds : List (List TextLine)) (tally last : Tally) (listed : List ℕ) (p : PortNow) (l : Line) (reply : Reply) (entry : Bool) (count place : ℕ) (r : Result ⊤ NoMemory)
+pub asked : (number mac before : ℕ) (old mid new : SoleSeen) (ws cs ds : List (List TextLine)) (tally last : Tally) (listed : List ℕ) (p : PortNow) (l : Line) (reply : Reply) (entry : Bool) (count place : ℕ) (r : Result ⊤ NoMemory)
     → record { number = number; mac = mac; opening = old.opening; journal = old.journal; before = before; workers = ws; controllers = cs; tally = tally; last = last } ≡ p
     → Moves old mid new (Asked l reply) entry count → IsDone mid.opening mid.journal (Asked l reply) entry → is_listed p.opening.controllers l.controller ≡ true
     → place ≡ place_of l.controller listed → listed ≡ ascending old.opening.controllers

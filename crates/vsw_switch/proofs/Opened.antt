@@ -1,5 +1,6 @@
 -- A switch before the first round.
 use Rattle.std.proofs.Common.{◌≡◌, ◌≢◌, ◌<◌, ◌≤◌, ℕ, zero, suc, ◌==◌, true, false, List, [], ◌∷◌, length, map, replicate, slice_index_or, refl, ap, sym, ◌∙◌, subst, arith, ne_eqb}
+use Rattle.std.specs.Prelude.{All}
 use Rattle.std.specs.List.{AllPairs}
 use Rattle.std.proofs.lemmas.List.{length-map}
 use Rattle.vsw_commandfile.specs.declared.line.Line.{Line}
@@ -15,7 +16,7 @@ use Rattle.vsw_port.specs.Core.{AreAtMost}
 use Rattle.vsw_ports.specs.declared.port.Port.{Port}
 use Rattle.vsw_ports.specs.Ports.{PortSeen, in_order, port_of, port_seen, ports_of, whole}
 use Rattle.vsw_merge.specs.Line.{TextLine}
-use Rattle.vsw_switch.specs.Stay.{ArePorts, port_at_first}
+use Rattle.vsw_switch.specs.Stay.{ArePorts, CanOpen, port_at_first}
 use Rattle.vsw_switch.specs.Switch.{AllStandAt, AreServed, PortNow, SwitchNow}
 
 -- ---- callers
@@ -38,13 +39,17 @@ layers_first : (cs : List ℕ) (ls : List LayerFile) → AreAtMost 0 (in_order c
 layers_first cs [] = tt
 layers_first cs (l ∷ ls) = each-placed (λ m. m.next_pair ≤ 0) cs (whole l) (in_order cs (map whole ls)) (layers_first cs ls) (omega arith)
 
-all_fresh : (cs : List ℕ) (ps : List PortFile) → Each (λ p. AreAtMost 0 p.layers) (map (port_of cs) ps)
-all_fresh cs [] = tt
-all_fresh cs (p ∷ ps) = (layers_first cs p.layers, all_fresh cs ps)
+all_open : (cs : List ℕ) (ps : List PortFile) → length cs ≤ 8 → All (λ p. (8 ≤ p.rows) × (p.rows ≤ 16384)) ps → Each CanOpen (map (port_of cs) ps)
+all_open cs [] few rows = tt
+all_open cs (p ∷ ps) few rows = (record { fresh = layers_first cs p.layers; few = few; rows = rows 0 p (omega arith) }, all_open cs ps few (λ i d lt. rows (suc i) d (omega (arith, lt))))
 
--- the layers that a policy gives have made no pair
-pub made_fresh : (f : PolicyFile) (made : List Port) → map port_seen made ≡ ports_of f → Each (λ p. AreAtMost 0 p.layers) (map port_seen made)
-made_fresh f made e = subst (Each (λ p. AreAtMost 0 p.layers)) (sym e) (all_fresh f.controllers f.ports)
+good_open : (f : PolicyFile) → IsGoodPolicy f → Each CanOpen (ports_of f)
+unfolding IsGoodPolicy AreGoodPorts
+good_open f g = all_open f.controllers f.ports g.0 g.2.4
+
+-- the ports that a good policy gives can be opened
+pub made_open : (f : PolicyFile) (made : List Port) → IsGoodPolicy f → map port_seen made ≡ ports_of f → Each CanOpen (map port_seen made)
+made_open f made good e = subst (Each CanOpen) (sym e) (good_open f good)
 
 -- ---- numbers
 

@@ -5,6 +5,7 @@ use Rattle.vsw_history.specs.Order.{ascending, counted}
 use Rattle.vsw_merge.specs.Line.{TextLine}
 use Rattle.vsw_pcap.specs.declared.capture.Record.{Record}
 use Rattle.vsw_policy.specs.Sound.{Each, are_distinct}
+use Rattle.vsw_port.specs.Core.{AreAtMost}
 use Rattle.vsw_ports.specs.Ports.{PortSeen}
 use Rattle.vsw_promise.specs.Jobs.{aim_of, placed_packet}
 use Rattle.vsw_promise.specs.Rounds.{opening_of}
@@ -23,8 +24,15 @@ pub record Standing : Type 0 where
 abbrev pub standing : PortNow → Standing
 standing p = record { number = p.number; mac = p.mac; opening = p.opening; workers = length p.workers }
 
--- a port has lines of its controllers in ascending order, and counts its entries in 32 bits
-pub record IsPort (opening : Opening) (listed : List ℕ) (before entries : ℕ) (controllers : List (List TextLine)) : Type 0 where
+-- a port of a policy can be opened: none of its layers has made a pair, and its controllers and rows are as many as a policy may give
+pub record CanOpen (p : PortSeen) : Type 0 where
+  pub fresh : AreAtMost 0 p.layers
+  pub few : length p.controllers ≤ 8
+  pub rows : (8 ≤ p.rows) × (p.rows ≤ 16384)
+
+-- a port has lines of the workers that bring it packets, and of its controllers in ascending order, and counts its entries in 32 bits
+pub record IsPort (opening : Opening) (listed : List ℕ) (before entries bring : ℕ) (workers controllers : List (List TextLine)) : Type 0 where
+  pub brings : bring ≡ length workers
   pub listed_are : listed ≡ ascending opening.controllers
   pub lines : length controllers ≡ length listed
   pub low : before ≤ entries

@@ -5,11 +5,10 @@ ghost use Rattle.vsw_frame.specs.Frame.{parts};
 ghost use Rattle.vsw_history.specs.Calls.{Ask, Carry};
 ghost use Rattle.vsw_policy.specs.Obey.{rules_given};
 ghost use Rattle.vsw_policy.specs.Sound.{Each, IsGoodRule, is_listed};
-ghost use Rattle.vsw_port.specs.Core.{AreAtMost};
 ghost use Rattle.vsw_ports.specs.Ports.{port_seen};
 ghost use Rattle.vsw_switch.specs.Close.{IsCounted, begun, is_short_now, text_now};
 ghost use Rattle.vsw_switch.specs.Does.{Does};
-ghost use Rattle.vsw_switch.specs.Stay.{port_at_first, standing};
+ghost use Rattle.vsw_switch.specs.Stay.{CanOpen, port_at_first, standing};
 ghost use Rattle.vsw_transit.specs.Transit.{IsOfFrame};
 
 use crate::callers::{callers, tell_packet, tell_reply};
@@ -21,17 +20,20 @@ use vsw_base::{Crossing, Mac, NoMemory};
 use vsw_commandfile::Line;
 use vsw_frame::Frame;
 use vsw_merge::{Caller, merge};
-use vsw_port::Core;
 use vsw_ports::Port;
 use vsw_report::port_line;
+use vsw_sole::SolePort;
 use vsw_transit::{Room, transit};
+
+/// How many rows of a port are reconciled at the end of a round.
+const RECONCILED: u32 = 256;
 
 /// A port, with what is told of it in this round.
 #[derive(Drop)]
 pub(crate) struct Live {
     number: u16,
     mac: Mac,
-    core: Core,
+    port: SolePort,
     /// Entries of its history when the round began.
     before: u32,
     /// By number.
@@ -53,41 +55,43 @@ impl Model for Live {
 
     ghost Value = { PortNow };
 
-    ghost view = { λ s. record { number = s.number; mac = s.mac; opening = s.core.opening; journal = s.core.journal; before = s.before; workers = s.workers.items; controllers = s.controllers.items; tally = s.tally; last = s.last } };
+    ghost view = { λ s. record { number = s.number; mac = s.mac; opening = s.port.opening; journal = s.port.journal; before = s.before; workers = s.workers.items; controllers = s.controllers.items; tally = s.tally; last = s.last } };
 
-    ghost invariant = { λ s. IsPort s.core.opening s.listed.items s.before (length s.core.journal) s.controllers.items };
+    ghost invariant = { λ s. IsPort s.port.opening s.listed.items s.before (length s.port.journal) s.port.workers s.workers.items s.controllers.items };
 }
 
 /// Takes room for one more entry, and answers its count. A history that has no such count takes no more entries.
-fn reserve(core: &mut Core) -> Result<u32, NoMemory>
-    ensures count { IfOk result (λ count. count ≡ length core.old.journal) }
+fn reserve(port: &mut SolePort) -> Result<u32, NoMemory>
+    ensures count { IfOk result (λ count. count ≡ length port.old.journal) }
     ensures few { IfOk result (λ count. count < 2 ^ 32 - 1) }
-    ensures room { OnOk result (1 ≤ core.new.room) }
-    ensures opening { core.new.opening ≡ core.old.opening }
-    ensures journal { core.new.journal ≡ core.old.journal }
+    ensures room { OnOk result (1 ≤ port.new.room) }
+    ensures opening { port.new.opening ≡ port.old.opening }
+    ensures journal { port.new.journal ≡ port.old.journal }
+    ensures workers { port.new.workers ≡ port.old.workers }
 {
-    let count = core.journal().len();
+    let count = port.journal().len();
     if count >= u32::MAX as usize {
         return Err(NoMemory);
     }
-    core.reserve(1)?;
+    port.reserve(1)?;
     Ok(count as u32)
 }
 
 impl Live {
-    /// A port before the first round, none of whose layers has made a pair.
+    /// A port before the first round.
     pub(crate) fn open(alloc: Global, workers: u32, port: Port) -> Result<Live, NoMemory>
-        requires fresh { AreAtMost 0 port.policy.layers }
+        requires can { CanOpen (port_seen port) }
+        requires few { workers ≤ 16 }
         ensures { IfOk result (λ live. live ≡ port_at_first workers (port_seen port)) }
     {
         let listed = ascending(alloc, port.policy.controllers())?;
         let controllers = callers(alloc, listed.len())?;
+        let sole = SolePort::open(alloc, port.policy, port.rows, workers)?;
         let workers = callers(alloc, workers as usize)?;
-        let core = Core::open(alloc, port.policy)?;
         Ok(Live {
             number: port.number,
             mac: port.mac,
-            core,
+            port: sole,
             before: 0,
             workers,
             controllers,
@@ -109,8 +113,8 @@ impl Live {
         ensures does { OnOk result (Does self.old (Carry crossing.now (parts frame.now)) self.new) }
         ensures stays { standing self.new ≡ standing self.old }
     {
-        let count = reserve(&mut self.core)?;
-        let outcome = transit(&mut self.core, crossing, frame, room);
+        let count = reserve(&mut self.port)?;
+        let outcome = transit(&mut self.port, crossing, frame, room);
         let tally = self.tally.and(Tally::of(outcome.fate))?;
         self.tally = tally;
         tell_packet(&mut self.workers, crossing, count, outcome, room)
@@ -123,9 +127,9 @@ impl Live {
         ensures does { OnOk result (Does self.old (Ask line.now) self.new) }
         ensures stays { standing self.new ≡ standing self.old }
     {
-        let count = reserve(&mut self.core)?;
+        let count = reserve(&mut self.port)?;
         let answer = self
-            .core
+            .port
             .command(line.number, line.controller, &line.command);
         let place = place_of(&self.listed, line.controller);
         tell_reply(&mut self.controllers, place, line, count, answer)
@@ -138,7 +142,7 @@ impl Live {
         ensures begun { IsCounted self.old → OnOk result (self.new ≡ begun self.old) }
         ensures stays { standing self.new ≡ standing self.old }
     {
-        let after = self.core.count();
+        let after = self.port.count();
         port_line(out, self.number, self.before, after)?;
         let short = merge(
             &mut self.workers,
@@ -147,6 +151,7 @@ impl Live {
             after,
             out,
         )?;
+        self.port.reconcile(RECONCILED);
         self.before = after;
         self.last = self.tally;
         self.tally = Tally::none();
@@ -164,6 +169,6 @@ impl Live {
     pub(crate) fn entries(&self) -> u32
         ensures { result ≡ length self.now.journal }
     {
-        self.core.count()
+        self.port.count()
     }
 }

@@ -8,12 +8,11 @@ ghost use Rattle.vsw_history.specs.Calls.{Ask, Carry};
 ghost use Rattle.vsw_policy.specs.Obey.{rules_given};
 ghost use Rattle.vsw_policy.specs.Sound.{Each, IsGoodRule, are_distinct, is_listed};
 ghost use Rattle.vsw_policyfile.specs.Good.{IsGoodPolicy};
-ghost use Rattle.vsw_port.specs.Core.{AreAtMost};
 ghost use Rattle.vsw_ports.specs.Ports.{port_seen, ports_of};
 ghost use Rattle.vsw_promise.specs.Jobs.{crossing_by, worker_of};
 ghost use Rattle.vsw_switch.specs.Close.{AreCounted, IsCounted, begun, entries_in, is_short_now, last_of, next_round, round_now, text_now};
 ghost use Rattle.vsw_switch.specs.Does.{Asks, DoesAt, Forwards, numbers_in};
-ghost use Rattle.vsw_switch.specs.Stay.{ArePorts, Arrives, port_at_first, standing};
+ghost use Rattle.vsw_switch.specs.Stay.{ArePorts, Arrives, CanOpen, port_at_first, standing};
 ghost use Rattle.vsw_switch.specs.Switch.{AreServed, IsAt, IsServed, SwitchNow};
 
 use crate::live::Live;
@@ -57,7 +56,8 @@ impl Model for Switch {
 
 /// The ports before the first round.
 fn open_all(alloc: Global, workers: u32, made: Items<Port>) -> Result<Vec<Live>, NoMemory>
-    requires fresh { Each (λ p. AreAtMost 0 p.layers) (map port_seen made) }
+    requires can { Each CanOpen (map port_seen made) }
+    requires few { workers ≤ 16 }
     ensures { IfOk result (λ ports. ports.items ≡ map (port_at_first workers) (map port_seen made)) }
 {
     let mut ports = Vec::new(alloc);

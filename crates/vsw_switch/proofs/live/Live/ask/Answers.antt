@@ -13,9 +13,9 @@ pub tell_reply-requires : goal.tell_reply-requires
 tell_reply-requires c =
     let s = c.self.inside in
     let n = c.args.line.now.controller in
-    let known : is_listed s.core.opening.controllers n ≡ true = ap (λ (p : PortNow). is_listed p.opening.controllers n) c.self.view_is ∙ c.requires.listed in
-    let listed : s.listed.items ≡ ascending s.core.opening.controllers = c.self.invariant.listed_are in
-    let within : place_of n s.listed.items < length s.listed.items = subst (λ ns. place_of n ns < length ns) (sym listed) (place_within (ascending s.core.opening.controllers) n (ascending_listed s.core.opening.controllers n known)) in
+    let known : is_listed s.port.opening.controllers n ≡ true = ap (λ (p : PortNow). is_listed p.opening.controllers n) c.self.view_is ∙ c.requires.listed in
+    let listed : s.listed.items ≡ ascending s.port.opening.controllers = c.self.invariant.listed_are in
+    let within : place_of n s.listed.items < length s.listed.items = subst (λ ns. place_of n ns < length ns) (sym listed) (place_within (ascending s.port.opening.controllers) n (ascending_listed s.port.opening.controllers n known)) in
     let place : c.place_of-place.result ≡ place_of n s.listed.items = c.place_of-place.ensures.value ∙ ap (place_of n) c.deref.ensures.value in
     record { place = omega (arith, within, place, c.self.invariant.lines) }
 
@@ -23,6 +23,6 @@ pub returns-clause-does : goal.returns-clause-does
 returns-clause-does c =
     let s = c.self.inside in
     let answer = c.command-answer.result in
-    asked s.number s.mac s.before s.core c.reserve.new.core c.command-answer.new.self s.workers.items s.controllers.items c.tell_reply.new.controllers.items s.tally s.last s.listed.items c.args.self.now c.args.line.now (reply_of answer) (not (is_memory answer)) c.in_ok-count.count c.place_of-place.result c.tell_reply.result
+    asked s.number s.mac s.before s.port c.reserve.new.port c.command-answer.new.self s.workers.items s.controllers.items c.tell_reply.new.controllers.items s.tally s.last s.listed.items c.args.self.now c.args.line.now (reply_of answer) (not (is_memory answer)) c.in_ok-count.count c.place_of-place.result c.tell_reply.result
     c.self.view_is (record { mid_opening = c.reserve.ensures.opening; mid_journal = c.reserve.ensures.journal; count_is = c.in_ok-count.ensures.count; opening = c.command-answer.ensures.opening; journal = c.command-answer.ensures.journal })
     (c.command-answer.ensures.done c.args.line.now refl refl refl) c.requires.listed (c.place_of-place.ensures.value ∙ ap (place_of c.args.line.now.controller) c.deref.ensures.value) c.self.invariant.listed_are c.tell_reply.ensures.told

@@ -1,9 +1,9 @@
 use Rattle.std.proofs.Common.{◌∙◌, refl, ap, map}
-use Rattle.vsw_switch.proofs.Opened.{all_stand, are_ports, made_fresh, served_first}
+use Rattle.vsw_switch.proofs.Opened.{all_stand, are_ports, made_open, served_first}
 use Rattle.vsw_switch.proofs.switch.Switch.open.Goals as goal
 
 pub open_all-requires : goal.open_all-requires
-open_all-requires c = record { fresh = made_fresh c.args.file.now c.in_ok-made.made c.in_ok-made.ensures }
+open_all-requires c = record { can = made_open c.args.file.now c.in_ok-made.made c.requires.good c.in_ok-made.ensures; few = c.requires.few }
 
 pub invariant_of-result : goal.invariant_of-result
 invariant_of-result c =

@@ -179,6 +179,13 @@ impl SolePort {
         self.core.journal().len() as u32
     }
 
+    /// How many workers bring packets: their numbers are below.
+    pub fn workers(&self) -> u32
+        ensures { result ≡ self.now.workers }
+    {
+        self.workers
+    }
+
     /// Takes room for so many further entries.
     pub fn reserve(&mut self, more: u32) -> Result<(), NoMemory>
         ensures opening { self.new.opening ≡ self.old.opening }

@@ -23,7 +23,8 @@ room_if : (c : Call) (cs : List Call) (b : Bool) → c.entry ≡ b → c.count +
 room_if c cs true e = rw e (omega arith)
 room_if c cs false e = rw e refl
 
-drop_at : {A : Type 0} (n : ℕ) (h : List A) (e : A) → slice_get h n ≡ Some e → drop n h ≡ e ∷ drop (suc n) h
+-- what is left from a place on begins with the element there
+pub drop_at : {A : Type 0} (n : ℕ) (h : List A) (e : A) → slice_get h n ≡ Some e → drop n h ≡ e ∷ drop (suc n) h
 drop_at n [] e g = absurd cc
 drop_at zero (x ∷ h) e g = cc g
 drop_at (suc n) (x ∷ h) e g = drop_at n h e g

@@ -1,0 +1,68 @@
+-- The lanes of an actor, one a port.
+use Rattle.std.specs.Prelude.{◌≡◌, ◌≤◌, ◌<◌, ℕ, suc, List, [], ◌∷◌, length, take}
+use Rattle.vsw_history.specs.declared.event.Event.{Event}
+use Rattle.vsw_history.specs.Calls.{Job, Call, job_doer, entries_naming}
+use Rattle.vsw_ports.specs.Ports.{PortSeen}
+use Rattle.vsw_many.specs.Passes.{PassNow}
+use Rattle.vsw_many.specs.Phases.{Track}
+use Rattle.vsw_actors.specs.declared.lane.Lane.{Lane}
+
+-- ---- what a lane has done
+
+-- a pass as it rested, when it had seen so many entries
+abbrev pub start_of : List ℕ → ℕ → PassNow → PassNow
+start_of cs base p = record { number = p.number; front = take base p.front; receipts = entries_naming cs p.number (take base p.front) }
+
+-- the history on which a lane began
+abbrev pub front_of : {S : Type 0} → (S → PassNow) → Lane S → List Event
+front_of pass_in l = take l.base (pass_in l.seat).front
+
+abbrev pub fronts_of : {S : Type 0} → (S → PassNow) → List (Lane S) → List (List Event)
+fronts_of pass_in [] = []
+fronts_of pass_in (l ∷ ls) = front_of pass_in l ∷ fronts_of pass_in ls
+
+-- a track is that of a lane: it leads from the pass as it rested to the pass as it is, and the seat tells its calls
+pub record IsTold {S : Type 0} (pass_in : S → PassNow) (tells : S → List Call → Type 0) (cs : List ℕ) (l : Lane S) (t : Track) : Type 0 where
+  pub start : t.start ≡ start_of cs l.base (pass_in l.seat)
+  pub now : t.now ≡ pass_in l.seat
+  pub calls : tells l.seat t.calls
+
+abbrev pub AreTold : {P S : Type 0} → (P → PortSeen) → (S → PassNow) → (S → List Call → Type 0) → List P → List (Lane S) → List Track → Type 0
+AreTold port_in pass_in tells [] [] [] = Unit {0}
+AreTold port_in pass_in tells (p ∷ ps) (l ∷ ls) (t ∷ ts) = IsTold pass_in tells (port_in p).controllers l t × AreTold port_in pass_in tells ps ls ts
+AreTold port_in pass_in tells _ _ _ = ⊥
+
+-- ---- what a lane may do
+
+-- a lane of actor k at a port, with room for so many entries more
+pub record IsFit {P S : Type 0} (pass_in : S → PassNow) (is_of : P → S → Type 0) (permits : S → ℕ) (k more : ℕ) (p : P) (l : Lane S) : Type 0 where
+  pub seat : is_of p l.seat
+  pub number : (pass_in l.seat).number ≡ k
+  pub based : l.base ≤ length (pass_in l.seat).front
+  pub room : more ≤ permits l.seat
+
+abbrev pub AreFit : {P S : Type 0} → (S → PassNow) → (P → S → Type 0) → (S → ℕ) → ℕ → ℕ → List P → List (Lane S) → Type 0
+AreFit pass_in is_of permits k more [] [] = Unit {0}
+AreFit pass_in is_of permits k more (p ∷ ps) (l ∷ ls) = IsFit pass_in is_of permits k more p l × AreFit pass_in is_of permits k more ps ls
+AreFit pass_in is_of permits k more _ _ = ⊥
+
+-- a lane that may do this job at a port
+pub record IsUsable {J P S : Type 0} (port_in : P → PortSeen) (pass_in : S → PassNow) (job_in : J → Job) (is_of : P → S → Type 0) (permits : S → ℕ) (j : J) (p : P) (l : Lane S) : Type 0 where
+  pub seat : is_of p l.seat
+  pub own : job_doer (port_in p).controllers (job_in j) ≡ (pass_in l.seat).number
+  pub based : l.base ≤ length (pass_in l.seat).front
+  pub permit : 0 < permits l.seat
+
+abbrev pub IsReady : {J P S : Type 0} → (P → PortSeen) → (S → PassNow) → (J → Job) → (P → S → Type 0) → (S → ℕ) → J → List P → List (Lane S) → Type 0
+IsReady port_in pass_in job_in is_of permits j (p ∷ ps) (l ∷ ls) = IsUsable port_in pass_in job_in is_of permits j p l × IsReady port_in pass_in job_in is_of permits j ps ls
+IsReady port_in pass_in job_in is_of permits j _ _ = Unit {0}
+
+-- the port at this place, if it is among these, from that place on, takes the job
+abbrev pub IsTaken : {J P : Type 0} → (P → J → Type 0) → ℕ → ℕ → J → List P → Type 0
+IsTaken takes at place j [] = Unit {0}
+IsTaken takes at place j (p ∷ ps) = ((at ≡ place) → takes p j) × IsTaken takes (suc at) place j ps
+
+-- the job is the actor's, at whatever port
+abbrev pub IsOwn : {J P : Type 0} → (P → PortSeen) → (J → Job) → ℕ → J → List P → Type 0
+IsOwn port_in job_in k j [] = Unit {0}
+IsOwn port_in job_in k j (p ∷ ps) = (job_doer (port_in p).controllers (job_in j) ≡ k) × IsOwn port_in job_in k j ps

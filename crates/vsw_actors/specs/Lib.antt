@@ -1,0 +1,3 @@
+pub mod Actors
+pub mod Ends
+pub mod Lanes

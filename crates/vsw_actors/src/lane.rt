@@ -1,0 +1,64 @@
+//! An actor's seat in the midst of a round.
+
+ghost use Rattle.std.specs.Prelude.{◌≡◌, ◌<◌, ◌+◌, ℕ, List, length, map};
+ghost use Rattle.vsw_many.specs.Actors.{Moves, Does};
+ghost use Rattle.vsw_many.specs.Phases.{Track};
+ghost use Rattle.vsw_promise.specs.Rounds.{opening_of};
+ghost use Rattle.vsw_actors.specs.Lanes.{AreFit, AreTold, IsFit, IsReady, IsTaken, IsTold, IsUsable, front_of, fronts_of};
+
+use crate::port::Port;
+use std::alloc::Global;
+use std::sync::Wait;
+
+/// A seat of an actor, and how many entries of the port's history its pass had seen as the round began.
+#[derive(Drop)]
+pub struct Lane<S> {
+    pub seat: S,
+    pub base: usize,
+}
+
+/// Does a job at a port.
+pub fn step<J, P: Port<J>, R: Wait>(
+    rt: &R,
+    alloc: Global,
+    port: &P,
+    lane: &mut Lane<P::Seat>,
+    job: &J,
+)
+    requires usable { IsUsable P.port_in P.pass_in P.job_in P.is_of P.permits job.now port.now lane.old }
+    requires taken { P.takes port.now job.now }
+    ensures moves { (t : Track) → IsTold P.pass_in P.tells (P.port_in port.now).controllers lane.old t → (u : Track) × IsTold P.pass_in P.tells (P.port_in port.now).controllers lane.new u × Moves (opening_of (P.port_in port.now)) (P.job_in job.now) t u }
+    ensures fit { (k : ℕ) (more : ℕ) → IsFit P.pass_in P.is_of P.permits k (more + 1) port.now lane.old → IsFit P.pass_in P.is_of P.permits k more port.now lane.new }
+    ensures front { front_of P.pass_in lane.new ≡ front_of P.pass_in lane.old }
+{
+    port.work(rt, alloc, &mut lane.seat, job);
+}
+
+/// Does a job at the port at this place, where the first port here has the place `at`.
+pub fn step_at<J, P: Port<J>, R: Wait>(
+    rt: &R,
+    alloc: Global,
+    ports: &[P],
+    lanes: &mut [Lane<P::Seat>],
+    at: usize,
+    place: usize,
+    job: &J,
+)
+    requires same { length ports.now ≡ length lanes.old }
+    requires small { at + length ports.now < 65536 }
+    requires ready { IsReady P.port_in P.pass_in P.job_in P.is_of P.permits job.now ports.now lanes.old }
+    requires taken { IsTaken P.takes at place job.now ports.now }
+    ensures does { (ts : List Track) → AreTold P.port_in P.pass_in P.tells ports.now lanes.old ts → (us : List Track) × AreTold P.port_in P.pass_in P.tells ports.now lanes.new us × Does at place (P.job_in job.now) (map P.port_in ports.now) ts us }
+    ensures fit { (k : ℕ) (more : ℕ) → AreFit P.pass_in P.is_of P.permits k (more + 1) ports.now lanes.old → AreFit P.pass_in P.is_of P.permits k more ports.now lanes.new }
+    ensures fronts { fronts_of P.pass_in lanes.new ≡ fronts_of P.pass_in lanes.old }
+{
+    if let Some((port, others)) = ports.split_first() {
+        if let Some((lane, rest)) = lanes.split_first_mut() {
+            if at == place {
+                step(rt, alloc, port, lane, job);
+            } else {
+                step_at(rt, alloc, others, rest, at + 1, place, job);
+            }
+        }
+    }
+}

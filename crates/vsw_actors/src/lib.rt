@@ -1,0 +1,12 @@
+//! Actors of a round: a worker with its packets, a controller with its commands.
+#![tactic(auto)]
+
+mod actor;
+mod lane;
+mod law;
+mod port;
+
+pub use actor::{Actor, Begun, Placed};
+pub use lane::{Lane, step, step_at};
+pub use law::actor_laws;
+pub use port::Port;

@@ -52,7 +52,7 @@ fn least<'a>(rules: &'a [Rule], packet: &Packet<'_>) -> Option<&'a Rule>
 }
 
 /// Whether the group is of this direction and all its conditions hold.
-fn applies(group: &Group, dir: Dir, packet: &Packet<'_>) -> bool
+pub fn applies(group: &Group, dir: Dir, packet: &Packet<'_>) -> bool
     ensures { result ≡ spec.applies dir packet.now group.now }
 {
     group.dir == dir && (group.when.is_empty() || all_hold(group.when.as_slice(), packet))
@@ -68,7 +68,7 @@ fn asks(group: &Group, dir: Dir) -> bool
 
 /// How many groups are left without those at the end that no packet of this direction meets a rule of.
 #[inline(always)]
-fn asked(dir: Dir, groups: &[Group]) -> usize
+pub fn asked(dir: Dir, groups: &[Group]) -> usize
     ensures within { result ≤ length groups.now }
     ensures rest { (hs : List Header) → from_end dir (drop result groups.now) hs ≡ None }
 {
@@ -85,7 +85,7 @@ fn asked(dir: Dir, groups: &[Group]) -> usize
 /// Whether a pick is chosen, where later groups choose this: one marked last is, at once; any other gives
 /// way to what later groups choose.
 #[inline(always)]
-fn wins(picked: &Rule, later: Option<&Rule>) -> bool
+pub fn wins(picked: &Rule, later: Option<&Rule>) -> bool
     ensures { result ≡ (picked.now.last || is_none (option_copied later.entry)) }
 {
     picked.last || later.is_none()

@@ -3,4 +3,4 @@
 
 mod choice;
 
-pub use choice::{Choice, choose, pick};
+pub use choice::{Choice, applies, asked, choose, pick, wins};

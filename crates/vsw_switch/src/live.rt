@@ -25,7 +25,7 @@ use vsw_report::port_line;
 use vsw_sole::SolePort;
 use vsw_transit::{Room, transit};
 
-/// How many rows of a port are reconciled at the end of a round.
+/// The most rows of a port that are reconciled at the end of a round.
 const RECONCILED: u32 = 256;
 
 /// A port, with what is told of it in this round.
@@ -75,6 +75,16 @@ fn reserve(port: &mut SolePort) -> Result<u32, NoMemory>
     }
     port.reserve(1)?;
     Ok(count as u32)
+}
+
+/// How many rows are reconciled after a round with these packets: one for four packets, so that rounds of few cost little.
+fn rows_after(tally: Tally) -> u32 {
+    let rows = tally.pass / 4 + tally.drop / 4;
+    if rows < u64::from(RECONCILED) {
+        rows as u32
+    } else {
+        RECONCILED
+    }
 }
 
 impl Live {
@@ -151,7 +161,7 @@ impl Live {
             after,
             out,
         )?;
-        self.port.reconcile(RECONCILED);
+        self.port.reconcile(rows_after(self.tally));
         self.before = after;
         self.last = self.tally;
         self.tally = Tally::none();

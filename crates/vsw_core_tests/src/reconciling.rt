@@ -1,6 +1,6 @@
 //! Rows that are compared with the layers of now, as those see them who read without the lock.
 
-ghost use Rattle.std.specs.Prelude.{◌≡◌, ◌≤◌, ◌<◌, ◌+◌, []};
+ghost use Rattle.std.specs.Prelude.{◌≡◌, ◌≤◌, ◌<◌, ◌+◌, [], true};
 ghost use Rattle.vsw_core.specs.Core.{Begins, IsOf};
 
 use crate::given::is_good;
@@ -70,10 +70,30 @@ fn controller_of(lookup: &Lookup<PortStory>, writer: &mut Writer<PortStory>) -> 
     ensures pass { IsOf lookup.now result × (result.view.number ≡ 16) }
     ensures fresh { (result.view.permits ≡ 0) × (result.view.receipts ≡ []) }
 {
-    for number in 1..16 {
+    for number in 1..16u32 {
         let _worker = writer.pass(lookup);
     }
     writer.pass(lookup)
+}
+
+/// Whether memory was there for the entries that a new pass may make.
+fn has_permits(
+    core: &mut Core,
+    lookup: &Lookup<PortStory>,
+    pass: &mut Pass<PortStory>,
+) -> bool
+    requires core { IsOf lookup.now core.old.writer }
+    requires pass { IsOf lookup.now pass.old }
+    requires fresh { (pass.old.view.permits ≡ 0) × (pass.old.view.receipts ≡ []) }
+    ensures core { IsOf lookup.now core.new.writer }
+    ensures pass { IsOf lookup.now pass.new }
+    ensures number { pass.new.view.number ≡ pass.old.view.number }
+    ensures permits { result ≡ true → 100 ≤ pass.new.view.permits }
+{
+    match core.grant(lookup, pass, PERMITS) {
+        Ok(()) => true,
+        Err(_) => false,
+    }
 }
 
 /// The source port of inner headers that end with ports.
@@ -107,10 +127,10 @@ impl Port {
         let Ok(mut core) = Core::open(alloc, policy, writer) else {
             return None;
         };
-        if core.grant(&lookup, &mut worker, PERMITS).is_err() {
+        if !has_permits(&mut core, &lookup, &mut worker) {
             return None;
         }
-        if core.grant(&lookup, &mut controller, PERMITS).is_err() {
+        if !has_permits(&mut core, &lookup, &mut controller) {
             return None;
         }
         Some(Port {
@@ -125,15 +145,14 @@ impl Port {
 
     /// A packet of worker 0 crosses the layers: whether it is an entry, and its fate.
     fn send(&mut self, id: &Ufid, moment: u64) -> Option<(bool, Fate)> {
-        if self.sends == 0 {
+        let crossing = packet(id, Control::None, moment);
+        if self.sends == 0 || crossing.caller != 0 {
             return None;
         }
         self.sends -= 1;
-        let outcome = self.core.slow(
-            &self.lookup,
-            &mut self.worker,
-            &packet(id, Control::None, moment),
-        );
+        let outcome = self
+            .core
+            .slow(&self.lookup, &mut self.worker, &crossing);
         Some((outcome.entry, outcome.fate))
     }
 

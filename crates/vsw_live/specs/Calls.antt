@@ -1,0 +1,104 @@
+-- What a caller's call on a shared port gives it.
+use Rattle.std.specs.Prelude.{◌≡◌, ◌≢◌, ◌<◌, ◌≤◌, ◌+◌, ◌++◌, ℕ, List, [], ◌∷◌, Bool, true, false, length, Option, Some, None}
+use mathlib.Core.List.{IsPrefix}
+use Rattle.vsw_answer.specs.Answers.{HitsInTime, Misses, Pass}
+use Rattle.vsw_base.specs.declared.fate.Fate.{Fate}
+use Rattle.vsw_base.specs.declared.flow.Crossing.{Crossing}
+use Rattle.vsw_base.specs.declared.packet.Control.TheVariants as control
+use Rattle.vsw_base.specs.Frame.{Parts}
+use Rattle.vsw_commandfile.specs.declared.line.Line.{Line}
+use Rattle.vsw_core.specs.Core.{Looking}
+use Rattle.vsw_history.specs.declared.event.Event.{Event}
+use Rattle.vsw_history.specs.Calls.{Asked, Call, Carried, HasBytes, IsCall, IsRead, entries_of, next_count}
+use Rattle.vsw_history.specs.History.{Opening, replay}
+use Rattle.vsw_lean.specs.Good.{Good, Row}
+use Rattle.vsw_live.specs.declared.answer.Fast.{Fast}
+use Rattle.vsw_live.specs.declared.answer.Fast.TheVariants.{Done, Slow}
+use Rattle.vsw_live.specs.declared.answer.Told.{Told}
+use Rattle.vsw_live.specs.declared.why.Why.{Why}
+use Rattle.vsw_live.specs.declared.why.Why.TheVariants.{Control, Miss, Late}
+use Rattle.vsw_live.specs.Seen.{AnswerSeen, UnitSeen}
+use Rattle.vsw_lookup.specs.Rules as lookup
+use Rattle.vsw_lookup.specs.Rules.{one_if}
+use Rattle.vsw_rows.specs.Rows.{Writing}
+use Rattle.vsw_story.specs.Rows.{opening_of}
+use Rattle.vsw_transit.specs.Transit.{bytes_in, len_of}
+
+-- the call of a packet that was answered so, with its bytes at the front of a room
+abbrev pub call_of : UnitSeen → AnswerSeen → List ℕ → Call
+call_of u a out = record { deed = Carried u.crossing u.parts a.fate (bytes_in a.fate out); entry = a.entry; count = a.count }
+
+-- the call of a line that was told so
+abbrev pub asked : Line → Told → Call
+asked l t = record { deed = Asked l t.reply; entry = t.entry; count = t.count }
+
+-- a pass made a call: it is one of the history that the pass then has seen, with its bytes there, at a count that isn't below what the pass
+-- had seen. The pass has seen the call and nothing after it. Its receipts grow by the call's entry, which takes a permit, and nothing else does
+pub record Crosses (o : Opening) (p q : Writing) (c : Call) : Type 0 where
+  pub table : q.table ≡ p.table
+  pub number : q.view.number ≡ p.view.number
+  pub opens : q.view.opening ≡ p.view.opening
+  pub seen : IsPrefix p.view.front q.view.front
+  pub call : IsCall o q.view.front c
+  pub shows : HasBytes o q.view.front c
+  pub low : length p.view.front ≤ c.count
+  pub last : next_count c ≡ length q.view.front
+  pub receipts : q.view.receipts ≡ p.view.receipts ++ entries_of (c ∷ [])
+  pub permits : p.view.permits ≡ q.view.permits + one_if c.entry
+
+-- a pass has looked, and has seen no less
+pub record Looks (p q : Writing) : Type 0 where
+  pub table : q.table ≡ p.table
+  pub reads : lookup.IsRead p.view q.view
+
+-- a row of the packet's identity, hit by a look of this call and good after this history, has an until below the packet's moment
+pub record HitsLate (l : Looking) (x : Crossing) (p q : Pass) (h : List Event) : Type 0 where
+  pub control : x.control ≡ control.None
+  pub begun : p.closed < q.closed
+  pub row : Row
+  pub id : row.id ≡ x.id
+  pub good : Good (replay (opening_of l.1) h) row
+  pub late : row.until < x.moment
+
+-- why no row answers a packet, whose look had then seen this history. A packet with a control isn't looked for
+abbrev pub Causes : Looking → Crossing → Pass → Pass → List Event → Why → Type 0
+Causes l x p q h Control = (x.control ≢ control.None) × (q.closed ≡ p.closed)
+Causes l x p q h Miss = Misses l x p q
+Causes l x p q h Late = HitsLate l x p q h
+
+-- a row answered the packet: it has no control, and a look of this call hit a row of its identity in time
+pub record IsByRow (l : Looking) (x : Crossing) (p q : Pass) (a : AnswerSeen) : Type 0 where
+  pub control : x.control ≡ control.None
+  pub hit : HitsInTime l x p q
+  pub read : a.entry ≡ false
+
+-- why a packet's answer is no row's, if it isn't, and what its look had seen
+pub record HasCause (l : Looking) (x : Crossing) (p q : Pass) (why : Why) : Type 0 where
+  pub history : List Event
+  pub after : IsPrefix p.front history
+  pub before : IsPrefix history q.front
+  pub causes : Causes l x p q history why
+
+abbrev pub TellsWhy : Looking → Crossing → Pass → Pass → AnswerSeen → Option Why → Type 0
+TellsWhy l x p q a None = IsByRow l x p q a
+TellsWhy l x p q a (Some why) = HasCause l x p q why
+
+-- what the pass's last look saw stays
+pub record KeepsLook (p q : Pass) : Type 0 where
+  pub closed : q.closed ≡ p.closed
+  pub last : q.last ≡ p.last
+  pub generation : q.last_generation ≡ p.last_generation
+
+-- a row answered the packet, as a read of the history that the pass then has seen; or none did, for this cause, and the pass has only looked
+abbrev pub IsFast : Looking → UnitSeen → Writing → Writing → List ℕ → Fast → Type 0
+IsFast l u p q out (Done a) =
+    Crosses (opening_of l.1) p q (call_of u a out) × IsRead (opening_of l.1) q.view.front (call_of u a out) × (a.why ≡ None) × IsByRow l u.crossing p.view q.view a
+IsFast l u p q out (Slow t) = Looks p q × (t.unit ≡ u) × Causes l u.crossing p.view q.view q.view.front t.why
+
+-- a packet that passes fits the room
+abbrev pub FitsRoom : Fate → Type 0
+FitsRoom fate = len_of fate ≤ 65700
+
+abbrev pub DoneFits : Fast → Type 0
+DoneFits (Done a) = FitsRoom a.fate
+DoneFits (Slow t) = Unit {0}

@@ -1,0 +1,5 @@
+pub mod Calls
+pub mod Seen
+pub mod Ports
+pub mod Meeting
+pub mod Private

@@ -1,0 +1,55 @@
+-- What lies under a port's lock, and what its calls tell.
+use Rattle.std.specs.Prelude.{◌≡◌, ◌⊎◌, ◌<◌, ℕ, List, Bool, take}
+use Rattle.vsw_answer.specs.Answers.{Pass}
+use Rattle.vsw_base.specs.declared.fate.Cause.TheVariants.{Memory}
+use Rattle.vsw_base.specs.declared.fate.Fate.{Fate}
+use Rattle.vsw_base.specs.declared.fate.Fate.TheVariants.{Drop}
+use Rattle.vsw_base.specs.declared.flow.Crossing.{Crossing}
+use Rattle.vsw_base.specs.declared.header.Header.{Header}
+use Rattle.vsw_base.specs.Frame.{Parts}
+use Rattle.vsw_commit.specs.Fate.{fate_at}
+use Rattle.vsw_core.specs.Core.{CoreSeen, IsOf, Looking}
+use Rattle.vsw_history.specs.declared.event.Event.{Event}
+use Rattle.vsw_history.specs.Calls.{Call, Carried, HasBytes}
+use Rattle.vsw_history.specs.History.{AllRight, Opening, replay}
+use Rattle.vsw_layer.specs.Layer.{LayerSeen}
+use Rattle.vsw_live.specs.Calls.{Crosses}
+use Rattle.vsw_live.specs.Ports.{PortSeen, StandsAt}
+use Rattle.vsw_port.specs.declared.crossing.Outcome.{Outcome}
+use Rattle.vsw_port.specs.Crossed.{EditsPass}
+use Rattle.vsw_rows.specs.Rows.{Writing}
+use Rattle.vsw_story.specs.Rows.{opening_of}
+
+-- the writer is that of the port at this place, counts its passes, and has a right history
+pub record IsLocked (ports : List PortSeen) (place : ℕ) (v : Writing) : Type 0 where
+  pub port : PortSeen
+  pub there : StandsAt ports place port
+  pub of : IsOf port.looking v
+  pub counts : v.view.passes ≡ port.passes
+  pub right : AllRight (opening_of port.looking.1) v.view.history
+
+-- a writer stays of its table, its opening and its passes
+pub record Stays (v w : Writing) : Type 0 where
+  pub table : w.table ≡ v.table
+  pub opens : w.view.opening ≡ v.view.opening
+  pub passes : w.view.passes ≡ v.view.passes
+
+-- the port at this place has this lookup
+abbrev pub HasLookup : List PortSeen → ℕ → Looking → Type 0
+HasLookup ports place l = (n : ℕ) × StandsAt ports place (record { looking = l; passes = n })
+
+-- a packet has the fate of its crossing at these layers, or memory was wanting
+abbrev pub IsFateAt : List LayerSeen → Crossing → Fate → Type 0
+IsFateAt ls x fate = (fate ≡ fate_at ls x) ⊎ (fate ≡ Drop Memory)
+
+-- the layers with which a packet meets, after so many entries
+abbrev pub layers_met : Opening → Pass → ℕ → List LayerSeen
+layers_met o q count = replay o (take count q.front)
+
+-- the call of a packet with any frame
+abbrev pub carried : Crossing → Parts → List ℕ → Outcome → ℕ → Call
+carried x p bytes outcome count = record { deed = Carried x p outcome.fate bytes; entry = outcome.entry; count = count }
+
+-- a packet crossed under the lock: with the right bytes it is a call
+abbrev pub CrossesSo : Opening → Writing → Writing → Crossing → Outcome → ℕ → Type 0
+CrossesSo o p q x outcome count = (parts : Parts) (bytes : List ℕ) → HasBytes o q.view.front (carried x parts bytes outcome count) → Crosses o p q (carried x parts bytes outcome count)

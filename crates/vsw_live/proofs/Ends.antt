@@ -60,3 +60,15 @@ crosses_at o h k p q d e entry count right seen many named done some_left grown 
     let front_is : take count q.view.front ≡ h = ap (λ (w : Writing). take count w.view.front) q_is ∙ taken_front h (entered entry (event_of d)) count many in
     let here : ShowsAt (replay o h) d = subst (λ f. ShowsAt (replay o f) d) front_is shows in
     subst (λ w. Crosses o p w c) (sym q_is) (crosses_end o h p d entry count right seen many done some_left here)
+
+-- the same where the pass has met the journal first
+pub crosses_met : (o : Opening) (h g k : List Event) (p m q : Writing) (d : Deed) (e : Event) (entry : Bool) (count : ℕ) → AllRight o h → IsPrefix p.view.front h → count ≡ length h → g ≡ h → m ≡ record p { view = record p.view { front = h } }
+    → event_of d ≡ e → IsDone o g d entry → 0 < p.view.permits → k ≡ g ++ entered entry e → q ≡ record m { view = called m.view k (entered entry e) }
+    → HasBytes o q.view.front (record { deed = d; entry = entry; count = count }) → Crosses o p q (record { deed = d; entry = entry; count = count })
+crosses_met o h g k p m q d e entry count right seen many same met named done some_left grown is shows =
+    crosses_at o h k p q d e entry count right seen many named (subst (λ f. IsDone o f d entry) same done) some_left (grown ∙ ap (λ f. f ++ entered entry e) same)
+    (is ∙ ap (λ (w : Writing). record w { view = called w.view k (entered entry e) }) met) shows
+
+-- what the pass has seen before the call
+pub met_front : (h g k es : List Event) (m q : Writing) (count : ℕ) → count ≡ length h → g ≡ h → k ≡ g ++ es → q ≡ record m { view = called m.view k es } → take count q.view.front ≡ h
+met_front h g k es m q count many same grown is = ap (λ (w : Writing). take count w.view.front) is ∙ (ap (λ f. take count f) grown ∙ (ap (λ f. take count (f ++ es)) same ∙ taken_front h es count many))

@@ -1,2 +1,6 @@
 pub mod Ends
 pub mod Under
+pub mod Passing
+pub mod Fasts
+pub mod Answered
+pub mod Openings

@@ -5,7 +5,9 @@ use mathlib.Core.List.{IsPrefix}
 use Rattle.vsw_base.specs.declared.fate.Fate.{Fate}
 use Rattle.vsw_base.specs.declared.flow.Crossing.{Crossing}
 use Rattle.vsw_base.specs.Frame.{Parts}
-use Rattle.vsw_core.specs.Core.{IsOf, Looking}
+use Rattle.std.specs.Prelude.{OnOk, Result, Ok, Err}
+use Rattle.vsw_base.specs.declared.fault.NoMemory.{NoMemory}
+use Rattle.vsw_core.specs.Core.{CoreSeen, IsOf, Looking}
 use Rattle.vsw_history.specs.declared.event.Event.{Event}
 use Rattle.vsw_history.specs.Calls.{Carried, entries_naming, named}
 use Rattle.vsw_history.specs.History.{AllRight, Opening, replay}
@@ -85,3 +87,18 @@ stays_same v w e = record { table = ap (λ (u : Writing). u.table) e; opens = ap
 
 pub stays_trans : (u v w : Writing) → Stays u v → Stays v w → Stays u w
 stays_trans u v w a b = record { table = b.table ∙ a.table; opens = b.opens ∙ a.opens; passes = b.passes ∙ a.passes }
+
+pub granted : (r : Result (Unit {0}) NoMemory) (ports : List PortSeen) (place : ℕ) (core : CoreSeen) (s : ℕ × CoreSeen) (l : Looking) (more : ℕ) (k : List ℕ) (w p q : Writing) → (place, core) ≡ s → IsLocked ports place core.writer → HasLookup ports s.0 l
+    → OnOk r (w ≡ record core.writer { view = record core.writer.view { kept = k } }) → OnOk r (q ≡ record p { view = record p.view { front = core.writer.view.history; permits = p.view.permits + more } })
+    → OnOk r (lookup.Meets (λ o e. named o.controllers e) l.1 w.view q.view) → OnOk r (AllRight (opening_of l.1) w.view.history) → OnOk r (IsPrefix p.view.front q.view.front)
+    → OnOk r ((n : ℕ) → StandsAt ports s.0 (record { looking = l; passes = n }) → Meets (record { port = record { looking = l; passes = n }; history = s.1.writer.view.history }) more p q)
+granted r ports place core s l more k w p q at i has0 = subst (λ t. HasLookup ports t.0 l
+    → OnOk r (w ≡ record core.writer { view = record core.writer.view { kept = k } }) → OnOk r (q ≡ record p { view = record p.view { front = core.writer.view.history; permits = p.view.permits + more } })
+    → OnOk r (lookup.Meets (λ o e. named o.controllers e) l.1 w.view q.view) → OnOk r (AllRight (opening_of l.1) w.view.history) → OnOk r (IsPrefix p.view.front q.view.front)
+    → OnOk r ((n : ℕ) → StandsAt ports t.0 (record { looking = l; passes = n }) → Meets (record { port = record { looking = l; passes = n }; history = t.1.writer.view.history }) more p q)) at (here r) has0
+  where
+    here : (r : Result (Unit {0}) NoMemory) → HasLookup ports place l → OnOk r (w ≡ record core.writer { view = record core.writer.view { kept = k } }) → OnOk r (q ≡ record p { view = record p.view { front = core.writer.view.history; permits = p.view.permits + more } })
+        → OnOk r (lookup.Meets (λ o e. named o.controllers e) l.1 w.view q.view) → OnOk r (AllRight (opening_of l.1) w.view.history) → OnOk r (IsPrefix p.view.front q.view.front)
+        → OnOk r ((n : ℕ) → StandsAt ports place (record { looking = l; passes = n }) → Meets (record { port = record { looking = l; passes = n }; history = core.writer.view.history }) more p q)
+    here (Ok u) has a b m right seen = λ n there. meets_of l n more core.writer.view.history w p q (ap (λ (v : Writing). v.view.history) a) (ap (λ (v : Writing). v.view.passes) a ∙ counts_there ports place n l core.writer i there) seen b m (subst (AllRight (opening_of l.1)) (ap (λ (v : Writing). v.view.history) a) right)
+    here (Err e) has a b m right seen = tt

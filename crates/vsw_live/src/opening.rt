@@ -1,8 +1,7 @@
 //! Ports are opened, and then named.
 
 ghost use Rattle.std.specs.Prelude.{◌≡◌, ◌≤◌, ◌<◌, ◌+◌, ◌++◌, ◌∷◌, [], length, IfOk, OnOk};
-ghost use Rattle.vsw_core.specs.Core.{Begins};
-ghost use Rattle.vsw_live.specs.Ports.{AreNewPasses, OpenSeen, StandsAt, items_of, passes_of, ports_of};
+ghost use Rattle.vsw_live.specs.Ports.{AreNewPasses, StandsAt};
 ghost use Rattle.vsw_live.specs.Private.Opening.{HasPasses};
 ghost use Rattle.vsw_lookup.specs.Rules.{first_view};
 ghost use Rattle.vsw_port.specs.Core.{AreAtMost};
@@ -38,6 +37,18 @@ impl Model for OpenPort {
     ghost invariant = { λ o. HasPasses o.lookup o.count o.core.writer o.passes.items };
 }
 
+fn put_pass(
+    passes: &mut Vec<Pass<PortStory>>,
+    pass: Pass<PortStory>,
+) -> Result<(), NoMemory>
+    ensures { OnOk result (passes.new.items ≡ passes.old.items ++ pass ∷ []) }
+{
+    match passes.push(pass) {
+        Ok(()) => Ok(()),
+        Err(_) => Err(NoMemory),
+    }
+}
+
 /// One pass more.
 fn add_pass(
     passes: &mut Vec<Pass<PortStory>>,
@@ -49,10 +60,8 @@ fn add_pass(
     requires has { HasPasses lookup.now count writer.old passes.old.items }
     ensures has { OnOk result (HasPasses lookup.now (count + 1) writer.new passes.new.items) }
 {
-    match passes.push(writer.pass(lookup)) {
-        Ok(()) => Ok(()),
-        Err(_) => Err(NoMemory),
-    }
+    let pass = writer.pass(lookup);
+    put_pass(passes, pass)
 }
 
 /// So many passes of a new writer.
@@ -116,34 +125,4 @@ impl OpenPort {
         let locked = Locked::new(place, core);
         (LivePort::of(place, count, lookup, locked), passes)
     }
-}
-
-/// Takes the first port out.
-fn first(ports: &mut Vec<OpenPort>) -> OpenPort
-    requires { 0 < length ports.old.items }
-    ensures { ports.old.items ≡ result ∷ ports.new.items }
-{
-    ports.remove(0)
-}
-
-/// Names all ports of a run by their places, in the order of the list, and gives the passes of each.
-pub fn name_all<J: Naming>(
-    alloc: Global,
-    opened: Vec<OpenPort>,
-) -> Result<(Vec<LivePort<J>>, Vec<Vec<Pass<PortStory>>>), NoMemory>
-    requires ports { J.ports ≡ ports_of opened.items }
-    ensures ports { IfOk result (λ r. r.0.items ≡ ports_of opened.items) }
-    ensures passes { IfOk result (λ r. items_of r.1.items ≡ passes_of opened.items) }
-{
-    let mut left = opened;
-    let mut ports = Vec::new(alloc);
-    let mut passes = Vec::new(alloc);
-    while !left.is_empty() {
-        let place = ports.len();
-        let (port, own) = first(&mut left).named::<J>(place);
-        if ports.push(port).is_err() || passes.push(own).is_err() {
-            return Err(NoMemory);
-        }
-    }
-    Ok((ports, passes))
 }

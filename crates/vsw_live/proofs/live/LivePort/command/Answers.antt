@@ -1,0 +1,12 @@
+use Rattle.std.proofs.Common.{◌≡◌, rules, subst}
+use Rattle.vsw_commandfile.specs.declared.line.Line.{Line}
+use Rattle.vsw_live.specs.Calls.{Crosses, asked}
+use Rattle.vsw_live.specs.Ports.{PortSeen}
+use Rattle.vsw_story.specs.Rows.{opening_of}
+use Rattle.vsw_live.proofs.live.LivePort.command.Goals as goal
+
+pub command-requires-clause-port : goal.command-requires-clause-port
+command-requires-clause-port g c = (c.self.inside.passes, search rules)
+
+pub returns : goal.returns
+returns g c = record { crosses = subst (λ (s : PortSeen). (l : Line) → l.number ≡ c.args.line → l.controller ≡ c.args.controller → l.command ≡ c.args.command.now → Crosses (opening_of s.looking.1) c.args.pass.now c.command.new.pass (asked l c.command.result)) c.self.view_is c.command.ensures.crosses }

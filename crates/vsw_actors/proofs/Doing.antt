@@ -38,7 +38,7 @@ first_track o base k p counted rest = record {
 
 -- the tracks of lanes that begin
 abbrev first_tracks : {P S : Type 0} → (P → PortSeen) → (S → PassNow) → List P → List (Lane S) → List Track
-first_tracks port_in pass_in (p ∷ ps) (l ∷ ls) = record { start = start_of (port_in p).controllers l.base (pass_in l.seat); now = pass_in l.seat; calls = [] } ∷ first_tracks port_in pass_in ps ls
+first_tracks port_in pass_in (p ∷ ps) (l ∷ ls) = record { start = start_of (port_in p).controllers l.base (pass_in l.station); now = pass_in l.station; calls = [] } ∷ first_tracks port_in pass_in ps ls
 first_tracks port_in pass_in _ _ = []
 
 first_told : {P S : Type 0} (port_in : P → PortSeen) (pass_in : S → PassNow) (tells : S → List Call → Type 0) (k : ℕ) (ps : List P) (ls : List (Lane S)) → Begins port_in pass_in tells k ps ls → AreTold port_in pass_in tells ps ls (first_tracks port_in pass_in ps ls)
@@ -49,7 +49,7 @@ first_told port_in pass_in tells k (p ∷ ps) [] b = absurd b
 
 first_work : {P S : Type 0} (port_in : P → PortSeen) (pass_in : S → PassNow) (tells : S → List Call → Type 0) (i k : ℕ) (ps : List P) (ls : List (Lane S)) → Begins port_in pass_in tells k ps ls → AtWork i k (map port_in ps) (fronts_of pass_in ls) (first_tracks port_in pass_in ps ls) []
 first_work port_in pass_in tells i k [] [] b = tt
-first_work port_in pass_in tells i k (p ∷ ps) (l ∷ ls) b = (first_track (opening_of (port_in p)) l.base k (pass_in l.seat) b.0 b.1, refl, first_work port_in pass_in tells (suc i) k ps ls b.3)
+first_work port_in pass_in tells i k (p ∷ ps) (l ∷ ls) b = (first_track (opening_of (port_in p)) l.base k (pass_in l.station) b.0 b.1, refl, first_work port_in pass_in tells (suc i) k ps ls b.3)
 first_work port_in pass_in tells i k [] (l ∷ ls) b = absurd b
 first_work port_in pass_in tells i k (p ∷ ps) [] b = absurd b
 
@@ -91,7 +91,7 @@ pub ready_of : {J P S : Type 0} (port_in : P → PortSeen) (pass_in : S → Pass
     → IsReady port_in pass_in job_in is_of permits j ps ls
 ready_of port_in pass_in job_in is_of permits k more j [] ls own f = tt
 ready_of port_in pass_in job_in is_of permits k more j (p ∷ ps) [] own f = tt
-ready_of port_in pass_in job_in is_of permits k more j (p ∷ ps) (l ∷ ls) own f = (record { seat = f.0.seat; own = own.0 ∙ sym f.0.number; based = f.0.based; permit = omega (arith, f.0.room) }, ready_of port_in pass_in job_in is_of permits k more j ps ls own.1 f.1)
+ready_of port_in pass_in job_in is_of permits k more j (p ∷ ps) (l ∷ ls) own f = (record { station = f.0.station; own = own.0 ∙ sym f.0.number; based = f.0.based; permit = omega (arith, f.0.room) }, ready_of port_in pass_in job_in is_of permits k more j ps ls own.1 f.1)
 
 own_at_all : {J P : Type 0} (port_in : P → PortSeen) (job_in : J → Job) (k : ℕ) (j : J) (ps : List P) → IsOwn port_in job_in k j ps → Each (λ p. job_doer p.controllers (job_in j) ≡ k) (map port_in ps)
 own_at_all port_in job_in k j [] own = tt

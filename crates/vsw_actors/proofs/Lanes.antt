@@ -12,7 +12,7 @@ use Rattle.vsw_many.specs.Phases.{Track}
 use Rattle.vsw_actors.specs.declared.lane.Lane.{Lane}
 use Rattle.vsw_actors.specs.Lanes.{start_of, front_of, fronts_of, IsTold, AreTold, IsFit, AreFit, IsOwn, IsReady}
 
--- a pass does a job, and its seat tells it
+-- a pass does a job, and its station tells it
 abbrev pub Worked : {S : Type 0} → (S → PassNow) → (S → List Call → Type 0) → Opening → Job → S → S → Type 0
 Worked pass_in tells o j r s = (c : Call) × Crosses o (pass_in r) (pass_in s) j c × ((calls : List Call) → tells r calls → tells s (calls ++ c ∷ []))
 
@@ -21,31 +21,31 @@ start_stays o base p q j c x le =
     let front : take base q.front ≡ take base p.front = prefix_take p.front q.front base x.seen le in
     λ i. record { number = x.number i; front = front i; receipts = entries_naming o.controllers (x.number i) (front i) }
 
-pub lane_moves : {S : Type 0} (pass_in : S → PassNow) (tells : S → List Call → Type 0) (o : Opening) (j : Job) (l m : Lane S) → m.base ≡ l.base → l.base ≤ length (pass_in l.seat).front → Worked pass_in tells o j l.seat m.seat
+pub lane_moves : {S : Type 0} (pass_in : S → PassNow) (tells : S → List Call → Type 0) (o : Opening) (j : Job) (l m : Lane S) → m.base ≡ l.base → l.base ≤ length (pass_in l.station).front → Worked pass_in tells o j l.station m.station
     → (t : Track) → IsTold pass_in tells o.controllers l t → (u : Track) × IsTold pass_in tells o.controllers m u × Moves o j t u
 lane_moves pass_in tells o j l m base le w t told =
-    let stays : start_of o.controllers m.base (pass_in m.seat) ≡ start_of o.controllers l.base (pass_in l.seat) = ap (λ n. start_of o.controllers n (pass_in m.seat)) base ∙ start_stays o l.base (pass_in l.seat) (pass_in m.seat) j w.0 w.1 le in (
-      record { start = t.start; now = pass_in m.seat; calls = t.calls ++ w.0 ∷ [] },
+    let stays : start_of o.controllers m.base (pass_in m.station) ≡ start_of o.controllers l.base (pass_in l.station) = ap (λ n. start_of o.controllers n (pass_in m.station)) base ∙ start_stays o l.base (pass_in l.station) (pass_in m.station) j w.0 w.1 le in (
+      record { start = t.start; now = pass_in m.station; calls = t.calls ++ w.0 ∷ [] },
       record { start = told.start ∙ sym stays; now = refl; calls = w.2 t.calls told.calls },
-      record { call = w.0; crosses = subst (λ p. Crosses o p (pass_in m.seat) j w.0) (sym told.now) w.1; start = refl; calls = refl },
+      record { call = w.0; crosses = subst (λ p. Crosses o p (pass_in m.station) j w.0) (sym told.now) w.1; start = refl; calls = refl },
     )
 
-pub lane_front : {S : Type 0} (pass_in : S → PassNow) (tells : S → List Call → Type 0) (o : Opening) (j : Job) (l m : Lane S) → m.base ≡ l.base → l.base ≤ length (pass_in l.seat).front → Worked pass_in tells o j l.seat m.seat → front_of pass_in m ≡ front_of pass_in l
-lane_front pass_in tells o j l m base le w = ap (λ n. take n (pass_in m.seat).front) base ∙ prefix_take (pass_in l.seat).front (pass_in m.seat).front l.base w.1.seen le
+pub lane_front : {S : Type 0} (pass_in : S → PassNow) (tells : S → List Call → Type 0) (o : Opening) (j : Job) (l m : Lane S) → m.base ≡ l.base → l.base ≤ length (pass_in l.station).front → Worked pass_in tells o j l.station m.station → front_of pass_in m ≡ front_of pass_in l
+lane_front pass_in tells o j l m base le w = ap (λ n. take n (pass_in m.station).front) base ∙ prefix_take (pass_in l.station).front (pass_in m.station).front l.base w.1.seen le
 
-pub lane_fit : {P S : Type 0} (pass_in : S → PassNow) (tells : S → List Call → Type 0) (is_of : P → S → Type 0) (permits : S → ℕ) (o : Opening) (j : Job) (p : P) (l m : Lane S) → m.base ≡ l.base → is_of p m.seat → permits l.seat ≤ permits m.seat + 1 → Worked pass_in tells o j l.seat m.seat
+pub lane_fit : {P S : Type 0} (pass_in : S → PassNow) (tells : S → List Call → Type 0) (is_of : P → S → Type 0) (permits : S → ℕ) (o : Opening) (j : Job) (p : P) (l m : Lane S) → m.base ≡ l.base → is_of p m.station → permits l.station ≤ permits m.station + 1 → Worked pass_in tells o j l.station m.station
     → (k more : ℕ) → IsFit pass_in is_of permits k (more + 1) p l → IsFit pass_in is_of permits k more p m
-lane_fit pass_in tells is_of permits o j p l m base seat spent w k more f = record {
-  seat = seat;
+lane_fit pass_in tells is_of permits o j p l m base station spent w k more f = record {
+  station = station;
   number = w.1.number ∙ f.number;
-  based = omega (arith, base, f.based, prefix_length (pass_in l.seat).front (pass_in m.seat).front w.1.seen);
+  based = omega (arith, base, f.based, prefix_length (pass_in l.station).front (pass_in m.station).front w.1.seen);
   room = omega (arith, f.room, spent);
 }
 
 -- ---- lanes at other ports
 
 lane_spares : {P S : Type 0} (pass_in : S → PassNow) (is_of : P → S → Type 0) (permits : S → ℕ) (k more : ℕ) (p : P) (l : Lane S) → IsFit pass_in is_of permits k (more + 1) p l → IsFit pass_in is_of permits k more p l
-lane_spares pass_in is_of permits k more p l f = record { seat = f.seat; number = f.number; based = f.based; room = omega (arith, f.room) }
+lane_spares pass_in is_of permits k more p l f = record { station = f.station; number = f.number; based = f.based; room = omega (arith, f.room) }
 
 lanes_spare : {P S : Type 0} (pass_in : S → PassNow) (is_of : P → S → Type 0) (permits : S → ℕ) (k more : ℕ) (ps : List P) (ls : List (Lane S)) → AreFit pass_in is_of permits k (more + 1) ps ls → AreFit pass_in is_of permits k more ps ls
 lanes_spare pass_in is_of permits k more [] [] f = tt

@@ -14,16 +14,16 @@ use Rattle.vsw_actors.specs.Actors.{placed_of}
 -- the pass of each lane meets its port, whose history is this, and is then this pass
 abbrev pub AllMet : {P S : Type 0} → (P → PortSeen) → (S → PassNow) → List P → List (List Event) → List (Lane S) → List PassNow → Type 0
 AllMet port_in pass_in [] [] [] [] = Unit {0}
-AllMet port_in pass_in (p ∷ ps) (g ∷ gs) (l ∷ ls) (q ∷ qs) = Meets (opening_of (port_in p)) g (pass_in l.seat) q × AllMet port_in pass_in ps gs ls qs
+AllMet port_in pass_in (p ∷ ps) (g ∷ gs) (l ∷ ls) (q ∷ qs) = Meets (opening_of (port_in p)) g (pass_in l.station) q × AllMet port_in pass_in ps gs ls qs
 AllMet port_in pass_in _ _ _ _ = ⊥
 
--- the seat of each lane tells the calls of the round's lane at its port
+-- the station of each lane tells the calls of the round's lane at its port
 abbrev pub AllTell : {S : Type 0} → (S → List Call → Type 0) → List (Lane S) → List many.Lane → Type 0
 AllTell tells [] [] = Unit {0}
-AllTell tells (l ∷ ls) (m ∷ ms) = tells l.seat m.track.calls × AllTell tells ls ms
+AllTell tells (l ∷ ls) (m ∷ ms) = tells l.station m.track.calls × AllTell tells ls ms
 AllTell tells _ _ = ⊥
 
--- actor k has done these jobs while the ports' histories grew from those to these: the seats tell its calls, and its passes rest again
+-- actor k has done these jobs while the ports' histories grew from those to these: the stations tell its calls, and its passes rest again
 pub record IsWorked {J P S : Type 0} (port_in : P → PortSeen) (job_in : J → Job) (tells : S → List Call → Type 0) (k : ℕ) (ps : List P) (hs gs : List (List Event)) (ls : List (Lane S)) (qs : List PassNow) (done : List (Placed J)) : Type 0 where
   pub row : List many.Lane
   pub worked : HasWorked 0 k (map port_in ps) hs gs row (map (placed_of job_in) done)

@@ -15,17 +15,17 @@ start_of cs base p = record { number = p.number; front = take base p.front; rece
 
 -- the history on which a lane began
 abbrev pub front_of : {S : Type 0} → (S → PassNow) → Lane S → List Event
-front_of pass_in l = take l.base (pass_in l.seat).front
+front_of pass_in l = take l.base (pass_in l.station).front
 
 abbrev pub fronts_of : {S : Type 0} → (S → PassNow) → List (Lane S) → List (List Event)
 fronts_of pass_in [] = []
 fronts_of pass_in (l ∷ ls) = front_of pass_in l ∷ fronts_of pass_in ls
 
--- a track is that of a lane: it leads from the pass as it rested to the pass as it is, and the seat tells its calls
+-- a track is that of a lane: it leads from the pass as it rested to the pass as it is, and the station tells its calls
 pub record IsTold {S : Type 0} (pass_in : S → PassNow) (tells : S → List Call → Type 0) (cs : List ℕ) (l : Lane S) (t : Track) : Type 0 where
-  pub start : t.start ≡ start_of cs l.base (pass_in l.seat)
-  pub now : t.now ≡ pass_in l.seat
-  pub calls : tells l.seat t.calls
+  pub start : t.start ≡ start_of cs l.base (pass_in l.station)
+  pub now : t.now ≡ pass_in l.station
+  pub calls : tells l.station t.calls
 
 abbrev pub AreTold : {P S : Type 0} → (P → PortSeen) → (S → PassNow) → (S → List Call → Type 0) → List P → List (Lane S) → List Track → Type 0
 AreTold port_in pass_in tells [] [] [] = Unit {0}
@@ -36,10 +36,10 @@ AreTold port_in pass_in tells _ _ _ = ⊥
 
 -- a lane of actor k at a port, with room for so many entries more
 pub record IsFit {P S : Type 0} (pass_in : S → PassNow) (is_of : P → S → Type 0) (permits : S → ℕ) (k more : ℕ) (p : P) (l : Lane S) : Type 0 where
-  pub seat : is_of p l.seat
-  pub number : (pass_in l.seat).number ≡ k
-  pub based : l.base ≤ length (pass_in l.seat).front
-  pub room : more ≤ permits l.seat
+  pub station : is_of p l.station
+  pub number : (pass_in l.station).number ≡ k
+  pub based : l.base ≤ length (pass_in l.station).front
+  pub room : more ≤ permits l.station
 
 abbrev pub AreFit : {P S : Type 0} → (S → PassNow) → (P → S → Type 0) → (S → ℕ) → ℕ → ℕ → List P → List (Lane S) → Type 0
 AreFit pass_in is_of permits k more [] [] = Unit {0}
@@ -48,10 +48,10 @@ AreFit pass_in is_of permits k more _ _ = ⊥
 
 -- a lane that may do this job at a port
 pub record IsUsable {J P S : Type 0} (port_in : P → PortSeen) (pass_in : S → PassNow) (job_in : J → Job) (is_of : P → S → Type 0) (permits : S → ℕ) (j : J) (p : P) (l : Lane S) : Type 0 where
-  pub seat : is_of p l.seat
-  pub own : job_doer (port_in p).controllers (job_in j) ≡ (pass_in l.seat).number
-  pub based : l.base ≤ length (pass_in l.seat).front
-  pub permit : 0 < permits l.seat
+  pub station : is_of p l.station
+  pub own : job_doer (port_in p).controllers (job_in j) ≡ (pass_in l.station).number
+  pub based : l.base ≤ length (pass_in l.station).front
+  pub permit : 0 < permits l.station
 
 abbrev pub IsReady : {J P S : Type 0} → (P → PortSeen) → (S → PassNow) → (J → Job) → (P → S → Type 0) → (S → ℕ) → J → List P → List (Lane S) → Type 0
 IsReady port_in pass_in job_in is_of permits j (p ∷ ps) (l ∷ ls) = IsUsable port_in pass_in job_in is_of permits j p l × IsReady port_in pass_in job_in is_of permits j ps ls

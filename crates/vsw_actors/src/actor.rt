@@ -4,6 +4,7 @@ ghost use Rattle.std.specs.Prelude.{◌≡◌, ◌<◌, ◌≤◌, ◌+◌, ◌-
 ghost use Rattle.vsw_many.specs.Phases.{Track};
 ghost use Rattle.vsw_many.specs.Actors.{Does};
 ghost use Rattle.vsw_actors.specs.Lanes.{AreFit, AreTold, IsReady, IsTaken, fronts_of};
+ghost use Rattle.vsw_workers.specs.Rounds.{AllFinish};
 ghost use Rattle.vsw_actors.specs.Actors.{AreMine, Begins, HasDone};
 
 use crate::lane::{Lane, step_at};
@@ -12,8 +13,9 @@ use std::alloc::Global;
 use std::collections::LinkedList;
 use std::marker::Model;
 use std::sync::Wait;
+use std::thread::Threads;
 use vsw_history::Event;
-use vsw_workers::Forwarder;
+use vsw_workers::{Forwarder, Gate, run_round};
 
 /// A job, and the place of the port at which it is to be done.
 #[derive(Drop)]
@@ -34,7 +36,7 @@ pub struct Begun<P> {
 pub struct Actor<'a, J, P: Port<J>> {
     number: u64,
     ports: &'a [P],
-    lanes: Vec<Lane<P::Seat>>,
+    lanes: Vec<Lane<P::Station>>,
     jobs: Vec<Placed<J>>,
     next: usize,
 }
@@ -61,7 +63,7 @@ impl<'a, J, P: Port<J>> Actor<'a, J, P> {
     pub fn begin(
         number: u64,
         ports: &'a [P],
-        lanes: Vec<Lane<P::Seat>>,
+        lanes: Vec<Lane<P::Station>>,
         jobs: Vec<Placed<J>>,
     ) -> Actor<'a, J, P>
         requires ports { (length ports.now ≡ length lanes.items) × (length ports.now < 65536) }
@@ -81,7 +83,7 @@ impl<'a, J, P: Port<J>> Actor<'a, J, P> {
     }
 
     /// Its lanes at the end of a round, and its jobs, whose rooms serve again.
-    pub fn end(self) -> (Vec<Lane<P::Seat>>, Vec<Placed<J>>)
+    pub fn end(self) -> (Vec<Lane<P::Station>>, Vec<Placed<J>>)
         ensures fit { AreFit P.pass_in P.is_of P.permits self.entry.0.number (length self.entry.2) self.entry.0.ports result.0.items }
         ensures done { HasDone P.port_in P.pass_in P.job_in P.tells self.entry.0.number self.entry.0.ports self.entry.0.histories result.0.items self.entry.1 }
         ensures jobs { result.1.items ≡ self.entry.1 ++ self.entry.2 }
@@ -124,12 +126,26 @@ impl<'a, J, P: Port<J>> Forwarder for Actor<'a, J, P> {
     }
 }
 
+/// Does all jobs of all actors, each actor in a thread of its own.
+pub fn run_actors<'a, R: Threads + Wait + Sync, J: Send, P: Port<J> + Sync, G: Gate + Sync>(
+    rt: &R,
+    alloc: Global,
+    actors: &mut [Actor<'a, J, P>],
+    gate: &G,
+)
+where
+    P::Station: Send,
+    ensures { AllFinish (λ a. a.0) (λ a. a.1) (λ a. a.2) actors.old actors.new }
+{
+    run_round(rt, alloc, actors, gate);
+}
+
 /// Does a job of an actor at the port at its place.
 fn step_in<J, P: Port<J>, R: Wait>(
     rt: &R,
     alloc: Global,
     ports: &[P],
-    lanes: &mut Vec<Lane<P::Seat>>,
+    lanes: &mut Vec<Lane<P::Station>>,
     place: usize,
     job: &J,
 )

@@ -1,4 +1,4 @@
-//! An actor's seat in the midst of a round.
+//! An actor's station in the midst of a round.
 
 ghost use Rattle.std.specs.Prelude.{◌≡◌, ◌<◌, ◌+◌, ℕ, List, length, map};
 ghost use Rattle.vsw_many.specs.Actors.{Moves, Does};
@@ -10,10 +10,10 @@ use crate::port::Port;
 use std::alloc::Global;
 use std::sync::Wait;
 
-/// A seat of an actor, and how many entries of the port's history its pass had seen as the round began.
+/// A station of an actor, and how many entries of the port's history its pass had seen as the round began.
 #[derive(Drop)]
 pub struct Lane<S> {
-    pub seat: S,
+    pub station: S,
     pub base: usize,
 }
 
@@ -22,7 +22,7 @@ pub fn step<J, P: Port<J>, R: Wait>(
     rt: &R,
     alloc: Global,
     port: &P,
-    lane: &mut Lane<P::Seat>,
+    lane: &mut Lane<P::Station>,
     job: &J,
 )
     requires usable { IsUsable P.port_in P.pass_in P.job_in P.is_of P.permits job.now port.now lane.old }
@@ -31,7 +31,7 @@ pub fn step<J, P: Port<J>, R: Wait>(
     ensures fit { (k : ℕ) (more : ℕ) → IsFit P.pass_in P.is_of P.permits k (more + 1) port.now lane.old → IsFit P.pass_in P.is_of P.permits k more port.now lane.new }
     ensures front { front_of P.pass_in lane.new ≡ front_of P.pass_in lane.old }
 {
-    port.work(rt, alloc, &mut lane.seat, job);
+    port.work(rt, alloc, &mut lane.station, job);
 }
 
 /// Does a job at the port at this place, where the first port here has the place `at`.
@@ -39,7 +39,7 @@ pub fn step_at<J, P: Port<J>, R: Wait>(
     rt: &R,
     alloc: Global,
     ports: &[P],
-    lanes: &mut [Lane<P::Seat>],
+    lanes: &mut [Lane<P::Station>],
     at: usize,
     place: usize,
     job: &J,

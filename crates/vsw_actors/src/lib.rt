@@ -6,7 +6,7 @@ mod lane;
 mod law;
 mod port;
 
-pub use actor::{Actor, Begun, Placed};
+pub use actor::{Actor, Begun, Placed, run_actors};
 pub use lane::{Lane, step, step_at};
 pub use law::actor_laws;
 pub use port::Port;

@@ -1,8 +1,7 @@
 -- An actor begins, and does one job after the other.
-use Rattle.std.proofs.Common.{◌≡◌, ◌≤◌, ◌<◌, ◌+◌, ℕ, zero, suc, List, [], ◌∷◌, ◌++◌, length, map, take, drop, Some, slice_get, get_or, subst, refl, ap, sym, ◌∙◌, arith}
+use Rattle.std.proofs.Common.{◌≡◌, ◌<◌, ◌+◌, ℕ, zero, suc, List, [], ◌∷◌, ◌++◌, length, map, take, drop, Some, slice_get, get_or, subst, refl, ap, sym, ◌∙◌, arith}
 use Rattle.vsw_policy.specs.Sound.{Each}
 use Rattle.vsw_ports.specs.Ports.{PortSeen}
-use Rattle.vsw_history.specs.declared.event.Event.{Event}
 use Rattle.vsw_history.specs.Calls.{Job, Call, job_doer, entries_naming}
 use Rattle.vsw_history.specs.History.{Opening}
 use Rattle.vsw_promise.specs.Rounds.{opening_of}
@@ -17,7 +16,7 @@ use Rattle.vsw_many.proofs.Passes.{works_begin}
 use Rattle.vsw_actors.specs.declared.actor.Placed.{Placed}
 use Rattle.vsw_actors.specs.declared.lane.Lane.{Lane}
 use Rattle.vsw_actors.specs.Actors.{placed_of, Begins, AreMine, HasDone}
-use Rattle.vsw_actors.specs.Lanes.{start_of, front_of, fronts_of, AreTold, AreFit, IsReady, IsTaken, IsOwn}
+use Rattle.vsw_actors.specs.Lanes.{start_of, fronts_of, AreTold, AreFit, IsReady, IsTaken, IsOwn}
 use Rattle.vsw_actors.proofs.Lanes.{Done}
 
 -- ---- as a round begins

@@ -1,5 +1,5 @@
 -- An actor's passes meet the ports.
-use Rattle.std.proofs.Common.{◌≡◌, ℕ, List, [], ◌∷◌, map, subst, sym}
+use Rattle.std.proofs.Common.{ℕ, List, [], ◌∷◌, map, subst, sym}
 use Rattle.vsw_ports.specs.Ports.{PortSeen}
 use Rattle.vsw_history.specs.declared.event.Event.{Event}
 use Rattle.vsw_history.specs.Calls.{Job, Call}

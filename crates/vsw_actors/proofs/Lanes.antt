@@ -1,6 +1,5 @@
 -- A lane's step.
 use Rattle.std.proofs.Common.{◌≡◌, ◌≤◌, ◌≢◌, ◌<◌, ℕ, suc, List, [], ◌∷◌, ◌++◌, length, map, take, ◌+◌, subst, refl, ap, sym, ◌∙◌, arith}
-use mathlib.Core.List.{IsPrefix}
 use Rattle.vsw_history.specs.Calls.{Job, Call, entries_naming}
 use Rattle.vsw_history.specs.History.{Opening}
 use Rattle.vsw_history.proofs.Fronts.{prefix_take, prefix_length}
@@ -10,7 +9,7 @@ use Rattle.vsw_many.specs.Actors.{Moves, Does}
 use Rattle.vsw_many.specs.Passes.{PassNow, Crosses}
 use Rattle.vsw_many.specs.Phases.{Track}
 use Rattle.vsw_actors.specs.declared.lane.Lane.{Lane}
-use Rattle.vsw_actors.specs.Lanes.{start_of, front_of, fronts_of, IsTold, AreTold, IsFit, AreFit, IsOwn, IsReady}
+use Rattle.vsw_actors.specs.Lanes.{start_of, front_of, fronts_of, IsTold, AreTold, IsFit, AreFit}
 
 -- a pass does a job, and its station tells it
 abbrev pub Worked : {S : Type 0} → (S → PassNow) → (S → List Call → Type 0) → Opening → Job → S → S → Type 0

@@ -2,7 +2,6 @@
 use Rattle.std.proofs.Common.{◌≡◌, ◌≢◌, ℕ, suc, ◌==◌, Bool, true, false, if◌then◌else◌, List, [], ◌∷◌, ◌++◌, map, filter, refl, ap, sym, ◌∙◌, subst, ne_eqb, eq-eqb}
 use native.Mathlib.Decide.{ℕ_discrete}
 use Rattle.vsw_policy.specs.Sound.{Each}
-use Rattle.vsw_ports.specs.Ports.{PortSeen}
 use Rattle.vsw_history.specs.declared.event.Event.{Event}
 use Rattle.vsw_history.specs.Calls.{Job, job_of, job_doer, doer}
 use Rattle.vsw_history.specs.History.{Opening}
@@ -12,9 +11,9 @@ use Rattle.vsw_promise.specs.Jobs.{Placed, at_place}
 use Rattle.vsw_promise.specs.Rounds.{opening_of}
 use Rattle.vsw_history_law.proofs.Reports.{doer_job, map_append}
 use Rattle.vsw_many.specs.Law.{ActorBegins, ActorGoesOn, ActorEnds}
-use Rattle.vsw_many.specs.Passes.{PassNow, AtRest, Works}
+use Rattle.vsw_many.specs.Passes.{AtRest, Works}
 use Rattle.vsw_many.specs.Phases.{Track, IsTrack}
-use Rattle.vsw_many.specs.Actors.{AllRest, AtWork, Moves, Does}
+use Rattle.vsw_many.specs.Actors.{AtWork, Moves}
 use Rattle.vsw_many.proofs.Passes.{works_begin, works_go_on, rest_of_pass}
 
 -- ---- jobs at a place

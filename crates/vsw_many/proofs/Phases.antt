@@ -6,7 +6,7 @@ use mathlib.Core.List.{IsPrefix}
 use Rattle.vsw_policy.specs.Sound.{Each}
 use Rattle.vsw_ports.specs.Ports.{PortSeen}
 use Rattle.vsw_history.specs.declared.event.Event.{Event}
-use Rattle.vsw_history.specs.Calls.{Job, Call, job_of, doer, named, calls_of, entries_of, entries_naming, IsCall, InOrder, HasBytes, IsShare, AreShares, IsOneOrder}
+use Rattle.vsw_history.specs.Calls.{Job, Call, job_of, doer, named, calls_of, entries_of, entries_naming, IsCall, HasBytes, IsShare, AreShares, IsOneOrder}
 use Rattle.vsw_history.specs.History.{Opening}
 use Rattle.vsw_history.proofs.Fronts.{prefix_trans, prefix_length, append_end}
 use Rattle.vsw_history.proofs.Calls.{each_append, each_of_all, calls_append, shares_join, order_join}
@@ -114,7 +114,7 @@ pub phase_shares : (o : Opening) (h g : List Event) (ls : List Lane) → IsPhase
 phase_shares o h g ls p k = by_less k (length ls) (IsShare o h g k (calls_of o.controllers k (calls_in ls)))
     (λ lt. by_lane o h g (λ k cs. IsShare o h g k cs) 0 ls p.lanes (lanes_shared o h g 0 ls p.lanes) k (omega arith) (omega (arith, lt)))
     (λ le. idle_share o h g (length ls) k (calls_in ls) le p.grows p.named_all
-        (each_weaker (λ c. doer o.controllers c.deed < 0 + length ls) (λ c. doer o.controllers c.deed < length ls) (calls_in ls) (λ c lt. omega (arith, lt)) (lanes_doers o h g 0 ls p.lanes)))
+    (each_weaker (λ c. doer o.controllers c.deed < 0 + length ls) (λ c. doer o.controllers c.deed < length ls) (calls_in ls) (λ c lt. omega (arith, lt)) (lanes_doers o h g 0 ls p.lanes)))
 
 -- jobs done in turn are in one order
 turn_order : (o : Opening) (h g : List Event) (ls : List Lane) (jobs : List Job) (calls : List Call) → IsPhase o h g ls → DoneInTurn o h g ls jobs calls → IsOneOrder h g calls

@@ -1,5 +1,5 @@
 -- The rounds of a run, from what the callers did.
-use Rattle.std.proofs.Common.{◌≡◌, ◌≢◌, ◌≤◌, ◌<◌, ℕ, suc, ◌+◌, ◌==◌, Bool, true, false, if◌then◌else◌, List, [], ◌∷◌, ◌++◌, length, map, filter, refl, ap, sym, ◌∙◌, subst, arith, ne_eqb}
+use Rattle.std.proofs.Common.{◌≡◌, ◌≢◌, ◌≤◌, ◌<◌, ℕ, suc, ◌+◌, ◌==◌, Bool, true, false, if◌then◌else◌, List, [], ◌∷◌, length, map, filter, refl, ap, sym, ◌∙◌, subst, arith, ne_eqb}
 use mathlib.Core.List.{IsPrefix}
 use Rattle.vsw_pcap.specs.declared.capture.Record.{Record}
 use Rattle.vsw_policy.specs.Sound.{Each}
@@ -11,11 +11,11 @@ use Rattle.vsw_history.specs.Calls.{Job, Call, job_of, job_doer, jobs_by, doer, 
 use Rattle.vsw_history.specs.History.{Opening, AllRight}
 use Rattle.vsw_history.proofs.Fronts.{prefix_trans}
 use Rattle.vsw_promise.specs.Jobs.{Setting, Placed, Jobs, jobs_of, at_place, deal, placed_jobs, numbers_of}
-use Rattle.vsw_promise.specs.Rounds.{opening_of, IsRound, ArePortRounds, AreRoundsAt, AreChained, AllBegin, AreHistories, end_before}
+use Rattle.vsw_promise.specs.Rounds.{opening_of, ArePortRounds, AreRoundsAt, AreChained, AllBegin, AreHistories, end_before}
 use Rattle.vsw_promise.proofs.Exists.{begin_self, begin_trans, ports_later, none_yet, no_counts}
 use Rattle.vsw_history_law.proofs.Reports.{jobs_of_calls}
 use Rattle.vsw_many.specs.Law.{RunIsTold}
-use Rattle.vsw_many.specs.Phases.{Lane, AreLanes, calls_in, DoneBeside, PortDone, port_told}
+use Rattle.vsw_many.specs.Phases.{Lane, AreLanes, calls_in, DoneBeside, PortDone}
 use Rattle.vsw_many.specs.Actors.{AreRows}
 use Rattle.vsw_many.specs.Rounds.{PortTurn, Turns, AreJournals, column, other_columns, calls_by_port, Rest, One, Many, ports_told, RoundDone, RunDone}
 use Rattle.vsw_many.proofs.Passes.{none_of, each_weaker}

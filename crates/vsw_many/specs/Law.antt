@@ -1,5 +1,5 @@
 -- From what a pass promises to the rounds of a run.
-use Rattle.std.specs.Prelude.{◌≡◌, ◌≢◌, ◌≤◌, ◌<◌, ◌+◌, ℕ, List, [], ◌∷◌, ◌++◌, length, map, true}
+use Rattle.std.specs.Prelude.{◌≡◌, ◌≢◌, ◌≤◌, ◌<◌, ℕ, List, [], ◌∷◌, ◌++◌, length, map, true}
 use mathlib.Core.List.{IsPrefix}
 use Rattle.vsw_pcap.specs.declared.capture.Record.{Record}
 use Rattle.vsw_policy.specs.Layers.{place_of}
@@ -12,7 +12,7 @@ use Rattle.vsw_history.specs.History.{Opening, AllRight}
 use Rattle.vsw_history.specs.Next.{IsNext}
 use Rattle.vsw_history_law.specs.Law.{AreServed}
 use Rattle.vsw_promise.specs.Jobs.{Setting, Jobs, Placed, jobs_of, at_place, deal, placed_jobs, placed_packets, placed_lines, numbers_of, macs_of, packets_between}
-use Rattle.vsw_promise.specs.Rounds.{opening_of, IsPortRound, AreRounds, AreHistories}
+use Rattle.vsw_promise.specs.Rounds.{IsPortRound, AreRounds, AreHistories}
 use Rattle.vsw_promise.specs.Told.{lines_of}
 use Rattle.vsw_many.specs.Passes.{PassNow, AtRest, Crosses, Learns, Works, Meets}
 use Rattle.vsw_many.specs.Phases.{Track, SameByCaller, PortDone, port_told}

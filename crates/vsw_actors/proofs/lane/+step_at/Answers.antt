@@ -5,7 +5,7 @@ use Rattle.vsw_actors.proofs.lane.+step_at.Goals as goal
 pub returns-then-at-place-clause-does : goal.returns-then-at-place-clause-does
 returns-then-at-place-clause-does g t c =
     done_here g.P.Port.port_in g.P.Port.pass_in g.P.Port.tells c.args.at c.args.place (g.P.Port.job_in c.args.job.now) c.in-Some.port.now c.in-Some.others.now c.args.ports.now c.in-Some-split_first_mut.lane.now c.step.new.lane c.in-Some-split_first_mut.rest.now c.args.lanes.now
-        (search rules) (search rules) (search rules) c.step.ensures.moves
+    (search rules) (search rules) (search rules) c.step.ensures.moves
 
 pub returns-then-at-place-clause-fit : goal.returns-then-at-place-clause-fit
 returns-then-at-place-clause-fit g t c =
@@ -14,4 +14,4 @@ returns-then-at-place-clause-fit g t c =
 pub returns-else-at-place-clause-does : goal.returns-else-at-place-clause-does
 returns-else-at-place-clause-does g t c =
     done_there g.P.Port.port_in g.P.Port.pass_in g.P.Port.tells c.args.at c.args.place (g.P.Port.job_in c.args.job.now) c.in-Some.port.now c.in-Some.others.now c.args.ports.now c.in-Some-split_first_mut.lane.now c.in-Some-split_first_mut.rest.now c.step_at.new.lanes c.args.lanes.now
-        (search rules) (search rules) (search rules) c.step_at.ensures.does
+    (search rules) (search rules) (search rules) c.step_at.ensures.does

@@ -9,8 +9,8 @@ step_in-requires-clause-ready g c =
     let job = c.index-placed.result.now in
     let at : Next a.next a.jobs.items job = next_is a.next a.jobs.items job (omega (arith, c.if-self-len.false, c.len.ensures)) c.index-placed.ensures in
     ready_of g.P.Port.port_in g.P.Port.pass_in g.P.Port.job_in g.P.Port.is_of g.P.Port.permits a.number (length (drop (a.next + 1) a.jobs.items)) job.job a.ports.now a.lanes.items
-        (next_mine g.P.Port.port_in g.P.Port.job_in g.P.Port.takes a.number a.ports.now a.next a.jobs.items job at i.5).0.0
-        (next_room g.P.Port.pass_in g.P.Port.is_of g.P.Port.permits a.number a.ports.now a.lanes.items a.next a.jobs.items job at i.4)
+    (next_mine g.P.Port.port_in g.P.Port.job_in g.P.Port.takes a.number a.ports.now a.next a.jobs.items job at i.5).0.0
+    (next_room g.P.Port.pass_in g.P.Port.is_of g.P.Port.permits a.number a.ports.now a.lanes.items a.next a.jobs.items job at i.4)
 
 pub invariant_of-self : goal.invariant_of-self
 invariant_of-self g c =

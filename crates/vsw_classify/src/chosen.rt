@@ -10,7 +10,7 @@ use vsw_rule::{Cond, Item, Rule};
 const SAMPLED: usize = 16;
 
 /// A group of fewer rules is tried rule by rule.
-const FEW: usize = 12;
+const FEW: usize = 8;
 
 /// The rules that conditions are held against.
 #[derive(Drop)]

@@ -1,6 +1,6 @@
 //! The choice in a layer.
 
-ghost use Rattle.std.specs.Prelude.{◌≡◌, ◌≤◌, ◌<◌, length, drop, is_none, None, Option, option_copied, option_map, slice_index_or};
+ghost use Rattle.std.specs.Prelude.{◌≡◌, ◌≤◌, ◌<◌, length, drop, is_none, IfOk, None, Option, option_copied, option_map, slice_index_or};
 ghost use Rattle.vsw_choice.specs.Choice as spec;
 ghost use Rattle.vsw_choice.specs.Choice.{Chosen};
 ghost use Rattle.vsw_choice.specs.ChoiceSeen.{seen};
@@ -10,9 +10,22 @@ ghost use Rattle.vsw_classify.specs.Private.Layer.{over, with_group};
 ghost use Rattle.vsw_rule.specs.declared.rule.Group.{Group};
 
 use crate::index::GroupIndex;
-use vsw_base::{Dir, Stack};
+use crate::memory::push;
+use std::alloc::Global;
+use vsw_base::{Dir, NoMemory, Stack};
 use vsw_choice::{Choice, applies, asked, wins};
 use vsw_rule::{Group, Packet, Rule};
+
+/// An index for each of a layer's groups, in their order.
+pub fn build_layer(alloc: Global, groups: &[Group]) -> Result<Vec<GroupIndex>, NoMemory>
+    ensures { IfOk result (λ v. AreBuiltOf groups.now v.items) }
+{
+    let mut indexes: Vec<GroupIndex> = Vec::new(alloc);
+    for group in groups {
+        push(&mut indexes, GroupIndex::build(alloc, group)?)?;
+    }
+    Ok(indexes)
+}
 
 /// The group's pick.
 fn picked<'a>(group: &'a Group, index: &GroupIndex, packet: &Packet<'_>) -> Option<&'a Rule>

@@ -10,7 +10,9 @@ mod memory;
 mod order;
 mod ranks;
 #[cfg(test)]
+mod samples;
+#[cfg(test)]
 mod tests;
 
 pub use index::GroupIndex;
-pub use layer::pick_layer;
+pub use layer::{build_layer, pick_layer};

@@ -1,0 +1,199 @@
+//! Groups and packets that look random. Values are few, so that conditions often hold.
+
+use std::alloc::Global;
+use std::test::Fail;
+use vsw_base::{Dir, Header, Ip4, Items, Mac, Prefix, Set, Stack};
+use vsw_rule::{Action, Cond, Field, Group, Item, Rule};
+
+/// Numbers that look random.
+#[derive(Drop)]
+pub struct Random {
+    state: u64,
+}
+
+const NETWORK: u32 = 0x0a00_0000;
+
+impl Random {
+    pub fn new(seed: u64) -> Random {
+        Random { state: seed }
+    }
+
+    /// The upper half of the next state of a linear congruential generator (Knuth's MMIX).
+    pub fn next(&mut self) -> u32 {
+        self.state = self
+            .state
+            .wrapping_mul(6_364_136_223_846_793_005)
+            .wrapping_add(1_442_695_040_888_963_407);
+        (self.state >> 32) as u32
+    }
+
+    /// True once in so many times.
+    pub fn chance(&mut self, of: u32) -> bool {
+        self.next() % of.max(1) == 0
+    }
+
+    fn mac(&mut self) -> Mac {
+        Mac::of(u64::from(self.next() % 4))
+    }
+
+    fn ip(&mut self) -> Ip4 {
+        Ip4::of(NETWORK + self.next() % 16)
+    }
+
+    fn port(&mut self) -> u16 {
+        (self.next() % 16) as u16
+    }
+}
+
+fn field(random: &mut Random) -> Field {
+    match random.next() % 16 {
+        0 => Field::DstMac,
+        1 => Field::SrcMac,
+        2 => Field::Kind,
+        3 => Field::SrcIp,
+        4 => Field::Proto,
+        5 => Field::Part,
+        6 => Field::SrcPort,
+        7 => Field::OuterDstMac,
+        8 => Field::OuterSrcMac,
+        9 => Field::OuterSrcIp,
+        10 => Field::OuterDstIp,
+        11 => Field::Vni,
+        12 | 13 => Field::DstPort,
+        _ => Field::DstIp,
+    }
+}
+
+/// The least value of a field that packets here have.
+fn least(field: Field) -> u64 {
+    match field {
+        Field::SrcIp | Field::DstIp | Field::OuterSrcIp | Field::OuterDstIp => u64::from(NETWORK),
+        Field::Kind => 0x0800,
+        _ => 0,
+    }
+}
+
+fn item(field: Field, random: &mut Random) -> Item {
+    if random.chance(3) {
+        return Item::Prefix(Prefix {
+            value: random.ip(),
+            bits: 26 + (random.next() % 8) as u8,
+        });
+    }
+    let low = least(field) + u64::from(random.next() % 16);
+    Item::Range {
+        low,
+        high: (low + u64::from(random.next() % 8)).saturating_sub(2),
+    }
+}
+
+fn condition(alloc: Global, random: &mut Random) -> Result<Cond, Fail> {
+    let field = field(random);
+    let mut items: Vec<Item> = Vec::new(alloc);
+    for _ in 0..random.next() % 4 {
+        items.push(item(field, random))?;
+    }
+    Ok(Cond {
+        field,
+        items: Items::of(items),
+    })
+}
+
+pub fn conditions(alloc: Global, most: u32, random: &mut Random) -> Result<Items<Cond>, Fail> {
+    let mut conditions: Vec<Cond> = Vec::new(alloc);
+    for _ in 0..random.next() % most.max(1) {
+        conditions.push(condition(alloc, random)?)?;
+    }
+    Ok(Items::of(conditions))
+}
+
+fn unset() -> Set {
+    Set {
+        dst_mac: None,
+        src_mac: None,
+        src_ip: None,
+        dst_ip: None,
+        src_port: None,
+        dst_port: Some(7),
+    }
+}
+
+/// A rule whose number is its place.
+fn rule(alloc: Global, place: u16, random: &mut Random) -> Result<Rule, Fail> {
+    let action = if random.chance(4) {
+        Action::Edit {
+            decap: true,
+            set: unset(),
+            encap: None,
+        }
+    } else {
+        Action::Drop
+    };
+    Ok(Rule {
+        number: place,
+        priority: (random.next() % 4) as u16,
+        when: conditions(alloc, 4, random)?,
+        action,
+        stateful: random.chance(8),
+        last: random.chance(6),
+    })
+}
+
+pub fn group(alloc: Global, number: u16, random: &mut Random) -> Result<Group, Fail> {
+    let mut rules: Vec<Rule> = Vec::new(alloc);
+    let most = 1 + random.next() % 40;
+    for place in 0..random.next() % most {
+        rules.push(rule(alloc, place as u16, random)?)?;
+    }
+    Ok(Group {
+        number,
+        dir: if random.chance(4) { Dir::In } else { Dir::Out },
+        when: conditions(alloc, 2, random)?,
+        rules: Items::of(rules),
+    })
+}
+
+fn ether(kind: u16, random: &mut Random) -> Header {
+    Header::Ether {
+        dst: random.mac(),
+        src: random.mac(),
+        kind,
+    }
+}
+
+fn ip(proto: u8, part: bool, random: &mut Random) -> Header {
+    Header::Ip {
+        src: random.ip(),
+        dst: random.ip(),
+        proto,
+        part,
+    }
+}
+
+/// A packet in up to two encapsulations, of UDP, TCP, another protocol or none.
+pub fn packet(alloc: Global, random: &mut Random) -> Result<Stack, Fail> {
+    let mut headers: Vec<Header> = Vec::new(alloc);
+    for _ in 0..(random.next() % 5).saturating_sub(2) {
+        headers.push(ether(0x0800, random))?;
+        headers.push(ip(17, false, random))?;
+        headers.push(Header::Vxlan {
+            vni: random.next() % 16,
+        })?;
+    }
+    if random.chance(8) {
+        headers.push(ether(0x0806, random))?;
+        return Ok(Stack::of(&headers)?);
+    }
+    headers.push(ether(0x0800, random))?;
+    let proto = [17u8, 17, 6, 1][random.next() as usize % 4];
+    let part = random.chance(8);
+    headers.push(ip(proto, part, random))?;
+    if !part && proto != 1 {
+        headers.push(Header::Ports {
+            proto,
+            src: random.port(),
+            dst: random.port(),
+        })?;
+    }
+    Ok(Stack::of(&headers)?)
+}

@@ -1,16 +1,13 @@
 -- An index of what is gathered offers each rule that matches.
-use Rattle.std.proofs.Common.{◌≡◌, ◌≤◌, ◌<◌, ◌+◌, ◌%◌, ◌^◌, ◌&&◌, ◌||◌, ℕ, Bool, true, false, suc, zero, List, [], ◌∷◌, length, get_or, Option, Some, None, refl, sym, ap, subst, ◌∙◌, ◌⊎◌, inl, inr, arith}
-use Rattle.std.specs.Prelude.{if◌then◌else◌}
-use Rattle.std.specs.List.{All, Contains, filter_map, cons_option}
+use Rattle.std.proofs.Common.{◌≡◌, ◌≤◌, ◌<◌, ◌%◌, ◌^◌, ◌||◌, ℕ, Bool, true, false, suc, zero, List, [], ◌∷◌, length, get_or, Option, Some, None, refl, sym, ap, subst, ◌∙◌, ◌⊎◌, inl, inr, arith}
+use Rattle.std.specs.List.{Contains, filter_map, cons_option}
 use Rattle.std.proofs.lemmas.Bool.{cases_lt}
 use Rattle.std.proofs.lemmas.List.Elements.{All-contains}
 use Rattle.std.proofs.lemmas.Option.{slice_get_cases}
 use Rattle.vsw_base.proofs.Truths.{both}
 use Rattle.vsw_base.specs.Prefix.{in_prefix}
-use Rattle.vsw_base.specs.declared.address.Prefix.{Prefix}
 use Rattle.vsw_base.specs.declared.header.Header.{Header}
 use Rattle.vsw_rule.proofs.Same.{field_knows}
-use Rattle.vsw_rule.specs.contracts.field.FieldPartialEq.TheImpl as field
 use Rattle.vsw_rule.specs.declared.field.Field.{Field}
 use Rattle.vsw_rule.specs.declared.rule.Item.{Item}
 use Rattle.vsw_rule.specs.declared.rule.Item.TheVariants as item
@@ -21,10 +18,10 @@ use Rattle.vsw_interval.specs.declared.placed.PlacedRange.{PlacedRange}
 use Rattle.vsw_trie.specs.declared.placed.PlacedPrefix.{PlacedPrefix}
 use Rattle.vsw_classify.specs.declared.entry.Entry.{Entry}
 use Rattle.vsw_classify.specs.declared.field_index.FieldIndex.{FieldIndex}
-use Rattle.vsw_classify.specs.Private.Entry.{AreServed, IsGathered, IsHeld, IsIndexOf, IsServed, prefix_at, prefix_in, range_at, range_in}
+use Rattle.vsw_classify.specs.Private.Entry.{AreServed, IsGathered, IsHeld, IsIndexOf, IsServed, prefix_in, range_in}
 use Rattle.vsw_classify.specs.Private.Rank.{IsRanked, is_met, meets_at, place_in, rule_in}
-use Rattle.vsw_classify.specs.Private.Search.{IsComplete, IsIndex, Offered, OfferedIn, Offers, OffersPrefix, OffersRange}
-use Rattle.vsw_classify.proofs.Ranked.{contains_head, contains_tail, none_some, some_same}
+use Rattle.vsw_classify.specs.Private.Search.{IsComplete, IsIndex, OfferedIn, Offers}
+use Rattle.vsw_classify.proofs.Ranked.{contains_head, contains_tail}
 
 -- what is made of an element is among what is made of all
 contains_made : {X Y : Type 0} (h : X → Option Y) (xs : List X) (i : ℕ) (x : X) (y : Y) → i < length xs → get_or xs i x ≡ x → h x ≡ Some y → Contains (filter_map h xs) y

@@ -1,6 +1,6 @@
 -- What is gathered of a group's rules covers each of them.
-use Rattle.std.proofs.Common.{◌≡◌, ◌≤◌, ◌<◌, ◌+◌, ◌++◌, ◌&&◌, ◌||◌, ℕ, Bool, true, false, suc, zero, List, [], ◌∷◌, length, get_or, map, Option, Some, None, Result, Ok, Err, OnOk, refl, sym, ap, subst, ◌∙◌, ◌⊎◌, inl, inr, arith}
-use Rattle.std.specs.List.{All, Contains, list_all, list_any, slice_get}
+use Rattle.std.proofs.Common.{◌≡◌, ◌≤◌, ◌<◌, ◌+◌, ◌++◌, ◌&&◌, ◌||◌, ℕ, Bool, true, false, suc, zero, List, [], ◌∷◌, length, get_or, map, Option, Some, None, Result, Ok, Err, OnOk, refl, sym, ap, subst, ◌∙◌, inl, inr, arith}
+use Rattle.std.specs.List.{All, Contains, list_any, slice_get}
 use Rattle.std.specs.List.Sorted.{IsNonDecreasing}
 use Rattle.std.specs.Option.{IfSome}
 use Rattle.std.proofs.lemmas.Bool.{cases_lt}
@@ -14,10 +14,10 @@ use Rattle.vsw_rule.specs.declared.rule.Item.{Item}
 use Rattle.vsw_rule.specs.declared.rule.Cond.{Cond}
 use Rattle.vsw_rule.specs.declared.rule.Rule.{Rule}
 use Rattle.vsw_rule.specs.Field.{value_of}
-use Rattle.vsw_rule.specs.Match.{all_hold, can_do, holds, has_ip, in_item, in_items, matches}
+use Rattle.vsw_rule.specs.Match.{all_hold, holds, in_item, in_items, matches}
 use Rattle.vsw_classify.specs.declared.entry.Entry.{Entry}
 use Rattle.vsw_classify.specs.declared.field_index.FieldIndex.{FieldIndex}
-use Rattle.vsw_classify.specs.Private.Entry.{AreIndexes, Enters, HasField, IsCovered, IsHeld, IsIndexOf, IsServed, Serves, Steps, entries_of, entry_of}
+use Rattle.vsw_classify.specs.Private.Entry.{Enters, HasField, IsHeld, IsIndexOf, Serves, Steps, entries_of, entry_of}
 use Rattle.vsw_classify.specs.Private.Rank.{is_met, meets_at, rule_at}
 use Rattle.vsw_classify.proofs.Ranked.{contains_head, contains_tail, none_some, some_same}
 

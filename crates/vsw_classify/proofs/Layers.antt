@@ -1,7 +1,6 @@
 -- The choice in a layer, group by group from the last.
 use Rattle.std.proofs.Common.{◌≡◌, ◌<◌, ◌++◌, ◌||◌, ℕ, Bool, true, false, suc, zero, List, [], ◌∷◌, length, map, get_or, is_none, is_some, option_copied, Bor, Option, Some, None, refl, sym, ap, subst, ◌∙◌, arith}
 use Rattle.std.specs.Prelude.{if◌then◌else◌}
-use Rattle.std.specs.List.{list_any}
 use Rattle.vsw_base.specs.declared.header.Header.{Header}
 use Rattle.vsw_base.specs.declared.packet.Dir.{Dir}
 use Rattle.vsw_choice.specs.Choice.{Chosen, Picks, applies, pick}
@@ -10,7 +9,7 @@ use Rattle.vsw_choice.proofs.Picks.{pick_is}
 use Rattle.vsw_rule.specs.declared.rule.Rule.{Rule}
 use Rattle.vsw_rule.specs.declared.rule.Group.{Group}
 use Rattle.vsw_classify.specs.Place.{AreBuiltOf, rules_of}
-use Rattle.vsw_classify.specs.Private.Layer.{marks_last, is_last, over, with_group}
+use Rattle.vsw_classify.specs.Private.Layer.{marks_last, over, with_group}
 
 -- as many indexes as groups, each of the group at its place
 pub as_many : (groups : List Group) (indexes : List (List Rule)) → AreBuiltOf groups indexes → length indexes ≡ length groups

@@ -1,16 +1,16 @@
 -- The first rank that matches is the group's pick.
 use Rattle.std.proofs.Common.{◌≡◌, ◌≤◌, ◌<◌, ◌+◌, ◌*◌, ◌^◌, ◌++◌, ℕ, Bool, true, false, suc, zero, List, [], ◌∷◌, length, get_or, Option, Some, None, refl, sym, ap, subst, ◌∙◌, ◌⊎◌, inl, inr, arith}
-use Rattle.std.specs.Prelude.{nat_le, if◌then◌else◌}
+use Rattle.std.specs.Prelude.{nat_le}
 use Rattle.std.specs.List.{Contains, slice_get}
 use Rattle.std.proofs.lemmas.Bool.Decides.{nat_tests}
 use Rattle.std.proofs.lemmas.Option.{slice_get_cases, slice_get_within, get_or_from_slice_get}
 use Rattle.vsw_base.specs.declared.header.Header.{Header}
-use Rattle.vsw_choice.specs.Choice.{Each, IsPick, NoneMatches, Picks, better, pick}
+use Rattle.vsw_choice.specs.Choice.{NoneMatches, Picks, better, pick}
 use Rattle.vsw_choice.proofs.Picks.{pick_is}
 use Rattle.vsw_rule.specs.declared.rule.Rule.{Rule}
 use Rattle.vsw_rule.specs.Match.{matches}
 use Rattle.vsw_classify.specs.declared.field_index.FieldIndex.{FieldIndex}
-use Rattle.vsw_classify.specs.Place.{GoesBefore, IsPickAt, PicksAt, at_place}
+use Rattle.vsw_classify.specs.Place.{GoesBefore, PicksAt, at_place}
 use Rattle.vsw_classify.specs.Private.Rank.{key, meets_at, place_at, place_in}
 use Rattle.vsw_classify.specs.Private.Search.{IsIndex, Narrows, OfferedIn}
 use Rattle.vsw_classify.proofs.Ranked.{none_some, rank_of, rule_of, some_same}

@@ -1,5 +1,5 @@
 -- The place in a group of its pick.
-use Rattle.std.specs.Prelude.{◌≡◌, ◌<◌, ◌≤◌, ℕ, List, length, Bool, true, Option, Some, None, slice_index_or, map}
+use Rattle.std.specs.Prelude.{◌≡◌, ◌≤◌, ℕ, List, true, Option, Some, None, map}
 use Rattle.std.specs.List.{slice_get}
 use Rattle.vsw_base.specs.declared.header.Header.{Header}
 use Rattle.vsw_choice.specs.Choice.{NoneMatches}

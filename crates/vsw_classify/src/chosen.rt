@@ -28,7 +28,10 @@ struct Hull {
 fn prefix_hull(prefix: &Prefix) -> Hull {
     let value = u64::from(prefix.value.number());
     if prefix.bits > 32 {
-        return Hull { low: value, high: value };
+        return Hull {
+            low: value,
+            high: value,
+        };
     }
     let shift = 32 - u32::from(prefix.bits);
     let low = value >> shift << shift;

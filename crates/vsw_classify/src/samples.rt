@@ -80,10 +80,11 @@ fn item(field: Field, random: &mut Random) -> Item {
             bits: 26 + (random.next() % 8) as u8,
         });
     }
-    let low = least(field) + u64::from(random.next() % 16);
+    let low = least(field).saturating_add(u64::from(random.next() % 16));
+    let more = u64::from(random.next() % 8);
     Item::Range {
         low,
-        high: (low + u64::from(random.next() % 8)).saturating_sub(2),
+        high: low.saturating_add(more).saturating_sub(2),
     }
 }
 

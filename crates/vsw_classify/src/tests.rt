@@ -117,8 +117,10 @@ fn compare_choices(alloc: Global, random: &mut Random, tally: &mut Tally) -> Res
     for _ in 0..20u32 {
         let stack = packet(alloc, random)?;
         let by_list = choose(Dir::Out, &groups, &stack).map(|c| (c.group, c.rule.number));
-        let by_index =
-            pick_layer(&groups, &index, Dir::Out, &stack).map(|c| (c.group, c.rule.number));
+        let by_index = pick_layer(&groups, &index, Dir::Out, &stack).map(|c| (
+            c.group,
+            c.rule.number,
+        ));
         tally.note(by_list.is_some(), by_index != by_list);
     }
     Ok(())

@@ -1,5 +1,5 @@
 -- What is entered of a group's rules.
-use Rattle.std.specs.Prelude.{◌≡◌, ◌<◌, ◌++◌, ◌⊎◌, ◌^◌, ◌+◌, ℕ, List, [], ◌∷◌, length, map, filter_map, All, slice_get, Bool, true, Option, Some, None, if◌then◌else◌}
+use Rattle.std.specs.Prelude.{◌≡◌, ◌<◌, ◌++◌, ◌⊎◌, ◌+◌, ℕ, List, [], ◌∷◌, length, map, filter_map, All, slice_get, true, Option, Some, None, if◌then◌else◌}
 use Rattle.std.specs.List.{Contains}
 use Rattle.std.specs.List.Sorted.{IsNonDecreasing}
 use Rattle.vsw_base.specs.declared.header.Header.{Header}

@@ -12,6 +12,6 @@ loop-entry-preserved c =
     record {
       built = s.built c.loop-entry.invariant.built;
       served = AllWithin-more P c.args.entries.now 0 c.loop-entry.entry-index
-        (λ k d from u. s.kept (get_or c.args.entries.now k d) (c.loop-entry.invariant.served k d from u))
-        (λ d. s.served c.loop-entry.invariant.built (get_or c.args.entries.now c.loop-entry.entry-index d) (ap (λ (e : Entry). e.field) (get_or_default c.args.entries.now c.loop-entry.entry-index d c.entry-item.result c.loop-entry-test.true ∙ sym c.entry-item.is)));
+          (λ k d from u. s.kept (get_or c.args.entries.now k d) (c.loop-entry.invariant.served k d from u))
+          (λ d. s.served c.loop-entry.invariant.built (get_or c.args.entries.now c.loop-entry.entry-index d) (ap (λ (e : Entry). e.field) (get_or_default c.args.entries.now c.loop-entry.entry-index d c.entry-item.result c.loop-entry-test.true ∙ sym c.entry-item.is)));
     }

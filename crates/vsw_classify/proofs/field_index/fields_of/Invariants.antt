@@ -1,4 +1,3 @@
-use Rattle.std.proofs.Common.{◌≡◌, ℕ}
 use Rattle.std.specs.List.{All, AllWithin}
 use Rattle.vsw_classify.specs.declared.entry.Entry.{Entry}
 use Rattle.vsw_classify.specs.declared.field_index.FieldIndex.{FieldIndex}

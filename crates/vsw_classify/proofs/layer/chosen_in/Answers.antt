@@ -6,5 +6,5 @@ use Rattle.vsw_classify.proofs.layer.chosen_in.Goals as goal
 pub returns-then-not-has_last : goal.returns-then-not-has_last
 returns-then-not-has_last c =
     λ o e. left_out c.args.dir c.args.packet.now c.args.group.now o
-      (e ∙ some_not_none c.args.later (sym c.is_some.ensures ∙ c.if-is_some.true))
-      (sym (c.has_last.ensures ∙ ap marks_last c.requires.built) ∙ c.if-not-has_last.true)
+    (e ∙ some_not_none c.args.later (sym c.is_some.ensures ∙ c.if-is_some.true))
+    (sym (c.has_last.ensures ∙ ap marks_last c.requires.built) ∙ c.if-not-has_last.true)

@@ -1,4 +1,4 @@
-use Rattle.std.proofs.Common.{◌≡◌, ℕ, take}
+use Rattle.std.proofs.Common.{take}
 use Rattle.vsw_classify.specs.Private.Rank.{meets_at}
 use Rattle.vsw_classify.specs.Private.Search.{Narrows, OfferedIn}
 use Rattle.vsw_classify.proofs.ranks.first_offered.Given as goal

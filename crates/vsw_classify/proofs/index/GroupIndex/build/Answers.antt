@@ -1,4 +1,3 @@
-use Rattle.std.proofs.Common.{◌∙◌}
 use Rattle.vsw_classify.proofs.Complete.{index_is}
 use Rattle.vsw_classify.proofs.index.GroupIndex.build.Goals as goal
 

@@ -1,5 +1,5 @@
 -- The writer of a new table is one at the beginning, whatever passes it gives out.
-use Rattle.std.proofs.Common.{◌≡◌, ◌+◌, ◌++◌, ℕ, zero, suc, List, [], ◌∷◌, get_or, replicate, refl, sym, ap, subst, ◌∙◌, arith}
+use Rattle.std.proofs.Common.{◌≡◌, ◌+◌, ◌++◌, ℕ, zero, suc, List, [], ◌∷◌, replicate, refl, sym, ap, subst, ◌∙◌}
 use Rattle.vsw_core.specs.Core.{Begins, total}
 use Rattle.vsw_history.specs.declared.event.Event.{Event}
 use Rattle.vsw_lookup.specs.declared.view.View.{View}

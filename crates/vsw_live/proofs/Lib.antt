@@ -4,3 +4,4 @@ pub mod Passing
 pub mod Fasts
 pub mod Answered
 pub mod Openings
+pub mod Names

@@ -15,6 +15,6 @@ pub use answer::{Answer, Fast, Ticket, Told};
 pub use held::Held;
 pub use live::LivePort;
 pub use naming::Naming;
-pub use opening::OpenPort;
+pub use opening::{OpenPort, name_all};
 pub use unit::Unit;
 pub use why::Why;

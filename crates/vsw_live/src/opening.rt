@@ -1,7 +1,7 @@
 //! Ports are opened, and then named.
 
-ghost use Rattle.std.specs.Prelude.{◌≡◌, ◌≤◌, ◌<◌, ◌+◌, ◌++◌, ◌∷◌, [], length, IfOk, OnOk};
-ghost use Rattle.vsw_live.specs.Ports.{AreNewPasses, StandsAt};
+ghost use Rattle.std.specs.Prelude.{◌≡◌, ◌≤◌, ◌<◌, ◌+◌, ◌++◌, ◌∷◌, [], length, vec_len, IfOk, OnOk};
+ghost use Rattle.vsw_live.specs.Ports.{AreNewPasses, StandsAt, items_of, passes_of, ports_of};
 ghost use Rattle.vsw_live.specs.Private.Opening.{HasPasses};
 ghost use Rattle.vsw_lookup.specs.Rules.{first_view};
 ghost use Rattle.vsw_port.specs.Core.{AreAtMost};
@@ -37,13 +37,12 @@ impl Model for OpenPort {
     ghost invariant = { λ o. HasPasses o.lookup o.count o.core.writer o.passes.items };
 }
 
-fn put_pass(
-    passes: &mut Vec<Pass<PortStory>>,
-    pass: Pass<PortStory>,
-) -> Result<(), NoMemory>
-    ensures { OnOk result (passes.new.items ≡ passes.old.items ++ pass ∷ []) }
+/// Puts one thing more at the end.
+fn put<T: Drop>(all: &mut Vec<T>, one: T) -> Result<(), NoMemory>
+    ensures items { OnOk result (all.new.items ≡ all.old.items ++ one ∷ []) }
+    ensures len { OnOk result (vec_len all.new ≡ vec_len all.old + 1) }
 {
-    match passes.push(pass) {
+    match all.push(one) {
         Ok(()) => Ok(()),
         Err(_) => Err(NoMemory),
     }
@@ -61,7 +60,7 @@ fn add_pass(
     ensures has { OnOk result (HasPasses lookup.now (count + 1) writer.new passes.new.items) }
 {
     let pass = writer.pass(lookup);
-    put_pass(passes, pass)
+    put(passes, pass)
 }
 
 /// So many passes of a new writer.
@@ -125,4 +124,34 @@ impl OpenPort {
         let locked = Locked::new(place, core);
         (LivePort::of(place, count, lookup, locked), passes)
     }
+}
+
+/// Takes the first port out.
+fn first(ports: &mut Vec<OpenPort>) -> OpenPort
+    requires { 0 < length ports.old.items }
+    ensures { ports.old.items ≡ result ∷ ports.new.items }
+{
+    ports.remove(0)
+}
+
+/// Names all ports of a run by their places, in the order of the list, and gives the passes of each.
+pub fn name_all<J: Naming>(
+    alloc: Global,
+    opened: Vec<OpenPort>,
+) -> Result<(Vec<LivePort<J>>, Vec<Vec<Pass<PortStory>>>), NoMemory>
+    requires ports { J.ports ≡ ports_of opened.items }
+    ensures ports { IfOk result (λ r. r.0.items ≡ ports_of opened.items) }
+    ensures passes { IfOk result (λ r. items_of r.1.items ≡ passes_of opened.items) }
+{
+    let mut left = opened;
+    let mut ports = Vec::new(alloc);
+    let mut passes = Vec::new(alloc);
+    while !left.is_empty() {
+        let place = ports.len();
+        let one = first(&mut left);
+        let (port, own) = one.named::<J>(place);
+        put(&mut ports, port)?;
+        put(&mut passes, own)?;
+    }
+    Ok((ports, passes))
 }

@@ -145,8 +145,8 @@ same_acts x b w t s bare = record {
 pub kept_fresh : (ls : List LayerSeen) (words : List ℕ) (x : Crossing) (b : Body) (w : Walked) (t : Told) (new : List ℕ) → IsCompared ls words x b w t → IsSame x.id.stack b w t → new ≡ row_words x.id b.verdict b.by w.until → IsFresh ls new t.looked
 kept_fresh ls words x b w t new c s are =
     let said : SaysRowOf ls x new =
-        row_said x w t b.by new (ap (λ (y : Crossing). y.control) c.read.packet) c.quiet c.read.says.id.stack c.read.says.id.fit (subst (λ v. IsBody v b.by) s.verdict c.read.says.body)
-            (same_acts x b w t s c.read.says.body.bare) (are ∙ ap (λ v. row_words x.id v b.by w.until) s.verdict) ls c.walk in
+    row_said x w t b.by new (ap (λ (y : Crossing). y.control) c.read.packet) c.quiet c.read.says.id.stack c.read.says.id.fit (subst (λ v. IsBody v b.by) s.verdict c.read.says.body)
+    (same_acts x b w t s c.read.says.body.bare) (are ∙ ap (λ v. row_words x.id v b.by w.until) s.verdict) ls c.walk in
     fresh_row ls x w t new c.walk said
 
 -- the writer once a row was put

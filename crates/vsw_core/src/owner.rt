@@ -22,11 +22,9 @@ ghost use Rattle.vsw_port.specs.Core.{AreAtMost, entered};
 ghost use Rattle.vsw_port.specs.Crossed.{EditsPass, MayBeShort, is_short};
 ghost use Rattle.vsw_story.specs.Rows.{opening_of};
 
-use crate::commanding;
 use crate::crossing::cross;
-use crate::granting;
-use crate::reconciling;
 use crate::rooms::{Former, Rooms};
+use crate::{commanding, granting, reconciling};
 use std::alloc::Global;
 use std::marker::Model;
 use vsw_base::{Crossing, NoMemory, Stack};
@@ -82,11 +80,7 @@ impl Model for Core {
 impl Core {
     /// A port that begins with the policy of its writer, none of whose layers has made a pair. Memory is taken so that
     /// a packet takes some only to make a pair, whatever rows it leaves.
-    pub fn open(
-        alloc: Global,
-        policy: Policy,
-        writer: Writer<PortStory>,
-    ) -> Result<Core, NoMemory>
+    pub fn open(alloc: Global, policy: Policy, writer: Writer<PortStory>) -> Result<Core, NoMemory>
         requires pairs { AreAtMost 0 policy.layers }
         requires begins { Begins policy writer }
         ensures writer { IfOk result (λ core. core.writer ≡ writer) }

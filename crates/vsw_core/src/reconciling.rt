@@ -81,7 +81,13 @@ fn renew(
     if wants_change(&walked, again) {
         return Reconciled::Cleared;
     }
-    if is_same(&former.crossing, &former.body, &walked, again, &mut former.stack) {
+    if is_same(
+        &former.crossing,
+        &former.body,
+        &walked,
+        again,
+        &mut former.stack,
+    ) {
         keep(lookup, rows, row, former, &walked, again, &mut rooms.words);
         return Reconciled::Kept;
     }
@@ -155,20 +161,20 @@ fn is_same(
         return false;
     }
     match body.verdict {
-        Verdict::Pass => makes_same(&body.by, &crossing.id.stack, walked.kept, again.stack(), room),
+        Verdict::Pass => makes_same(
+            &body.by,
+            &crossing.id.stack,
+            walked.kept,
+            again.stack(),
+            room,
+        ),
         Verdict::Rule { .. } => true,
         Verdict::Default { .. } => true,
     }
 }
 
 /// Whether the acts make this stack of the first one, and keep so many of its encapsulations.
-fn makes_same(
-    by: &Transposition,
-    first: &Stack,
-    kept: u8,
-    last: &Stack,
-    room: &mut Stack,
-) -> bool
+fn makes_same(by: &Transposition, first: &Stack, kept: u8, last: &Stack, room: &mut Stack) -> bool
     ensures told { result ≡ true → (fit.fits by.now first.now ≡ true) × (apply by.now first.now ≡ last.now) × (fit.kept by.now ≡ kept) }
     ensures back { fit.fits by.now first.now ≡ true → apply by.now first.now ≡ last.now → fit.kept by.now ≡ kept → result ≡ true }
 {

@@ -77,11 +77,7 @@ fn controller_of(lookup: &Lookup<PortStory>, writer: &mut Writer<PortStory>) -> 
 }
 
 /// Whether memory was there for the entries that a new pass may make.
-fn has_permits(
-    core: &mut Core,
-    lookup: &Lookup<PortStory>,
-    pass: &mut Pass<PortStory>,
-) -> bool
+fn has_permits(core: &mut Core, lookup: &Lookup<PortStory>, pass: &mut Pass<PortStory>) -> bool
     requires core { IsOf lookup.now core.old.writer }
     requires pass { IsOf lookup.now pass.old }
     requires fresh { (pass.old.view.permits ≡ 0) × (pass.old.view.receipts ≡ []) }
@@ -150,9 +146,7 @@ impl Port {
             return None;
         }
         self.sends -= 1;
-        let outcome = self
-            .core
-            .slow(&self.lookup, &mut self.worker, &crossing);
+        let outcome = self.core.slow(&self.lookup, &mut self.worker, &crossing);
         Some((outcome.entry, outcome.fate))
     }
 
@@ -182,7 +176,10 @@ impl Port {
         let mut key = [0; 16];
         key_words(id, &mut key);
         let mut body = [0; 57];
-        match self.lookup.look(&mut self.worker, slot_of(&key, 8), &key, &mut body) {
+        match self
+            .lookup
+            .look(&mut self.worker, slot_of(&key, 8), &key, &mut body)
+        {
             Look::Hit { count } => {
                 let body = body_of(&body)?;
                 Some(Seen::Row {

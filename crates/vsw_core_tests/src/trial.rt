@@ -13,10 +13,7 @@ use vsw_policy::{Command, Policy, Reply};
 use vsw_story::PortStory;
 
 /// The pass of the first controller, behind those of sixteen workers.
-fn pass_of_first(
-    lookup: &Lookup<PortStory>,
-    writer: &mut Writer<PortStory>,
-) -> Pass<PortStory>
+fn pass_of_first(lookup: &Lookup<PortStory>, writer: &mut Writer<PortStory>) -> Pass<PortStory>
     requires table { writer.old.table ≡ lookup.now.0 }
     requires begins { Begins lookup.now.1 writer.old × (writer.old.view.passes ≡ 0) }
     ensures table { writer.new.table ≡ lookup.now.0 }
@@ -77,7 +74,10 @@ impl Trial {
         requires bare { rules_given command.now ≡ [] }
         ensures permits { self.old ≤ self.new + 1 }
     {
-        Reply::of(self.core.command(&self.lookup, &mut self.pass, line, 1, command))
+        Reply::of(
+            self.core
+                .command(&self.lookup, &mut self.pass, line, 1, command),
+        )
     }
 
     /// The line of the command that is this entry.

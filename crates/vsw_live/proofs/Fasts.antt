@@ -39,19 +39,21 @@ reads_at o p q u fate count out table is many reads shows =
     let h = q.view.front in
     let read : IsRead o h (record { deed = Carried u.crossing u.parts fate (bytes_in fate out); entry = false; count = count }) = record { marked = refl; within = omega (arith, many); reads = subst (λ ls. Reads ls (Carried u.crossing u.parts fate (bytes_in fate out))) (whole o h count many) reads } in
     let low : length p.view.front ≤ count = omega (arith, many, prefix_length p.view.front h is.1) in
-    let permits : q.view.permits ≡ p.view.permits = ap (λ v. v.permits) is.0 in
-    (record {
-      table = table;
-      number = ap (λ v. v.number) is.0;
-      opens = ap (λ v. v.opening) is.0;
-      seen = is.1;
-      call = Read read;
-      shows = subst (λ ls. Shows ls u.crossing u.parts fate (bytes_in fate out)) (whole o h count many) shows;
-      low = low;
-      last = many;
-      receipts = ap (λ v. v.receipts) is.0 ∙ sym (append_end p.view.receipts);
-      permits = omega (arith, permits);
-    }, read)
+    let permits : q.view.permits ≡ p.view.permits = ap (λ v. v.permits) is.0 in (
+      record {
+        table = table;
+        number = ap (λ v. v.number) is.0;
+        opens = ap (λ v. v.opening) is.0;
+        seen = is.1;
+        call = Read read;
+        shows = subst (λ ls. Shows ls u.crossing u.parts fate (bytes_in fate out)) (whole o h count many) shows;
+        low = low;
+        last = many;
+        receipts = ap (λ v. v.receipts) is.0 ∙ sym (append_end p.view.receipts);
+        permits = omega (arith, permits);
+      },
+      read,
+    )
 
 pub fate_read : (l : Looking) (x : Crossing) (q : Writing) (edited : List Header) (outcome : Outcome) (count : ℕ) (u : UnitSeen) → Answers l x q.view edited outcome count → IsFateAt (replay (opening_of l.1) q.view.front) x outcome.fate
 fate_read l x q edited outcome count u t = inl (t.reads u.parts []).0

@@ -22,12 +22,12 @@ pub has_more : (r : Result (Unit {0}) NoMemory) (l : Looking) (n : ℕ) (w v p :
 has_more (Err e) l n w v p ps qs has made new pushed = tt
 has_more (Ok u) l n w v p ps qs has made new pushed =
     let first : IsNewPass l n p = record {
-        of = record { table = ap (λ (h : Writing). h.table) new ∙ has.of.table; opens = ap (λ (h : Writing). h.view.opening) new ∙ has.of.opens };
-        number = ap (λ (h : Writing). h.view.number) new ∙ has.passes;
-        front = ap (λ (h : Writing). h.view.front) new ∙ has.history;
-        receipts = ap (λ (h : Writing). h.view.receipts) new;
-        permits = ap (λ (h : Writing). h.view.permits) new;
-      } in
+      of = record { table = ap (λ (h : Writing). h.table) new ∙ has.of.table; opens = ap (λ (h : Writing). h.view.opening) new ∙ has.of.opens };
+      number = ap (λ (h : Writing). h.view.number) new ∙ has.passes;
+      front = ap (λ (h : Writing). h.view.front) new ∙ has.history;
+      receipts = ap (λ (h : Writing). h.view.receipts) new;
+      permits = ap (λ (h : Writing). h.view.permits) new;
+    } in
     record {
       of = record { table = ap (λ (h : Writing). h.table) made ∙ has.of.table; opens = ap (λ (h : Writing). h.view.opening) made ∙ has.of.opens };
       passes = ap (λ (h : Writing). h.view.passes) made ∙ ap (λ k. k + 1) has.passes;

@@ -84,12 +84,7 @@ fn make_passes(
 
 impl OpenPort {
     /// Opens a port that begins with this policy, none of whose layers has made a pair, with so many rows and passes.
-    pub fn open(
-        alloc: Global,
-        policy: Policy,
-        rows: u32,
-        passes: u32,
-    ) -> Result<OpenPort, NoMemory>
+    pub fn open(alloc: Global, policy: Policy, rows: u32, passes: u32) -> Result<OpenPort, NoMemory>
         requires pairs { AreAtMost 0 policy.layers }
         requires rows { (8 ≤ rows) × (rows ≤ 16384) }
         requires passes { passes ≤ 24 }

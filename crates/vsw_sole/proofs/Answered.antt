@@ -20,12 +20,14 @@ use Rattle.vsw_story.specs.Rows.{opening_of}
 pub answered_at : (l : Looking) (x : Crossing) (h : List Event) (q : Pass) (edited : List Header) (outcome : Outcome) (count : ℕ) → IsPrefix h q.front → count ≡ length h → Answers l x q edited outcome count
     → AnsweredAt l x h edited outcome × (q.front ≡ h)
 answered_at l x h q edited outcome count front seen a =
-    let same : h ≡ q.front = prefix_whole h q.front front (omega (arith, seen, a.counted)) in
-    (record {
-      reads = λ p bytes. subst (λ g. Reads (replay (opening_of l.1) g) (Carried x p outcome.fate bytes)) (sym same) (a.reads p bytes);
-      edits = subst (λ g. EditsPass (replay (opening_of l.1) g) x edited outcome.kept outcome.fate) (sym same) a.edits;
-      entry = a.entry;
-    }, sym same)
+    let same : h ≡ q.front = prefix_whole h q.front front (omega (arith, seen, a.counted)) in (
+      record {
+        reads = λ p bytes. subst (λ g. Reads (replay (opening_of l.1) g) (Carried x p outcome.fate bytes)) (sym same) (a.reads p bytes);
+        edits = subst (λ g. EditsPass (replay (opening_of l.1) g) x edited outcome.kept outcome.fate) (sym same) a.edits;
+        entry = a.entry;
+      },
+      sym same,
+    )
 
 -- and it is done at the end of these entries
 pub answered_done : (l : Looking) (x : Crossing) (h g : List Event) (edited : List Header) (outcome : Outcome) → h ≡ g → AnsweredAt l x h edited outcome → (p : Parts) (bytes : List ℕ) → IsDone (opening_of l.1) g (Carried x p outcome.fate bytes) outcome.entry

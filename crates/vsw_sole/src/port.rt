@@ -256,7 +256,14 @@ impl SolePort {
     {
         let place = place_of(&self.controllers, controller);
         let caller = &mut self.callers[16 + place];
-        let answer = ask(&mut self.core, &self.lookup, caller, line, controller, command);
+        let answer = ask(
+            &mut self.core,
+            &self.lookup,
+            caller,
+            line,
+            controller,
+            command,
+        );
         self.room = left(self.room, is_entry(answer));
         answer
     }

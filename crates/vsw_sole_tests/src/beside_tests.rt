@@ -44,13 +44,20 @@ fn flow_of(word: u32) -> u16 {
 }
 
 fn dir_of(word: u32) -> Dir {
-    if word / 0x100 % 4 == 0 { Dir::In } else { Dir::Out }
+    if word / 0x100 % 4 == 0 {
+        Dir::In
+    } else {
+        Dir::Out
+    }
 }
 
 /// The command of a step, which most often is obeyed.
 fn command_of(alloc: Global, step: u32, word: u32) -> Option<(u16, Command)> {
     let (controller, made) = match word / 0x1000 % 6 {
-        0 => (1, put_rule(alloc, 10, Action::Allow, word / 0x10_0000 % 2 == 0)),
+        0 => (
+            1,
+            put_rule(alloc, 10, Action::Allow, word / 0x10_0000 % 2 == 0),
+        ),
         1 => (1, put_rule(alloc, 10, Action::Drop, false)),
         2 => (2, put_rule(alloc, 20, edit(u64::from(word)), false)),
         3 => (2, put_rule(alloc, 20, edit(u64::from(word)), true)),

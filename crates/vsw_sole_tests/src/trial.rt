@@ -42,12 +42,23 @@ fn is_listed(controllers: &[u16], controller: u16) -> bool
 /// Whether two entries are one: the same packet with the same fate, or the same line with the same reply.
 fn is_same(one: &Event, other: &Event) -> bool {
     match (one, other) {
-        (Event::Crossing { crossing, fate }, Event::Crossing { crossing: second, fate: told }) => {
+        (
+            Event::Crossing { crossing, fate },
+            Event::Crossing {
+                crossing: second,
+                fate: told,
+            },
+        ) => {
             crossing.packet == second.packet && crossing.caller == second.caller && fate == told
         }
-        (Event::Command { line, reply, .. }, Event::Command { line: second, reply: told, .. }) => {
-            line == second && reply == told
-        }
+        (
+            Event::Command { line, reply, .. },
+            Event::Command {
+                line: second,
+                reply: told,
+                ..
+            },
+        ) => { line == second && reply == told }
         _ => false,
     }
 }
@@ -94,7 +105,6 @@ impl Trial {
             Err(_) => None,
         }
     }
-
 
     /// The fate of a packet, where both are told the same: the outcome, and after a pass the headers.
     pub fn send(&mut self, crossing: &Crossing) -> Option<Fate> {

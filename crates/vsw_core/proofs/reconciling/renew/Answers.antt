@@ -44,4 +44,4 @@ returns-clause-reconciles c =
       quiet = none_made w t (sym c.wants_change.ensures ∙ c.if-wants_change.false);
     } in
     changed_is ls v c.write_row.new.rows.writer c.args.row x b w t c.write_row.new.rooms.words c.write_row.ensures.writer c.requires.old compared
-        (λ s. true≢false (sym (c.is_same.ensures.back s) ∙ c.if-is_same.false)) c.write_row.ensures.row c.write_row.ensures.there
+    (λ s. true≢false (sym (c.is_same.ensures.back s) ∙ c.if-is_same.false)) c.write_row.ensures.row c.write_row.ensures.there

@@ -4,10 +4,10 @@ use Rattle.vsw_live.proofs.opening.name_all.Given as goal
 
 abbrev pub invariant-loop-ports : goal.invariant-loop-ports
 invariant-loop-ports g l = record {
-    named : l.ports.items ++ ports_of l.left.items ≡ ports_of l.fn.opened.items;
-    given : items_of l.passes.items ++ passes_of l.left.items ≡ passes_of l.fn.opened.items;
-    places : drop (vec_len l.ports) g.J.Naming.ports ≡ ports_of l.left.items;
-  }
+  named : l.ports.items ++ ports_of l.left.items ≡ ports_of l.fn.opened.items;
+  given : items_of l.passes.items ++ passes_of l.left.items ≡ passes_of l.fn.opened.items;
+  places : drop (vec_len l.ports) g.J.Naming.ports ≡ ports_of l.left.items;
+}
 
 abbrev pub decreases-loop-ports : goal.decreases-loop-ports
 decreases-loop-ports g l = vec_len l.left

@@ -8,7 +8,7 @@ use Rattle.vsw_transit.proofs.passing.transit.Goals as goal
 pub leave-requires : goal.leave-requires
 leave-requires c = record {
   can = can_leave (layers_of c.args.port.now) (layers_of c.cross-outcome.new.self) c.args.crossing.now (parts c.args.frame.now) c.edited.result.now c.cross-outcome.result.kept c.cross-outcome.result.fate c.cross-outcome.result.entry
-    c.cross-outcome.ensures.exact (lent (layers_of c.args.port.now) c.args.crossing.now c.cross-outcome.new.self.edited c.edited.result.now c.cross-outcome.result.kept c.cross-outcome.result.fate c.edited.ensures c.cross-outcome.ensures.edits) (ap is_stack (sym c.headers.ensures.all) ∙ c.headers.ensures.shape) c.requires.of.stack c.requires.of.sizes;
+      c.cross-outcome.ensures.exact (lent (layers_of c.args.port.now) c.args.crossing.now c.cross-outcome.new.self.edited c.edited.result.now c.cross-outcome.result.kept c.cross-outcome.result.fate c.edited.ensures c.cross-outcome.ensures.edits) (ap is_stack (sym c.headers.ensures.all) ∙ c.headers.ensures.shape) c.requires.of.stack c.requires.of.sizes;
 }
 
 pub returns-clause-next : goal.returns-clause-next

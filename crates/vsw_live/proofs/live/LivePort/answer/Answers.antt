@@ -20,4 +20,4 @@ returns-clause-crosses g c =
     let ls = layers_met (opening_of c.args.self.now.looking.1) c.cross-count.new.pass.view c.cross-count.result.1 in
     answered (opening_of c.args.self.now.looking.1) c.args.pass.now c.cross-count.new.pass c.args.unit.now c.crossing.result.now c.cross-count.result.0 c.cross-count.result.1 c.leave.new.room c.of.result c.args.why c.crossing.ensures c.of.ensures c.cross-count.ensures.crosses
     (c.leave.ensures.shows ls (met_fate ls c.crossing.result.now c.args.unit.now.crossing c.cross-count.result.0.fate c.crossing.ensures c.cross-count.ensures.fate)
-        (met_edits ls c.crossing.result.now c.args.unit.now.crossing c.cross-count.new.desk c.edited.result.now c.cross-count.result.0.kept c.cross-count.result.0.fate c.crossing.ensures c.edited.ensures c.cross-count.ensures.edits))
+    (met_edits ls c.crossing.result.now c.args.unit.now.crossing c.cross-count.new.desk c.edited.result.now c.cross-count.result.0.kept c.cross-count.result.0.fate c.crossing.ensures c.edited.ensures c.cross-count.ensures.edits))

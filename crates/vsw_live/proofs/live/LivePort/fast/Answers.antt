@@ -27,6 +27,6 @@ returns-in-Read-clause-fast g c =
     let t = c.in-Read.ensures.tells in
     let ls = replay (opening_of l.1) c.answer_by_row.new.pass.view.front in
     let shows = c.leave.ensures.shows ls (met_fate ls c.crossing.result.now c.args.unit.now.crossing c.in-Read.outcome.fate c.crossing.ensures (fate_read l c.crossing.result.now c.answer_by_row.new.pass c.answer_by_row.new.desk c.in-Read.outcome c.in-Read.count c.args.unit.now t))
-        (met_edits ls c.crossing.result.now c.args.unit.now.crossing c.answer_by_row.new.desk c.edited.result.now c.in-Read.outcome.kept c.in-Read.outcome.fate c.crossing.ensures c.edited.ensures t.edits) in
+    (met_edits ls c.crossing.result.now c.args.unit.now.crossing c.answer_by_row.new.desk c.edited.result.now c.in-Read.outcome.kept c.in-Read.outcome.fate c.crossing.ensures c.edited.ensures t.edits) in
     subst (λ (s : PortSeen). IsFast s.looking c.args.unit.now c.args.pass.now c.answer_by_row.new.pass c.leave.new.room (Done c.of.result)) c.self.view_is
     (done_fast l c.args.pass.now c.answer_by_row.new.pass c.args.unit.now c.crossing.result.now c.answer_by_row.new.desk c.in-Read.outcome c.in-Read.count c.leave.new.room c.of.result c.crossing.ensures c.in-Read.ensures.same.1 c.in-Read.ensures.same.0 t c.in-Read.ensures.sees shows c.of.ensures)

@@ -1,2 +1,2 @@
--- What contracts of private functions are of. No caller need read it.
+-- What contracts of private functions are of, and that of `asked`. No caller of `choose` need read it.
 pub mod FromEnd

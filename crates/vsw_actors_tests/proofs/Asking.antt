@@ -1,5 +1,5 @@
 -- A refused line is a call.
-use Rattle.std.proofs.Common.{◌≡◌, ◌≤◌, ℕ, List, [], ◌∷◌, ◌++◌, refl, arith}
+use Rattle.std.proofs.Common.{ℕ, [], refl, arith}
 use Rattle.vsw_actors_tests.specs.declared.refusing.Notes.{Notes}
 use Rattle.vsw_actors_tests.specs.declared.refusing.Refusing.{Refusing}
 use Rattle.vsw_history.specs.Calls.{Short}

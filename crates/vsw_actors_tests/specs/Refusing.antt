@@ -1,5 +1,5 @@
 -- A port that has memory for no command.
-use Rattle.std.specs.Prelude.{◌≡◌, ℕ, List, [], ◌∷◌, true, false}
+use Rattle.std.specs.Prelude.{ℕ, List, [], ◌∷◌, true, false}
 use Rattle.vsw_actors_tests.specs.declared.refusing.Notes.{Notes}
 use Rattle.vsw_actors_tests.specs.declared.refusing.Refusing.{Refusing}
 use Rattle.vsw_commandfile.specs.declared.line.Line.{Line}

@@ -363,19 +363,21 @@ fn row_whose_packets_would_make_a_pair_is_cleared(rt: HostRuntime) {
 
 fn check_later(rt: &impl Abort, port: &mut Port, out: &Ufid, back: &Ufid) {
     assert!(rt; port.send(out, 0) == Some((true, PASS)));
-    assert!(rt; passes(port, out, 1234, 60_000_000, 4));
+    assert!(rt; passes(port, out, 1236, 60_000_000, 4));
     // The answer renews the last use of their pair.
     assert!(rt; port.send(back, 70_000_000) == Some((true, PASS)));
     assert!(rt; misses(port, out, 5, 5));
     assert!(rt; port.reconcile(out, 0) == Reconciled::Kept);
-    assert!(rt; passes(port, out, 1234, 130_000_000, 5));
+    assert!(rt; passes(port, out, 1236, 130_000_000, 5));
 }
 
 #[test]
 fn kept_row_has_the_until_of_now(rt: HostRuntime) {
     let rule = put_rule(rt.alloc(), 5, Action::Allow, true);
     let mut port = opened(rt.alloc(), &rule).expect(&rt, "memory");
-    let out = id(Dir::Out, OWN, FAR).expect(&rt, "a stack");
-    let back = id(Dir::In, FAR, OWN).expect(&rt, "a stack");
+    // The rows of both directions begin at different places of the eight.
+    let own = (OWN.0, 1236);
+    let out = id(Dir::Out, own, FAR).expect(&rt, "a stack");
+    let back = id(Dir::In, FAR, own).expect(&rt, "a stack");
     check_later(&rt, &mut port, &out, &back);
 }

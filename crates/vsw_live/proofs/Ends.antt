@@ -1,5 +1,5 @@
 -- Calls at the end of a history.
-use Rattle.std.proofs.Common.{◌≡◌, ◌<◌, ◌≤◌, ◌+◌, ◌-◌, ℕ, zero, suc, List, [], ◌∷◌, ◌++◌, Bool, true, false, length, take, refl, sym, ◌∙◌, ap, subst, arith, length-append}
+use Rattle.std.proofs.Common.{◌≡◌, ◌<◌, ◌+◌, ◌-◌, ℕ, List, [], ◌∷◌, ◌++◌, Bool, true, false, length, take, refl, sym, ◌∙◌, ap, subst, arith, length-append}
 use mathlib.Core.List.{IsPrefix}
 use Rattle.vsw_core.specs.Calls.{called}
 use Rattle.vsw_history.specs.declared.event.Event.{Event}

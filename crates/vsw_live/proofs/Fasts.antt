@@ -1,5 +1,5 @@
 -- A packet that a row answers, and one that looked in vain.
-use Rattle.std.proofs.Common.{◌≡◌, ◌≤◌, ◌+◌, ◌⊎◌, inl, ℕ, List, [], ◌∷◌, ◌++◌, Bool, false, Some, None, length, take, refl, sym, ◌∙◌, ap, subst, arith}
+use Rattle.std.proofs.Common.{◌≡◌, ◌≤◌, inl, ℕ, List, [], ◌∷◌, ◌++◌, Bool, false, None, length, take, refl, sym, ◌∙◌, ap, subst, arith}
 use mathlib.Core.List.{IsPrefix}
 use Rattle.vsw_answer.specs.Answers.{Answers, HitsInTime}
 use Rattle.vsw_base.specs.declared.fate.Fate.{Fate}
@@ -7,15 +7,14 @@ use Rattle.vsw_base.specs.declared.flow.Crossing.{Crossing}
 use Rattle.vsw_base.specs.declared.header.Header.{Header}
 use Rattle.vsw_core.specs.Core.{Looking}
 use Rattle.vsw_history.specs.declared.event.Event.{Event}
-use Rattle.vsw_history.specs.Calls.{Call, Carried, IsCall, IsRead, Reads, Shows, entries_of}
+use Rattle.vsw_history.specs.Calls.{Call, Carried, IsRead, Reads, Shows, entries_of}
 use Rattle.vsw_history.specs.Calls.IsCall.{Read}
 use Rattle.vsw_history.specs.History.{Opening, replay}
 use Rattle.vsw_history.proofs.Fronts.{append_end, prefix_length, prefix_trans}
-use Rattle.vsw_live.specs.declared.answer.Fast.{Fast}
 use Rattle.vsw_live.specs.declared.answer.Fast.TheVariants.{Done}
 use Rattle.vsw_live.specs.declared.why.Why.{Why}
 use Rattle.vsw_live.specs.declared.why.Why.TheVariants.{Control, Miss, Late}
-use Rattle.vsw_live.specs.Calls.{Causes, Crosses, HasCause, IsFast, KeepsLook, Looks, call_of}
+use Rattle.vsw_live.specs.Calls.{Causes, Crosses, HasCause, IsFast, KeepsLook, Looks}
 use Rattle.vsw_live.specs.Private.Locked.{IsFateAt}
 use Rattle.vsw_live.specs.Seen.{AnswerSeen, UnitSeen}
 use Rattle.vsw_lookup.specs.Rules as lookup

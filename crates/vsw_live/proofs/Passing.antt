@@ -1,13 +1,12 @@
 -- A frame leaves as its packet was answered.
-use Rattle.std.proofs.Common.{◌≡◌, ◌≤◌, ◌⊎◌, inl, inr, ℕ, List, Bool, true, false, true≢false, refl, sym, ◌∙◌, ap}
+use Rattle.std.proofs.Common.{◌≡◌, ◌≤◌, inl, inr, ℕ, List, Bool, true, false, true≢false, refl, sym, ◌∙◌, ap}
 use Rattle.vsw_base.specs.declared.fate.Cause.TheVariants.{Memory}
 use Rattle.vsw_base.specs.declared.fate.Fate.{Fate}
-use Rattle.vsw_base.specs.declared.fate.Fate.TheVariants.{Pass, Drop}
+use Rattle.vsw_base.specs.declared.fate.Fate.TheVariants.{Drop}
 use Rattle.vsw_base.specs.declared.flow.Crossing.{Crossing}
 use Rattle.vsw_base.specs.declared.header.Header.{Header}
 use Rattle.vsw_base.specs.Frame.{Parts}
 use Rattle.vsw_base.specs.Shape.{is_stack}
-use Rattle.vsw_commit.specs.Fate.{fate_at}
 use Rattle.vsw_history.specs.Calls.{Shows}
 use Rattle.vsw_layer.specs.Layer.{LayerSeen}
 use Rattle.vsw_live.specs.Private.Locked.{IsFateAt}

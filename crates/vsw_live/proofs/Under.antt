@@ -1,6 +1,5 @@
 -- Under a port's lock.
-use Rattle.std.proofs.Common.{◌≡◌, ◌⊎◌, inl, inr, ◌<◌, ◌≤◌, ◌+◌, ◌==◌, ℕ, List, [], ◌∷◌, ◌++◌, Bool, true, false, if◌then◌else◌, length, take, Some, refl, sym, ◌∙◌, ap, subst, arith}
-use Rattle.std.specs.List.{slice_get}
+use Rattle.std.proofs.Common.{◌≡◌, inl, inr, ◌<◌, ◌+◌, ◌==◌, ℕ, List, [], ◌∷◌, Bool, true, false, refl, sym, ◌∙◌, ap, subst}
 use mathlib.Core.List.{IsPrefix}
 use Rattle.vsw_base.specs.declared.fate.Fate.{Fate}
 use Rattle.vsw_base.specs.declared.flow.Crossing.{Crossing}
@@ -17,7 +16,6 @@ use Rattle.vsw_live.specs.Meeting.{Meets}
 use Rattle.vsw_live.specs.Ports.{PortSeen, StandsAt}
 use Rattle.vsw_live.specs.Private.Locked.{HasLookup, IsFateAt, IsLocked, Stays}
 use Rattle.vsw_lookup.specs.Rules as lookup
-use Rattle.vsw_policy.specs.Layers.{PolicySeen}
 use Rattle.vsw_policy.specs.Sound.{Each}
 use Rattle.vsw_rows.specs.Rows.{Writing}
 use Rattle.vsw_story.specs.Rows.{opening_of}

@@ -1,22 +1,19 @@
 -- What lies under a port's lock, and what its calls tell.
-use Rattle.std.specs.Prelude.{◌≡◌, ◌⊎◌, ◌<◌, ℕ, List, Bool, take}
+use Rattle.std.specs.Prelude.{◌≡◌, ◌⊎◌, ℕ, List, take}
 use Rattle.vsw_answer.specs.Answers.{Pass}
 use Rattle.vsw_base.specs.declared.fate.Cause.TheVariants.{Memory}
 use Rattle.vsw_base.specs.declared.fate.Fate.{Fate}
 use Rattle.vsw_base.specs.declared.fate.Fate.TheVariants.{Drop}
 use Rattle.vsw_base.specs.declared.flow.Crossing.{Crossing}
-use Rattle.vsw_base.specs.declared.header.Header.{Header}
 use Rattle.vsw_base.specs.Frame.{Parts}
 use Rattle.vsw_commit.specs.Fate.{fate_at}
-use Rattle.vsw_core.specs.Core.{CoreSeen, IsOf, Looking}
-use Rattle.vsw_history.specs.declared.event.Event.{Event}
+use Rattle.vsw_core.specs.Core.{IsOf, Looking}
 use Rattle.vsw_history.specs.Calls.{Call, Carried, HasBytes}
 use Rattle.vsw_history.specs.History.{AllRight, Opening, replay}
 use Rattle.vsw_layer.specs.Layer.{LayerSeen}
 use Rattle.vsw_live.specs.Calls.{Crosses}
 use Rattle.vsw_live.specs.Ports.{PortSeen, StandsAt}
 use Rattle.vsw_port.specs.declared.crossing.Outcome.{Outcome}
-use Rattle.vsw_port.specs.Crossed.{EditsPass}
 use Rattle.vsw_rows.specs.Rows.{Writing}
 use Rattle.vsw_story.specs.Rows.{opening_of}
 

@@ -1,4 +1,4 @@
-use Rattle.std.proofs.Common.{◌≡◌, ◌++◌, ap, sym, ◌∙◌, subst, not}
+use Rattle.std.proofs.Common.{◌≡◌, ap, sym, subst, not}
 use Rattle.vsw_history.specs.declared.event.Event.TheVariants as event
 use Rattle.vsw_history.specs.Calls.{Asked}
 use Rattle.vsw_live.specs.Calls.{Crosses, asked}

@@ -1,4 +1,4 @@
-use Rattle.std.proofs.Common.{◌≡◌, [], ap, sym, refl, subst}
+use Rattle.std.proofs.Common.{[], ap, sym, refl, subst}
 use Rattle.vsw_history.specs.declared.event.Event.TheVariants as event
 use Rattle.vsw_history.specs.Calls.{Carried}
 use Rattle.vsw_history.specs.History.{replay}

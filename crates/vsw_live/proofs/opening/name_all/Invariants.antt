@@ -1,4 +1,4 @@
-use Rattle.std.proofs.Common.{◌≡◌, ◌++◌, length, drop, vec_len}
+use Rattle.std.proofs.Common.{◌≡◌, ◌++◌, drop, vec_len}
 use Rattle.vsw_live.specs.Ports.{items_of, passes_of, ports_of}
 use Rattle.vsw_live.proofs.opening.name_all.Given as goal
 

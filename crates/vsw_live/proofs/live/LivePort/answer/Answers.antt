@@ -1,7 +1,4 @@
-use Rattle.std.proofs.Common.{◌≡◌, sym, subst}
-use Rattle.vsw_live.specs.Calls.{Crosses, call_of}
 use Rattle.vsw_live.specs.Private.Locked.{layers_met}
-use Rattle.vsw_live.specs.Seen.{AnswerSeen}
 use Rattle.vsw_live.proofs.Answered.{answered, met_edits, met_fate}
 use Rattle.vsw_story.specs.Rows.{opening_of}
 use Rattle.vsw_live.proofs.live.LivePort.answer.Goals as goal

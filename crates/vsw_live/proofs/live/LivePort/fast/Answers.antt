@@ -1,4 +1,4 @@
-use Rattle.std.proofs.Common.{◌≡◌, sym, subst}
+use Rattle.std.proofs.Common.{subst}
 use Rattle.vsw_history.specs.History.{replay}
 use Rattle.vsw_live.specs.declared.answer.Fast.TheVariants.{Done}
 use Rattle.vsw_live.specs.Calls.{IsFast}

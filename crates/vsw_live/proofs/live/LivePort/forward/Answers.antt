@@ -1,6 +1,5 @@
-use Rattle.std.proofs.Common.{◌≡◌, Some, sym, subst, ap}
-use Rattle.vsw_live.specs.Calls.{Causes, Crosses, TellsWhy, call_of}
-use Rattle.vsw_live.specs.Seen.{AnswerSeen, UnitSeen}
+use Rattle.std.proofs.Common.{sym, subst}
+use Rattle.vsw_live.specs.Calls.{Crosses, TellsWhy, call_of}
 use Rattle.vsw_live.proofs.Fasts.{cause_of, look_first}
 use Rattle.vsw_story.specs.Rows.{opening_of}
 use Rattle.vsw_live.proofs.live.LivePort.forward.Goals as goal

@@ -2,7 +2,7 @@
 use Rattle.std.proofs.Common.{◌≡◌, ◌<◌, ◌+◌, ◌%◌, ℕ, List, length, sym, subst}
 use Rattle.vsw_answer.specs.declared.answer.RowAnswer.{RowAnswer}
 use Rattle.vsw_answer.specs.declared.answer.RowAnswer.TheVariants.{Read, Control, Miss, Late}
-use Rattle.vsw_answer.specs.Answers.{Answers, HitsInTime, IsLate, Misses, Pass, Sees, Tells}
+use Rattle.vsw_answer.specs.Answers.{Misses, Pass, Sees, Tells}
 use Rattle.vsw_answer.specs.Private.Said.{Says}
 use Rattle.vsw_base.specs.declared.flow.Crossing.{Crossing}
 use Rattle.vsw_base.specs.declared.header.Header.{Header}

@@ -10,11 +10,10 @@ use Rattle.vsw_base.specs.declared.fate.Fate.TheVariants.{Pass, Drop}
 use Rattle.vsw_base.specs.declared.fate.Verdict.{Verdict}
 use Rattle.vsw_base.specs.declared.fate.Verdict.TheVariants as verdict
 use Rattle.vsw_base.specs.declared.flow.Crossing.{Crossing}
-use Rattle.vsw_base.specs.declared.flow.Ufid.{Ufid}
 use Rattle.vsw_base.specs.declared.header.Header.{Header}
 use Rattle.vsw_base.specs.declared.packet.Control.TheVariants as control
 use Rattle.vsw_commit.specs.Cross.{Crossed, Passing, cross_of, fate_after}
-use Rattle.vsw_commit.specs.Fate.{fate_at, fate_by}
+use Rattle.vsw_commit.specs.Fate.{fate_by}
 use Rattle.vsw_walk.specs.Walk.{walk_of}
 use Rattle.vsw_history.specs.declared.event.Event.{Event}
 use Rattle.vsw_history.specs.History.{Opening, replay}
@@ -25,7 +24,6 @@ use Rattle.vsw_lean.proofs.Answered.{row_answers}
 use Rattle.vsw_port.specs.declared.crossing.Outcome.{Outcome}
 use Rattle.vsw_port.specs.Crossed.{EditsPass}
 use Rattle.vsw_story.proofs.Answers.{fronts, key_length, words_are}
-use Rattle.vsw_story.specs.Law.{row_found}
 use Rattle.vsw_transpose.specs.declared.act.Act.{Act}
 use Rattle.vsw_transpose.specs.Apply.{apply}
 use Rattle.vsw_transpose.specs.Fits as fit

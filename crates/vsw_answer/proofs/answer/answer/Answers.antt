@@ -1,4 +1,4 @@
-use Rattle.std.proofs.Common.{rules, arith, ◌≡◌, ◌<◌, ◌≤◌, refl}
+use Rattle.std.proofs.Common.{rules, ◌<◌, ◌≤◌}
 use Rattle.vsw_answer.proofs.Rows.{said, said_late}
 use Rattle.vsw_answer.proofs.answer.answer.Goals as goal
 

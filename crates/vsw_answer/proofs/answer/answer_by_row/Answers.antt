@@ -1,4 +1,4 @@
-use Rattle.std.proofs.Common.{rules, ◌≡◌, sym, subst}
+use Rattle.std.proofs.Common.{rules, ◌≡◌, sym}
 use Rattle.vsw_answer.proofs.Looks.{misses, sees_of, tells_of}
 use Rattle.vsw_base.specs.declared.packet.Control.TheVariants as control
 use Rattle.vsw_story.specs.Rows.{opening_of}

@@ -11,23 +11,49 @@ use vsw_base::{Cause, Dir, Fate};
 use vsw_policy::{Command, Reply};
 use vsw_rule::Action;
 
+/// Both layers, still without groups.
+fn add_layers(trial: &mut Trial) -> Option<()> {
+    trial.ask(1, 1, &add_layer(10))?;
+    trial.ask(2, 2, &add_layer(20))?;
+    Some(())
+}
+
+/// A group in each layer.
+fn add_groups(alloc: Global, trial: &mut Trial) -> Option<()> {
+    trial.ask(3, 1, &add_group(alloc, 10))?;
+    trial.ask(4, 2, &add_group(alloc, 20))?;
+    Some(())
+}
+
+/// The rule of a layer.
+fn rule(
+    alloc: Global,
+    trial: &mut Trial,
+    controller: u16,
+    layer: u16,
+    action: Action,
+    stateful: bool,
+) -> Option<Reply> {
+    match put_rule(alloc, layer, action, stateful) {
+        Ok(command) => trial.ask(5, controller, &command),
+        Err(_) => None,
+    }
+}
+
 /// Layer 10 lets out with a pair, and layer 20 edits: six entries.
+fn set_up(alloc: Global, trial: &mut Trial) -> Option<()> {
+    add_layers(trial)?;
+    add_groups(alloc, trial)?;
+    rule(alloc, trial, 1, 10, Action::Allow, true)?;
+    rule(alloc, trial, 2, 20, edit(0x0200_0000_0077), false)?;
+    Some(())
+}
+
 fn port(alloc: Global, rows: u32) -> Option<Trial>
     requires { (8 ≤ rows) × (rows ≤ 16384) }
 {
     let mut trial = Trial::new(alloc, rows)?;
-    trial.ask(1, 1, &add_layer(10))?;
-    trial.ask(2, 2, &add_layer(20))?;
-    trial.ask(3, 1, &add_group(alloc, 10))?;
-    trial.ask(4, 2, &add_group(alloc, 20))?;
-    let Ok(allow) = put_rule(alloc, 10, Action::Allow, true) else {
-        return None;
-    };
-    trial.ask(5, 1, &allow)?;
-    let Ok(change) = put_rule(alloc, 20, edit(0x0200_0000_0077), false) else {
-        return None;
-    };
-    trial.ask(6, 2, &change)?;
+    set_up(alloc, &mut trial)?;
     Some(trial)
 }
 

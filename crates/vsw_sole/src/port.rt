@@ -179,6 +179,13 @@ impl SolePort {
         self.core.journal().len() as u32
     }
 
+    /// The controllers, in the policy's order.
+    pub fn controllers(&self) -> &[u16]
+        ensures { result.now ≡ self.now.opening.controllers }
+    {
+        &self.controllers
+    }
+
     /// How many workers bring packets: their numbers are below.
     pub fn workers(&self) -> u32
         ensures { result ≡ self.now.workers }

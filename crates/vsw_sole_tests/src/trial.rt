@@ -133,6 +133,9 @@ impl Trial {
         if !is_listed(self.ledger.policy().controllers(), controller) || !is_good(command) {
             return None;
         }
+        if !is_listed(self.port.controllers(), controller) {
+            return None;
+        }
         if self.port.reserve(1).is_err() || self.ledger.reserve(1).is_err() {
             return None;
         }

@@ -31,8 +31,8 @@ pub record Answers (l : Looking) (x : Crossing) (q : Pass) (edited : List Header
   pub edits : EditsPass (replay (opening_of l.1) q.front) x edited outcome.kept outcome.fate
   pub entry : outcome.entry ≡ false
 
--- a look in this call hit a row of the packet's identity, good after the history which the pass then has seen, whose until isn't below the
--- packet's moment
+-- the pass has looked, and a row of the packet's identity that is good after the history which it then has seen has an until not below the
+-- packet's moment. That the look hit this row isn't said
 pub record HitsInTime (l : Looking) (x : Crossing) (p q : Pass) : Type 0 where
   pub begun : p.closed < q.closed
   pub row : Row
@@ -60,7 +60,7 @@ Tells l x p q edited Control = (x.control ≢ control.None) × (q ≡ p)
 Tells l x p q edited Miss = Misses l x p q
 Tells l x p q edited Late = IsLate l x q
 
--- what the look of this call saw, beside what it tells. A late row was hit in this call, too
+-- what is known of this call's look, beside what it tells. Where a row was late, the pass has looked, too
 abbrev pub Sees : Looking → Crossing → Pass → Pass → RowAnswer → Type 0
 Sees l x p q (Read outcome count) = HitsInTime l x p q
 Sees l x p q Control = Unit {0}

@@ -50,7 +50,7 @@ pub record Looks (p q : Writing) : Type 0 where
   pub table : q.table ≡ p.table
   pub reads : lookup.IsRead p.view q.view
 
--- a row of the packet's identity, hit by a look of this call and good after this history, has an until below the packet's moment
+-- the pass has looked, and a row of the packet's identity that is good after this history has an until below the packet's moment
 pub record HitsLate (l : Looking) (x : Crossing) (p q : Pass) (h : List Event) : Type 0 where
   pub control : x.control ≡ control.None
   pub begun : p.closed < q.closed
@@ -65,7 +65,7 @@ Causes l x p q h Control = (x.control ≢ control.None) × (q.closed ≡ p.close
 Causes l x p q h Miss = Misses l x p q
 Causes l x p q h Late = HitsLate l x p q h
 
--- a row answered the packet: it has no control, and a look of this call hit a row of its identity in time
+-- a row answered the packet: it has no control, the pass has looked, and a good row of its identity isn't past its until
 pub record IsByRow (l : Looking) (x : Crossing) (p q : Pass) (a : AnswerSeen) : Type 0 where
   pub control : x.control ≡ control.None
   pub hit : HitsInTime l x p q

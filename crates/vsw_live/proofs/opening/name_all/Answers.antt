@@ -6,7 +6,7 @@ use Rattle.vsw_live.proofs.opening.name_all.Goals as goal
 pub named-port-requires : goal.named-port-requires
 named-port-requires g c =
     named_at g.J.Naming.ports c.len-place.result c.loop-ports.left.items c.first-one.new.ports.items c.first-one.result
-      (ap (λ n. drop n g.J.Naming.ports) c.len-place.ensures ∙ c.loop-ports.invariant.places) c.first-one.ensures
+    (ap (λ n. drop n g.J.Naming.ports) c.len-place.ensures ∙ c.loop-ports.invariant.places) c.first-one.ensures
 
 pub loop-ports-preserved : goal.loop-ports-preserved
 loop-ports-preserved g c =

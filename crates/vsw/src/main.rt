@@ -8,8 +8,10 @@ ghost use Rattle.vsw.specs.Exit.{status_without, Exits};
 
 use std::alloc::Global;
 use std::process::ExitCode;
+use std::sync::Wait;
+use std::thread::Threads;
 use std::{env, io};
-use vsw_app::run_words;
+use vsw_app::{Open, run_words};
 use vsw_host::{Host, RealHost};
 use vsw_promise::Status;
 use vsw_request::Word;
@@ -52,10 +54,15 @@ fn exit_code(status: Status) -> u8
 }
 
 /// Runs, and answers what the process ends with.
-fn run<H: Host>(alloc: Global, words: &[Word], host: &mut H) -> ExitCode
+fn run<R: Threads + Wait + Sync, H: Host>(
+    rt: &R,
+    alloc: Global,
+    words: &[Word],
+    host: &mut H,
+) -> ExitCode
     ensures { Exits words.now (H.outside host.old) (H.outside host.new) result }
 {
-    let status = run_words(alloc, words, host);
+    let status = run_words(rt, alloc, words, host, &Open);
     ExitCode::from(exit_code(status))
 }
 
@@ -64,13 +71,13 @@ fn main(rt: HostRuntime) -> ExitCode {
     let alloc = rt.alloc();
     let mut host = RealHost::new(alloc, rt);
     match words {
-        Ok(words) => run(alloc, &words, &mut host),
+        Ok(words) => run(&rt, alloc, &words, &mut host),
         Err(Status::Memory) => {
             let _ = host.complain(b"vsw: memory\n");
             ExitCode::from(exit_code(Status::Memory))
         }
         // No words are refused as those are that can't be read.
-        Err(_) => run(alloc, &[], &mut host),
+        Err(_) => run(&rt, alloc, &[], &mut host),
     }
 }
 
@@ -101,7 +108,7 @@ mod tests {
     fn a_run_without_words_ends_as_usage(rt: HostRuntime) -> Result<(), Fail> {
         let alloc = rt.alloc();
         let mut host = MemoryHost::new(alloc, Vec::new(alloc), 4_096, Vec::new(alloc))?;
-        assert_eq!(rt; run(alloc, &[], &mut host), ExitCode::from(2));
+        assert_eq!(rt; run(&rt, alloc, &[], &mut host), ExitCode::from(2));
         Ok(())
     }
 }

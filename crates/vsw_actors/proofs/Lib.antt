@@ -1,3 +1,4 @@
 pub mod Doing
 pub mod Ending
 pub mod Lanes
+pub mod Rounds

@@ -1,3 +1,5 @@
 pub mod Actors
 pub mod Ends
 pub mod Lanes
+pub mod Private
+pub mod Rows

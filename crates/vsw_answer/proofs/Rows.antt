@@ -3,7 +3,7 @@ use Rattle.std.proofs.Common.{◌≡◌, ◌≤◌, ◌<◌, ℕ, List, [], ◌+
 use Rattle.std.proofs.Math.Seq.{drop-append_seam}
 use Rattle.vsw_admit.specs.declared.stop.Stop.{Stop}
 use Rattle.vsw_admit.specs.Admit.{stop_of}
-use Rattle.vsw_answer.specs.Private.Said.{AreEdited, IfPasses, IsBodyOf, IsEdited, IsFound, Said, SaidLate, fate_said, row_with}
+use Rattle.vsw_answer.specs.Private.Said.{AreEdited, AreWordsOf, IfPasses, IsBodyOf, IsEdited, IsFound, Said, SaidLate, fate_said, row_with}
 use Rattle.vsw_base.specs.declared.fate.Cause.{Cause}
 use Rattle.vsw_base.specs.declared.fate.Fate.{Fate}
 use Rattle.vsw_base.specs.declared.fate.Fate.TheVariants.{Pass, Drop}
@@ -38,21 +38,36 @@ use Rattle.vsw_words.proofs.Decoded.{apart}
 rests : (ks ls ms ns : List ℕ) → length ks ≡ 16 → length ms ≡ 16 → ks ++ ls ≡ ms ++ ns → ls ≡ ns
 rests ks ls ms ns a c e = sym (drop-append_seam ks ls) ∙ ap (λ n. drop n (ks ++ ls)) a ∙ ap (drop 16) e ∙ ap (λ n. drop n (ms ++ ns)) (sym c) ∙ drop-append_seam ms ns
 
--- a body that is read from the words of a row that was found says what that row says
-pub read_back : (o : Opening) (h : List Event) (x : Crossing) (words : List ℕ) (b : Body) (answer : Bool) → IsId x.id → IsFound o h x.id words
-    → ((v : Verdict) (acts : List Act) (until : ℕ) → IsBody v acts → words ≡ body_words v acts until → (answer ≡ true) × (b.verdict ≡ v) × (b.by ≡ acts) × (b.until ≡ until)) → IsBodyOf o h x b
-read_back o h x words b answer is found back =
+-- the words behind an identity's key, where a row was found, are those of that row's body, and the row is of the identity
+found_is : (o : Opening) (h : List Event) (x : Crossing) (words : List ℕ) → IsId x.id → (found : IsFound o h x.id words) → (x.id ≡ found.row.id) × (words ≡ body_words found.row.verdict found.row.acts found.row.until)
+found_is o h x words is found =
     let row : Row = found.row in
     let key : List ℕ = key_words x.id.dir x.id.stack in
     let other : List ℕ = key_words row.id.dir row.id.stack in
     let said : List ℕ = body_words row.verdict row.acts row.until in
     let all : key ++ words ≡ other ++ said = found.words_is ∙ words_are row in
     let same : key ≡ other = fronts key words other said (key_length x.id.dir x.id.stack) (key_length row.id.dir row.id.stack) all in
-    let rest : words ≡ said = rests key words other said (key_length x.id.dir x.id.stack) (key_length row.id.dir row.id.stack) all in
-    let id : x.id ≡ row.id = apart x.id row.id is found.id same in
-    let t = back row.verdict row.acts row.until found.body rest in
-    let one : row_with x b ≡ row = λ i. record { id = id i; verdict = t.1 i; acts = t.2 i; until = t.3 i } in
-    subst (Good (replay o h)) (sym one) found.good
+    (apart x.id row.id is found.id same, rests key words other said (key_length x.id.dir x.id.stack) (key_length row.id.dir row.id.stack) all)
+
+pub found_body : (o : Opening) (h : List Event) (x : Crossing) (words : List ℕ) → IsId x.id → IsFound o h x.id words → (v : Verdict) × (acts : List Act) × (until : ℕ) × IsBody v acts × (words ≡ body_words v acts until)
+found_body o h x words is found = (found.row.verdict, found.row.acts, found.row.until, found.body, (found_is o h x words is found).1)
+
+-- what a body says that is read back from the words of a row
+abbrev pub ReadsBack : List ℕ → Body → Type 0
+ReadsBack words b = (v : Verdict) (acts : List Act) (until : ℕ) → IsBody v acts → words ≡ body_words v acts until → (b.verdict ≡ v) × (b.by ≡ acts) × (b.until ≡ until)
+
+-- a body that is read from the words of a row that was found says what that row says
+row_back : (o : Opening) (h : List Event) (x : Crossing) (words : List ℕ) (b : Body) → IsId x.id → (found : IsFound o h x.id words) → ReadsBack words b → row_with x b ≡ found.row
+row_back o h x words b is found back =
+    let f = found_is o h x words is found in
+    let t = back found.row.verdict found.row.acts found.row.until found.body f.1 in
+    λ i. record { id = f.0 i; verdict = t.0 i; acts = t.1 i; until = t.2 i }
+
+pub read_back : (o : Opening) (h : List Event) (x : Crossing) (words : List ℕ) (b : Body) → IsId x.id → IsFound o h x.id words → ReadsBack words b → IsBodyOf o h x b
+read_back o h x words b is found back = subst (Good (replay o h)) (sym (row_back o h x words b is found back)) found.good
+
+pub read_whole : (o : Opening) (h : List Event) (x : Crossing) (words : List ℕ) (b : Body) → IsId x.id → IsFound o h x.id words → ReadsBack words b → AreWordsOf x words (row_with x b)
+read_whole o h x words b is found back = subst (AreWordsOf x words) (sym (row_back o h x words b is found back)) found.words_is
 
 is_pass : Fate → Bool
 is_pass (Pass len) = true
@@ -85,11 +100,12 @@ edits_as ls x b edited kept (Pass n) same e edits =
     let all = sym mine ∙ sym (ap (λ (c : Crossed). c.fate) same) ∙ walked in
     record { stack = edits.stack ∙ ap stack_of all; kept = edits.kept_is ∙ ap kept_of all }
 
-pub said : (o : Opening) (h : List Event) (x : Crossing) (b : Body) (edited : List Header) (outcome : Outcome) (count : ℕ) → x.control ≡ control.None → IsBodyOf o h x b → x.moment ≤ b.until → count ≡ length h
-    → outcome.fate ≡ fate_said x b → IsEdited x b.by edited outcome → outcome.entry ≡ false → Said o h x edited outcome count
-said o h x b edited outcome count plain good time many fate edits entry =
+pub said : (o : Opening) (h : List Event) (x : Crossing) (words : List ℕ) (b : Body) (edited : List Header) (outcome : Outcome) (count : ℕ) → x.control ≡ control.None → IsBodyOf o h x b → AreWordsOf x words (row_with x b) → x.moment ≤ b.until → count ≡ length h
+    → outcome.fate ≡ fate_said x b → IsEdited x b.by edited outcome → outcome.entry ≡ false → Said o h x words edited outcome count
+said o h x words b edited outcome count plain good whole time many fate edits entry =
     let same = row_answers (replay o h) (row_with x b) x good (record { id = refl; control = plain; moment = time }) in record {
       row = row_with x b;
+      whole = whole;
       id = refl;
       good = good;
       in_time = time;
@@ -99,8 +115,8 @@ said o h x b edited outcome count plain good time many fate edits entry =
       entry = entry;
     }
 
-pub said_late : (o : Opening) (h : List Event) (x : Crossing) (b : Body) → IsBodyOf o h x b → b.until < x.moment → SaidLate o h x
-said_late o h x b good late = record { row = row_with x b; id = refl; good = good; late = late }
+pub said_late : (o : Opening) (h : List Event) (x : Crossing) (words : List ℕ) (b : Body) → IsBodyOf o h x b → AreWordsOf x words (row_with x b) → b.until < x.moment → SaidLate o h x words
+said_late o h x words b good whole late = record { row = row_with x b; whole = whole; id = refl; good = good; late = late }
 
 -- the acts of a good row that passes fit
 pub acts_fit : (o : Opening) (h : List Event) (x : Crossing) (b : Body) → IsBodyOf o h x b → b.verdict ≡ verdict.Pass → fit.fits b.by x.id.stack ≡ true

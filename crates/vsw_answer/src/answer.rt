@@ -1,8 +1,8 @@
 //! A packet looks for the row of its identity.
 
 ghost use Rattle.std.specs.Prelude.{◌≡◌, ◌<◌, ◌≤◌, ◌+◌, ◌%◌, ◌++◌, ℕ, List, length};
-ghost use Rattle.vsw_answer.specs.Answers.{Sees, Tells};
-ghost use Rattle.vsw_answer.specs.Private.Said.{IsBodyOf, IsFound, Says};
+ghost use Rattle.vsw_answer.specs.Answers.{HasHit, Sees, Tells};
+ghost use Rattle.vsw_answer.specs.Private.Said.{AreWordsOf, IsBodyOf, IsFound, Says, row_with};
 ghost use Rattle.vsw_base.specs.declared.packet.Control.TheVariants as control;
 ghost use Rattle.vsw_core.specs.Core.{IsOf};
 ghost use Rattle.vsw_history.specs.declared.event.Event.{Event};
@@ -20,7 +20,7 @@ use vsw_base::{Control, Crossing, Stack, Ufid};
 use vsw_lookup::{Look, Lookup, Pass};
 use vsw_port::Outcome;
 use vsw_story::PortStory;
-use vsw_words::{Body, body_to, key_words, slot_of};
+use vsw_words::{Body, body_from, key_words, slot_of};
 
 /// What the rows tell of a packet.
 #[derive(Clone, Copy, Debug, PartialEq, Eq)]
@@ -31,7 +31,7 @@ pub enum RowAnswer {
     Control,
     /// None of the eight rows was seen to be current and of the packet's identity.
     Miss,
-    /// A row of its identity is current, but the packet comes after the row's until.
+    /// A current row of its identity was found, but the packet comes after the row's until.
     Late,
 }
 
@@ -75,6 +75,7 @@ fn seek(
     ensures same { IsRead pass.old.view pass.new.view × (pass.new.table ≡ pass.old.table) }
     ensures begun { pass.old.view.closed < pass.new.view.closed }
     ensures hit { IfHit result (λ n. (length pass.new.view.front ≡ n) × IsFound (opening_of lookup.now.1) pass.new.view.front id.now words.new) }
+    ensures found { IfHit result (λ n. HasHit lookup.now id.now pass.new.view (spec.key_words id.now.dir id.now.stack ++ words.new)) }
     ensures miss { IfMiss result (λ g n. (length pass.new.view.front ≡ n) × (pass.new.view.last_generation ≡ g) × ((j : ℕ) → j < 8 → Missed (spec.key_words id.now.dir id.now.stack) g ((slot (spec.key_words id.now.dir id.now.stack) lookup.now.2 + j) % lookup.now.2) pass.new.view.last)) }
     ensures id { IsId id.now }
 {
@@ -96,7 +97,7 @@ fn answer(
     requires control { crossing.now.control ≡ control.None }
     requires id { IsId crossing.now.id }
     requires found { (o : Opening) × (h : List Event) × IsFound o h crossing.now.id words.now }
-    ensures says { (o : Opening) (h : List Event) → IsFound o h crossing.now.id words.now → count ≡ length h → Says o h crossing.now edited.new result }
+    ensures says { (o : Opening) (h : List Event) → IsFound o h crossing.now.id words.now → count ≡ length h → Says o h crossing.now words.now edited.new result }
 {
     read(crossing, words, body);
     if body.until.micros() < crossing.moment.micros() {
@@ -112,8 +113,8 @@ fn answer(
 fn read(crossing: &Crossing, words: &[u64; 57], body: &mut Body)
     requires id { IsId crossing.now.id }
     requires found { (o : Opening) × (h : List Event) × IsFound o h crossing.now.id words.now }
-    ensures { (o : Opening) (h : List Event) → IsFound o h crossing.now.id words.now → IsBodyOf o h crossing.now body.new }
+    ensures body { (o : Opening) (h : List Event) → IsFound o h crossing.now.id words.now → IsBodyOf o h crossing.now body.new }
+    ensures whole { (o : Opening) (h : List Event) → IsFound o h crossing.now.id words.now → AreWordsOf crossing.now words.now (row_with crossing.now body.new) }
 {
-    // They are a row's words, so it answers true.
-    let _ = body_to(words, body);
+    body_from(words, body);
 }

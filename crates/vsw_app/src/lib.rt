@@ -4,6 +4,8 @@
 mod complaint;
 mod ending;
 mod files;
+mod open;
 mod run;
 
+pub use open::Open;
 pub use run::run_words;

@@ -16,6 +16,8 @@ ghost use Rattle.vsw_app.specs.Stages.{HasEnded, HasEndedBy, HasGenerated};
 use crate::ending::{drawn_ending, ending_of, finish};
 use crate::files::{open_commands, open_policy};
 use std::alloc::Global;
+use std::sync::Wait;
+use std::thread::Threads;
 use vsw_base::Items;
 use vsw_commandfile::Line;
 use vsw_generate::Workload;
@@ -26,12 +28,57 @@ use vsw_replay::{TraceEnd, run_trace};
 use vsw_request::{Asked, Request, Word, read_words};
 use vsw_schedule::Schedule;
 use vsw_switch::Switch;
+use vsw_workers::Gate;
 use vsw_workload::{WorkloadEnd, run_workload};
 
-/// Makes the switch of a policy, and runs the trace of this name through it, with these commands.
-fn run_through<H: Host>(
+/// Runs the trace of this name in one thread, which does the work of all workers. It waits for nobody.
+fn run_alone<R: Threads + Wait + Sync, H: Host>(
+    rt: &R,
     alloc: Global,
     host: &mut H,
+    workers: u32,
+    policy: &PolicyFile,
+    schedule: &Schedule,
+    trace: &str,
+) -> TraceEnd
+    requires some { 0 < workers }
+    requires few { workers ≤ 16 }
+    requires good { IsGoodPolicy policy.now }
+    requires asked { All (CanAsk policy.now) schedule.now }
+    ensures { RunsTrace (record { workers = workers; policy = policy.now; commands = schedule.now }) (H.outside host.old) (H.outside host.new) trace.now result }
+{
+    let Ok(mut switch) = Switch::open(alloc, workers, policy) else {
+        return TraceEnd::Memory;
+    };
+    run_trace(rt, alloc, host, &mut switch, schedule, trace)
+}
+
+/// Runs the trace of this name with more than one worker. One thread does their work, and the gate isn't told of it.
+fn run_many<R: Threads + Wait + Sync, H: Host, G: Gate + Sync>(
+    rt: &R,
+    alloc: Global,
+    host: &mut H,
+    _gate: &G,
+    workers: u32,
+    policy: &PolicyFile,
+    schedule: &Schedule,
+    trace: &str,
+) -> TraceEnd
+    requires some { 0 < workers }
+    requires few { workers ≤ 16 }
+    requires good { IsGoodPolicy policy.now }
+    requires asked { All (CanAsk policy.now) schedule.now }
+    ensures { RunsTrace (record { workers = workers; policy = policy.now; commands = schedule.now }) (H.outside host.old) (H.outside host.new) trace.now result }
+{
+    run_alone(rt, alloc, host, workers, policy, schedule, trace)
+}
+
+/// Runs the trace of this name through the ports of a policy, with these commands.
+fn run_through<R: Threads + Wait + Sync, H: Host, G: Gate + Sync>(
+    rt: &R,
+    alloc: Global,
+    host: &mut H,
+    gate: &G,
     workers: u32,
     policy: &PolicyFile,
     lines: Items<Line>,
@@ -43,17 +90,24 @@ fn run_through<H: Host>(
     requires asked { All (CanAsk policy.now) lines }
     ensures { RunsTrace (record { workers = workers; policy = policy.now; commands = lines }) (H.outside host.old) (H.outside host.new) trace.now result }
 {
-    let Ok(mut switch) = Switch::open(alloc, workers, policy) else {
-        return TraceEnd::Memory;
-    };
     let Ok(schedule) = Schedule::new(alloc, lines) else {
         return TraceEnd::Memory;
     };
-    run_trace(alloc, host, &mut switch, &schedule, trace)
+    if workers == 1 {
+        run_alone(rt, alloc, host, workers, policy, &schedule, trace)
+    } else {
+        run_many(rt, alloc, host, gate, workers, policy, &schedule, trace)
+    }
 }
 
 /// Runs over the files that the words name, each read and judged before the next is opened.
-fn forward<H: Host>(alloc: Global, host: &mut H, request: &Request<'_>) -> Ending
+fn forward<R: Threads + Wait + Sync, H: Host, G: Gate + Sync>(
+    rt: &R,
+    alloc: Global,
+    host: &mut H,
+    gate: &G,
+    request: &Request<'_>,
+) -> Ending
     requires some { 0 < request.now.workers }
     requires few { request.now.workers ≤ 16 }
     ensures { HasEnded (request_seen request.now) (H.outside host.old) (H.outside host.new) result }
@@ -67,7 +121,8 @@ fn forward<H: Host>(alloc: Global, host: &mut H, request: &Request<'_>) -> Endin
         Err(end) => return end,
     };
     let workers = request.workers;
-    ending_of(run_through(alloc, host, workers, &policy, lines, request.trace))
+    let trace = request.trace;
+    ending_of(run_through(rt, alloc, host, gate, workers, &policy, lines, trace))
 }
 
 /// Makes the switch of the workload's policy, and runs so many packets, drawn from this number, through it.
@@ -106,24 +161,36 @@ fn generate<H: Host>(alloc: Global, host: &mut H, start: u32, packets: u32) -> E
 }
 
 /// Runs as the words ask.
-fn run_asked<H: Host>(alloc: Global, host: &mut H, asked: &Asked<'_>) -> Ending
+fn run_asked<R: Threads + Wait + Sync, H: Host, G: Gate + Sync>(
+    rt: &R,
+    alloc: Global,
+    host: &mut H,
+    gate: &G,
+    asked: &Asked<'_>,
+) -> Ending
     requires within { IsWithin asked.now }
     ensures { HasEndedBy (asked_seen asked.now) (H.outside host.old) (H.outside host.new) result }
 {
     match asked {
-        Asked::Forward(request) => forward(alloc, host, request),
+        Asked::Forward(request) => forward(rt, alloc, host, gate, request),
         Asked::Generate { start, packets } => generate(alloc, host, *start, *packets),
     }
 }
 
 /// Reads the words, runs as they ask, and complains.
-fn run<H: Host>(alloc: Global, words: &[Word], host: &mut H) -> Status
+fn run<R: Threads + Wait + Sync, H: Host, G: Gate + Sync>(
+    rt: &R,
+    alloc: Global,
+    words: &[Word],
+    host: &mut H,
+    gate: &G,
+) -> Status
     ensures { IsRun words.now (H.outside host.old) (H.outside host.new) result }
 {
     match read_words(words) {
         None => finish(host, &Ending::Usage),
         Some(asked) => {
-            let end = run_asked(alloc, host, &asked);
+            let end = run_asked(rt, alloc, host, gate, &asked);
             finish(host, &end)
         }
     }
@@ -135,7 +202,16 @@ fn run<H: Host>(alloc: Global, words: &[Word], host: &mut H) -> Status
 /// `run` says what was opened, read, put and complained, by the status. `usage` and the two faults
 /// hold of hosts that tell nothing, too. `complete` and `alone` say when nothing but want of memory keeps a run
 /// over files, and one over a workload, from its end.
-pub fn run_words<H: Host>(alloc: Global, words: &[Word], host: &mut H) -> Status
+///
+/// A run of more than one worker may wait, in calls of the gate too. So all of this is promised if the call returns.
+/// With one worker nothing waits.
+pub fn run_words<R: Threads + Wait + Sync, H: Host, G: Gate + Sync>(
+    rt: &R,
+    alloc: Global,
+    words: &[Word],
+    host: &mut H,
+    gate: &G,
+) -> Status
     ensures run { IsRun words.now (H.outside host.old) (H.outside host.new) result }
     ensures usage { (result ≡ Status.Usage) ↔ (asked_in words.now ≡ None) }
     ensures read_fault { result ≡ Status.ReadFault → Rose (H.outside host.old).input_faults (H.outside host.new).input_faults }
@@ -143,5 +219,5 @@ pub fn run_words<H: Host>(alloc: Global, words: &[Word], host: &mut H) -> Status
     ensures complete { IsComplete words.now (H.outside host.old) (H.outside host.new) result }
     ensures alone { IsCompleteAlone words.now (H.outside host.old) (H.outside host.new) result }
 {
-    run(alloc, words, host)
+    run(rt, alloc, words, host, gate)
 }

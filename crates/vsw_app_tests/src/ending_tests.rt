@@ -6,8 +6,10 @@ use crate::running::{
 };
 use std::alloc::Global;
 use std::process::Abort;
+use std::sync::Wait;
 use std::test::Fail;
-use vsw_app::run_words;
+use std::thread::Threads;
+use vsw_app::{Open, run_words};
 use vsw_memory_host::{MemoryHost, are_distinct};
 use vsw_promise::Status;
 
@@ -85,8 +87,8 @@ fn a_fault_is_named_and_what_was_put_stays(rt: HostRuntime) -> Result<(), Fail> 
 }
 
 /// Runs over commands that end the run before the trace is opened, which is no capture.
-fn check_commands(
-    rt: &impl Abort,
+fn check_commands<R: Abort + Threads + Wait + Sync>(
+    rt: &R,
     alloc: Global,
     commands: &[u8],
     status: Status,
@@ -162,7 +164,7 @@ fn any_failing_call_leaves_a_front_of_the_report(rt: HostRuntime) -> Result<(), 
     };
     for call in 1..=10 {
         let mut host = host_of(&rt, alloc, &files, &[call])?;
-        let status = run_words(alloc, &words, &mut host);
+        let status = run_words(&rt, alloc, &words, &mut host, &Open);
         let wanted = if call < 9 {
             Status::ReadFault
         } else {
@@ -172,16 +174,24 @@ fn any_failing_call_leaves_a_front_of_the_report(rt: HostRuntime) -> Result<(), 
         assert!(rt; report.starts_with(host.written()));
     }
     let mut host = host_of(&rt, alloc, &files, &[11])?;
-    assert_eq!(rt; run_words(alloc, &words, &mut host), Status::Done);
+    assert_eq!(rt;
+        run_words(&rt, alloc, &words, &mut host, &Open),
+        Status::Done
+    );
     assert_eq!(rt; host.written(), report.as_slice());
     Ok(())
 }
 
 /// The status of a run over these bytes as policy and trace.
-fn status_of(rt: &impl Abort, alloc: Global, policy: &[u8], trace: &[u8]) -> Result<Status, Fail> {
+fn status_of<R: Abort + Threads + Wait + Sync>(
+    rt: &R,
+    alloc: Global,
+    policy: &[u8],
+    trace: &[u8],
+) -> Result<Status, Fail> {
     let words = words_of(alloc, FORWARD)?;
     let mut host = host_with(rt, alloc, policy, trace)?;
-    Ok(run_words(alloc, &words, &mut host))
+    Ok(run_words(rt, alloc, &words, &mut host, &Open))
 }
 
 #[test]

@@ -3,8 +3,10 @@
 use crate::running::{FORWARD, file, joined, words_of};
 use std::alloc::{AllocError, Global};
 use std::process::Abort;
+use std::sync::Wait;
 use std::test::Fail;
-use vsw_app::run_words;
+use std::thread::Threads;
+use vsw_app::{Open, run_words};
 use vsw_memory_host::{MemoryHost, are_distinct};
 use vsw_promise::Status;
 
@@ -25,8 +27,8 @@ const END: &[u8] = b"]}]}";
 
 /// Runs over a policy of these pieces, and compares the status and the complaint. The host holds no other
 /// file, and nothing is put.
-fn check_policy(
-    rt: &impl Abort,
+fn check_policy<R: Abort + Threads + Wait + Sync>(
+    rt: &R,
     alloc: Global,
     policy: &[&[u8]],
     status: Status,
@@ -37,13 +39,13 @@ fn check_policy(
     assert!(rt; are_distinct(&held));
     let mut host = MemoryHost::new(alloc, held, 4_096, Vec::new(alloc))?;
     let words = words_of(alloc, FORWARD)?;
-    assert_eq!(rt; run_words(alloc, &words, &mut host), status);
+    assert_eq!(rt; run_words(rt, alloc, &words, &mut host, &Open), status);
     assert!(rt; host.written().is_empty() && host.complained() == complaint);
     Ok(())
 }
 
-fn check_refused(
-    rt: &impl Abort,
+fn check_refused<R: Abort + Threads + Wait + Sync>(
+    rt: &R,
     alloc: Global,
     policy: &[&[u8]],
     complaint: &[u8],
@@ -51,8 +53,8 @@ fn check_refused(
     check_policy(rt, alloc, policy, Status::Refused, complaint)
 }
 
-fn check_limit(
-    rt: &impl Abort,
+fn check_limit<R: Abort + Threads + Wait + Sync>(
+    rt: &R,
     alloc: Global,
     policy: &[&[u8]],
     complaint: &[u8],

@@ -6,12 +6,14 @@ use crate::running::{
 };
 use std::alloc::{AllocError, Global};
 use std::process::Abort;
+use std::sync::Wait;
 use std::test::Fail;
+use std::thread::Threads;
 use vsw_promise::Status;
 
 /// A trace of one packet, and its report: the lines of port 1, and the loose lines.
-fn check_packet(
-    rt: &impl Abort,
+fn check_packet<R: Abort + Threads + Wait + Sync>(
+    rt: &R,
     alloc: Global,
     rules: &[&[u8]],
     packet: &[u8],

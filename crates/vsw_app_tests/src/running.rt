@@ -2,8 +2,10 @@
 
 use std::alloc::{AllocError, Global};
 use std::process::Abort;
+use std::sync::Wait;
 use std::test::Fail;
-use vsw_app::run_words;
+use std::thread::Threads;
+use vsw_app::{Open, run_words};
 use vsw_base::{Items, Text};
 use vsw_memory_host::{MemoryFile, MemoryHost, are_distinct};
 use vsw_promise::Status;
@@ -91,8 +93,8 @@ pub fn words_of(alloc: Global, texts: &[&str]) -> Result<Vec<Word>, AllocError> 
 }
 
 /// Runs, and compares the status, what is put and what is complained.
-pub fn check(
-    rt: &impl Abort,
+pub fn check<R: Abort + Threads + Wait + Sync>(
+    rt: &R,
     alloc: Global,
     host: MemoryHost,
     words: &[&str],
@@ -100,7 +102,7 @@ pub fn check(
 ) -> Result<(), Fail> {
     let mut host = host;
     let words = words_of(alloc, words)?;
-    let status = run_words(alloc, &words, &mut host);
+    let status = run_words(rt, alloc, &words, &mut host, &Open);
     assert_eq!(rt; status, wanted.0);
     assert_eq!(rt; host.written(), joined(alloc, wanted.1)?.as_slice());
     assert_eq!(rt; host.complained(), wanted.2);
@@ -108,8 +110,8 @@ pub fn check(
 }
 
 /// Runs over a trace of these pieces, with these calls failing.
-pub fn check_trace(
-    rt: &impl Abort,
+pub fn check_trace<R: Abort + Threads + Wait + Sync>(
+    rt: &R,
     alloc: Global,
     trace: &[&[u8]],
     failing: &[u64],

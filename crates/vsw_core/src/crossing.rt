@@ -247,3 +247,37 @@ pub fn cross(
     let _ = ledger.policy();
     entered.outcome
 }
+
+/// The packet crosses the layers, and leaves no row.
+pub fn cross_only(
+    lookup: &Lookup<PortStory>,
+    pass: &mut Pass<PortStory>,
+    crossing: &Crossing,
+    permits: &mut u64,
+    ledger: &mut Ledger,
+    rows: &mut Rows,
+    scratch: &mut Scratch,
+) -> Outcome
+    requires owned { IsOwned ledger.old rows.old.writer permits.old }
+    requires core { IsOf lookup.now rows.old.writer }
+    requires pass { IsOf lookup.now pass.old }
+    requires caller { crossing.now.caller ≡ pass.old.view.number }
+    requires permit { 0 < pass.old.view.permits }
+    ensures owned { IsOwned ledger.new rows.new.writer permits.new }
+    ensures done { (p : Parts) (bytes : List ℕ) → IsDone (opening_of lookup.now.1) rows.old.writer.view.history (Carried crossing.now p result.fate bytes) result.entry }
+    ensures memory { MayBeShort (is_short result.fate) (layers_after lookup.now.1 rows.old.writer.view.history) crossing.now }
+    ensures edits { EditsPass (layers_after lookup.now.1 rows.old.writer.view.history) crossing.now scratch.new.stack result.kept result.fate }
+    ensures writer { rows.new.writer ≡ record rows.old.writer { view = grown rows.old.writer.view pass.old.view (entered result.entry (event.Crossing crossing.now result.fate)) rows.new.writer.view } }
+    ensures pass { pass.new ≡ record pass.old { view = called pass.old.view rows.new.writer.view.history (entered result.entry (event.Crossing crossing.now result.fate)) } }
+    ensures raises { Raises (layers_after lookup.now.1 rows.old.writer.view.history) (entered result.entry (event.Crossing crossing.now result.fate)) rows.old.writer rows.new.writer }
+    ensures right { AllRight (opening_of lookup.now.1) rows.new.writer.view.history }
+    ensures held { pass.old.view.permits ≡ permits_of rows.old.writer.view pass.old.view.number }
+    ensures short { length rows.old.writer.view.history < 4294967295 }
+    ensures seen { IsPrefix pass.old.view.front rows.old.writer.view.history }
+    ensures rows { (rows.new.writer.view.stamps ≡ rows.old.writer.view.stamps) × (rows.new.writer.view.rows ≡ rows.old.writer.view.rows) }
+{
+    let entered = enter(lookup, pass, crossing, permits, ledger, rows, scratch);
+    // It tells the proof that the history is right.
+    let _ = ledger.policy();
+    entered.outcome
+}

@@ -4,6 +4,7 @@
 mod commanding;
 mod crossing;
 mod granting;
+mod light;
 mod owner;
 mod reconciling;
 mod rooms;

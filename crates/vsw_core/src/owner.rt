@@ -22,7 +22,8 @@ ghost use Rattle.vsw_port.specs.Core.{AreAtMost, entered};
 ghost use Rattle.vsw_port.specs.Crossed.{EditsPass, MayBeShort, is_short};
 ghost use Rattle.vsw_story.specs.Rows.{opening_of};
 
-use crate::crossing::cross;
+use crate::crossing::{cross, cross_only};
+use crate::light::is_light;
 use crate::rooms::{Former, Rooms};
 use crate::{commanding, granting, reconciling};
 use std::alloc::Global;
@@ -180,6 +181,45 @@ impl Core {
             &mut self.scratch,
             &mut self.again,
             &mut self.rooms,
+        )
+    }
+
+    /// Whether the layers are so few, of so few rules, that a walk over them costs less than a row's answer.
+    pub fn is_light(&self) -> bool {
+        is_light(self.ledger.policy().layers())
+    }
+
+    /// The same as `slow`, but no row is left.
+    pub fn cross(
+        &mut self,
+        lookup: &Lookup<PortStory>,
+        pass: &mut Pass<PortStory>,
+        crossing: &Crossing,
+    ) -> Outcome
+        requires core { IsOf lookup.now self.old.writer }
+        requires pass { IsOf lookup.now pass.old }
+        requires caller { crossing.now.caller ≡ pass.old.view.number }
+        requires permit { 0 < pass.old.view.permits }
+        ensures done { (p : Parts) (bytes : List ℕ) → IsDone (opening_of lookup.now.1) self.old.writer.view.history (Carried crossing.now p result.fate bytes) result.entry }
+        ensures memory { MayBeShort (is_short result.fate) (layers_of lookup.now.1 self.old) crossing.now }
+        ensures edits { EditsPass (layers_of lookup.now.1 self.old) crossing.now self.new.edited result.kept result.fate }
+        ensures writer { self.new.writer ≡ record self.old.writer { view = grown self.old.writer.view pass.old.view (entered result.entry (event.Crossing crossing.now result.fate)) self.new.writer.view } }
+        ensures pass { pass.new ≡ record pass.old { view = called pass.old.view self.new.writer.view.history (entered result.entry (event.Crossing crossing.now result.fate)) } }
+        ensures raises { Raises (layers_of lookup.now.1 self.old) (entered result.entry (event.Crossing crossing.now result.fate)) self.old.writer self.new.writer }
+        ensures right { AllRight (opening_of lookup.now.1) self.new.writer.view.history }
+        ensures held { pass.old.view.permits ≡ permits_of self.old.writer.view pass.old.view.number }
+        ensures short { length self.old.writer.view.history < 4294967295 }
+        ensures seen { IsPrefix pass.old.view.front self.old.writer.view.history }
+        ensures rows { (self.new.writer.view.stamps ≡ self.old.writer.view.stamps) × (self.new.writer.view.rows ≡ self.old.writer.view.rows) }
+    {
+        cross_only(
+            lookup,
+            pass,
+            crossing,
+            &mut self.permits,
+            &mut self.ledger,
+            &mut self.rows,
+            &mut self.scratch,
         )
     }
 

@@ -4,7 +4,9 @@
 
 use std::alloc::Global;
 use std::process::ExitCode;
-use vsw_app::run_words;
+use std::sync::Wait;
+use std::thread::Threads;
+use vsw_app::{Open, run_words};
 use vsw_base::{Items, Text};
 use vsw_host::{Host, ReadEnd, RealHost, read_file};
 use vsw_memory_host::{MemoryFile, MemoryHost, are_distinct};
@@ -88,9 +90,14 @@ fn words(alloc: Global) -> Option<Vec<Word>> {
 }
 
 /// Runs over these files, and puts what that puts and complains.
-fn show(alloc: Global, host: &mut RealHost, run: &[&str; 3]) -> Option<()> {
+fn show<R: Threads + Wait + Sync>(
+    rt: &R,
+    alloc: Global,
+    host: &mut RealHost,
+    run: &[&str; 3],
+) -> Option<()> {
     let mut inner = host_of(alloc, host, run)?;
-    run_words(alloc, &words(alloc)?, &mut inner);
+    run_words(rt, alloc, &words(alloc)?, &mut inner, &Open);
     host.put(inner.written()).ok()?;
     host.put(inner.complained()).ok()
 }
@@ -99,7 +106,7 @@ fn main(rt: HostRuntime) -> ExitCode {
     let alloc = rt.alloc();
     let mut host = RealHost::new(alloc, rt);
     for run in RUNS {
-        if show(alloc, &mut host, run).is_none() {
+        if show(&rt, alloc, &mut host, run).is_none() {
             return ExitCode::from(1);
         }
     }

@@ -89,7 +89,7 @@ look_first o p m q c k x =
 causes_on : (l : Looking) (x : Crossing) (p m q : Writing) (h : List Event) (why : Why) → Causes l x p.view m.view h why → KeepsLook m.view q.view → Causes l x p.view q.view h why
 causes_on l x p m q h Control c k = (c.0, k.closed ∙ c.1)
 causes_on l x p m q h Miss c k = record { control = c.control; begun = omega (arith, c.begun, k.closed); missed = rw (k.last, k.generation) c.missed }
-causes_on l x p m q h Late c k = record { control = c.control; begun = omega (arith, c.begun, k.closed); row = c.row; id = c.id; good = c.good; late = c.late }
+causes_on l x p m q h Late c k = record { control = c.control; begun = omega (arith, c.begun, k.closed); row = c.row; hit = rw (k.last, k.generation) c.hit; id = c.id; good = c.good; late = c.late }
 
 pub cause_of : (l : Looking) (x : Crossing) (p m q : Writing) (why : Why) → IsPrefix p.view.front m.view.front → IsPrefix m.view.front q.view.front → Causes l x p.view m.view m.view.front why → KeepsLook m.view q.view → HasCause l x p.view q.view why
 cause_of l x p m q why after before c k = record { history = m.view.front; after = after; before = before; causes = causes_on l x p m q m.view.front why c k }

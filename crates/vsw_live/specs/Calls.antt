@@ -1,7 +1,7 @@
 -- What a caller's call on a shared port gives it.
-use Rattle.std.specs.Prelude.{◌≡◌, ◌≢◌, ◌<◌, ◌≤◌, ◌+◌, ◌++◌, ℕ, List, [], ◌∷◌, false, length, Option, Some, None}
+use Rattle.std.specs.Prelude.{◌≡◌, ◌≢◌, ◌≤◌, ◌+◌, ◌++◌, ℕ, List, [], ◌∷◌, false, length, Option, Some, None}
 use mathlib.Core.List.{IsPrefix}
-use Rattle.vsw_answer.specs.Answers.{HitsInTime, Misses, Pass}
+use Rattle.vsw_answer.specs.Answers.{HitsInTime, HitsLate, Misses, Pass}
 use Rattle.vsw_base.specs.declared.fate.Fate.{Fate}
 use Rattle.vsw_base.specs.declared.flow.Crossing.{Crossing}
 use Rattle.vsw_base.specs.declared.packet.Control.TheVariants as control
@@ -9,8 +9,7 @@ use Rattle.vsw_commandfile.specs.declared.line.Line.{Line}
 use Rattle.vsw_core.specs.Core.{Looking}
 use Rattle.vsw_history.specs.declared.event.Event.{Event}
 use Rattle.vsw_history.specs.Calls.{Asked, Call, Carried, HasBytes, IsCall, IsRead, entries_of, next_count}
-use Rattle.vsw_history.specs.History.{Opening, replay}
-use Rattle.vsw_lean.specs.Good.{Good, Row}
+use Rattle.vsw_history.specs.History.{Opening}
 use Rattle.vsw_live.specs.declared.answer.Fast.{Fast}
 use Rattle.vsw_live.specs.declared.answer.Fast.TheVariants.{Done, Slow}
 use Rattle.vsw_live.specs.declared.answer.Told.{Told}
@@ -50,22 +49,14 @@ pub record Looks (p q : Writing) : Type 0 where
   pub table : q.table ≡ p.table
   pub reads : lookup.IsRead p.view q.view
 
--- the pass has looked, and a row of the packet's identity that is good after this history has an until below the packet's moment
-pub record HitsLate (l : Looking) (x : Crossing) (p q : Pass) (h : List Event) : Type 0 where
-  pub control : x.control ≡ control.None
-  pub begun : p.closed < q.closed
-  pub row : Row
-  pub id : row.id ≡ x.id
-  pub good : Good (replay (opening_of l.1) h) row
-  pub late : row.until < x.moment
-
--- why no row answers a packet, whose look had then seen this history. A packet with a control isn't looked for
+-- why no row answers a packet, whose look had then seen this history: it has a control, and isn't looked for; or this call's look missed; or the row
+-- that this look hit has an until below the packet's moment
 abbrev pub Causes : Looking → Crossing → Pass → Pass → List Event → Why → Type 0
 Causes l x p q h Control = (x.control ≢ control.None) × (q.closed ≡ p.closed)
 Causes l x p q h Miss = Misses l x p q
 Causes l x p q h Late = HitsLate l x p q h
 
--- a row answered the packet: it has no control, the pass has looked, and a good row of its identity isn't past its until
+-- a row answered the packet: it has no control, this call's look hit, and the until of the row that it hit isn't below the packet's moment
 pub record IsByRow (l : Looking) (x : Crossing) (p q : Pass) (a : AnswerSeen) : Type 0 where
   pub control : x.control ≡ control.None
   pub hit : HitsInTime l x p q

@@ -43,8 +43,8 @@ impl<'a, J: Naming> Held<'a, J> {
         self.core.journal(self.lookup)
     }
 
-    /// The pass meets the port, and has `more` further permits.
-    pub(crate) fn grant(&mut self, pass: &mut Pass<PortStory>, more: u32) -> Result<(), NoMemory>
+    /// The pass meets the port, and has `more` further permits, for whose entries it takes room.
+    pub fn grant(&mut self, pass: &mut Pass<PortStory>, more: u32) -> Result<(), NoMemory>
         requires pass { IsOf self.old.port.looking pass.old }
         requires few { length pass.old.view.receipts + pass.old.view.permits + more ≤ 134217728 }
         ensures same { self.new ≡ self.old }

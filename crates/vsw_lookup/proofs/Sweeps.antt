@@ -1,5 +1,5 @@
 -- Eight rows in turn.
-use Rattle.std.proofs.Common.{◌≡◌, ◌≢◌, ◌⊎◌, ℕ, zero, suc, ◌+◌, ◌%◌, ◌/◌, ◌<◌, ◌≤◌, Some, List, [], ◌∷◌, ◌++◌, length, take, replicate, ◌-◌, ap, sym, ◌∙◌, subst, arith, inl, inr, ⊎_elim, Bool, true, false, MatchBool, nat_eq, eq-eqb, ne_eqb}
+use Rattle.std.proofs.Common.{◌≡◌, ◌≢◌, ◌⊎◌, ℕ, zero, suc, ◌+◌, ◌%◌, ◌/◌, ◌<◌, ◌≤◌, Some, List, [], ◌∷◌, ◌++◌, length, take, replicate, ◌-◌, ap, refl, sym, ◌∙◌, subst, arith, inl, inr, ⊎_elim, Bool, true, false, MatchBool, nat_eq, eq-eqb, ne_eqb}
 use Rattle.std.proofs.lemmas.List.{take-append-le}
 use Rattle.std.proofs.Math.Seq.{take-length}
 use mathlib.Core.Logic.{dite}
@@ -7,7 +7,7 @@ use native.Mathlib.Decide.{ℕ_discrete}
 use Rattle.atomic_table.specs.Table.{Me}
 use Rattle.vsw_lookup.specs.declared.view.View.{View}
 use Rattle.vsw_lookup.specs.declared.view.Seen.{Seen}
-use Rattle.vsw_lookup.specs.Rules.{appended, stamped, AllGood, AllLow, BeginsGood, Looks_at, Differs, Missed, Fills, Sweeps, IsRead}
+use Rattle.vsw_lookup.specs.Rules.{appended, stamped, AllGood, AllLow, BeginsGood, Looks_at, Differs, Missed, Fills, Found, Sweeps, IsRead}
 use Rattle.vsw_lookup.proofs.Fronts.{prefix_trans}
 
 module _ {O E : Type 0} where
@@ -90,11 +90,26 @@ missed_at key rows slot (suc n) best g j (x ∷ xs) low lt h = dite (ℕ_discret
     (λ e. inl (h.0 ∙ ap (λ (m : ℕ). (slot + m) % rows) (sym e), ⊎_elim (λ d. inr d) (λ (l : x.stamp ≤ best). inl (λ q. omega (arith, l, low, q))) h.1))
     (λ ne. inr (missed_at key rows slot n best g j xs low (omega (arith, lt, ne)) h.2))
 
+-- the best is that of one of the rows
+best_of : (used : List ℕ → ℕ) (key whole : List ℕ) (rows slot n best g : ℕ) (rs : List Seen) → Swept key rows slot n best rs → HasBest used whole g rs → (j : ℕ) × (j < n) × Found used whole g ((slot + j) % rows) rs
+best_of used key whole rows slot zero best g rs h has = absurd (subst (HasBest used whole g) h has)
+best_of used key whole rows slot (suc n) best g [] h has = absurd h
+best_of used key whole rows slot (suc n) best g (x ∷ xs) h has = ⊎_elim
+    (λ (t : Fills used x.words whole × (x.stamp ≡ g)). (n, omega arith, inl (h.0, t.1, t.0)))
+    (λ t. let m = best_of used key whole rows slot n best g xs h.2 t in (m.0, omega (arith, m.1), inr m.2))
+    has
+
 module _ {O E : Type 0} (good : O → List E → List ℕ → Type 0) (used : List ℕ → ℕ) (u : View O E) (word : ℕ) (w : View O E) (looks : Looks_at good u word w) (key body : List ℕ) (rows slot best : ℕ)
     (swept : Swept key rows slot 8 best u.readings) (has : Best used (key ++ body) best u.readings) where
   pub swept_hit : best ≡ word / 4294967296 → (o : O) → ZerosBeyond (good o w.front) used → u.opening ≡ Some o → good o w.front (key ++ body)
   swept_hit is o law opens = ⊎_elim (λ (z : best ≡ 0). absurd (omega (arith, z, is, looks.raised)))
       (λ h. best_good (good o w.front) used law (word / 4294967296) (key ++ body) u.readings (looks.found o opens) (subst (λ (b : ℕ). HasBest used (key ++ body) b u.readings) is h)) has
+
+  pub swept_found : best ≡ word / 4294967296 → (j : ℕ) × (j < 8) × Found used (key ++ body) (word / 4294967296) ((slot + j) % rows) w.last
+  swept_found is =
+      let at : (j : ℕ) × (j < 8) × Found used (key ++ body) best ((slot + j) % rows) u.readings = ⊎_elim (λ (z : best ≡ 0). absurd (omega (arith, z, is, looks.raised))) (λ h. best_of used key (key ++ body) rows slot 8 best best u.readings swept h) has in
+      subst (λ g. (j : ℕ) × (j < 8) × Found used (key ++ body) g ((slot + j) % rows) w.last) is
+      (subst (λ (rs : List Seen). (j : ℕ) × (j < 8) × Found used (key ++ body) best ((slot + j) % rows) rs) (sym (ap (λ (v : View O E). v.last) looks.same)) at)
 
   pub swept_miss : best ≢ word / 4294967296 → (j : ℕ) → j < 8 → Missed key (word / 4294967296) ((slot + j) % rows) w.last
   swept_miss isnt j lt =
@@ -107,6 +122,11 @@ pub read_good : {O E : Type 0} (good : O → List E → List ℕ → Type 0) (us
 read_good good used u word w looks x xs whole top f is o law opens =
     let all = subst (λ (rs : List Seen). AllGood (good o w.front) (word / 4294967296) rs) top (looks.found o opens) in
     filled_good (good o w.front) used law x.words whole f (all.0 (sym is))
+
+pub read_found : {O E : Type 0} (good : O → List E → List ℕ → Type 0) (used : List ℕ → ℕ) (u : View O E) (word : ℕ) (w : View O E) → Looks_at good u word w → (x : Seen) (xs : List Seen) (whole : List ℕ) → u.readings ≡ x ∷ xs → Fills used x.words whole
+    → word / 4294967296 ≡ x.stamp → Found used whole (word / 4294967296) x.row w.last
+read_found {O} {E} good used u word w looks x xs whole top f is =
+    subst (Found used whole (word / 4294967296) x.row) (sym (ap (λ (v : View O E). v.last) looks.same ∙ top)) (inl (refl, sym is, f))
 
 pub kept_but : {O E : Type 0} (v u w : View O E) (x : Seen) → u ≡ record v { readings = u.readings } → w ≡ record u { readings = x ∷ u.readings } → w ≡ record v { readings = w.readings }
 kept_but {O} {E} v u w x is next =

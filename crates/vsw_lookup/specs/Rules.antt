@@ -261,6 +261,11 @@ Missed key g row (x ∷ xs) = ((x.row ≡ row) × ((x.stamp ≢ g) ⊎ Differs x
 abbrev pub Fills : (List ℕ → ℕ) → List ℕ → List ℕ → Type 0
 Fills used words whole = (19 ≤ length words) × (length words ≤ 73) × (length words ≡ used (take 19 words)) × (whole ≡ words ++ replicate (73 - length words) 0)
 
+-- the row was read, its stamp is the generation, and the words that were read are all that are in use of this whole row
+abbrev pub Found : (List ℕ → ℕ) → List ℕ → ℕ → ℕ → List Seen → Type 0
+Found used whole g row [] = ⊥
+Found used whole g row (x ∷ xs) = ((x.row ≡ row) × (x.stamp ≡ g) × Fills used x.words whole) ⊎ Found used whole g row xs
+
 -- what one row of a sweep adds: its key differs, or its stamp is no better, or it is the best now
 abbrev pub Sweeps : {O E : Type 0} → (List ℕ → ℕ) → View O E → View O E → ℕ → List ℕ → ℕ → ℕ → List ℕ → List ℕ → Type 0
 Sweeps used v w row key best best' body body' = (x : Seen) × (w ≡ record v { readings = x ∷ v.readings }) × (x.row ≡ row)

@@ -1,7 +1,7 @@
 //! A look: what it loads, in which order, and what it makes of it.
 ghost use Rattle.std.specs.Prelude.{◌≡◌, ◌≢◌, ◌+◌, ◌*◌, ◌<◌, ◌≤◌, ◌/◌, ◌%◌, ◌++◌, ◌∷◌, ℕ, List, [], true, false, length, Some, Option, MatchBool, IfSome, slice_index, replicate};
 ghost use mathlib.Core.List.{IsPrefix};
-ghost use Rattle.vsw_lookup.specs.Rules.{stamped, appended, HasTop, Looks_at, IsRead, Fills, Sweeps, Missed};
+ghost use Rattle.vsw_lookup.specs.Rules.{stamped, appended, HasTop, Looks_at, IsRead, Fills, Found, Sweeps, Missed};
 
 use crate::rule::{Kept, Key, Look, ReadStamp, ReadWord};
 use crate::view::View;
@@ -150,6 +150,7 @@ pub(crate) fn try_row<S: Story>(
     ensures same { IsRead seat.old.me.0 seat.new.me.0 × (seat.new.me.1 ≡ []) }
     ensures begun { IfSome result (λ n. (seat.old.me.0.closed < seat.new.me.0.closed) × (seat.new.me.0.last_generation ≡ n / 4294967296)) }
     ensures hit { IfSome result (λ n. (length seat.new.me.0.front ≡ n % 4294967296) × (seat.new.me.0.readings ≡ []) × ((o : S.Opening) → seat.old.me.0.opening ≡ Some o → S.good o seat.new.me.0.front (key.now ++ body.new))) }
+    ensures found { IfSome result (λ n. Found S.used (key.now ++ body.new) (n / 4294967296) row seat.new.me.0.last) }
 {
     let stamp = read_stamp(shared, seat, row);
     if stamp != hint {
@@ -207,7 +208,7 @@ pub(crate) fn sweep<S: Story>(
     ensures same { IsRead seat.old.me.0 seat.new.me.0 × (seat.new.me.1 ≡ []) × (seat.new.me.0.readings ≡ []) }
     ensures count { (length seat.new.me.0.front ≡ result.1 % 4294967296) × (seat.new.me.0.last_generation ≡ result.1 / 4294967296) × (seat.new.me.0.closed ≡ seat.old.me.0.closed + 1) }
     ensures found { MatchBool result.0
-        ((o : S.Opening) → seat.old.me.0.opening ≡ Some o → S.good o seat.new.me.0.front (key.now ++ body.new))
+        (((o : S.Opening) → seat.old.me.0.opening ≡ Some o → S.good o seat.new.me.0.front (key.now ++ body.new)) × ((j : ℕ) × (j < 8) × Found S.used (key.now ++ body.new) (result.1 / 4294967296) ((slot + j) % rows) seat.new.me.0.last))
         ((j : ℕ) → j < 8 → Missed key.now (result.1 / 4294967296) ((slot + j) % rows) seat.new.me.0.last) }
 {
     let mut best = 0u64;
@@ -233,7 +234,7 @@ pub(crate) fn look_from<S: Story>(
     ensures same { IsRead seat.old.me.0 seat.new.me.0 × (seat.new.me.1 ≡ []) × (seat.new.me.0.readings ≡ []) }
     ensures count { (length seat.new.me.0.front ≡ result.1 % 4294967296) × (seat.old.me.0.closed < seat.new.me.0.closed) × (seat.new.me.0.last_generation ≡ result.1 / 4294967296) }
     ensures found { MatchBool result.0
-        ((o : S.Opening) → seat.old.me.0.opening ≡ Some o → S.good o seat.new.me.0.front (key.now ++ body.new))
+        (((o : S.Opening) → seat.old.me.0.opening ≡ Some o → S.good o seat.new.me.0.front (key.now ++ body.new)) × ((j : ℕ) × (j < 8) × Found S.used (key.now ++ body.new) (result.1 / 4294967296) ((slot + j) % rows) seat.new.me.0.last))
         ((j : ℕ) → j < 8 → Missed key.now (result.1 / 4294967296) ((slot + j) % rows) seat.new.me.0.last) }
 {
     let hint = shared.peek(0) / (1 << 32);

@@ -1,7 +1,7 @@
 //! The lookup, its writer, its passes and their notes.
 ghost use Rattle.std.specs.Prelude.{◌≡◌, ◌+◌, ◌<◌, ◌≤◌, ◌++◌, [], ◌∷◌, ℕ, ◌%◌, ◌*◌, ◌==◌, replicate, slice_index_or, slice_set, true, false, length, IfOk, Some, Bool, if◌then◌else◌};
 ghost use mathlib.Core.List.{IsPrefix};
-ghost use Rattle.vsw_lookup.specs.Rules.{by_caller, AllBelow, permits_of, first_view, one_more, newcomer, Meets, after_entry, passed, stamp_at, row_at, IsRead, Missed};
+ghost use Rattle.vsw_lookup.specs.Rules.{by_caller, AllBelow, permits_of, first_view, one_more, newcomer, Meets, after_entry, passed, stamp_at, row_at, IsRead, Found, Missed};
 ghost use Rattle.vsw_lookup.specs.Answers.{IfHit, IfMiss};
 
 use crate::look::look_from;
@@ -148,11 +148,13 @@ impl<S: Story> Lookup<S> {
         self.rows
     }
 
-    /// Looks for a row with this key among the eight from `slot` on. After a hit `body` is the rest of it, and what it holds after a miss isn't said.
+    /// Looks for a row with this key among the eight from `slot` on. After a hit `body` is the rest of the row that was found, and what it holds after a
+    /// miss isn't said.
     pub fn look(&self, pass: &mut Pass<S>, slot: u32, key: &[u64; 16], body: &mut [u64; 57]) -> Look
         requires { (pass.old.table ≡ self.now.0) × (slot < self.now.2) × (pass.old.view.opening ≡ Some self.now.1) }
         ensures same { IsRead pass.old.view pass.new.view × (pass.new.table ≡ pass.old.table) }
         ensures hit { IfHit result (λ n. (length pass.new.view.front ≡ n) × S.good self.now.1 pass.new.view.front (key.now ++ body.new)) }
+        ensures found { IfHit result (λ n. (j : ℕ) × (j < 8) × Found S.used (key.now ++ body.new) pass.new.view.last_generation ((slot + j) % self.now.2) pass.new.view.last) }
         ensures begun { pass.old.view.closed < pass.new.view.closed }
         ensures miss { IfMiss result (λ g n. (length pass.new.view.front ≡ n) × (pass.new.view.last_generation ≡ g) × ((j : ℕ) → j < 8 → Missed key.now g ((slot + j) % self.now.2) pass.new.view.last)) }
     {

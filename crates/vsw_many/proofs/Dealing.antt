@@ -56,16 +56,18 @@ line_step numbers i l xs ys true false false e ih = ih
 line_step numbers i l xs ys false true d e ih = ih
 line_step numbers i l xs ys false false d e ih = ih
 
-place_lines : (numbers : List ℕ) (commands : List Line) (first i number : ℕ) → place_of number numbers ≡ i → is_listed numbers number ≡ true → at_place i (placed_lines numbers commands first) ≡ during_jobs commands first number
-place_lines numbers [] first i number at listed = refl
-place_lines numbers (l ∷ ls) first i number at listed =
-    line_step numbers i l (filter (λ l. (l.at == first) && l.during) ls) (filter (λ l. (l.at == first) && (l.port == number) && l.during) ls) (l.at == first) (l.port == number) l.during (same_test numbers number i l.port at listed) (place_lines numbers ls first i number at listed)
+-- commands of either time
+pub place_lines : (when : Line → Bool) (numbers : List ℕ) (commands : List Line) (first i number : ℕ) → place_of number numbers ≡ i → is_listed numbers number ≡ true
+    → at_place i (map (λ l. (place_of l.port numbers, Ask l)) (filter (λ l. (l.at == first) && when l) commands)) ≡ map Ask (filter (λ l. (l.at == first) && (l.port == number) && when l) commands)
+place_lines when numbers [] first i number at listed = refl
+place_lines when numbers (l ∷ ls) first i number at listed =
+    line_step numbers i l (filter (λ l. (l.at == first) && when l) ls) (filter (λ l. (l.at == first) && (l.port == number) && when l) ls) (l.at == first) (l.port == number) (when l) (same_test numbers number i l.port at listed) (place_lines when numbers ls first i number at listed)
 
 -- what is to be done at all ports is at each what is to be done there
 pub place_jobs : (s : Setting) (records : List Record) (first next i number : ℕ) → place_of number (numbers_of s.policy) ≡ i → is_listed (numbers_of s.policy) number ≡ true → at_place i (placed_jobs s records first next) ≡ (jobs_of s records first next i number).later
 place_jobs s records first next i number at listed =
     place_append i (placed_lines (numbers_of s.policy) s.commands first) (placed_packets s.workers (macs_of s.policy) (packets_between records first next))
-    ∙ (ap (λ w. w ++ at_place i (placed_packets s.workers (macs_of s.policy) (packets_between records first next))) (place_lines (numbers_of s.policy) s.commands first i number at listed)
+    ∙ (ap (λ w. w ++ at_place i (placed_packets s.workers (macs_of s.policy) (packets_between records first next))) (place_lines (λ l. l.during) (numbers_of s.policy) s.commands first i number at listed)
     ∙ ap (λ w. during_jobs s.commands first number ++ w) (place_packets s.workers i (macs_of s.policy) (packets_between records first next)))
 
 deal_step : (ns : List ℕ) (k i : ℕ) (t : Placed) (ts : List Placed) (a b : Bool) → (job_doer ns t.1 == k) ≡ a → (t.0 == i) ≡ b → at_place i (deal ns k ts) ≡ jobs_by ns k (at_place i ts)
@@ -118,16 +120,16 @@ numbered_from ns front (p ∷ ps) same d =
     let at : length (front ++ p.number ∷ []) ≡ suc (length front) = omega (arith, length-append front (p.number ∷ [])) in
     (same.0, place_behind front p.number back d, listed_behind front p.number back, subst (λ n. AreNumbered ns (front ++ p.number ∷ back) n ps) at (subst (λ w. AreNumbered ns w (length (front ++ p.number ∷ [])) ps) split next))
 
-all_know : (cs : List ℕ) (ps : List PortFile) → Each (λ p. p.controllers ≡ cs) (map (port_of cs) ps)
+pub all_know : (cs : List ℕ) (ps : List PortFile) → Each (λ p. p.controllers ≡ cs) (map (port_of cs) ps)
 all_know cs [] = tt
 all_know cs (p ∷ ps) = (refl, all_know cs ps)
 
-numbered : (s : Setting) → are_distinct (numbers_of s.policy) ≡ true → AreNumbered s.policy.controllers (numbers_of s.policy) 0 (ports_of s.policy)
+pub numbered : (s : Setting) → are_distinct (numbers_of s.policy) ≡ true → AreNumbered s.policy.controllers (numbers_of s.policy) 0 (ports_of s.policy)
 numbered s d = numbered_from s.policy.controllers [] (ports_of s.policy) (all_know s.policy.controllers s.policy.ports) d
 
 -- ---- the callers
 
-each_packet : (P : Placed → Type 0) (workers : ℕ) (macs : List ℕ) (packets : List (ℕ × Record)) → ((n moment : ℕ) (a : Place × Parts) → Each P (placed_packet workers n moment (Ok a))) → Each P (placed_packets workers macs packets)
+pub each_packet : (P : Placed → Type 0) (workers : ℕ) (macs : List ℕ) (packets : List (ℕ × Record)) → ((n moment : ℕ) (a : Place × Parts) → Each P (placed_packet workers n moment (Ok a))) → Each P (placed_packets workers macs packets)
 each_packet P workers macs [] own = tt
 each_packet P workers macs (p ∷ ps) own = each_append P (placed_packet workers p.0 p.1.moment (aim_of macs p.1)) (placed_packets workers macs ps) (one (aim_of macs p.1)) (each_packet P workers macs ps own)
   where
@@ -135,15 +137,18 @@ each_packet P workers macs (p ∷ ps) own = each_append P (placed_packet workers
     one (Err why) = tt
     one (Ok a) = own p.0 p.1.moment a
 
-each_line : (P : Placed → Type 0) (numbers : List ℕ) (first : ℕ) (ls : List Line) → Each (λ l. P (place_of l.port numbers, Ask l)) ls → Each P (placed_lines numbers ls first)
-each_line P numbers first [] e = tt
-each_line P numbers first (l ∷ ls) e = by ((l.at == first) && l.during) (each_line P numbers first ls e.1)
+pub each_line : (P : Placed → Type 0) (when : Line → Bool) (numbers : List ℕ) (first : ℕ) (ls : List Line) → Each (λ l. P (place_of l.port numbers, Ask l)) ls → Each P (map (λ l. (place_of l.port numbers, Ask l)) (filter (λ l. (l.at == first) && when l) ls))
+each_line P when numbers first [] e = tt
+each_line P when numbers first (l ∷ ls) e = by ((l.at == first) && when l) (each_line P when numbers first ls e.1)
   where
-    by : (b : Bool) → Each P (placed_lines numbers ls first) → Each P (map (λ l. (place_of l.port numbers, Ask l)) (if b then l ∷ filter (λ l. (l.at == first) && l.during) ls else filter (λ l. (l.at == first) && l.during) ls))
+    rest : List Line
+    rest = filter (λ l. (l.at == first) && when l) ls
+
+    by : (b : Bool) → Each P (map (λ l. (place_of l.port numbers, Ask l)) rest) → Each P (map (λ l. (place_of l.port numbers, Ask l)) (if b then l ∷ rest else rest))
     by true ih = (e.0, ih)
     by false ih = ih
 
-place_within : (ns : List ℕ) (c : ℕ) → is_listed ns c ≡ true → place_of c ns < length ns
+pub place_within : (ns : List ℕ) (c : ℕ) → is_listed ns c ≡ true → place_of c ns < length ns
 place_within [] c e = absurd (cc e)
 place_within (n ∷ ns) c e = by (c == n) refl (λ f. place_within ns c f)
   where
@@ -155,7 +160,7 @@ place_within (n ∷ ns) c e = by (c == n) refl (λ f. place_within ns c f)
     by true t ih = omega arith
     by false t ih = omega (arith, ih (left (c == n) e t))
 
-worker_low : (workers : ℕ) (p : Parts) → 0 < workers → worker_of workers p < workers
+pub worker_low : (workers : ℕ) (p : Parts) → 0 < workers → worker_of workers p < workers
 worker_low workers p lt = mod_below (flow_sum_of p.stack) workers lt
 
 -- the setting's ports stand in their places, and each job of a round is a worker's or a listed controller's
@@ -167,7 +172,7 @@ pub fit_of : (s : Setting) (records : List Record) (first next : ℕ) → AreSer
 fit_of s records first next served apart = record {
   numbered = numbered s apart;
   within = each_append P (placed_lines (numbers_of s.policy) s.commands first) (placed_packets s.workers (macs_of s.policy) (packets_between records first next))
-      (each_line P (numbers_of s.policy) first s.commands (each_weaker (λ l. is_listed s.policy.controllers l.controller ≡ true) (λ l. controller_at s.policy.controllers l.controller < 16 + length s.policy.controllers) s.commands (λ l e. omega (arith, place_within s.policy.controllers l.controller e)) served.asked))
+      (each_line P (λ l. l.during) (numbers_of s.policy) first s.commands (each_weaker (λ l. is_listed s.policy.controllers l.controller ≡ true) (λ l. controller_at s.policy.controllers l.controller < 16 + length s.policy.controllers) s.commands (λ l e. omega (arith, place_within s.policy.controllers l.controller e)) served.asked))
       (each_packet P s.workers (macs_of s.policy) (packets_between records first next) (λ n moment a. (omega (arith, worker_low s.workers a.1 served.least, served.most), tt)));
 }
   where
@@ -181,7 +186,7 @@ none_dealt ns k [] e = refl
 none_dealt ns k (t ∷ ts) e = let f : (job_doer ns t.1 == k) ≡ false = ne_eqb (job_doer ns t.1) k e.0 in rw f (none_dealt ns k ts e.1)
 
 no_lines : (s : Setting) (first k : ℕ) → k < 16 → deal s.policy.controllers k (placed_lines (numbers_of s.policy) s.commands first) ≡ []
-no_lines s first k lt = none_dealt s.policy.controllers k (placed_lines (numbers_of s.policy) s.commands first) (each_line (λ t. job_doer s.policy.controllers t.1 ≢ k) (numbers_of s.policy) first s.commands (all s.commands))
+no_lines s first k lt = none_dealt s.policy.controllers k (placed_lines (numbers_of s.policy) s.commands first) (each_line (λ t. job_doer s.policy.controllers t.1 ≢ k) (λ l. l.during) (numbers_of s.policy) first s.commands (all s.commands))
   where
     all : (ls : List Line) → Each (λ l. controller_at s.policy.controllers l.controller ≢ k) ls
     all [] = tt

@@ -30,13 +30,13 @@ lanes_above o h g n (l ∷ ls) a k lt =
     ∙ lanes_above o h g (suc n) ls a.1 k (omega (arith, lt)))
 
 -- the first lane holds all calls of its number, and none of another's
-first_lane : (o : Opening) (h g : List Event) (n : ℕ) (l : Lane) (ls : List Lane) → AreLanes o h g n (l ∷ ls) → calls_of o.controllers n (calls_in (l ∷ ls)) ≡ l.track.calls
+pub first_lane : (o : Opening) (h g : List Event) (n : ℕ) (l : Lane) (ls : List Lane) → AreLanes o h g n (l ∷ ls) → calls_of o.controllers n (calls_in (l ∷ ls)) ≡ l.track.calls
 first_lane o h g n l ls a =
     calls_append o.controllers n l.track.calls (calls_in ls)
     ∙ (ap (λ w. w ++ calls_of o.controllers n (calls_in ls)) (all_of_one o.controllers n l.track.calls a.0.is.own)
     ∙ (ap (λ w. l.track.calls ++ w) (lanes_above o h g (suc n) ls a.1 n (omega arith)) ∙ append_end l.track.calls))
 
-other_lanes : (o : Opening) (h g : List Event) (n : ℕ) (l : Lane) (ls : List Lane) → AreLanes o h g n (l ∷ ls) → (k : ℕ) → n ≢ k → calls_of o.controllers k (calls_in (l ∷ ls)) ≡ calls_of o.controllers k (calls_in ls)
+pub other_lanes : (o : Opening) (h g : List Event) (n : ℕ) (l : Lane) (ls : List Lane) → AreLanes o h g n (l ∷ ls) → (k : ℕ) → n ≢ k → calls_of o.controllers k (calls_in (l ∷ ls)) ≡ calls_of o.controllers k (calls_in ls)
 other_lanes o h g n l ls a k ne =
     calls_append o.controllers k l.track.calls (calls_in ls)
     ∙ ap (λ w. w ++ calls_of o.controllers k (calls_in ls)) (none_of o.controllers k l.track.calls (each_weaker (λ c. doer o.controllers c.deed ≡ n) (λ c. doer o.controllers c.deed ≢ k) l.track.calls (λ c e f. ne (sym e ∙ f)) a.0.is.own))
@@ -65,7 +65,7 @@ lanes_doers o h g n (l ∷ ls) a = each_append (λ c. doer o.controllers c.deed 
     (each_weaker (λ c. doer o.controllers c.deed ≡ n) (λ c. doer o.controllers c.deed < n + length (l ∷ ls)) l.track.calls (λ c e. omega (arith, e)) a.0.is.own)
     (each_weaker (λ c. doer o.controllers c.deed < suc n + length ls) (λ c. doer o.controllers c.deed < n + length (l ∷ ls)) (calls_in ls) (λ c e. omega (arith, e)) (lanes_doers o h g (suc n) ls a.1))
 
-lanes_bytes : (o : Opening) (h g : List Event) (n : ℕ) (ls : List Lane) → AreLanes o h g n ls → Each (HasBytes o g) (calls_in ls)
+pub lanes_bytes : (o : Opening) (h g : List Event) (n : ℕ) (ls : List Lane) → AreLanes o h g n ls → Each (HasBytes o g) (calls_in ls)
 lanes_bytes o h g n [] a = tt
 lanes_bytes o h g n (l ∷ ls) a = each_append (HasBytes o g) l.track.calls (calls_in ls) (bytes_of_pass o g l.track.start l.track.now l.met l.track.calls a.0.is.works a.0.meets) (lanes_bytes o h g (suc n) ls a.1)
 

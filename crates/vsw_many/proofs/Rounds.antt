@@ -25,14 +25,14 @@ use Rattle.vsw_many.proofs.Dealing.{AreNumbered, IsFit, fit_of, place_jobs, plac
 -- ---- jobs done beside each other
 
 -- the calls of a lane have these jobs, by its number
-abbrev HasJobs : (ℕ → List Job) → ℕ → List Call → Type 0
+abbrev pub HasJobs : (ℕ → List Job) → ℕ → List Call → Type 0
 HasJobs share k calls = map (λ c. job_of c.deed) calls ≡ share k
 
 none_to_do : (ns : List ℕ) (k n : ℕ) (js : List Job) → n ≤ k → Each (λ j. job_doer ns j < n) js → jobs_by ns k js ≡ []
 none_to_do ns k n [] le e = refl
 none_to_do ns k n (j ∷ js) le e = let t : (job_doer ns j == k) ≡ false = ne_eqb (job_doer ns j) k (λ f. omega (arith, f, e.0, le)) in rw t (none_to_do ns k n js le e.1)
 
-each_place : (P : Job → Type 0) (i : ℕ) (ts : List Placed) → Each (λ t. P t.1) ts → Each P (at_place i ts)
+pub each_place : (P : Job → Type 0) (i : ℕ) (ts : List Placed) → Each (λ t. P t.1) ts → Each P (at_place i ts)
 each_place P i [] e = tt
 each_place P i (t ∷ ts) e = by (t.0 == i) (each_place P i ts e.1)
   where
@@ -41,7 +41,7 @@ each_place P i (t ∷ ts) e = by (t.0 == i) (each_place P i ts e.1)
     by false ih = ih
 
 -- each caller has done its own of a port's jobs, where it has done its own of all
-done_beside : (o : Opening) (h g : List Event) (all : List Placed) (i : ℕ) (ls : List Lane) (jobs : List Job) → AreLanes o h g 0 ls → EachLane (HasJobs (λ k. at_place i (deal o.controllers k all))) 0 ls → at_place i all ≡ jobs
+pub done_beside : (o : Opening) (h g : List Event) (all : List Placed) (i : ℕ) (ls : List Lane) (jobs : List Job) → AreLanes o h g 0 ls → EachLane (HasJobs (λ k. at_place i (deal o.controllers k all))) 0 ls → at_place i all ≡ jobs
     → Each (λ t. job_doer o.controllers t.1 < length ls) all → DoneBeside o ls jobs
 done_beside o h g all i ls jobs lanes did is within k = by_less k (length ls) (map (λ c. job_of c.deed) (calls_of o.controllers k (calls_in ls)) ≡ jobs_by o.controllers k jobs) low high
   where
@@ -56,14 +56,14 @@ done_beside o h g all i ls jobs lanes did is within k = by_less k (length ls) (m
 
 -- ---- the lanes of one port, out of all callers' rows
 
-record IsColumn (ns : List ℕ) (all : List Placed) (i n : ℕ) (p : PortSeen) (h g : List Event) (ps : List PortSeen) (hs gs : List (List Event)) (rows : List (List Lane)) : Type 0 where
-  lanes : AreLanes (opening_of p) h g n (column rows)
-  did : EachLane (HasJobs (λ k. at_place i (deal ns k all))) n (column rows)
-  size : length (column rows) ≡ length rows
-  others : AreRows ns all (suc i) n ps hs gs (other_columns rows)
-  others_size : length (other_columns rows) ≡ length rows
+pub record IsColumn (ns : List ℕ) (all : List Placed) (i n : ℕ) (p : PortSeen) (h g : List Event) (ps : List PortSeen) (hs gs : List (List Event)) (rows : List (List Lane)) : Type 0 where
+  pub lanes : AreLanes (opening_of p) h g n (column rows)
+  pub did : EachLane (HasJobs (λ k. at_place i (deal ns k all))) n (column rows)
+  pub size : length (column rows) ≡ length rows
+  pub others : AreRows ns all (suc i) n ps hs gs (other_columns rows)
+  pub others_size : length (other_columns rows) ≡ length rows
 
-column_of : (ns : List ℕ) (all : List Placed) (i n : ℕ) (p : PortSeen) (h g : List Event) (ps : List PortSeen) (hs gs : List (List Event)) (rows : List (List Lane)) → AreRows ns all i n (p ∷ ps) (h ∷ hs) (g ∷ gs) rows → IsColumn ns all i n p h g ps hs gs rows
+pub column_of : (ns : List ℕ) (all : List Placed) (i n : ℕ) (p : PortSeen) (h g : List Event) (ps : List PortSeen) (hs gs : List (List Event)) (rows : List (List Lane)) → AreRows ns all i n (p ∷ ps) (h ∷ hs) (g ∷ gs) rows → IsColumn ns all i n p h g ps hs gs rows
 column_of ns all i n p h g ps hs gs [] a = record { lanes = tt; did = tt; size = refl; others = tt; others_size = refl }
 column_of ns all i n p h g ps hs gs ((l ∷ ls) ∷ rows) a =
     let more = column_of ns all i (suc n) p h g ps hs gs rows a.1 in
@@ -154,12 +154,12 @@ all_done s records first next hs gs r fit d = by d.laters d.laters_done
 
 -- ---- what is told
 
-record AreTold (s : Setting) (records : List Record) (first next i : ℕ) (ps : List PortSeen) (hs gs : List (List Event)) (rs : List PortRound) : Type 0 where
-  are : ArePortRounds s records first next i ps gs rs
-  right : AreHistories ps gs
-  begin : AllBegin hs gs
-  before : map (λ r. r.before) rs ≡ map length hs
-  after : map (λ r. r.after) rs ≡ map length gs
+pub record AreTold (s : Setting) (records : List Record) (first next i : ℕ) (ps : List PortSeen) (hs gs : List (List Event)) (rs : List PortRound) : Type 0 where
+  pub are : ArePortRounds s records first next i ps gs rs
+  pub right : AreHistories ps gs
+  pub begin : AllBegin hs gs
+  pub before : map (λ r. r.before) rs ≡ map length hs
+  pub after : map (λ r. r.after) rs ≡ map length gs
 
 are_told : (s : Setting) (records : List Record) (first next i : ℕ) (ps : List PortSeen) (hs gs : List (List Event)) (cs ds : List (List Call)) → AllDone s records first next i ps hs gs cs ds → AreTold s records first next i ps hs gs (ports_told ps hs gs cs ds)
 are_told s records first next i [] [] [] [] [] w = record { are = tt; right = tt; begin = tt; before = refl; after = refl }
@@ -180,7 +180,7 @@ are_told s records first next i (p ∷ ps) (h ∷ hs) [] cs ds w = absurd w
 are_told s records first next i (p ∷ ps) (h ∷ hs) (g ∷ gs) [] ds w = absurd w
 are_told s records first next i (p ∷ ps) (h ∷ hs) (g ∷ gs) (c ∷ cs) [] w = absurd w
 
-round_is_told : (s : Setting) (records : List Record) (first next : ℕ) (hs gs : List (List Event)) (r : Round) → IsFit s records first next → RoundDone s records first next hs gs r → AreTold s records first next 0 (ports_of s.policy) hs gs r.ports
+pub round_is_told : (s : Setting) (records : List Record) (first next : ℕ) (hs gs : List (List Event)) (r : Round) → IsFit s records first next → RoundDone s records first next hs gs r → AreTold s records first next 0 (ports_of s.policy) hs gs r.ports
 round_is_told s records first next hs gs r fit d = subst (AreTold s records first next 0 (ports_of s.policy) hs gs) (sym d.ports) (are_told s records first next 0 (ports_of s.policy) hs gs d.firsts d.laters (all_done s records first next hs gs r fit d))
 
 -- ---- a run

@@ -10,7 +10,7 @@ use Rattle.vsw_promise.specs.Rounds.{IsRound, IsPortRound, ArePortRounds, AreRou
 use Rattle.vsw_promise.proofs.Exists.{rounds_exist, ports_later, none_yet, no_counts}
 use Rattle.vsw_report.specs.declared.round.PortRound.{PortRound}
 use Rattle.vsw_report.specs.declared.round.Round.{Round}
-use Rattle.vsw_rounds.specs.Round.{RunsRound}
+use Rattle.vsw_rounds.specs.Round.{TellsRound}
 use Rattle.vsw_switch.specs.Switch.{SwitchNow}
 use Rattle.vsw_replay.specs.Private.SoFar.{AreSoFar}
 use Rattle.vsw_replay.proofs.Ordered.{Has, Ascends, ascends_lower}
@@ -127,7 +127,7 @@ none_so_far s = record { right = none_yet (ports_of s.policy); are = tt; chained
 
 -- one more was run
 pub round_more : (s : Setting) (given all packets : List Record) (first : ℕ) (cs : List ℕ) (rounds : List Round) (hs : List (List Event)) (now : SwitchNow) (short : Bool) (old new : List ℕ) → given ≡ take first all → AreLow 0 first cs → packets_between all first (length all) ≡ numbered first packets → AreSoFar s given cs rounds hs
-    → (r : RunsRound s hs first packets now short old new) → AreSoFar s all (cs ++ first ∷ []) (rounds ++ r.round ∷ []) r.histories
+    → (r : TellsRound s hs first packets now short old new) → AreSoFar s all (cs ++ first ∷ []) (rounds ++ r.round ∷ []) r.histories
 round_more s given all packets first cs rounds hs now short old new e low are so r = record {
   right = r.right;
   are = append_rounds s given all r.histories first 0 cs [] rounds (r.round ∷ []) e low (rounds_later s given hs r.histories cs rounds r.begin so.are) (r.is_round all (length all) are, tt);

@@ -9,7 +9,7 @@ use Rattle.vsw_promise.specs.Jobs.{Setting, cuts_within, packets_between}
 use Rattle.vsw_report.specs.Print.{round_text, report_text}
 use Rattle.vsw_report.specs.Short.{are_short, is_short_round}
 use Rattle.vsw_report.specs.declared.round.Round.{Round}
-use Rattle.vsw_rounds.specs.Round.{RunsRound}
+use Rattle.vsw_rounds.specs.Round.{TellsRound}
 use Rattle.vsw_schedule.specs.Schedule.{next_at}
 use Rattle.vsw_switch.specs.Switch.{SwitchNow}
 use Rattle.vsw_replay.specs.declared.reading.Stop.{Stop}
@@ -63,7 +63,7 @@ why_run first n named h = by (nat_lt 0 n) (nat_lt 0 first) refl refl
 
 -- the round of the batch was run
 pub rounds_run : (s : Setting) (first next : ℕ) (given batch : List Record) (rounds : List Round) (hs : List (List Event)) (now : SwitchNow) (short : Bool) (old new : List ℕ) (st : Stop) → length given ≡ first → IsCut s.commands first → IsNextCut s.commands first next → IsAsLong st next (length (given ++ batch)) → is_run_of s.commands (length batch) first st ≡ true
-    → AreSoFar s given (cuts_within s.commands first) rounds hs → (r : RunsRound s hs first batch now short old new) → RoundsFor s first (given ++ batch) (rounds ++ r.round ∷ []) r.histories st
+    → AreSoFar s given (cuts_within s.commands first) rounds hs → (r : TellsRound s hs first batch now short old new) → RoundsFor s first (given ++ batch) (rounds ++ r.round ∷ []) r.histories st
 rounds_run s first next given batch rounds hs now short old new st count cut after long runs so r = by st long runs
   where
     all : List Record
@@ -130,7 +130,7 @@ rounds_unrun s first next given batch rounds hs st count after long runs so = by
 
 -- a round of commands alone was run, behind the trace
 pub rounds_past : (s : Setting) (first next : ℕ) (records batch : List Record) (rounds : List Round) (hs : List (List Event)) (now : SwitchNow) (short : Bool) (old new : List ℕ) → batch ≡ [] → next_at (first + 1) s.commands ≡ Some next → AreBehind s.commands first (length records) → AreSoFar s records (cuts_until s.commands (length records) (first + 1)) rounds hs
-    → (r : RunsRound s hs next batch now short old new) → AreSoFar s records (cuts_until s.commands (length records) (next + 1)) (rounds ++ r.round ∷ []) r.histories
+    → (r : TellsRound s hs next batch now short old new) → AreSoFar s records (cuts_until s.commands (length records) (next + 1)) (rounds ++ r.round ∷ []) r.histories
 rounds_past s first next records batch rounds hs now short old new none e behind so r =
     let is = next_some s.commands (first + 1) next e in
     let far : length records ≤ next = behind next (omega (arith, is.from)) (inl is.is_named) in

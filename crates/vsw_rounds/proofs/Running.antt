@@ -17,7 +17,7 @@ use Rattle.vsw_switch.specs.Close.{AreCounted, begun, is_short_now, last_of, nex
 use Rattle.vsw_switch.specs.Does.{DoesAll, Works, macs_in, numbers_in, placed_line}
 use Rattle.vsw_switch.specs.Switch.{AllStandAt, IsAt, PortNow, SwitchNow}
 use Rattle.vsw_switch.specs.declared.tally.Tally.{Tally}
-use Rattle.vsw_rounds.specs.Round.{RunsRound}
+use Rattle.vsw_rounds.specs.Round.{RunsRound, TellsRound}
 use Rattle.vsw_rounds.specs.Steps.{ForwardsAll, lines_at}
 use Rattle.vsw_rounds.proofs.Asking.{AsksOf, lines_are}
 use Rattle.vsw_rounds.proofs.Closing.{AreDealt, Ended, all_end, all_go}
@@ -103,7 +103,7 @@ runs_round s hs first packets a b c short old new at w closes =
     let round : Round = record { first = first; ports = e.rounds; loose = loose_among (macs_of s.policy) all } in
     let text : round_now first b ≡ round_text round = ap₂ (λ t ls. codes "round " ++ decimal first ++ codes "\n" ++ t ++ codes "loose\n" ++ flat_map loose_text ls) e.text loose in
     let stands : IsAt s e.histories (next_round b) = record { workers = w.workers ∙ at.workers; some = at.some; few = at.few; ports = e.stand; loose = refl } in
-    record {
+    let tells : TellsRound s hs first packets c short old new = record {
       histories = e.histories;
       round = round;
       is_round = λ records next p. record { first_is = refl; loose = ap (loose_among (macs_of s.policy)) (sym p); ports = e.are records next p };
@@ -114,6 +114,9 @@ runs_round s hs first packets a b c short old new at w closes =
       at = subst (IsAt s e.histories) (sym (closes.next e.counts)) stands;
       short_is = closes.short_is e.counts ∙ e.short;
       text = closes.text e.counts ∙ ap (λ t. old ++ t) text;
+    } in
+    record {
+      tells = tells;
       tally = ap (λ t. last_of t.ports) (closes.next e.counts) ∙ (λ i. record { pass = last_sum (λ t. t.pass) b.ports (total (in_port passed) e.rounds) e.pass i; drop = last_sum (λ t. t.drop) b.ports (total (in_port dropped) e.rounds) e.drop i; bytes = last_sum (λ t. t.bytes) b.ports (total (in_port size_of) e.rounds) e.size i });
     }
 
@@ -127,3 +130,10 @@ runs first lines places packets s t u v w (Ok told) old new at before during for
     let work = all_work s t u v lines places first (numbered first packets) at before during forwarded in
     runs_round set hs first packets s v w told old new stands (subst (λ ls. Works s (jobs_done s.workers (numbers_in s) (macs_in s) ls first (numbered first packets)) (loose_among (macs_in s) (numbered first packets)) v) (sym is) work)
     (record { text = text; short_is = short; next = next; apart = apart })
+
+-- without what the ports tell of its packets
+pub tells : (lines : List Line) (first : ℕ) (packets : List Record) (s w : SwitchNow) (r : Result Bool NoMemory) (old new : List ℕ)
+    → IfOk r (λ short. (set : Setting) (hs : List (List Event)) → set.commands ≡ lines → IsAt set hs s → RunsRound set hs first packets w short old new)
+    → IfOk r (λ short. (set : Setting) (hs : List (List Event)) → set.commands ≡ lines → IsAt set hs s → TellsRound set hs first packets w short old new)
+tells lines first packets s w (Err e) old new h = tt
+tells lines first packets s w (Ok short) old new h = λ set hs is stands. (h set hs is stands).tells

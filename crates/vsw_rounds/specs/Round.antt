@@ -13,9 +13,9 @@ use Rattle.vsw_switch.specs.Close.{last_of}
 use Rattle.vsw_switch.specs.Switch.{SwitchNow, IsAt}
 use Rattle.vsw_switch.specs.Tally.{tally_in}
 
--- a switch that stood at these histories ran the round of these packets, of which the first has this number in the trace, and appended
--- its text. It is that round of every trace that has these packets there
-pub record RunsRound (s : Setting) (hs : List (List Event)) (first : ℕ) (packets : List Record) (now : SwitchNow) (short : Bool) (old new : List ℕ) : Type 0 where
+-- ports that stood at these histories ran the round of these packets, of which the first has this number in the trace, and its text was
+-- appended. It is that round of every trace that has these packets there
+pub record TellsRound (s : Setting) (hs : List (List Event)) (first : ℕ) (packets : List Record) (now : SwitchNow) (short : Bool) (old new : List ℕ) : Type 0 where
   pub histories : List (List Event)
   pub round : Round
   pub is_round : (records : List Record) (next : ℕ) → packets_between records first next ≡ numbered first packets → IsRound s records histories first next round
@@ -26,4 +26,8 @@ pub record RunsRound (s : Setting) (hs : List (List Event)) (first : ℕ) (packe
   pub at : IsAt s histories now
   pub short_is : short ≡ is_short_round round
   pub text : new ≡ old ++ round_text round
-  pub tally : last_of now.ports ≡ tally_in round
+
+-- the same, and the ports tell what became of the round's packets
+pub record RunsRound (s : Setting) (hs : List (List Event)) (first : ℕ) (packets : List Record) (now : SwitchNow) (short : Bool) (old new : List ℕ) : Type 0 where
+  pub tells : TellsRound s hs first packets now short old new
+  pub tally : last_of now.ports ≡ tally_in tells.round

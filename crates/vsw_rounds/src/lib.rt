@@ -2,5 +2,7 @@
 #![tactic(auto)]
 
 mod round;
+mod rounds;
 
 pub use round::run_round;
+pub use rounds::Rounds;

@@ -5,8 +5,10 @@ use crate::policies::{ALLOWING, END, IDLE_100, LAYER, LAYER_END, PORT, STATEFUL}
 use crate::running::{host_of, joined, trace_of, words};
 use std::alloc::Global;
 use std::process::Abort;
+use std::sync::Wait;
 use std::test::Fail;
-use vsw_app::run_words;
+use std::thread::Threads;
+use vsw_app::{Open, run_words};
 use vsw_promise::Status;
 
 /// The policy of one layer, number 10 of controller 1, whose rule 5 of group 1 allows 10.0.0.0/24.
@@ -26,8 +28,8 @@ const DROP_5: &str =
     r#"{"rule":5,"priority":10,"when":[{"field":"dst_ip","any":["10.0.0.0/24"]}],"action":"drop","stateful":false,"last":false}"#;
 
 /// Runs over this policy, these commands and these frames, and compares what is put and how the run ends.
-fn check(
-    rt: &impl Abort,
+fn check<R: Abort + Threads + Wait + Sync>(
+    rt: &R,
     alloc: Global,
     policy: &[&str],
     commands: &[&str],
@@ -38,7 +40,7 @@ fn check(
     let trace = trace_of(alloc, frames)?;
     let mut host = host_of(rt, alloc, policy, commands, trace, failing)?;
     let words = words(alloc)?;
-    let status = run_words(alloc, &words, &mut host);
+    let status = run_words(rt, alloc, &words, &mut host, &Open);
     let report = joined(alloc, wanted.1)?;
     assert!(rt; status == wanted.0);
     assert!(rt; host.written() == report.as_slice());

@@ -4,7 +4,9 @@ use crate::policies::THREE_LAYERS;
 use crate::running::{add, empty_trace, report_of};
 use std::alloc::{AllocError, Global};
 use std::process::Abort;
+use std::sync::Wait;
 use std::test::Fail;
+use std::thread::Threads;
 
 /// UDP from 10.0.0.5:1234 to 10.0.0.9:53 up to its payload, in IPv4 of 65,520 and of 65,485 bytes.
 const FRONT_65520: &str =
@@ -18,8 +20,8 @@ fn zeros(alloc: Global, count: usize) -> Result<Vec<u8>, AllocError> {
 }
 
 /// The report of a trace of this packet alone, which has so many bytes of payload.
-fn report_of_long(
-    rt: &impl Abort,
+fn report_of_long<R: Abort + Threads + Wait + Sync>(
+    rt: &R,
     alloc: Global,
     front: &str,
     payload: usize,

@@ -2,8 +2,10 @@
 
 use std::alloc::{AllocError, Global};
 use std::process::Abort;
+use std::sync::Wait;
 use std::test::Fail;
-use vsw_app::run_words;
+use std::thread::Threads;
+use vsw_app::{Open, run_words};
 use vsw_base::{Items, Text};
 use vsw_memory_host::{MemoryFile, MemoryHost, are_distinct};
 use vsw_promise::Status;
@@ -83,23 +85,23 @@ pub fn words(alloc: Global) -> Result<Vec<Word>, AllocError> {
 }
 
 /// What is put of a run over this policy, whose pieces stand one after another, and this trace.
-pub fn report_of(
-    rt: &impl Abort,
+pub fn report_of<R: Abort + Threads + Wait + Sync>(
+    rt: &R,
     alloc: Global,
     policy: &[&str],
     trace: Vec<u8>,
 ) -> Result<Vec<u8>, Fail> {
     let mut host = host_of(rt, alloc, policy, &[], trace, Vec::new(alloc))?;
     let words = words(alloc)?;
-    let status = run_words(alloc, &words, &mut host);
+    let status = run_words(rt, alloc, &words, &mut host, &Open);
     assert!(rt; status == Status::Done && host.complained().is_empty());
     Ok(host.written().to_vec(alloc)?)
 }
 
 /// Runs over this policy and these frames, and compares the report: port 1 has so many entries of history
 /// and these lines, and no packet is loose.
-pub fn check(
-    rt: &impl Abort,
+pub fn check<R: Abort + Threads + Wait + Sync>(
+    rt: &R,
     alloc: Global,
     policy: &[&str],
     frames: &[&str],

@@ -128,7 +128,7 @@ fn by_row(
     }
 }
 
-/// The caller's packet crosses the layers.
+/// The caller's packet crosses the layers, and leaves a row.
 fn by_layers(
     core: &mut Core,
     lookup: &Lookup<PortStory>,
@@ -153,8 +153,33 @@ fn by_layers(
     outcome
 }
 
-/// The caller's packet is answered by a row, or crosses the layers. `row` tells whether a row did, whose headers are
-/// then on the desk.
+/// The same, and no row is left.
+fn by_walk(
+    core: &mut Core,
+    lookup: &Lookup<PortStory>,
+    caller: &mut Caller,
+    crossing: &Crossing,
+) -> Outcome
+    requires core { IsOf lookup.now core.old.writer }
+    requires told { IsOf lookup.now caller.old.pass }
+    requires made { caller.old.made ≡ length caller.old.pass.view.receipts }
+    requires permits { caller.old.permits ≡ caller.old.pass.view.permits }
+    requires few { caller.old.made + caller.old.permits ≤ 134217728 }
+    requires number { crossing.now.caller ≡ caller.old.pass.view.number }
+    requires permit { 0 < caller.old.permits }
+    ensures done { (p : Parts) (bytes : List ℕ) → IsDone (opening_of lookup.now.1) core.old.writer.view.history (Carried crossing.now p result.fate bytes) result.entry }
+    ensures edits { EditsPass (layers_of lookup.now.1 core.old) crossing.now core.new.edited result.kept result.fate }
+    ensures core { IsOf lookup.now core.new.writer }
+    ensures history { core.new.writer.view.history ≡ core.old.writer.view.history ++ entered result.entry (event.Crossing crossing.now result.fate) }
+    ensures caller { HasCalled lookup.now core.new.writer.view.history result.entry caller.old caller.new }
+{
+    let outcome = core.cross(lookup, &mut caller.pass, crossing);
+    settle(caller, outcome.entry, core.journal().len());
+    outcome
+}
+
+/// The caller's packet is answered by a row, or crosses the layers. Where a walk over them costs less than a row's
+/// answer, no row is looked for or left. `row` tells whether a row answered, whose headers are then on the desk.
 pub(crate) fn carry(
     core: &mut Core,
     lookup: &Lookup<PortStory>,
@@ -174,6 +199,10 @@ pub(crate) fn carry(
     ensures history { core.new.writer.view.history ≡ core.old.writer.view.history ++ entered result.entry (event.Crossing crossing.now result.fate) }
     ensures caller { HasCalled lookup.now core.new.writer.view.history result.entry caller.old caller.new }
 {
+    if core.is_light() {
+        *row = false;
+        return by_walk(core, lookup, caller, crossing);
+    }
     catch_up(core, lookup, caller);
     if let Some(outcome) = by_row(lookup, caller, crossing, desk) {
         *row = true;

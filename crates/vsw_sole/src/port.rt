@@ -51,6 +51,8 @@ pub struct SolePort {
     row: bool,
     /// The next row to be reconciled.
     next: u32,
+    /// How many rows weren't compared with the layers since these changed last.
+    stale: u32,
 }
 
 impl Model for SolePort {
@@ -78,6 +80,11 @@ fn left(room: u32, entry: bool) -> u32
     ensures { result ≡ room - one_if entry }
 {
     if entry { room - 1 } else { room }
+}
+
+/// How many rows are to be compared with the layers after a call: all where it is an entry.
+fn stale_after(stale: u32, entry: bool, rows: u32) -> u32 {
+    if entry { rows } else { stale }
 }
 
 /// Whether an answer is an entry of the history.
@@ -161,6 +168,7 @@ impl SolePort {
             desk: Desk::new(),
             row: false,
             next: 0,
+            stale: 0,
         })
     }
 
@@ -246,6 +254,7 @@ impl SolePort {
             &mut self.row,
         );
         self.room = left(self.room, outcome.entry);
+        self.stale = stale_after(self.stale, outcome.entry, self.lookup.rows());
         outcome
     }
 
@@ -272,25 +281,31 @@ impl SolePort {
             command,
         );
         self.room = left(self.room, is_entry(answer));
+        self.stale = stale_after(self.stale, is_entry(answer), self.lookup.rows());
         answer
     }
 
     /// Compares the next so many rows, in turn, with the layers of now, so that those that still say what is so answer
-    /// packets again.
+    /// packets again. Once all were compared since the layers changed last, nothing is left to do.
     pub fn reconcile(&mut self, rows: u32)
         ensures { self.new ≡ self.old }
     {
+        let rows = rows.min(self.stale);
+        self.stale -= rows;
         reconcile_from(&mut self.core, &self.lookup, &mut self.next, rows);
     }
 }
 
-/// Reconciles so many rows, from this one on.
+/// Reconciles so many rows, from this one on, where rows are looked for.
 fn reconcile_from(core: &mut Core, lookup: &Lookup<PortStory>, next: &mut u32, rows: u32)
     requires core { IsOf lookup.now core.old.writer }
     ensures core { IsOf lookup.now core.new.writer }
     ensures history { core.new.writer.view.history ≡ core.old.writer.view.history }
     ensures edited { core.new.edited ≡ core.old.edited }
 {
+    if core.is_light() {
+        return;
+    }
     for _ in 0..rows {
         let row = turn(*next, lookup.rows());
         let _ = core.reconcile(lookup, row);

@@ -2,7 +2,7 @@
 
 ghost use Rattle.std.specs.Prelude.{◌≤◌};
 
-use crate::commands::{add_group, add_layer, edit, put_rule, set_default, sweep};
+use crate::commands::{add_group, add_layer, add_open_layer, edit, put_rule, set_default, sweep};
 use crate::packets::packet;
 use crate::trial::Trial;
 use std::alloc::Global;
@@ -40,6 +40,14 @@ fn rule(
     }
 }
 
+/// Six layers more: a walk over all then costs more than a row's answer, so rows are looked for.
+fn add_open_layers(trial: &mut Trial) -> Option<()> {
+    for layer in 31..37 {
+        trial.ask(6, 1, &add_open_layer(layer))?;
+    }
+    Some(())
+}
+
 /// Layer 10 lets out with a pair, and layer 20 edits: six entries.
 fn set_up(alloc: Global, trial: &mut Trial) -> Option<()> {
     add_layers(trial)?;
@@ -53,6 +61,13 @@ fn port(alloc: Global, rows: u32) -> Option<Trial>
     requires { (8 ≤ rows) × (rows ≤ 16384) }
 {
     let mut trial = Trial::new(alloc, rows)?;
+    set_up(alloc, &mut trial)?;
+    add_open_layers(&mut trial)?;
+    Some(trial)
+}
+
+fn light_port(alloc: Global) -> Option<Trial> {
+    let mut trial = Trial::new(alloc, 64)?;
     set_up(alloc, &mut trial)?;
     Some(trial)
 }
@@ -139,6 +154,12 @@ fn many_rows_answer_as_the_layers_do(rt: HostRuntime) {
 #[test]
 fn rows_that_are_full_answer_as_the_layers_do(rt: HostRuntime) {
     let mut trial = port(rt.alloc(), 8).expect(&rt, "memory");
+    check(&rt, rt.alloc(), &mut trial);
+}
+
+#[test]
+fn light_layers_answer_without_rows(rt: HostRuntime) {
+    let mut trial = light_port(rt.alloc()).expect(&rt, "memory");
     check(&rt, rt.alloc(), &mut trial);
 }
 

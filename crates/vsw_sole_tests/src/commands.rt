@@ -21,6 +21,21 @@ pub fn add_layer(layer: u16) -> Command {
     }
 }
 
+/// A layer that allows all packets by default.
+pub fn add_open_layer(layer: u16) -> Command {
+    Command::AddLayer {
+        spec: LayerSpec {
+            layer,
+            order: layer,
+            allow_out: true,
+            allow_in: true,
+            pairs: 0,
+            idle: 100,
+            linger: 10,
+        },
+    }
+}
+
 /// Group 1, without conditions.
 pub fn add_group(alloc: Global, layer: u16) -> Command {
     Command::AddGroup {

@@ -2,7 +2,7 @@
 use Rattle.std.specs.Prelude.{◌≡◌, ◌≤◌, ◌<◌, ◌-◌, ℕ, List, ◌++◌, length, map, true}
 use Rattle.vsw_policy.specs.Sound.{Each, is_listed}
 use Rattle.vsw_history.specs.declared.event.Event.{Event}
-use Rattle.vsw_history.specs.Calls.{Call, Deed, Carried, Asked, calls_of, controller_at}
+use Rattle.vsw_history.specs.Calls.{Call, Deed, Carried, Asked, AreShares, calls_of, controller_at}
 use Rattle.vsw_history.specs.History.{Opening}
 use Rattle.vsw_history.specs.Next.{Goes}
 use Rattle.vsw_history.specs.Order.{ascending, counted}
@@ -31,3 +31,16 @@ CountsStand = (o : Opening) (before h : List Event) (workers : ℕ) (calls : Lis
 abbrev pub MergeTells : Type 0
 MergeTells = (o : Opening) (before h : List Event) (workers : ℕ) (calls : List Call) → Goes o before h calls → workers ≤ 16 → Each (λ c. IsKnown workers o.controllers c.deed) calls
     → in_order (texts_of o workers calls) (length before) (length h - length before) ≡ map text_of (lines_of o.controllers calls (length before) (length h - length before))
+
+-- ---- calls that callers made beside each other, each in its own order
+
+abbrev pub CountsStandBeside : Type 0
+CountsStandBeside = (o : Opening) (before h : List Event) (workers : ℕ) (calls : List Call) → AreShares o before h calls → AllInCounts (length before) (texts_of o workers calls) (length h)
+
+abbrev pub MergeTellsBeside : Type 0
+MergeTellsBeside = (o : Opening) (before h : List Event) (workers : ℕ) (calls : List Call) → AreShares o before h calls → workers ≤ 16 → Each (λ c. IsKnown workers o.controllers c.deed) calls
+    → in_order (texts_of o workers calls) (length before) (length h - length before) ≡ map text_of (lines_of o.controllers calls (length before) (length h - length before))
+
+-- the texts hang on each caller's calls alone, not on how they stand among others'
+abbrev pub TextsAreByCaller : Type 0
+TextsAreByCaller = (o : Opening) (workers : ℕ) (calls others : List Call) → ((k : ℕ) → calls_of o.controllers k others ≡ calls_of o.controllers k calls) → texts_of o workers others ≡ texts_of o workers calls

@@ -178,3 +178,11 @@ some_back word until count first micros last o w by t f m is some back v xs u bo
     let own : IsBody w xs = subst (λ (z : Verdict). IsBody z xs) (sym same) body in
     let b = back xs own p.2 (p.3 ∙ ap (λ (z : Verdict). last_words z xs) (sym same)) in
     (b.0, same, b.1, m ∙ p.1)
+
+-- what stands behind the verdict in the words of a body
+pub some_taken : (word until count first : ℕ) (last : List ℕ) (o : Option Verdict) (w : Verdict) → first ≡ get_or last 0 0 → o ≡ verdict_of word first → o ≡ Some w → (v : Verdict) (xs : List Act) (u : ℕ) → IsBody v xs → word ∷ until ∷ count ∷ last ≡ body_words v xs u
+    → (ys : List Act) × IsBody w ys × (count ≡ length ys) × (last ≡ last_words w ys)
+some_taken word until count first last o w f is some v xs u body e =
+    let p = parts word until count last v xs u e in
+    let same : w ≡ v = some_is w v (sym some ∙ is ∙ told_verdict word until count first last v xs u f body e) in
+    (xs, subst (λ (z : Verdict). IsBody z xs) (sym same) body, p.2, p.3 ∙ ap (λ (z : Verdict). last_words z xs) (sym same))

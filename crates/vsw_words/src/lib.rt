@@ -11,6 +11,6 @@ mod stage;
 
 pub use key::key_words;
 pub use law::laws;
-pub use reading::{body_of, body_to};
+pub use reading::{body_from, body_of, body_to};
 pub use row::{Body, row_of, words_in_use};
 pub use slots::slot_of;

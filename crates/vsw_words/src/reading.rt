@@ -39,6 +39,63 @@ pub fn body_to(words: &[u64; 57], out: &mut Body) -> bool
     read_words(&words[..], out)
 }
 
+/// Reads the body of a row's words into a room. They are known to be of one, so nothing of them is tested.
+pub fn body_from(words: &[u64; 57], out: &mut Body)
+    requires { (verdict : Verdict) × (by : List Act) × (until : ℕ) × IsBody verdict by × (words.now ≡ body_words verdict by until) }
+    ensures { (verdict : Verdict) (by : List Act) (until : ℕ) → IsBody verdict by → words.now ≡ body_words verdict by until → (out.new.verdict ≡ verdict) × (out.new.by ≡ by) × (out.new.until ≡ until) }
+{
+    take_words(&words[..], out);
+}
+
+fn take_words(words: &[u64], out: &mut Body)
+    requires long { length words.now ≡ 57 }
+    requires of { (verdict : Verdict) × (by : List Act) × (until : ℕ) × IsBody verdict by × (words.now ≡ body_words verdict by until) }
+    ensures { (verdict : Verdict) (by : List Act) (until : ℕ) → IsBody verdict by → words.now ≡ body_words verdict by until → (out.new.verdict ≡ verdict) × (out.new.by ≡ by) × (out.new.until ≡ until) }
+{
+    if let [verdict, until, count, last @ ..] = words {
+        take_body(*verdict, *until, *count, last, out);
+    }
+}
+
+fn take_body(verdict: u64, until: u64, count: u64, last: &[u64], out: &mut Body)
+    requires long { length last.now ≡ 54 }
+    requires of { (v : Verdict) × (by : List Act) × (u : ℕ) × IsBody v by × (verdict ∷ until ∷ count ∷ last.now ≡ body_words v by u) }
+    ensures { (v : Verdict) (by : List Act) (u : ℕ) → IsBody v by → verdict ∷ until ∷ count ∷ last.now ≡ body_words v by u → (out.new.verdict ≡ v) × (out.new.by ≡ by) × (out.new.until ≡ u) }
+{
+    out.until = Moment::of(until);
+    match verdict_of(verdict, first(last)) {
+        // The words of a body have a verdict.
+        None => {}
+        Some(verdict) => {
+            out.verdict = verdict;
+            take_last(&verdict, count, last, &mut out.by);
+        }
+    }
+}
+
+/// Reads the acts of a pass, and none of a drop.
+fn take_last(verdict: &Verdict, count: u64, last: &[u64], by: &mut Transposition)
+    requires long { length last.now ≡ 54 }
+    requires of { (xs : List Act) × IsBody verdict.now xs × (count ≡ length xs) × (last.now ≡ last_words verdict.now xs) }
+    ensures { (xs : List Act) → IsBody verdict.now xs → count ≡ length xs → last.now ≡ last_words verdict.now xs → by.new ≡ xs }
+{
+    match verdict {
+        Verdict::Pass => take_acts(count, last, by),
+        Verdict::Rule { .. } => take_acts(0, &[], by),
+        Verdict::Default { .. } => take_acts(0, &[], by),
+    }
+}
+
+/// Reads so many acts, which are those of a transposition.
+fn take_acts(count: u64, words: &[u64], by: &mut Transposition)
+    requires acts { is_some (spec.read_acts count words.now) ≡ true }
+    requires form { is_form (or_none (spec.read_acts count words.now)) ≡ true }
+    requires few { count ≤ 18 }
+    ensures { by.new ≡ or_none (spec.read_acts count words.now) }
+{
+    by.rewrite(&ActWords { count, words });
+}
+
 fn read_words(words: &[u64], out: &mut Body) -> bool
     requires { length words.now ≡ 57 }
     ensures told { result ≡ true → IsTold words.now out.new.verdict out.new.by out.new.until }

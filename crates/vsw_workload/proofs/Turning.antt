@@ -49,7 +49,7 @@ some_run n b lt = let t : (n == 0) ≡ false = ne_eqb n 0 (λ e. omega (arith, e
 -- the rounds so far, with the one of the batch: it has 1,024 packets, or is the last
 rounds_so : (s : Setting) (first : ℕ) (given : List Record) (rounds : List Round) (hs : List (List Event)) (old new : Run) (switch : SwitchNow) → s.commands ≡ [] → length given ≡ first → IsCut s.commands first → length old.batch ≤ 1024 → 0 < length old.batch → first + length old.batch ≤ 1048576
     → (length old.batch ≡ 1024) ⊎ (length old.batch < 1024) → AreSoFar s given (cuts_within s.commands first) rounds hs → (t : IsTurn s hs first old new switch)
-    → AreSoFar s (given ++ old.batch) (cuts_within s.commands (length (given ++ old.batch))) (rounds ++ t.ran.round ∷ []) t.ran.histories
+    → AreSoFar s (given ++ old.batch) (cuts_within s.commands (length (given ++ old.batch))) (rounds ++ t.ran.tells.round ∷ []) t.ran.tells.histories
 rounds_so s first given rounds hs old new switch alone count cut most some few size so t = by size
   where
     after : IsNextCut s.commands first (first + 1024)
@@ -58,9 +58,9 @@ rounds_so s first given rounds hs old new switch alone count cut most some few s
     all : length (given ++ old.batch) ≡ first + length old.batch
     all = omega (arith, length-append given old.batch, count)
 
-    by : (length old.batch ≡ 1024) ⊎ (length old.batch < 1024) → AreSoFar s (given ++ old.batch) (cuts_within s.commands (length (given ++ old.batch))) (rounds ++ t.ran.round ∷ []) t.ran.histories
-    by (inl whole) = rounds_run s first (first + 1024) given old.batch rounds hs switch t.told [] new.text.items stop.Full count cut after (omega (arith, all, whole), omega (arith, few, whole)) (some_run (length old.batch) ((first == 0) || is_named_by s.commands first) some) so t.ran
-    by (inr part) = rounds_run s first (first + 1024) given old.batch rounds hs switch t.told [] new.text.items stop.Fault count cut after (omega (arith, all, part)) (some_run (length old.batch) ((first == 0) || is_named_by s.commands first) some) so t.ran
+    by : (length old.batch ≡ 1024) ⊎ (length old.batch < 1024) → AreSoFar s (given ++ old.batch) (cuts_within s.commands (length (given ++ old.batch))) (rounds ++ t.ran.tells.round ∷ []) t.ran.tells.histories
+    by (inl whole) = rounds_run s first (first + 1024) given old.batch rounds hs switch t.told [] new.text.items stop.Full count cut after (omega (arith, all, whole), omega (arith, few, whole)) (some_run (length old.batch) ((first == 0) || is_named_by s.commands first) some) so t.ran.tells
+    by (inr part) = rounds_run s first (first + 1024) given old.batch rounds hs switch t.told [] new.text.items stop.Fault count cut after (omega (arith, all, part)) (some_run (length old.batch) ((first == 0) || is_named_by s.commands first) some) so t.ran.tells
 
 -- a run before a round was drawn, and with it
 pub record HasDrawn (old run : Run) : Type 0 where
@@ -78,15 +78,15 @@ turned s all first old run new a b alone h some few same turn g =
     let so = rounds_so s first g.given g.rounds g.histories run new b alone g.count cut d.most some (omega (arith, few, d.count)) (size_of_batch d.most) g.so t in
     record {
       given = g.given ++ run.batch;
-      rounds = g.rounds ++ t.ran.round ∷ [];
-      histories = t.ran.histories;
+      rounds = g.rounds ++ t.ran.tells.round ∷ [];
+      histories = t.ran.tells.histories;
       whole = ap (λ w. (g.given ++ run.batch) ++ records_left w) same ∙ (append_assoc g.given run.batch (records_left run.workload) ∙ (ap (λ w. g.given ++ w) d.is ∙ g.whole));
       count = size;
       cut = next_cut (only_multiples first (subst (λ c. IsCut c first) alone cut)) d.whole;
-      so = subst (λ n. AreSoFar s (g.given ++ run.batch) (cuts_within s.commands n) (g.rounds ++ t.ran.round ∷ []) t.ran.histories) size so;
-      at = t.ran.at;
-      short_is = short_push g.rounds t.ran.round old.short new.short t.told g.short_is t.ran.short_is (t.short_is ∙ ap (λ x. x || t.told) h.short);
-      tally_is = t.tally_is ∙ (ap₂ (λ x y. both x y) (h.tally ∙ g.tally_is) t.ran.tally ∙ tally_push g.rounds t.ran.round);
+      so = subst (λ n. AreSoFar s (g.given ++ run.batch) (cuts_within s.commands n) (g.rounds ++ t.ran.tells.round ∷ []) t.ran.tells.histories) size so;
+      at = t.ran.tells.at;
+      short_is = short_push g.rounds t.ran.tells.round old.short new.short t.told g.short_is t.ran.tells.short_is (t.short_is ∙ ap (λ x. x || t.told) h.short);
+      tally_is = t.tally_is ∙ (ap₂ (λ x y. both x y) (h.tally ∙ g.tally_is) t.ran.tally ∙ tally_push g.rounds t.ran.tells.round);
     }
   where
     cut_of : IsCut s.commands first ⊎ (old.workload.2 ≡ 0) → length run.batch + run.workload.2 ≡ old.workload.2 → IsCut s.commands first

@@ -18,7 +18,7 @@ use Rattle.vsw_lean.specs.Law.{stop_by}
 use Rattle.vsw_port.specs.declared.crossing.Outcome.{Outcome}
 use Rattle.vsw_port.specs.Crossed.{EditsPass}
 use Rattle.vsw_story.specs.Law.{row_found}
-use Rattle.vsw_story.specs.Rows.{IsGoodRow}
+use Rattle.vsw_story.specs.Rows.{IsGoodRow, words_of}
 use Rattle.vsw_transpose.specs.declared.act.Act.{Act}
 use Rattle.vsw_transpose.specs.Apply.{apply}
 use Rattle.vsw_transpose.specs.Fits as fit
@@ -36,6 +36,10 @@ row_with x b = row_found x b.verdict b.by b.until
 abbrev pub IsBodyOf : Opening → List Event → Crossing → Body → Type 0
 IsBodyOf o h x b = Good (replay o h) (row_with x b)
 
+-- with the key words of the packet's identity in front, the words are this row's
+abbrev pub AreWordsOf : Crossing → List ℕ → Row → Type 0
+AreWordsOf x words row = key_words x.id.dir x.id.stack ++ words ≡ words_of row
+
 -- the fate that a body gives the packet
 abbrev pub fate_said : Crossing → Body → Fate
 fate_said x b = fate_by x (fate_after b.verdict (stop_by (row_with x b) x) (apply b.by x.id.stack) (fit.kept b.by))
@@ -52,9 +56,10 @@ IfPasses (Drop cause) fact = Unit {0}
 abbrev pub IsEdited : Crossing → List Act → List Header → Outcome → Type 0
 IsEdited x acts edited outcome = IfPasses outcome.fate (AreEdited x acts edited outcome.kept)
 
--- what is said of the packet is so after the history
-pub record Said (o : Opening) (h : List Event) (x : Crossing) (edited : List Header) (outcome : Outcome) (count : ℕ) : Type 0 where
+-- what is said of the packet by the row of these words is so after the history
+pub record Said (o : Opening) (h : List Event) (x : Crossing) (words : List ℕ) (edited : List Header) (outcome : Outcome) (count : ℕ) : Type 0 where
   pub row : Row
+  pub whole : AreWordsOf x words row
   pub id : row.id ≡ x.id
   pub good : Good (replay o h) row
   pub in_time : x.moment ≤ row.until
@@ -63,14 +68,15 @@ pub record Said (o : Opening) (h : List Event) (x : Crossing) (edited : List Hea
   pub edits : EditsPass (replay o h) x edited outcome.kept outcome.fate
   pub entry : outcome.entry ≡ false
 
-pub record SaidLate (o : Opening) (h : List Event) (x : Crossing) : Type 0 where
+pub record SaidLate (o : Opening) (h : List Event) (x : Crossing) (words : List ℕ) : Type 0 where
   pub row : Row
+  pub whole : AreWordsOf x words row
   pub id : row.id ≡ x.id
   pub good : Good (replay o h) row
   pub late : row.until < x.moment
 
-abbrev pub Says : Opening → List Event → Crossing → List Header → RowAnswer → Type 0
-Says o h x edited (Read outcome count) = Said o h x edited outcome count
-Says o h x edited Control = ⊥
-Says o h x edited Miss = ⊥
-Says o h x edited Late = SaidLate o h x
+abbrev pub Says : Opening → List Event → Crossing → List ℕ → List Header → RowAnswer → Type 0
+Says o h x words edited (Read outcome count) = Said o h x words edited outcome count
+Says o h x words edited Control = ⊥
+Says o h x words edited Miss = ⊥
+Says o h x words edited Late = SaidLate o h x words

@@ -16,7 +16,7 @@ use Rattle.vsw_promise.specs.Trace.{most_records}
 use Rattle.vsw_report.specs.Print.{report_text}
 use Rattle.vsw_report.specs.Short.{are_short}
 use Rattle.vsw_report.specs.declared.round.Round.{Round}
-use Rattle.vsw_rounds.specs.Round.{RunsRound}
+use Rattle.vsw_rounds.specs.Round.{TellsRound}
 use Rattle.vsw_switch.specs.Switch.{SwitchNow, IsAt}
 use Rattle.vsw_replay.specs.declared.ending.TraceEnd.{TraceEnd}
 use Rattle.vsw_replay.specs.declared.ending.TraceEnd.TheVariants as end
@@ -139,7 +139,7 @@ PutsNext s start now name short switch (Err e) = RunsTrace s start now name e
 -- the round of the batch was run, and its text is in the room
 pub record IsTurn (s : Setting) (hs : List (List Event)) (first : ℕ) (old new : Run) (switch : SwitchNow) : Type 0 where
   pub short : Bool
-  pub ran : RunsRound s hs first old.reading.batch switch short [] new.text.items
+  pub ran : TellsRound s hs first old.reading.batch switch short [] new.text.items
   pub short_is : new.short ≡ (old.short || short)
 
 -- and was put, or a front of it

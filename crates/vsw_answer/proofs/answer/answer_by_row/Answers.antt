@@ -12,8 +12,8 @@ returns-in-Miss-clause-tells c =
 pub returns-in-Hit-clause-tells : goal.returns-in-Hit-clause-tells
 returns-in-Hit-clause-tells c =
     let plain : c.args.crossing.now.control ≡ control.None = search rules in
-    tells_of c.args.lookup.now c.args.crossing.now c.args.pass.now.view c.seek.new.pass.view c.answer.new.edited c.answer.result plain (c.answer.ensures.says (opening_of c.args.lookup.now.1) c.seek.new.pass.view.front c.in-Hit.ensures.hit.1 (sym c.in-Hit.ensures.hit.0))
+    tells_of c.args.lookup.now c.args.crossing.now c.args.pass.now.view c.seek.new.pass.view c.seek.new.words c.answer.new.edited c.answer.result plain c.seek.ensures.begun c.in-Hit.ensures.found (c.answer.ensures.says (opening_of c.args.lookup.now.1) c.seek.new.pass.view.front c.in-Hit.ensures.hit.1 (sym c.in-Hit.ensures.hit.0))
 
 pub returns-in-Hit-clause-sees : goal.returns-in-Hit-clause-sees
 returns-in-Hit-clause-sees c =
-    sees_of c.args.lookup.now c.args.crossing.now c.args.pass.now.view c.seek.new.pass.view c.answer.new.edited c.answer.result c.seek.ensures.begun (c.answer.ensures.says (opening_of c.args.lookup.now.1) c.seek.new.pass.view.front c.in-Hit.ensures.hit.1 (sym c.in-Hit.ensures.hit.0))
+    sees_of c.args.lookup.now c.args.crossing.now c.args.pass.now.view c.seek.new.pass.view c.seek.new.words c.answer.new.edited c.answer.result c.seek.ensures.begun c.in-Hit.ensures.found (c.answer.ensures.says (opening_of c.args.lookup.now.1) c.seek.new.pass.view.front c.in-Hit.ensures.hit.1 (sym c.in-Hit.ensures.hit.0))

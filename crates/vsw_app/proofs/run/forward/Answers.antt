@@ -16,13 +16,13 @@ returns-in-Err-open_commands g c =
     c.in-Err-open_commands.ensures q (g.H.Host.outside c.args.host.now) refl (c.in-Ok.ensures q refl)
 
 pub run_through-requires-clause-good : goal.run_through-requires-clause-good
-run_through-requires-clause-good g c =
+run_through-requires-clause-good g c κs within =
     let q = request_seen c.args.request.now in
     let h : HasPolicy q (g.H.Host.outside c.args.host.now) (g.H.Host.outside c.open_policy.new.host) c.in-Ok.policy = c.in-Ok.ensures q refl in
     policies.each_is_good h.file.bytes c.in-Ok.policy h.is.good
 
 pub run_through-requires-clause-asked : goal.run_through-requires-clause-asked
-run_through-requires-clause-asked g c =
+run_through-requires-clause-asked g c κs within =
     let q = request_seen c.args.request.now in
     let h : HasCommands q (g.H.Host.outside c.args.host.now) (g.H.Host.outside c.open_commands.new.host) c.in-Ok.policy c.in-Ok-open_commands.lines = c.in-Ok-open_commands.ensures q (g.H.Host.outside c.args.host.now) refl (c.in-Ok.ensures q refl) in
     (lines.each_is_good c.in-Ok.policy h.file.bytes c.in-Ok-open_commands.lines h.are.good).can_ask

@@ -1,5 +1,5 @@
 use Rattle.std.proofs.Common.{arith, ◌∙◌, ap, refl, subst, ◌≡◌, ◌%◌, ◌+◌, ◌/◌}
-use Rattle.vsw_lookup.proofs.Sweeps.{Swept, kept_but, swept_next, swept_hit, swept_miss, by_test}
+use Rattle.vsw_lookup.proofs.Sweeps.{Swept, kept_but, swept_next, swept_hit, swept_found, swept_miss, by_test}
 use Rattle.vsw_lookup.proofs.look.sweep.Goals as goal
 
 pub loop-i-preserved : goal.loop-i-preserved
@@ -23,5 +23,8 @@ returns-clause-found g c =
     let all : c.loop-i.i ≡ 8 = omega (arith, c.loop-i-test.false, c.loop-i.auto.i-end) in
     let swept : Swept key c.args.rows c.args.slot 8 c.loop-i.best u.readings = subst (λ n. Swept key c.args.rows c.args.slot n c.loop-i.best u.readings) all c.loop-i.invariant.2 in
     by_test c.loop-i.best (word / 4294967296) _ _
-    (λ e o opens. swept_hit g.S.Story.good g.S.Story.used u word w looks key body c.args.rows c.args.slot c.loop-i.best swept c.loop-i.invariant.3 e o (g.met.S.Story.zeros_beyond o w.front) (ap (λ m. m.0.opening) c.loop-i.invariant.1 ∙ opens))
+    (λ e. (
+      λ o opens. swept_hit g.S.Story.good g.S.Story.used u word w looks key body c.args.rows c.args.slot c.loop-i.best swept c.loop-i.invariant.3 e o (g.met.S.Story.zeros_beyond o w.front) (ap (λ m. m.0.opening) c.loop-i.invariant.1 ∙ opens),
+      swept_found g.S.Story.good g.S.Story.used u word w looks key body c.args.rows c.args.slot c.loop-i.best swept c.loop-i.invariant.3 e,
+    ))
     (λ ne j lt. swept_miss g.S.Story.good g.S.Story.used u word w looks key body c.args.rows c.args.slot c.loop-i.best swept c.loop-i.invariant.3 ne j lt)

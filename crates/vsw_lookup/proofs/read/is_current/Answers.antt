@@ -1,4 +1,4 @@
-use Rattle.std.proofs.Common.{arith, ap, ◌+◌, ◌/◌, ◌∙◌, ◌≡◌, ◌==◌, sym, length}
+use Rattle.std.proofs.Common.{arith, ap, ◌+◌, ◌/◌, ◌∙◌, ◌≡◌, ◌==◌, length}
 use Rattle.std.specs.Prelude.{slice_index_or}
 use Rattle.vsw_lookup.specs.Rules.{all_words, stamp_at, word_of, words_of}
 use Rattle.vsw_lookup.proofs.Keeps.{high_half, stamp_there}

@@ -7,8 +7,8 @@ use Rattle.vsw_replay.proofs.trace.run_past.Given as goal
 
 abbrev pub invariant-loop-next : goal.invariant-loop-next
 invariant-loop-next g l = record {
-  past : (s : Setting) (start : Outside) (name : List ℕ) → s.commands ≡ l.fn.schedule → IsPast s start (g.H.Host.outside l.fn.host) name l.fn.run.short l.fn.switch l.fn.first → IsPast s start (g.H.Host.outside l.host) name l.run.short l.switch l.first;
-  served : AreServed l.switch l.fn.schedule;
+  past : (s : Setting) (start : Outside) (name : List ℕ) → s.commands ≡ l.fn.schedule → IsPast s start (g.H.Host.outside l.fn.host) name l.fn.run.short (g.S.Rounds.now l.fn.switch) l.fn.first → IsPast s start (g.H.Host.outside l.host) name l.run.short (g.S.Rounds.now l.switch) l.first;
+  served : AreServed (g.S.Rounds.now l.switch) l.fn.schedule;
   empty : l.run.reading.batch ≡ [];
 }
 

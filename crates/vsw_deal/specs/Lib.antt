@@ -1,0 +1,3 @@
+pub mod Deal
+pub mod Work
+pub mod Private

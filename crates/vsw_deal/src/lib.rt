@@ -1,0 +1,10 @@
+//! Who does what in a round: each packet is its worker's job, each command beside the packets its controller's.
+#![tactic(auto)]
+
+mod aim;
+mod place;
+mod share;
+mod work;
+
+pub use share::deal;
+pub use work::{Packet, Work};

@@ -1,0 +1,5 @@
+pub mod Docked
+pub mod Placing
+pub mod Resting
+pub mod Same
+pub mod Working

@@ -1,0 +1,9 @@
+-- Lists that are changed element by element.
+use Rattle.std.specs.Prelude.{◌≡◌, List, [], ◌∷◌, drop}
+use Rattle.vsw_rows.specs.Rows.{Writing}
+
+-- passes of which the first was taken at each port
+abbrev pub AreLater : List (List Writing) → List (List Writing) → Type 0
+AreLater [] [] = Unit {0}
+AreLater (ps ∷ pss) (qs ∷ qss) = (qs ≡ drop 1 ps) × AreLater pss qss
+AreLater _ _ = ⊥

@@ -1,0 +1,17 @@
+-- What contracts see of docks and of stations.
+use Rattle.std.specs.Prelude.{ℕ, Bool, List}
+use Rattle.vsw_live.specs.Ports.{PortSeen}
+use Rattle.vsw_merge.specs.Line.{TextLine}
+use Rattle.vsw_rows.specs.Rows.{Writing}
+
+-- a port at which actors work: its number and address in the policy, and what threads share of it
+pub record DockSeen : Type 0 where
+  pub number : ℕ
+  pub mac : ℕ
+  pub live : PortSeen
+
+-- where a caller stands at a port: its pass, the lines of what it has done, and whether there was memory for all of them
+pub record StationSeen : Type 0 where
+  pub pass : Writing
+  pub lines : List TextLine
+  pub whole : Bool

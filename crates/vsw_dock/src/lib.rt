@@ -1,0 +1,16 @@
+//! Ports for threads as actors take them: each caller has a station at each port, and all meet the ports between rounds.
+#![tactic(auto)]
+
+mod dock;
+mod law;
+mod meeting;
+mod opening;
+mod station;
+mod watch;
+
+pub use dock::Dock;
+pub use law::laws;
+pub use meeting::{count_of, hold_all, meet_row};
+pub use opening::{OpenDocks, dock_all, open_ports, rows_of};
+pub use station::Station;
+pub use watch::Watch;

@@ -1,0 +1,4 @@
+pub mod Once
+pub mod Gone
+pub mod Steps
+pub mod Told

@@ -9,9 +9,9 @@ use Rattle.vsw_walk.specs.declared.scratch.Wanted.TheVariants.{Make, Touch, Leav
 use Rattle.vsw_walk.specs.Walk.{crossed, placed}
 use Rattle.vsw_layer.specs.Layer.{LayerSeen}
 use Rattle.vsw_policy.specs.Sound.{AreApart, Each}
-use Rattle.vsw_visit.specs.declared.outcome.Visit.{Visit}
-use Rattle.vsw_visit.specs.declared.outcome.Visit.TheVariants.{Stops, Goes}
-use Rattle.vsw_visit.specs.declared.outcome.Want.TheVariants as want
+use Rattle.vsw_walk.specs.VisitOutcome.{Visit}
+use Rattle.vsw_walk.specs.VisitOutcome.TheVariants.{Stops, Goes}
+use Rattle.vsw_walk.specs.Want.TheVariants as want
 
 abbrev pub same_place : ℕ × LayerSeen → ℕ × LayerSeen → Bool
 same_place a b = a.0 == b.0

@@ -23,9 +23,9 @@ use Rattle.vsw_rule.specs.declared.rule.Action.{Action}
 use Rattle.vsw_rule.specs.declared.rule.Action.TheVariants.{Allow, Drop, Edit}
 use Rattle.vsw_rule.specs.Match.{can_do}
 use Rattle.vsw_transpose.specs.declared.act.Act.{Act}
-use Rattle.vsw_visit.specs.declared.outcome.Visit.{Visit}
-use Rattle.vsw_visit.specs.declared.outcome.Visit.TheVariants.{Stops, Goes}
-use Rattle.vsw_visit.specs.Visit.{visit_of}
+use Rattle.vsw_walk.specs.VisitOutcome.{Visit}
+use Rattle.vsw_walk.specs.VisitOutcome.TheVariants.{Stops, Goes}
+use Rattle.vsw_walk.specs.Visit.{visit_of}
 use Rattle.vsw_walk.specs.Walk as walk
 use Rattle.vsw_walk.specs.Walk.{by_visit, crossed, placed, walk_of}
 

@@ -16,10 +16,10 @@ use Rattle.vsw_compose.specs.Edit.{edited, kept_after}
 use Rattle.vsw_layer.specs.Layer.{LayerSeen}
 use Rattle.vsw_layerflow.specs.declared.pair.Pair.{Pair}
 use Rattle.vsw_policy.specs.Sound.{AreApart, Each}
-use Rattle.vsw_visit.specs.declared.outcome.Visit.{Visit}
-use Rattle.vsw_visit.specs.declared.outcome.Visit.TheVariants.{Stops, Goes}
-use Rattle.vsw_visit.specs.declared.outcome.Want.TheVariants as want
-use Rattle.vsw_visit.specs.Visit.{visit_of}
+use Rattle.vsw_walk.specs.VisitOutcome.{Visit}
+use Rattle.vsw_walk.specs.VisitOutcome.TheVariants.{Stops, Goes}
+use Rattle.vsw_walk.specs.Want.TheVariants as want
+use Rattle.vsw_walk.specs.Visit.{visit_of}
 use Rattle.vsw_walk.specs.declared.scratch.Wanted.{Wanted}
 use Rattle.vsw_walk.specs.declared.scratch.Wanted.TheVariants.{Make, Touch, Leave}
 use Rattle.vsw_walk.specs.Walk.{along, by_visit, crossed, placed, walk_of}

@@ -27,11 +27,11 @@ use Rattle.vsw_rule.specs.Match.{can_do}
 use Rattle.vsw_tcp.specs.declared.state.Tracked.{Tracked}
 use Rattle.vsw_tcp.specs.declared.state.Tracked.TheVariants.{To, Reopen}
 use Rattle.vsw_tcp.specs.Track.{track_of}
-use Rattle.vsw_visit.specs.declared.outcome.Visit.{Visit}
-use Rattle.vsw_visit.specs.declared.outcome.Visit.TheVariants.{Stops, Goes}
-use Rattle.vsw_visit.specs.declared.outcome.Want.{Want}
-use Rattle.vsw_visit.specs.Visit.{IfGoes, allows, by_action, by_choice, by_pair, by_state, visit_of, wanted}
-use Rattle.vsw_visit.proofs.Chosen.{chosen_can}
+use Rattle.vsw_walk.specs.VisitOutcome.{Visit}
+use Rattle.vsw_walk.specs.VisitOutcome.TheVariants.{Stops, Goes}
+use Rattle.vsw_walk.specs.Want.{Want}
+use Rattle.vsw_walk.specs.Visit.{IfGoes, allows, by_action, by_choice, by_pair, by_state, visit_of, wanted}
+use Rattle.vsw_walk.proofs.Chosen.{chosen_can}
 
 -- inner fields that are written
 written_like : (set : Set) (h : Header) → IsLike h (written set h)

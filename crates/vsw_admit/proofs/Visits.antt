@@ -20,12 +20,12 @@ use Rattle.vsw_rule.specs.declared.rule.Rule as rule
 use Rattle.vsw_tcp.specs.declared.state.Tracked.{Tracked}
 use Rattle.vsw_tcp.specs.declared.state.Tracked.TheVariants.{To, Reopen}
 use Rattle.vsw_tcp.specs.Track.{track_of}
-use Rattle.vsw_visit.specs.declared.outcome.Visit.{Visit}
-use Rattle.vsw_visit.specs.declared.outcome.Visit.TheVariants.{Stops, Goes}
-use Rattle.vsw_visit.specs.declared.outcome.Want.{Want}
-use Rattle.vsw_visit.specs.declared.outcome.Want.TheVariants.{Make, Touch}
-use Rattle.vsw_visit.specs.Known.{same_state, touch}
-use Rattle.vsw_visit.specs.Visit.{allows, by_action, by_choice, by_pair, by_state, wanted, visit_of}
+use Rattle.vsw_walk.specs.VisitOutcome.{Visit}
+use Rattle.vsw_walk.specs.VisitOutcome.TheVariants.{Stops, Goes}
+use Rattle.vsw_walk.specs.Want.{Want}
+use Rattle.vsw_walk.specs.Want.TheVariants.{Make, Touch}
+use Rattle.vsw_walk.specs.Known.{same_state, touch}
+use Rattle.vsw_walk.specs.Visit.{allows, by_action, by_choice, by_pair, by_state, wanted, visit_of}
 
 -- the pair that leaves holds the packet's direction and key
 abbrev pub Leaves : LayerSeen → Dir → List Header → Option ℕ → Type 0

@@ -20,11 +20,11 @@ use Rattle.vsw_layerflow.specs.declared.pair.Pair.{Pair}
 use Rattle.vsw_layerflow.specs.declared.pair.Probe.{Probe}
 use Rattle.vsw_layerflow.specs.Pairs.{holder, holds, numbered, pair_of, probe}
 use Rattle.vsw_policy.specs.Sound.{Each}
-use Rattle.vsw_visit.specs.declared.outcome.Visit.{Visit}
-use Rattle.vsw_visit.specs.declared.outcome.Visit.TheVariants.{Stops, Goes}
-use Rattle.vsw_visit.specs.declared.outcome.Want.{Want}
-use Rattle.vsw_visit.specs.declared.outcome.Want.TheVariants.{Make, Touch}
-use Rattle.vsw_visit.specs.Visit.{visit_of}
+use Rattle.vsw_walk.specs.VisitOutcome.{Visit}
+use Rattle.vsw_walk.specs.VisitOutcome.TheVariants.{Stops, Goes}
+use Rattle.vsw_walk.specs.Want.{Want}
+use Rattle.vsw_walk.specs.Want.TheVariants.{Make, Touch}
+use Rattle.vsw_walk.specs.Visit.{visit_of}
 
 pub each_append : {A : Type 0} (P : A → Type 0) (xs ys : List A) → Each P xs → Each P ys → Each P (xs ++ ys)
 each_append P [] ys h i = i

@@ -11,3 +11,4 @@ pub use judging::judge;
 pub use law::laws;
 pub use length::{is_long, outgoing_size};
 pub use stop::Stop;
+pub use vsw_walk::{Scratch, Walked, Wanted};

@@ -12,7 +12,7 @@ use Rattle.vsw_core.specs.Core.{Looking}
 use Rattle.vsw_lookup.specs.declared.lookup.Look.{Look}
 use Rattle.vsw_lookup.specs.Answers.{IfHit, IfMiss}
 use Rattle.vsw_lookup.specs.Rules.{Found, Missed}
-use Rattle.vsw_story.specs.Rows.{opening_of}
+use Rattle.vsw_core.specs.Rows.{opening_of}
 use Rattle.vsw_words.specs.Key.{key_words}
 use Rattle.vsw_words.specs.Row.{in_use}
 use Rattle.vsw_words.specs.Slot.{slot}

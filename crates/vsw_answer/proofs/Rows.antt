@@ -23,7 +23,7 @@ use Rattle.vsw_lean.specs.Law.{answer_by, stop_by}
 use Rattle.vsw_lean.proofs.Answered.{row_answers}
 use Rattle.vsw_port.specs.declared.crossing.Outcome.{Outcome}
 use Rattle.vsw_port.specs.Crossed.{EditsPass}
-use Rattle.vsw_story.proofs.Answers.{fronts, key_length, words_are}
+use Rattle.vsw_core.proofs.Answers.{fronts, key_length, words_are}
 use Rattle.vsw_transpose.specs.declared.act.Act.{Act}
 use Rattle.vsw_transpose.specs.Apply.{apply}
 use Rattle.vsw_transpose.specs.Fits as fit

@@ -17,7 +17,7 @@ use Rattle.vsw_lookup.specs.Rules.{Found, Missed}
 use Rattle.vsw_policy.specs.Layers.{PolicySeen}
 use Rattle.vsw_port.specs.declared.crossing.Outcome.{Outcome}
 use Rattle.vsw_port.specs.Crossed.{EditsPass}
-use Rattle.vsw_story.specs.Rows.{opening_of, words_of}
+use Rattle.vsw_core.specs.Rows.{opening_of, words_of}
 use Rattle.vsw_words.specs.Key.{key_words}
 use Rattle.vsw_words.specs.Row.{in_use}
 use Rattle.vsw_words.specs.Slot.{slot}

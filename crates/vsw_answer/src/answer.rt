@@ -9,7 +9,7 @@ ghost use Rattle.vsw_history.specs.declared.event.Event.{Event};
 ghost use Rattle.vsw_history.specs.History.{Opening};
 ghost use Rattle.vsw_lookup.specs.Answers.{IfHit, IfMiss};
 ghost use Rattle.vsw_lookup.specs.Rules.{IsRead, Missed};
-ghost use Rattle.vsw_story.specs.Rows.{opening_of};
+ghost use Rattle.vsw_core.specs.Rows.{opening_of};
 ghost use Rattle.vsw_words.specs.Key as spec;
 ghost use Rattle.vsw_words.specs.Law.{IsId};
 ghost use Rattle.vsw_words.specs.Slot.{slot};
@@ -17,9 +17,9 @@ ghost use Rattle.vsw_words.specs.Slot.{slot};
 use crate::desk::Desk;
 use crate::outcome::outcome_by;
 use vsw_base::{Control, Crossing, Stack, Ufid};
+use vsw_core::PortStory;
 use vsw_lookup::{Look, Lookup, Pass};
 use vsw_port::Outcome;
-use vsw_story::PortStory;
 use vsw_words::{Body, body_from, key_words, slot_of};
 
 /// What the rows tell of a packet.

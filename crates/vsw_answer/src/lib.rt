@@ -7,3 +7,4 @@ mod outcome;
 
 pub use answer::{RowAnswer, answer_by_row};
 pub use desk::Desk;
+pub use vsw_core::{Core, PortStory};

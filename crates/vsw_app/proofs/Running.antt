@@ -19,10 +19,10 @@ use Rattle.vsw_promise.specs.Jobs.{Setting}
 use Rattle.vsw_promise.specs.Trace.{Reach, All as Whole, Fault, Stopped, Trace, Tells, MayTell}
 use Rattle.vsw_promise.specs.declared.ending.Ending.{Ending}
 use Rattle.vsw_promise.specs.declared.ending.Ending.TheVariants as ending
-use Rattle.vsw_replay.specs.Runs.{Reads, OpensNothing, EndsSo, RunsTrace}
-use Rattle.vsw_replay.specs.Runs as runs
-use Rattle.vsw_replay.specs.declared.ending.TraceEnd.{TraceEnd}
-use Rattle.vsw_replay.specs.declared.ending.TraceEnd.TheVariants as end
+use Rattle.vsw_workload.specs.ReplayRuns.{Reads, OpensNothing, EndsSo, RunsTrace}
+use Rattle.vsw_workload.specs.ReplayRuns as runs
+use Rattle.vsw_workload.specs.TraceEnd.{TraceEnd}
+use Rattle.vsw_workload.specs.TraceEnd.TheVariants as end
 use Rattle.vsw_request.specs.Words.{Request}
 use Rattle.vsw_app.specs.Ending.{ending_of}
 use Rattle.vsw_app.specs.Stages.{HasCommands, HasEnded}

@@ -1,8 +1,8 @@
 -- How a run ends by its trace, or by its workload.
 use Rattle.vsw_promise.specs.declared.ending.Ending.{Ending}
 use Rattle.vsw_promise.specs.declared.ending.Ending.TheVariants as ending
-use Rattle.vsw_replay.specs.declared.ending.TraceEnd.{TraceEnd}
-use Rattle.vsw_replay.specs.declared.ending.TraceEnd.TheVariants as end
+use Rattle.vsw_workload.specs.TraceEnd.{TraceEnd}
+use Rattle.vsw_workload.specs.TraceEnd.TheVariants as end
 use Rattle.vsw_workload.specs.declared.run.WorkloadEnd.{WorkloadEnd}
 use Rattle.vsw_workload.specs.declared.run.WorkloadEnd.TheVariants as drawn
 

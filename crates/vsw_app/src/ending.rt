@@ -11,8 +11,7 @@ use vsw_commandfile::CommandsFault;
 use vsw_host::Host;
 use vsw_policyfile::ConfigFault;
 use vsw_promise::{Ending, Status};
-use vsw_replay::TraceEnd;
-use vsw_workload::WorkloadEnd;
+use vsw_workload::{TraceEnd, WorkloadEnd};
 
 /// The ending of a run by how its trace ended.
 pub fn ending_of(end: TraceEnd) -> Ending

@@ -7,7 +7,7 @@ ghost use Rattle.vsw_generate.specs.Policy.{policy_text};
 ghost use Rattle.vsw_policyfile.specs.Good.{IsGoodPolicy};
 ghost use Rattle.vsw_policyfile.specs.Policy.{policy_file_of};
 ghost use Rattle.vsw_promise.specs.IsRun.{IsRun, IsComplete, IsCompleteAlone};
-ghost use Rattle.vsw_replay.specs.Runs.{RunsTrace};
+ghost use Rattle.vsw_workload.specs.ReplayRuns.{RunsTrace};
 ghost use Rattle.vsw_request.specs.Seen.{IsWithin, asked_seen, request_seen};
 ghost use Rattle.vsw_request.specs.Words.{asked_in};
 ghost use Rattle.vsw_workload.specs.Runs.{RunsWorkload};
@@ -24,12 +24,10 @@ use vsw_generate::Workload;
 use vsw_host::Host;
 use vsw_policyfile::{PolicyFile, read_policy};
 use vsw_promise::{Ending, Status};
-use vsw_replay::{TraceEnd, run_trace};
 use vsw_request::{Asked, Request, Word, read_words};
 use vsw_schedule::Schedule;
-use vsw_switch::Switch;
 use vsw_workers::Gate;
-use vsw_workload::{WorkloadEnd, run_workload};
+use vsw_workload::{Switch, TraceEnd, WorkloadEnd, run_trace, run_workload};
 
 /// Runs the trace of this name in one thread, which does the work of all workers. It waits for nobody.
 fn run_alone<R: Threads + Wait + Sync, H: Host>(

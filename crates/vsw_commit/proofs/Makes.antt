@@ -25,8 +25,8 @@ use Rattle.vsw_commit.specs.Can.{AreApart, CanAll, IsWithin, NotMade}
 use Rattle.vsw_commit.specs.Cross.{is_memory}
 use Rattle.vsw_commit.proofs.Places.{at_get, get_beside, get_changed}
 use Rattle.vsw_compose.specs.Edit.{edited, kept_after}
-use Rattle.vsw_walk.specs.declared.scratch.Wanted.{Wanted}
-use Rattle.vsw_walk.specs.Walk.{Walk, along, by_visit, crossed, placed, walk_of}
+use Rattle.vsw_admit.specs.WalkWanted.{Wanted}
+use Rattle.vsw_admit.specs.Walk.{Walk, along, by_visit, crossed, placed, walk_of}
 use Rattle.vsw_flowid.specs.Key.{key_from}
 use Rattle.vsw_layer.specs.Layer.{LayerSeen, CanTake, with_pair, with_touched, without_pair}
 use Rattle.vsw_layerflow.specs.declared.pair.Pair.{Pair}
@@ -36,10 +36,10 @@ use Rattle.vsw_layerflow.proofs.Order.{below_filter}
 use Rattle.vsw_policy.specs.Layers.{At, changed_at}
 use Rattle.vsw_policy.specs.Sound as sound
 use Rattle.vsw_policy.specs.Sound.{Each}
-use Rattle.vsw_visit.specs.declared.outcome.Visit.{Visit}
-use Rattle.vsw_visit.specs.declared.outcome.Visit.TheVariants.{Stops, Goes}
-use Rattle.vsw_visit.specs.declared.outcome.Want.TheVariants.{Make, Touch}
-use Rattle.vsw_visit.specs.Visit.{visit_of}
+use Rattle.vsw_admit.specs.VisitOutcome.{Visit}
+use Rattle.vsw_admit.specs.VisitOutcome.TheVariants.{Stops, Goes}
+use Rattle.vsw_admit.specs.Want.TheVariants.{Make, Touch}
+use Rattle.vsw_admit.specs.Visit.{visit_of}
 
 -- a layer whose next pair has a number above all others, and below the greatest
 abbrev pub HasNumbers : LayerSeen → Type 0

@@ -23,9 +23,9 @@ use Rattle.vsw_commit.specs.Cross.{all_done, made_after, made_by}
 use Rattle.vsw_commit.specs.Law.{ChangesTell}
 use Rattle.vsw_commit.proofs.Places.{get_beside, get_changed}
 use Rattle.vsw_compose.specs.Edit.{edited, kept_after}
-use Rattle.vsw_walk.specs.declared.scratch.Wanted.{Wanted}
-use Rattle.vsw_walk.specs.declared.scratch.Wanted.TheVariants as wanted
-use Rattle.vsw_walk.specs.Walk.{along, by_visit, crossed, placed, walk_of}
+use Rattle.vsw_admit.specs.WalkWanted.{Wanted}
+use Rattle.vsw_admit.specs.WalkWanted.TheVariants as wanted
+use Rattle.vsw_admit.specs.Walk.{along, by_visit, crossed, placed, walk_of}
 use Rattle.vsw_flowid.specs.Key.{key_from}
 use Rattle.vsw_layer.specs.declared.layer.LayerSpec.{LayerSpec}
 use Rattle.vsw_layer.specs.Layer.{LayerSeen, with_pair, with_touched, without_pair}
@@ -42,14 +42,14 @@ use Rattle.vsw_rule.specs.declared.rule.Action.TheVariants.{Allow, Drop, Edit}
 use Rattle.vsw_tcp.specs.declared.state.Tracked.{Tracked}
 use Rattle.vsw_tcp.specs.declared.state.Tracked.TheVariants.{To, Reopen}
 use Rattle.vsw_tcp.specs.Track.{track_of}
-use Rattle.vsw_visit.specs.declared.outcome.Visit.{Visit}
-use Rattle.vsw_visit.specs.declared.outcome.Visit.TheVariants.{Stops, Goes}
-use Rattle.vsw_visit.specs.declared.outcome.Want.{Want}
-use Rattle.vsw_visit.specs.declared.outcome.Want.TheVariants.{Make, Touch}
-use Rattle.vsw_visit.specs.Known.{same_state, set_towards, touch}
-use Rattle.vsw_visit.specs.Visit.{allows, by_action, by_choice, by_pair, by_state, visit_of}
-use Rattle.vsw_visit.specs.Visit as visit
-use Rattle.vsw_visit.specs.Wanted.{wanted_pair}
+use Rattle.vsw_admit.specs.VisitOutcome.{Visit}
+use Rattle.vsw_admit.specs.VisitOutcome.TheVariants.{Stops, Goes}
+use Rattle.vsw_admit.specs.Want.{Want}
+use Rattle.vsw_admit.specs.Want.TheVariants.{Make, Touch}
+use Rattle.vsw_admit.specs.Known.{same_state, set_towards, touch}
+use Rattle.vsw_admit.specs.Visit.{allows, by_action, by_choice, by_pair, by_state, visit_of}
+use Rattle.vsw_admit.specs.Visit as visit
+use Rattle.vsw_admit.specs.Wanted.{wanted_pair}
 
 -- a layer after a visit
 abbrev after_leave : Option ℕ → LayerSeen → LayerSeen

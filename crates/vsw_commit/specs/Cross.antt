@@ -9,9 +9,9 @@ use Rattle.vsw_base.specs.declared.fate.Verdict.{Verdict}
 use Rattle.vsw_base.specs.declared.fate.Verdict.TheVariants.{Pass, Rule, Default}
 use Rattle.vsw_base.specs.declared.flow.Crossing.{Crossing}
 use Rattle.vsw_base.specs.declared.header.Header.{Header}
-use Rattle.vsw_walk.specs.declared.scratch.Wanted.{Wanted}
-use Rattle.vsw_walk.specs.declared.scratch.Wanted.TheVariants.{Make, Touch, Leave}
-use Rattle.vsw_walk.specs.Walk.{walk_of}
+use Rattle.vsw_admit.specs.WalkWanted.{Wanted}
+use Rattle.vsw_admit.specs.WalkWanted.TheVariants.{Make, Touch, Leave}
+use Rattle.vsw_admit.specs.Walk.{walk_of}
 use Rattle.vsw_layer.specs.Layer.{LayerSeen, with_pair, with_touched, without_pair}
 use Rattle.vsw_policy.specs.Layers.{changed_at}
 

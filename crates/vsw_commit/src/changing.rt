@@ -3,10 +3,10 @@
 ghost use Rattle.std.specs.Prelude.{◌≡◌, ◌∷◌, List};
 ghost use Rattle.vsw_commit.specs.Can.{AllRoom, AreApart, CanAll, CanDo, HasRoom};
 ghost use Rattle.vsw_commit.specs.Cross.{all_done, done};
-ghost use Rattle.vsw_walk.specs.declared.scratch.Wanted.{Wanted};
+ghost use Rattle.vsw_admit.specs.WalkWanted.{Wanted};
 
+use vsw_admit::Wanted;
 use vsw_policy::Policy;
-use vsw_walk::Wanted;
 
 fn change(policy: &mut Policy, wanted: &Wanted)
     requires can { CanDo wanted.now policy.old.layers }

@@ -7,10 +7,9 @@ ghost use Rattle.vsw_policy.specs.Sound.{Each};
 
 use crate::changing::change_all;
 use crate::room::reserve_all;
-use vsw_admit::{Stop, judge};
+use vsw_admit::{Scratch, Stop, Walked, judge};
 use vsw_base::{Crossing, Verdict};
 use vsw_policy::Policy;
-use vsw_walk::{Scratch, Walked};
 
 /// Carries out the walk of this packet, or refuses to. Ok tells whether the layers were changed.
 pub fn commit(

@@ -8,3 +8,4 @@ mod room;
 
 pub use committing::commit;
 pub use law::laws;
+pub use vsw_admit::outgoing_size;

@@ -6,9 +6,9 @@ ghost use Rattle.vsw_commit.specs.Cross.{is_make, makes};
 ghost use Rattle.vsw_policy.specs.Layers.{room_at};
 ghost use Rattle.vsw_policy.specs.Sound.{Each};
 
+use vsw_admit::Wanted;
 use vsw_base::NoMemory;
 use vsw_policy::Policy;
-use vsw_walk::Wanted;
 
 fn reserve(policy: &mut Policy, change: &Wanted) -> Result<(), NoMemory>
     requires { IsWithin (length policy.old.layers) change.now }

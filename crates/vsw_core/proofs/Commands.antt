@@ -13,7 +13,7 @@ use Rattle.vsw_history.specs.Next.{IsDone, Enters, Reading, Wanting}
 use Rattle.vsw_history.proofs.Next.{right_more}
 use Rattle.vsw_layer.specs.Groups.{changed, removed}
 use Rattle.vsw_layer.specs.Layer.{LayerSeen}
-use Rattle.vsw_lean_law.specs.Entries.{is_obeyed}
+use Rattle.vsw_rows.specs.Entries.{is_obeyed}
 use Rattle.vsw_lookup.specs.Rules.{after_entry}
 use Rattle.vsw_policy.specs.declared.command.Command.{Command}
 use Rattle.vsw_policy.specs.declared.command.Command.TheVariants.{AddLayer, RemoveLayer, AddGroup, RemoveGroup, PutRules, AddRule, RemoveRule, SetDefault, Sweep}
@@ -26,7 +26,7 @@ use Rattle.vsw_policy.specs.Refusals.{reply_of}
 use Rattle.vsw_port.specs.Core.{entered}
 use Rattle.vsw_port.specs.Ledger.{LedgerSeen, layers_in}
 use Rattle.vsw_rows.specs.Rows.{HasRoom, Writing, layers_after, layers_then}
-use Rattle.vsw_story.specs.Rows.{opening_of}
+use Rattle.vsw_rows.specs.StoryRows.{opening_of}
 
 -- how many layers a command leaves
 length-changed : {A : Type 0} (p : A → Bool) (f : A → A) (xs : List A) → length (changed p f xs) ≡ length xs

@@ -22,7 +22,7 @@ use Rattle.vsw_lean.proofs.Answered.{quiet_until}
 use Rattle.vsw_lean.proofs.Ways.{walk_makes}
 use Rattle.vsw_lookup.specs.Rules.{row_at, stamp_at}
 use Rattle.vsw_rows.specs.Rows.{IsEmpty, IsFormed, IsFresh, Says, Writing}
-use Rattle.vsw_story.proofs.Answers.{key_length, words_are}
+use Rattle.vsw_rows.proofs.Answers.{key_length, words_are}
 use Rattle.vsw_walk.specs.declared.scratch.Wanted.{Wanted}
 use Rattle.vsw_walk.specs.declared.walking.Walked.{Walked}
 use Rattle.vsw_walk.specs.Walk.{Told, walk_of}

@@ -19,14 +19,14 @@ use Rattle.vsw_lean.specs.Good.{Row}
 use Rattle.vsw_lean.specs.Shaken.{shake}
 use Rattle.vsw_lean.specs.Way.{looks}
 use Rattle.vsw_lean.proofs.Stays.{length_all}
-use Rattle.vsw_lean_law.specs.Entries.{entry_shakes}
+use Rattle.vsw_rows.specs.Entries.{entry_shakes}
 use Rattle.vsw_lookup.specs.Rules.{after_entry, one_if, passed, row_at}
 use Rattle.vsw_policy.specs.Layers.{PolicySeen}
 use Rattle.vsw_port.specs.Core.{entered}
 use Rattle.vsw_port.specs.Crossed.{Crossed, crossed, is_short}
 use Rattle.vsw_port.specs.Ledger.{LedgerSeen, layers_in}
 use Rattle.vsw_rows.specs.Rows.{HasRoom, IsCurrent, IsShaking, Says, ShakesOne, Spares, Writing, layers_after, layers_then, leaning}
-use Rattle.vsw_story.specs.Rows.{opening_of}
+use Rattle.vsw_rows.specs.StoryRows.{opening_of}
 use Rattle.vsw_walk.specs.declared.scratch.Wanted.{Wanted}
 use Rattle.vsw_walk.specs.Walk.{walk_of}
 

@@ -32,8 +32,8 @@ use Rattle.vsw_policy.specs.Layers.{PolicySeen}
 use Rattle.vsw_port.specs.Ledger.{LedgerSeen}
 use Rattle.vsw_rows.specs.declared.rows.Found.TheVariants as found
 use Rattle.vsw_rows.specs.Rows.{HasKey, IsCurrent, IsFound, IsProbed, NoneHasKey, Says, Writing, layers_after}
-use Rattle.vsw_story.specs.Rows.{IsGoodRow, opening_of, words_of}
-use Rattle.vsw_story.proofs.Answers.{key_length, words_are}
+use Rattle.vsw_rows.specs.StoryRows.{IsGoodRow, opening_of, words_of}
+use Rattle.vsw_rows.proofs.Answers.{key_length, words_are}
 use Rattle.vsw_walk.specs.declared.scratch.Wanted.{Wanted}
 use Rattle.vsw_walk.specs.declared.walking.Walked.{Walked}
 use Rattle.vsw_walk.specs.Walk.{Told, greatest, until_after, until_of, walk_of}

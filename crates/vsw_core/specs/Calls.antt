@@ -3,7 +3,7 @@ use Rattle.std.specs.Prelude.{◌≡◌, ◌+◌, ◌-◌, ◌++◌, ℕ, List, 
 use Rattle.vsw_history.specs.declared.event.Event.{Event}
 use Rattle.vsw_layer.specs.Layer.{LayerSeen}
 use Rattle.vsw_lean.specs.Good.{Row}
-use Rattle.vsw_lean_law.specs.Entries.{entry_shakes}
+use Rattle.vsw_rows.specs.Entries.{entry_shakes}
 use Rattle.vsw_lookup.specs.declared.view.View.{View}
 use Rattle.vsw_lookup.specs.Rules.{one_if, row_at}
 use Rattle.vsw_policy.specs.Layers.{PolicySeen}

@@ -8,7 +8,7 @@ use Rattle.vsw_lookup.specs.Rules.{row_at, stamp_at}
 use Rattle.vsw_policy.specs.Layers.{PolicySeen}
 use Rattle.vsw_port.specs.Ledger.{LedgerSeen}
 use Rattle.vsw_rows.specs.Rows.{IsEmpty, Writing, layers_after}
-use Rattle.vsw_story.specs.Rows.{opening_of}
+use Rattle.vsw_rows.specs.StoryRows.{opening_of}
 
 -- the right to write rows, whose history is the port's, and the headers with which the walk of the last packet ended
 pub record CoreSeen : Type 0 where

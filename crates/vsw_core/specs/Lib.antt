@@ -5,3 +5,6 @@ pub mod Publishing
 pub mod Reconciling
 pub mod Walks
 pub mod Private
+pub use Rattle.vsw_rows.specs.Law
+pub use Rattle.vsw_rows.specs.StoryRows as Rows
+pub use Rattle.vsw_rows.specs.Rows as WrittenRows

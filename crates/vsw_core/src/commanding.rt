@@ -10,22 +10,21 @@ ghost use Rattle.vsw_history.specs.declared.event.Event.TheVariants as event;
 ghost use Rattle.vsw_history.specs.Calls.{Asked, controller_at};
 ghost use Rattle.vsw_history.specs.History.{AllRight};
 ghost use Rattle.vsw_history.specs.Next.{IsDone};
-ghost use Rattle.vsw_lean_law.specs.Entries.{is_obeyed};
+ghost use Rattle.vsw_rows.specs.Entries.{is_obeyed};
 ghost use Rattle.vsw_lookup.specs.Rules.{one_if, permits_of};
 ghost use Rattle.vsw_policy.specs.Obey.{is_memory, rules_given};
 ghost use Rattle.vsw_policy.specs.Refusals.{reply_of};
 ghost use Rattle.vsw_policy.specs.Sound.{Each, IsGoodRule, is_listed};
 ghost use Rattle.vsw_port.specs.Core.{entered};
 ghost use Rattle.vsw_port.specs.Ledger.{layers_in};
-ghost use Rattle.vsw_story.specs.Rows.{opening_of};
+ghost use Rattle.vsw_rows.specs.StoryRows.{opening_of};
 
 use vsw_base::NoMemory;
 use vsw_history::Event;
 use vsw_lookup::{Lookup, Pass};
 use vsw_policy::{Command, Refusal};
 use vsw_port::Ledger;
-use vsw_rows::Rows;
-use vsw_story::PortStory;
+use vsw_rows::{PortStory, Rows};
 
 /// Takes room for one look of each row in the layer that the command adds, if it adds one.
 fn take_looks(ledger: &Ledger, rows: &mut Rows, command: &Command) -> Result<(), NoMemory>

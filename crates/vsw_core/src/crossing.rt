@@ -18,7 +18,7 @@ ghost use Rattle.vsw_port.specs.Core.{entered};
 ghost use Rattle.vsw_port.specs.Crossed.{EditsPass, MayBeShort, is_short};
 ghost use Rattle.vsw_port.specs.Ledger.{layers_in};
 ghost use Rattle.vsw_rows.specs.Rows.{IsShaking, Spares, layers_after};
-ghost use Rattle.vsw_story.specs.Rows.{opening_of};
+ghost use Rattle.vsw_rows.specs.StoryRows.{opening_of};
 ghost use Rattle.vsw_walk.specs.Walk.{greatest};
 ghost use mathlib.Core.List.{IsPrefix};
 
@@ -28,8 +28,7 @@ use crate::writing::write_row;
 use vsw_base::{Control, Crossing, Moment, Verdict};
 use vsw_lookup::{Lookup, Pass};
 use vsw_port::{Ledger, Outcome};
-use vsw_rows::{Found, Rows};
-use vsw_story::PortStory;
+use vsw_rows::{Found, PortStory, Rows};
 use vsw_walk::{Scratch, Walked, walk};
 use vsw_words::key_words;
 

@@ -6,13 +6,12 @@ ghost use Rattle.vsw_core.specs.Core.{IsOf, IsOwned};
 ghost use Rattle.vsw_history.specs.Calls.{named};
 ghost use Rattle.vsw_history.specs.History.{AllRight};
 ghost use Rattle.vsw_lookup.specs.Rules.{Meets, permits_of};
-ghost use Rattle.vsw_story.specs.Rows.{opening_of};
+ghost use Rattle.vsw_rows.specs.StoryRows.{opening_of};
 
 use vsw_base::NoMemory;
 use vsw_lookup::{Lookup, Pass};
 use vsw_port::Ledger;
-use vsw_rows::Rows;
-use vsw_story::PortStory;
+use vsw_rows::{PortStory, Rows};
 
 /// Takes room for `more` entries beside those that the passes may make already, and tells how many these are together.
 fn take_room(ledger: &mut Ledger, permits: u64, more: u32) -> Result<u64, NoMemory>

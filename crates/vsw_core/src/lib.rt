@@ -11,3 +11,4 @@ mod rooms;
 mod writing;
 
 pub use owner::{Core, Reconciled};
+pub use vsw_rows::PortStory;

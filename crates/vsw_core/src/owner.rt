@@ -17,10 +17,10 @@ ghost use Rattle.vsw_lookup.specs.Rules.{Meets, one_if, permits_of};
 ghost use Rattle.vsw_policy.specs.Obey.{is_memory, rules_given};
 ghost use Rattle.vsw_policy.specs.Refusals.{reply_of};
 ghost use Rattle.vsw_policy.specs.Sound.{Each, IsGoodRule, is_listed};
-ghost use Rattle.vsw_lean_law.specs.Entries.{is_obeyed};
+ghost use Rattle.vsw_rows.specs.Entries.{is_obeyed};
 ghost use Rattle.vsw_port.specs.Core.{AreAtMost, entered};
 ghost use Rattle.vsw_port.specs.Crossed.{EditsPass, MayBeShort, is_short};
-ghost use Rattle.vsw_story.specs.Rows.{opening_of};
+ghost use Rattle.vsw_rows.specs.StoryRows.{opening_of};
 
 use crate::crossing::{cross, cross_only};
 use crate::light::is_light;
@@ -33,8 +33,7 @@ use vsw_history::Event;
 use vsw_lookup::{Lookup, Pass, Writer};
 use vsw_policy::{Command, Policy, Refusal};
 use vsw_port::{Ledger, Outcome};
-use vsw_rows::Rows;
-use vsw_story::PortStory;
+use vsw_rows::{PortStory, Rows};
 use vsw_walk::Scratch;
 
 /// What became of a row that was compared with the layers of now.

@@ -2,7 +2,7 @@
 use Rattle.std.proofs.Common.{◌≡◌, ◌≤◌, ◌+◌, ◌++◌, ◌∷◌, [], ℕ, List, Bool, true, false, length, refl, sym, ap, ◌∙◌, arith}
 use Rattle.std.proofs.lemmas.List.{length-append, map-append}
 use Rattle.vsw_commandfile.specs.declared.line.Line.{Line}
-use Rattle.vsw_core.specs.Core.{IsOf, Looking}
+use Rattle.vsw_live.specs.Core.{IsOf, Looking}
 use Rattle.vsw_deal.specs.declared.work.Work.{Work}
 use Rattle.vsw_deal.specs.Work.{job_in}
 use Rattle.vsw_history.specs.Calls.{Ask, Call, Deed, entries_of}
@@ -17,8 +17,8 @@ use Rattle.vsw_promise.specs.Rounds as promise
 use Rattle.vsw_promise.specs.Told.{line_of}
 use Rattle.vsw_report.specs.declared.told.By.TheVariants as by
 use Rattle.vsw_report.specs.declared.told.What.TheVariants as what
-use Rattle.vsw_rows.specs.Rows.{Writing}
-use Rattle.vsw_story.specs.Rows as story
+use Rattle.vsw_live.specs.Rows.{Writing}
+use Rattle.vsw_live.specs.StoryRows as story
 use Rattle.vsw_dock.specs.Docks.{pass_in, port_in, tells}
 use Rattle.vsw_dock.specs.Private.Does.{Does, IsCounted, Tells}
 use Rattle.vsw_dock.specs.Seen.{DockSeen, StationSeen}

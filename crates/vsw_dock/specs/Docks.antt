@@ -1,6 +1,6 @@
 -- Docks and stations as actors take them.
 use Rattle.std.specs.Prelude.{◌≡◌, ℕ, List, true, map}
-use Rattle.vsw_core.specs.Core.{IsOf}
+use Rattle.vsw_live.specs.Core.{IsOf}
 use Rattle.vsw_deal.specs.declared.work.Work.{Work}
 use Rattle.vsw_deal.specs.Work.{MayDo}
 use Rattle.vsw_history.specs.Calls.{Call}
@@ -8,7 +8,7 @@ use Rattle.vsw_many.specs.Passes.{PassNow}
 use Rattle.vsw_merge.specs.Line.{text_of}
 use Rattle.vsw_ports.specs.Ports.{PortSeen}
 use Rattle.vsw_promise.specs.Told.{line_of}
-use Rattle.vsw_rows.specs.Rows.{Writing}
+use Rattle.vsw_live.specs.Rows.{Writing}
 use Rattle.vsw_dock.specs.Seen.{DockSeen, StationSeen}
 
 -- the port of the policy that a dock is: what it began with

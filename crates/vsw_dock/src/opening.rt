@@ -11,10 +11,9 @@ use crate::station::Station;
 use std::alloc::Global;
 use vsw_actors::Lane;
 use vsw_base::{Items, Mac, NoMemory};
-use vsw_live::{LivePort, Naming, OpenPort};
+use vsw_live::{LivePort, Naming, OpenPort, PortStory};
 use vsw_lookup::Pass;
 use vsw_ports::{Port, macs};
-use vsw_story::PortStory;
 
 /// The ports of a policy, opened and still without names, with their numbers and addresses.
 #[derive(Drop)]

@@ -1,7 +1,7 @@
 //! Where a caller stands at a port.
 
 ghost use Rattle.std.specs.Prelude.{◌≡◌, ◌≤◌, ◌<◌, ◌+◌, [], true, length, IfOk, IsOk, OnErr, OnOk};
-ghost use Rattle.vsw_core.specs.Core.{IsOf};
+ghost use Rattle.vsw_live.specs.Core.{IsOf};
 ghost use Rattle.vsw_dock.specs.Meeting.{StationMeets};
 ghost use Rattle.vsw_dock.specs.Private.Does.{Does, Tells};
 ghost use Rattle.vsw_frame.specs.Frame.{parts};
@@ -14,23 +14,20 @@ ghost use Rattle.vsw_policy.specs.Sound.{Each, IsGoodRule, is_listed};
 ghost use Rattle.vsw_promise.specs.Jobs.{crossing_by};
 ghost use Rattle.vsw_report.specs.declared.told.By.TheVariants as by;
 ghost use Rattle.vsw_report.specs.declared.told.What.TheVariants as what;
-ghost use Rattle.vsw_story.specs.Rows.{opening_of};
-ghost use Rattle.vsw_transit.specs.Transit.{bytes_in, len_of};
+ghost use Rattle.vsw_live.specs.StoryRows.{opening_of};
+ghost use Rattle.vsw_live.specs.Transit.{bytes_in, len_of};
 
 use std::alloc::Global;
 use std::marker::Model;
 use std::mem::replace;
 use std::sync::Wait;
-use vsw_answer::Desk;
 use vsw_base::{Control, Crossing, Dir, Fate, Moment, NoMemory, Sizes, Stack, Ufid};
 use vsw_commandfile::Line;
 use vsw_deal::Packet;
 use vsw_frame::Frame;
-use vsw_live::{Answer, Held, LivePort, Naming, Told, Unit};
+use vsw_live::{Answer, Desk, Held, LivePort, Naming, PortStory, Room, Told, Unit};
 use vsw_lookup::Pass;
 use vsw_merge::Caller;
-use vsw_story::PortStory;
-use vsw_transit::Room;
 
 /// The most permits that a pass is ever given.
 const GRANTED_MAX: u32 = 134_217_728;

@@ -10,8 +10,8 @@ use Rattle.vsw_base.specs.Frame.{Parts}
 use Rattle.vsw_commandfile.specs.declared.line.Line.{Line}
 use Rattle.vsw_commit.specs.Cross.{cross_of, made_by, makes}
 use Rattle.vsw_commit.specs.Fate.{fate_at}
-use Rattle.vsw_walk.specs.Walk.{walk_of}
-use Rattle.vsw_frame.specs.Bytes.{outgoing}
+use Rattle.vsw_commit.specs.Walk.{walk_of}
+use Rattle.vsw_commit.specs.Bytes.{outgoing}
 use Rattle.vsw_layer.specs.Layer.{LayerSeen}
 use Rattle.vsw_policy.specs.declared.refusal.Refusal.TheVariants as refusal
 use Rattle.vsw_policy.specs.declared.refusal.Reply.{Reply}

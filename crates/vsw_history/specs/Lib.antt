@@ -4,3 +4,9 @@ pub mod Next
 pub mod Order
 pub mod Sample
 pub mod Share
+pub use Rattle.vsw_commit.specs.Cross
+pub use Rattle.vsw_commit.specs.Fate
+pub use Rattle.vsw_commit.specs.Can
+pub use Rattle.vsw_commit.specs.Admit
+pub use Rattle.vsw_commit.specs.Walked
+pub use Rattle.vsw_commit.specs.Stop

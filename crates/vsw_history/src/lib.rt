@@ -6,3 +6,4 @@ mod law;
 
 pub use event::Event;
 pub use law::{call_laws, samples};
+pub use vsw_commit::{commit, outgoing_size};

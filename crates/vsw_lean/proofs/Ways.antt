@@ -1,6 +1,6 @@
 -- Changes that shake no look leave ways and rows.
 use Rattle.std.proofs.Common.{◌≡◌, List, [], ◌∷◌, length, refl, sym, ap, subst, ◌∙◌}
-use Rattle.vsw_admit.proofs.Walks.{each_crossed, places}
+use Rattle.vsw_commit.proofs.Walks.{each_crossed, places}
 use Rattle.vsw_base.specs.declared.flow.Crossing.{Crossing}
 use Rattle.vsw_base.specs.declared.flow.Ufid.{Ufid}
 use Rattle.vsw_base.specs.declared.packet.Control.TheVariants as control

@@ -1,9 +1,9 @@
 -- What holds of ways, of looks and of rows.
 use Rattle.std.specs.Prelude.{◌≡◌, ◌<◌, ◌≤◌, ◌||◌, ℕ, List, [], ◌++◌, Bool, true, false, nat_le, option_map, Option, Some, None, if◌then◌else◌, Ok}
-use Rattle.vsw_admit.specs.declared.stop.Stop.{Stop}
-use Rattle.vsw_admit.specs.declared.stop.Stop.TheVariants.{Long}
-use Rattle.vsw_admit.specs.Admit.{on_pass}
-use Rattle.vsw_admit.specs.Long.{is_long}
+use Rattle.vsw_commit.specs.Stop.{Stop}
+use Rattle.vsw_commit.specs.Stop.TheVariants.{Long}
+use Rattle.vsw_commit.specs.Admit.{on_pass}
+use Rattle.vsw_commit.specs.Long.{is_long}
 use Rattle.vsw_base.specs.declared.fate.Verdict.TheVariants.{Pass}
 use Rattle.vsw_base.specs.declared.flow.Crossing.{Crossing}
 use Rattle.vsw_base.specs.declared.flow.Track.{Track}

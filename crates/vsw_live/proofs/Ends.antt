@@ -1,7 +1,7 @@
 -- Calls at the end of a history.
 use Rattle.std.proofs.Common.{◌≡◌, ◌<◌, ◌+◌, ◌-◌, ℕ, List, [], ◌∷◌, ◌++◌, Bool, true, false, length, take, refl, sym, ◌∙◌, ap, subst, arith, length-append}
 use mathlib.Core.List.{IsPrefix}
-use Rattle.vsw_core.specs.Calls.{called}
+use Rattle.vsw_transit.specs.Calls.{called}
 use Rattle.vsw_history.specs.declared.event.Event.{Event}
 use Rattle.vsw_history.specs.Calls.{Call, Deed, HasBytes, IsCall, ShowsAt, entries_of, event_of, next_count}
 use Rattle.vsw_history.specs.History.{AllRight, Opening, replay}

@@ -1,11 +1,11 @@
 -- A packet that a row answers, and one that looked in vain.
 use Rattle.std.proofs.Common.{◌≡◌, ◌≤◌, inl, ℕ, List, [], ◌∷◌, ◌++◌, Bool, false, None, length, take, refl, sym, ◌∙◌, ap, subst, arith}
 use mathlib.Core.List.{IsPrefix}
-use Rattle.vsw_answer.specs.Answers.{Answers, HitsInTime}
+use Rattle.vsw_transit.specs.Answers.{Answers, HitsInTime}
 use Rattle.vsw_base.specs.declared.fate.Fate.{Fate}
 use Rattle.vsw_base.specs.declared.flow.Crossing.{Crossing}
 use Rattle.vsw_base.specs.declared.header.Header.{Header}
-use Rattle.vsw_core.specs.Core.{Looking}
+use Rattle.vsw_transit.specs.Core.{Looking}
 use Rattle.vsw_history.specs.declared.event.Event.{Event}
 use Rattle.vsw_history.specs.Calls.{Call, Carried, IsRead, Reads, Shows, entries_of}
 use Rattle.vsw_history.specs.Calls.IsCall.{Read}

@@ -6,7 +6,7 @@ use Rattle.vsw_base.specs.declared.flow.Crossing.{Crossing}
 use Rattle.vsw_base.specs.Frame.{Parts}
 use Rattle.std.specs.Prelude.{OnOk, Result, Ok, Err}
 use Rattle.vsw_base.specs.declared.fault.NoMemory.{NoMemory}
-use Rattle.vsw_core.specs.Core.{CoreSeen, IsOf, Looking}
+use Rattle.vsw_transit.specs.Core.{CoreSeen, IsOf, Looking}
 use Rattle.vsw_history.specs.declared.event.Event.{Event}
 use Rattle.vsw_history.specs.Calls.{Carried, entries_naming, named}
 use Rattle.vsw_history.specs.History.{AllRight, Opening, replay}

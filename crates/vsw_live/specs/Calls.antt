@@ -1,12 +1,12 @@
 -- What a caller's call on a shared port gives it.
 use Rattle.std.specs.Prelude.{◌≡◌, ◌≢◌, ◌≤◌, ◌+◌, ◌++◌, ℕ, List, [], ◌∷◌, false, length, Option, Some, None}
 use mathlib.Core.List.{IsPrefix}
-use Rattle.vsw_answer.specs.Answers.{HitsInTime, HitsLate, Misses, Pass}
+use Rattle.vsw_transit.specs.Answers.{HitsInTime, HitsLate, Misses, Pass}
 use Rattle.vsw_base.specs.declared.fate.Fate.{Fate}
 use Rattle.vsw_base.specs.declared.flow.Crossing.{Crossing}
 use Rattle.vsw_base.specs.declared.packet.Control.TheVariants as control
 use Rattle.vsw_commandfile.specs.declared.line.Line.{Line}
-use Rattle.vsw_core.specs.Core.{Looking}
+use Rattle.vsw_transit.specs.Core.{Looking}
 use Rattle.vsw_history.specs.declared.event.Event.{Event}
 use Rattle.vsw_history.specs.Calls.{Asked, Call, Carried, HasBytes, IsCall, IsRead, entries_of, next_count}
 use Rattle.vsw_history.specs.History.{Opening}

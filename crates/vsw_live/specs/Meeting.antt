@@ -1,7 +1,7 @@
 -- What a pass knows that meets its port.
 use Rattle.std.specs.Prelude.{◌≡◌, ◌<◌, ◌+◌, ℕ, List, [], ◌∷◌}
 use mathlib.Core.List.{IsPrefix}
-use Rattle.vsw_core.specs.Core.{IsOf, Looking}
+use Rattle.vsw_transit.specs.Core.{IsOf, Looking}
 use Rattle.vsw_history.specs.declared.event.Event.{Event}
 use Rattle.vsw_history.specs.Calls.{entries_naming, named}
 use Rattle.vsw_history.specs.History.{AllRight}

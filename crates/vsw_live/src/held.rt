@@ -1,7 +1,7 @@
 //! A port whose lock is held.
 
 ghost use Rattle.std.specs.Prelude.{◌≡◌, ◌≤◌, ◌+◌, length, IsOk, OnErr, OnOk};
-ghost use Rattle.vsw_core.specs.Core.{IsOf};
+ghost use Rattle.vsw_transit.specs.Core.{IsOf};
 ghost use Rattle.vsw_live.specs.Meeting.{AllMeet, AreOf, IsRightAt, Meets};
 ghost use Rattle.vsw_live.specs.Calls.{KeepsLook};
 

@@ -17,4 +17,6 @@ pub use live::LivePort;
 pub use naming::Naming;
 pub use opening::{OpenPort, name_all};
 pub use unit::Unit;
+pub use vsw_story::PortStory;
+pub use vsw_transit::{Desk, Room};
 pub use why::Why;

@@ -3,7 +3,7 @@
 ghost use Rattle.std.specs.Prelude.{◌≡◌, ◌<◌, ◌≤◌, ◌+◌, ℕ, List, length, Some, true, OnErr, OnOk};
 ghost use mathlib.Core.List.{IsPrefix};
 ghost use Rattle.vsw_commandfile.specs.declared.line.Line.{Line};
-ghost use Rattle.vsw_core.specs.Core.{IsOf};
+ghost use Rattle.vsw_transit.specs.Core.{IsOf};
 ghost use Rattle.vsw_history.specs.declared.event.Event.{Event};
 ghost use Rattle.vsw_history.specs.Calls.{controller_at};
 ghost use Rattle.vsw_live.specs.Calls.{Crosses, DoneFits, FitsRoom, IsFast, KeepsLook, Looks, TellsWhy, asked, call_of};
@@ -24,13 +24,12 @@ use crate::unit::Unit;
 use crate::why::Why;
 use std::marker::Model;
 use std::sync::{Mutex, MutexGuard, Wait};
-use vsw_answer::{Desk, RowAnswer, answer_by_row};
 use vsw_base::{Crossing, NoMemory};
 use vsw_lookup::{Lookup, Note, Pass};
 use vsw_policy::Command;
 use vsw_port::Outcome;
 use vsw_story::PortStory;
-use vsw_transit::Room;
+use vsw_transit::{Desk, Room, RowAnswer, answer_by_row};
 
 /// A port that threads share, each with passes of its own. Any thread may call it. A row that is current answers a packet without
 /// the lock, at the load of the generation word that ends the look; all else is done under the lock, and is seen by rows' readers

@@ -3,7 +3,7 @@
 ghost use Rattle.std.specs.Prelude.{◌≡◌, ◌<◌, ◌≤◌, ◌+◌, ℕ, List, length, not, true, IsOk, OnErr, OnOk};
 ghost use mathlib.Core.List.{IsPrefix};
 ghost use Rattle.vsw_commandfile.specs.declared.line.Line.{Line};
-ghost use Rattle.vsw_core.specs.Core.{IsOf};
+ghost use Rattle.vsw_transit.specs.Core.{IsOf};
 ghost use Rattle.vsw_history.specs.Calls.{controller_at};
 ghost use Rattle.vsw_history.specs.History.{AllRight};
 ghost use Rattle.vsw_live.specs.Calls.{Crosses, KeepsLook, asked};
@@ -19,14 +19,13 @@ ghost use Rattle.vsw_story.specs.Rows.{opening_of};
 use crate::answer::Told;
 use crate::naming::Naming;
 use std::marker::{Model, PhantomData};
-use vsw_answer::Desk;
 use vsw_base::{Crossing, NoMemory};
-use vsw_core::Core;
 use vsw_history::Event;
 use vsw_lookup::{Lookup, Pass};
 use vsw_policy::{Command, Refusal, Reply};
 use vsw_port::Outcome;
 use vsw_story::PortStory;
+use vsw_transit::{Core, Desk};
 
 /// The core of the port at a place. Nothing is known of it once the lock is taken but what its type keeps, and that is told by the
 /// place alone: so who takes the lock compares the place.
@@ -39,7 +38,7 @@ pub(crate) struct Locked<J: Naming> {
 
 impl<J: Naming> Model for Locked<J> {
     ghost use Rattle.std.specs.Prelude.{ℕ};
-    ghost use Rattle.vsw_core.specs.Core.{CoreSeen};
+    ghost use Rattle.vsw_transit.specs.Core.{CoreSeen};
     ghost use Rattle.vsw_live.specs.Private.Locked.{IsLocked};
 
     ghost Value = { ℕ × CoreSeen };

@@ -12,10 +12,10 @@ use crate::naming::Naming;
 use std::alloc::Global;
 use std::marker::Model;
 use vsw_base::NoMemory;
-use vsw_core::Core;
 use vsw_lookup::{Lookup, Opened, Pass, Writer};
 use vsw_policy::Policy;
 use vsw_story::PortStory;
+use vsw_transit::Core;
 
 /// A port without a name, which no thread shares yet.
 #[derive(Drop)]

@@ -1,6 +1,6 @@
 -- What is tried: a port, and passes of it.
 use Rattle.std.specs.Prelude.{◌≡◌, ◌≤◌, ◌+◌, ℕ, [], ◌∷◌}
-use Rattle.vsw_core.specs.Core.{IsOf, Looking}
+use Rattle.vsw_live.specs.Core.{IsOf, Looking}
 use Rattle.vsw_live.specs.Ports.{AreNewPasses, OpenSeen}
 use Rattle.vsw_rows.specs.Rows.{Writing}
 

@@ -1,7 +1,7 @@
 //! A worker and a controller of one port.
 
 ghost use Rattle.std.specs.Prelude.{◌≡◌, ◌<◌, IfSome};
-ghost use Rattle.vsw_core.specs.Core.{IsOf};
+ghost use Rattle.vsw_live.specs.Core.{IsOf};
 ghost use Rattle.vsw_live.specs.Ports.{AreNewPasses};
 ghost use Rattle.vsw_live_tests.specs.Trials.{Calls, IsTried};
 ghost use Rattle.vsw_policy.specs.Obey.{rules_given};
@@ -13,15 +13,13 @@ use crate::packets::{QUERY, add_group, add_layer, crossing, put_rule};
 use std::alloc::Global;
 use std::marker::Model;
 use std::sync::Wait;
-use vsw_answer::Desk;
 use vsw_base::{Control, Dir, Fate};
 use vsw_frame::read_frame;
-use vsw_live::{Answer, Fast, LivePort, Naming, Told, Unit, Why};
+use vsw_live::{Answer, Desk, Fast, LivePort, Naming, Room, Told, Unit, Why};
 use vsw_lookup::Pass;
 use vsw_policy::Command;
 use vsw_rule::Action;
 use vsw_story::PortStory;
-use vsw_transit::Room;
 
 /// What a packet was told: its fate, its count, whether it is an entry, and why no row answered.
 #[derive(Clone, Copy, Debug, PartialEq, Eq)]

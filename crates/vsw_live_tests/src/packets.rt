@@ -2,7 +2,7 @@
 
 ghost use Rattle.std.specs.Prelude.{◌≡◌};
 ghost use Rattle.vsw_frame.specs.Frame.{parts};
-ghost use Rattle.vsw_transit.specs.Transit.{IsOfFrame};
+ghost use Rattle.vsw_live.specs.Transit.{IsOfFrame};
 
 use std::alloc::{AllocError, Global};
 use vsw_base::{Control, Crossing, Dir, Items, Moment, Ufid};

@@ -9,7 +9,7 @@ use Rattle.vsw_history.proofs.Calls.{each_append}
 use Rattle.vsw_history.proofs.Fronts.{append_end}
 use Rattle.vsw_promise.specs.Jobs.{Placed, at_place}
 use Rattle.vsw_promise.specs.Rounds.{opening_of}
-use Rattle.vsw_history_law.proofs.Reports.{doer_job, map_append}
+use Rattle.vsw_agreement_law.proofs.Reports.{doer_job, map_append}
 use Rattle.vsw_many.specs.Law.{ActorBegins, ActorGoesOn, ActorEnds}
 use Rattle.vsw_many.specs.Passes.{AtRest, Works}
 use Rattle.vsw_many.specs.Phases.{Track, IsTrack}

@@ -16,8 +16,8 @@ use Rattle.vsw_history.specs.Calls.{Ask, controller_at, job_doer, jobs_by}
 use Rattle.vsw_history.proofs.Calls.{each_append}
 use Rattle.vsw_history.proofs.Fronts.{append_end}
 use Rattle.vsw_promise.specs.Jobs.{Setting, Placed, jobs_of, aim_of, aimed_at, at_place, deal, packet_jobs, during_jobs, macs_of, packets_between, numbers_of, placed_jobs, placed_lines, placed_packet, placed_packets, worker_of}
-use Rattle.vsw_history_law.specs.Law.{AreServed}
-use Rattle.vsw_history_law.proofs.Callers.{place_one}
+use Rattle.vsw_agreement_law.specs.HistoryLaws.{AreServed}
+use Rattle.vsw_agreement_law.proofs.Callers.{place_one}
 use Rattle.vsw_many.specs.Law.{DealIsPlaced, AllIsDealt}
 use Rattle.vsw_many.proofs.Actors.{filter_append, place_append}
 use Rattle.vsw_many.proofs.Passes.{each_weaker}

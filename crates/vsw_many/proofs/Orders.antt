@@ -11,8 +11,8 @@ use Rattle.vsw_history.proofs.Calls.{calls_append, each_of_all}
 use Rattle.vsw_history.proofs.Next.{each_of, named_doer}
 use Rattle.vsw_promise.specs.Told.{line_of, callers, reads_at, entry_at, reads_by_caller, in_told_order}
 use Rattle.vsw_promise.proofs.PortRounds.{drop_front}
-use Rattle.vsw_history_law.proofs.Callers.{eqb_is}
-use Rattle.vsw_history_law.proofs.Ones.{room}
+use Rattle.vsw_agreement_law.proofs.Callers.{eqb_is}
+use Rattle.vsw_agreement_law.proofs.Ones.{room}
 use Rattle.vsw_agreement_law.proofs.Same.{added_length}
 use Rattle.vsw_many.specs.Law.{OrderIsFree}
 use Rattle.vsw_many.specs.Phases.{SameByCaller}

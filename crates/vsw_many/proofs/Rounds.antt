@@ -13,7 +13,7 @@ use Rattle.vsw_history.proofs.Fronts.{prefix_trans}
 use Rattle.vsw_promise.specs.Jobs.{Setting, Placed, Jobs, jobs_of, at_place, deal, placed_jobs, numbers_of}
 use Rattle.vsw_promise.specs.Rounds.{opening_of, ArePortRounds, AreRoundsAt, AreChained, AllBegin, AreHistories, end_before}
 use Rattle.vsw_promise.proofs.Exists.{begin_self, begin_trans, ports_later, none_yet, no_counts}
-use Rattle.vsw_history_law.proofs.Reports.{jobs_of_calls}
+use Rattle.vsw_agreement_law.proofs.Reports.{jobs_of_calls}
 use Rattle.vsw_many.specs.Law.{RunIsTold}
 use Rattle.vsw_many.specs.Phases.{Lane, AreLanes, calls_in, DoneBeside, PortDone}
 use Rattle.vsw_many.specs.Actors.{AreRows}

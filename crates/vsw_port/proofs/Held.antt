@@ -2,8 +2,8 @@
 use Rattle.std.proofs.Common.{◌≡◌, ◌+◌, ℕ, Bool, true, false, not, true≢false, List, [], ◌∷◌, ◌++◌, length, Result, Ok, Err, refl, sym, ap, subst, ◌∙◌, arith, length-append, append-nil, OnErr}
 use Rattle.vsw_base.specs.declared.fate.Fate.{Fate}
 use Rattle.vsw_base.specs.Frame.{Parts}
-use Rattle.vsw_commit.specs.Cross.{cross_of}
-use Rattle.vsw_commit.specs.Fate.{fate_at}
+use Rattle.vsw_history.specs.Cross.{cross_of}
+use Rattle.vsw_history.specs.Fate.{fate_at}
 use Rattle.vsw_base.specs.declared.flow.Crossing.{Crossing}
 use Rattle.vsw_history.specs.declared.event.Event.{Event}
 use Rattle.vsw_history.specs.declared.event.Event.TheVariants as event

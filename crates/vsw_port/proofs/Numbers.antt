@@ -3,11 +3,11 @@ use Rattle.std.proofs.Common.{◌≡◌, ◌≤◌, ◌+◌, ◌==◌, ◌⊎◌
 use Rattle.vsw_base.specs.declared.fate.Verdict.{Verdict}
 use Rattle.vsw_base.specs.declared.fate.Verdict.TheVariants.{Pass, Rule, Default}
 use Rattle.vsw_base.specs.declared.flow.Crossing.{Crossing}
-use Rattle.vsw_admit.specs.declared.stop.Stop.{Stop}
-use Rattle.vsw_admit.specs.Admit.{stop_of}
-use Rattle.vsw_commit.specs.Can.{AreApart, NotMade}
-use Rattle.vsw_commit.specs.Cross.{all_done, cross_of, made_after, made_by}
-use Rattle.vsw_commit.proofs.Makes.{walk_apart}
+use Rattle.vsw_history.specs.Stop.{Stop}
+use Rattle.vsw_history.specs.Admit.{stop_of}
+use Rattle.vsw_history.specs.Can.{AreApart, NotMade}
+use Rattle.vsw_history.specs.Cross.{all_done, cross_of, made_after, made_by}
+use Rattle.vsw_history.proofs.Makes.{walk_apart}
 use Rattle.vsw_walk.specs.declared.scratch.Wanted.{Wanted}
 use Rattle.vsw_walk.specs.declared.scratch.Wanted.TheVariants.{Make, Touch, Leave}
 use Rattle.vsw_walk.specs.Walk.{walk_of}

@@ -5,8 +5,8 @@ use Rattle.vsw_base.specs.declared.fate.Fate.{Fate}
 use Rattle.vsw_base.specs.declared.fate.Fate.TheVariants.{Pass, Drop}
 use Rattle.vsw_base.specs.declared.flow.Crossing.{Crossing}
 use Rattle.vsw_base.specs.declared.header.Header.{Header}
-use Rattle.vsw_commit.specs.Cross.{cross_of, made_by, makes}
-use Rattle.vsw_commit.specs.Fate.{fate_at}
+use Rattle.vsw_history.specs.Cross.{cross_of, made_by, makes}
+use Rattle.vsw_history.specs.Fate.{fate_at}
 use Rattle.vsw_walk.specs.Walk.{walk_of}
 use Rattle.vsw_layer.specs.Layer.{LayerSeen}
 

@@ -1,7 +1,7 @@
 //! A port's layers, and the history that leaves them so.
 
 ghost use Rattle.std.specs.Prelude.{◌≡◌, ◌≤◌, ◌<◌, ◌+◌, ◌-◌, ◌^◌, ◌++◌, [], ℕ, List, not, true, length, vec_capacity, OnOk, OnErr};
-ghost use Rattle.vsw_admit.specs.Walked.{IsWalk};
+ghost use Rattle.vsw_history.specs.Walked.{IsWalk};
 ghost use Rattle.vsw_base.specs.Frame.{Parts};
 ghost use Rattle.vsw_commandfile.specs.declared.line.Line.{Line};
 ghost use Rattle.vsw_history.specs.declared.event.Event.TheVariants as event;

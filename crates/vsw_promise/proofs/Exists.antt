@@ -5,7 +5,7 @@ use Rattle.vsw_base.specs.declared.fate.Fate.{Fate}
 use Rattle.vsw_base.specs.declared.fate.Fate.TheVariants.{Pass, Drop}
 use Rattle.vsw_base.specs.declared.flow.Crossing.{Crossing}
 use Rattle.vsw_base.specs.Frame.{Parts}
-use Rattle.vsw_commit.specs.Cross.{cross_of}
+use Rattle.vsw_history.specs.Cross.{cross_of}
 use Rattle.vsw_layer.specs.Layer.{LayerSeen}
 use Rattle.vsw_pcap.specs.declared.capture.Record.{Record}
 use Rattle.vsw_ports.specs.Ports.{PortSeen, ports_of}
@@ -13,7 +13,7 @@ use Rattle.vsw_history.specs.declared.event.Event.{Event}
 use Rattle.vsw_report.specs.declared.round.PortRound.{PortRound}
 use Rattle.vsw_history.specs.Calls.{Job, Carry, Ask, Call, job_of, entries_of, Shows, ShowsAt}
 use Rattle.vsw_history.specs.History.{Opening, replay, AllRight}
-use Rattle.vsw_commit.specs.Fate.{fate_at}
+use Rattle.vsw_history.specs.Fate.{fate_at}
 use Rattle.vsw_promise.specs.Jobs.{Setting, Jobs, jobs_of, cuts}
 use Rattle.vsw_history.specs.Next.{IsDone, Enters, Reading, IsNext, Goes}
 use Rattle.vsw_report.specs.Print.{report_text}

@@ -20,7 +20,7 @@ use Rattle.vsw_promise.specs.Jobs.{Setting, cuts_within}
 use Rattle.vsw_promise.specs.Trace.{most_records, Trace, All, Fault, Stopped}
 use Rattle.vsw_promise.specs.declared.ending.Ending.TheVariants as ending
 use Rattle.vsw_report.specs.Print.{head_line, report_text}
-use Rattle.vsw_switch.specs.Switch.{SwitchNow}
+use Rattle.vsw_rounds.specs.Switch.{SwitchNow}
 use Rattle.vsw_replay.specs.declared.ending.TraceEnd.{TraceEnd}
 use Rattle.vsw_replay.specs.declared.ending.TraceEnd.TheVariants as end
 use Rattle.vsw_replay.specs.declared.reading.Reading.{Reading}

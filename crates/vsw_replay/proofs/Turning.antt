@@ -11,7 +11,7 @@ use Rattle.vsw_report.specs.Short.{are_short, is_short_round}
 use Rattle.vsw_report.specs.declared.round.Round.{Round}
 use Rattle.vsw_rounds.specs.Round.{TellsRound}
 use Rattle.vsw_schedule.specs.Schedule.{next_at}
-use Rattle.vsw_switch.specs.Switch.{SwitchNow}
+use Rattle.vsw_rounds.specs.Switch.{SwitchNow}
 use Rattle.vsw_replay.specs.declared.reading.Stop.{Stop}
 use Rattle.vsw_replay.specs.declared.reading.Stop.TheVariants as stop
 use Rattle.vsw_replay.specs.Private.Cut.{is_named_by, IsCut, IsNextCut, cuts_until, AreBehind}

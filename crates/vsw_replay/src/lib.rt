@@ -8,3 +8,4 @@ mod trace;
 
 pub use ending::TraceEnd;
 pub use trace::run_trace;
+pub use vsw_rounds::{Switch, Tally, run_round};

@@ -9,7 +9,7 @@ ghost use Rattle.vsw_ports.specs.Ports.{ports_of};
 ghost use Rattle.vsw_replay.specs.Private.Going.{IsFilled, IsBetween, IsPast, IsOpened, IsFirst, IsNear, IsTurn, PutsRound, PutsStretch, PutsNext, GoesOn, is_run_of, unheaded_of, clean_of};
 ghost use Rattle.vsw_replay.specs.Private.Reads.{IsOpen};
 ghost use Rattle.vsw_replay.specs.Runs.{RunsTrace};
-ghost use Rattle.vsw_switch.specs.Switch.{AreServed, IsAt, SwitchNow};
+ghost use Rattle.vsw_rounds.specs.Switch.{AreServed, IsAt, SwitchNow};
 
 use crate::cut::{is_named, next_cut};
 use crate::ending::TraceEnd;

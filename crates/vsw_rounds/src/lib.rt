@@ -6,3 +6,4 @@ mod rounds;
 
 pub use round::run_round;
 pub use rounds::Rounds;
+pub use vsw_switch::{Switch, Tally};

@@ -5,3 +5,4 @@ mod places;
 mod rows;
 
 pub use rows::{Found, Rows};
+pub use vsw_story::PortStory;

@@ -4,7 +4,7 @@ ghost use Rattle.std.specs.Prelude.{◌≡◌, ◌≤◌, ◌<◌, ◌+◌, ◌-
 ghost use mathlib.Core.List.{IsPrefix};
 ghost use Rattle.vsw_base.specs.Frame.{Parts};
 ghost use Rattle.vsw_commandfile.specs.declared.line.Line.{Line};
-ghost use Rattle.vsw_core.specs.Core.{IsOf, layers_of};
+ghost use Rattle.vsw_answer.specs.Core.{IsOf, layers_of};
 ghost use Rattle.vsw_history.specs.declared.event.Event.TheVariants as event;
 ghost use Rattle.vsw_history.specs.Calls.{Asked, Carried, Reads, controller_at};
 ghost use Rattle.vsw_history.specs.History.{replay};
@@ -17,15 +17,13 @@ ghost use Rattle.vsw_port.specs.Core.{entered};
 ghost use Rattle.vsw_port.specs.Crossed.{EditsPass};
 ghost use Rattle.vsw_sole.specs.Answered.{AnsweredAt};
 ghost use Rattle.vsw_sole.specs.Callers.{HasCalled, IsTold, Refills, edited_by};
-ghost use Rattle.vsw_story.specs.Rows.{opening_of};
+ghost use Rattle.vsw_answer.specs.Rows.{opening_of};
 
-use vsw_answer::{Desk, RowAnswer, answer_by_row};
+use vsw_answer::{Core, Desk, PortStory, RowAnswer, answer_by_row};
 use vsw_base::{Crossing, NoMemory};
-use vsw_core::Core;
 use vsw_lookup::{Lookup, Pass};
 use vsw_policy::{Command, Refusal};
 use vsw_port::Outcome;
-use vsw_story::PortStory;
 
 /// Entries that a pass may make in all.
 const MOST: u32 = 1 << 27;

@@ -6,3 +6,4 @@ mod open;
 mod port;
 
 pub use port::SolePort;
+pub use vsw_answer::{Core, Desk, RowAnswer, answer_by_row};

@@ -3,7 +3,7 @@
 ghost use Rattle.std.specs.Prelude.{◌≡◌, ◌≤◌, ◌<◌, ◌+◌, ◌-◌, ◌^◌, ◌++◌, [], ℕ, List, not, true, length, IfOk, OnOk, OnErr};
 ghost use Rattle.vsw_base.specs.Frame.{Parts};
 ghost use Rattle.vsw_commandfile.specs.declared.line.Line.{Line};
-ghost use Rattle.vsw_core.specs.Core.{IsOf};
+ghost use Rattle.vsw_answer.specs.Core.{IsOf};
 ghost use Rattle.vsw_history.specs.declared.event.Event.TheVariants as event;
 ghost use Rattle.vsw_history.specs.Calls.{Asked, Carried};
 ghost use Rattle.vsw_history.specs.Next.{IsDone};
@@ -21,14 +21,12 @@ use crate::caller::{Caller, ask, carry, refill};
 use crate::open::{callers, copied};
 use std::alloc::Global;
 use std::marker::Model;
-use vsw_answer::Desk;
+use vsw_answer::{Core, Desk, PortStory};
 use vsw_base::{Crossing, NoMemory, Stack};
-use vsw_core::Core;
 use vsw_history::Event;
 use vsw_lookup::{Lookup, Opened};
 use vsw_policy::{Command, Policy, Refusal};
 use vsw_port::Outcome;
-use vsw_story::PortStory;
 
 /// For how many entries each caller gets room at once, at least.
 const BATCH: u32 = 64;

@@ -15,7 +15,7 @@ use Rattle.vsw_policy.specs.Layers.{place_of}
 use Rattle.vsw_policy.specs.Sound.{is_listed}
 use Rattle.vsw_port.specs.Core.{entered}
 use Rattle.vsw_report.specs.declared.told.By.TheVariants as by
-use Rattle.vsw_sole.specs.Sole.{SoleSeen}
+use Rattle.vsw_transit.specs.Sole.{SoleSeen}
 use Rattle.vsw_report.specs.declared.told.What.TheVariants as what
 use Rattle.vsw_switch.specs.Does.{Does, told_at}
 use Rattle.vsw_switch.specs.Switch.{PortNow}

@@ -22,8 +22,7 @@ use vsw_frame::Frame;
 use vsw_merge::{Caller, merge};
 use vsw_ports::Port;
 use vsw_report::port_line;
-use vsw_sole::SolePort;
-use vsw_transit::{Room, transit};
+use vsw_transit::{Room, SolePort, transit};
 
 /// The most rows of a port that are reconciled at the end of a round.
 const RECONCILED: u32 = 256;

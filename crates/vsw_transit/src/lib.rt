@@ -8,3 +8,4 @@ mod room;
 pub use law::laws;
 pub use passing::{leave, transit};
 pub use room::Room;
+pub use vsw_sole::{Core, Desk, RowAnswer, SolePort, answer_by_row};

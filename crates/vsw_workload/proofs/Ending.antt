@@ -19,10 +19,10 @@ use Rattle.vsw_replay.proofs.Carried.{none_so_far, rounds_of}
 use Rattle.vsw_replay.proofs.Cuts.{all_within, within_none}
 use Rattle.vsw_report.specs.declared.round.Round.{Round}
 use Rattle.vsw_replay.specs.Private.SoFar.{AreSoFar}
-use Rattle.vsw_rounds.proofs.Totals.{total_map}
-use Rattle.vsw_switch.specs.Close.{entries_in}
-use Rattle.vsw_switch.specs.Switch.{AllStandAt, IsAt, PortNow, SwitchNow}
-use Rattle.vsw_switch.specs.Tally.{none}
+use Rattle.vsw_replay.proofs.Totals.{total_map}
+use Rattle.vsw_replay.specs.Close.{entries_in}
+use Rattle.vsw_replay.specs.Switch.{AllStandAt, IsAt, PortNow, SwitchNow}
+use Rattle.vsw_replay.specs.Tally.{none}
 use Rattle.vsw_workload.specs.declared.run.Run.{Run}
 use Rattle.vsw_workload.specs.declared.run.WorkloadEnd.TheVariants as end
 use Rattle.vsw_workload.specs.Draws.{records_left}

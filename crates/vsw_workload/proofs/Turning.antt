@@ -11,9 +11,9 @@ use Rattle.vsw_replay.specs.Private.Cut.{is_named_by, IsCut, IsNextCut}
 use Rattle.vsw_replay.specs.Private.SoFar.{AreSoFar}
 use Rattle.vsw_replay.proofs.Turning.{rounds_run, short_push}
 use Rattle.vsw_report.specs.declared.round.Round.{Round}
-use Rattle.vsw_rounds.proofs.Totals.{total_append}
-use Rattle.vsw_switch.specs.Switch.{SwitchNow, IsAt}
-use Rattle.vsw_switch.specs.Tally.{both, tally_in}
+use Rattle.vsw_replay.proofs.Totals.{total_append}
+use Rattle.vsw_replay.specs.Switch.{SwitchNow, IsAt}
+use Rattle.vsw_replay.specs.Tally.{both, tally_in}
 use Rattle.vsw_workload.specs.declared.run.Run.{Run}
 use Rattle.vsw_workload.specs.Draws.{Draws, records_left}
 use Rattle.vsw_workload.specs.Going.{Goes, IsTurn, tally_through}

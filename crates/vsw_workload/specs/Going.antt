@@ -8,11 +8,11 @@ use Rattle.vsw_replay.specs.Private.Cut.{IsCut}
 use Rattle.vsw_replay.specs.Private.SoFar.{AreSoFar}
 use Rattle.vsw_report.specs.declared.round.Round.{Round}
 use Rattle.vsw_report.specs.Short.{are_short}
-use Rattle.vsw_rounds.specs.Round.{RunsRound}
-use Rattle.vsw_switch.specs.Close.{last_of}
-use Rattle.vsw_switch.specs.Switch.{SwitchNow, IsAt}
-use Rattle.vsw_switch.specs.Tally.{both}
-use Rattle.vsw_switch.specs.declared.tally.Tally.{Tally}
+use Rattle.vsw_replay.specs.Round.{RunsRound}
+use Rattle.vsw_replay.specs.Close.{last_of}
+use Rattle.vsw_replay.specs.Switch.{SwitchNow, IsAt}
+use Rattle.vsw_replay.specs.Tally.{both}
+use Rattle.vsw_replay.specs.SwitchTally.{Tally}
 use Rattle.vsw_workload.specs.Draws.{records_left}
 use Rattle.vsw_workload.specs.declared.run.Run.{Run}
 use Rattle.vsw_workload.specs.declared.run.WorkloadEnd.{WorkloadEnd}

@@ -1,3 +1,5 @@
 pub mod Draws
 pub mod Going
 pub mod Runs
+pub use Rattle.vsw_replay.specs.Runs as ReplayRuns
+pub use Rattle.vsw_replay.specs.declared.ending.TraceEnd

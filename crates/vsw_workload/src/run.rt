@@ -10,7 +10,7 @@ ghost use Rattle.vsw_policyfile.specs.declared.file.PolicyFile.{PolicyFile};
 ghost use Rattle.vsw_ports.specs.Ports.{ports_of};
 ghost use Rattle.vsw_promise.specs.Generated.{Summarizes, alone_under};
 ghost use Rattle.vsw_promise.specs.Jobs.{Setting};
-ghost use Rattle.vsw_switch.specs.Switch.{AreServed, IsAt};
+ghost use Rattle.vsw_replay.specs.Switch.{AreServed, IsAt};
 ghost use Rattle.vsw_workload.specs.Going.{Goes, IsTurn, end_of};
 ghost use Rattle.vsw_workload.specs.Runs.{RunsWorkload};
 
@@ -21,9 +21,8 @@ use vsw_base::{Items, NoMemory};
 use vsw_generate::Workload;
 use vsw_host::Host;
 use vsw_pcap::Batch;
-use vsw_rounds::run_round;
+use vsw_replay::{Switch, Tally, run_round};
 use vsw_schedule::Schedule;
-use vsw_switch::{Switch, Tally};
 
 /// How a run over a workload ended.
 #[derive(Clone, Copy)]

@@ -5,7 +5,7 @@ ghost use Rattle.vsw_promise.specs.Summary as spec;
 
 use itoa::Buffer;
 use vsw_base::NoMemory;
-use vsw_switch::Tally;
+use vsw_replay::Tally;
 
 fn put(out: &mut Vec<u8>, bytes: &[u8]) -> Result<(), NoMemory>
     ensures { OnOk result (out.new.items ≡ out.old.items ++ bytes.now) }

@@ -17,8 +17,8 @@ use Rattle.vsw_lean.specs.Good.{Good, Row}
 use Rattle.vsw_lean.specs.Law.{stop_by}
 use Rattle.vsw_port.specs.declared.crossing.Outcome.{Outcome}
 use Rattle.vsw_port.specs.Crossed.{EditsPass}
-use Rattle.vsw_story.specs.Law.{row_found}
-use Rattle.vsw_story.specs.Rows.{IsGoodRow, words_of}
+use Rattle.vsw_core.specs.Law.{row_found}
+use Rattle.vsw_core.specs.Rows.{IsGoodRow, words_of}
 use Rattle.vsw_transpose.specs.declared.act.Act.{Act}
 use Rattle.vsw_transpose.specs.Apply.{apply}
 use Rattle.vsw_transpose.specs.Fits as fit

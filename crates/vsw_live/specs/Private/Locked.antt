@@ -1,13 +1,13 @@
 -- What lies under a port's lock, and what its calls tell.
 use Rattle.std.specs.Prelude.{◌≡◌, ◌⊎◌, ℕ, List, take}
-use Rattle.vsw_answer.specs.Answers.{Pass}
+use Rattle.vsw_transit.specs.Answers.{Pass}
 use Rattle.vsw_base.specs.declared.fate.Cause.TheVariants.{Memory}
 use Rattle.vsw_base.specs.declared.fate.Fate.{Fate}
 use Rattle.vsw_base.specs.declared.fate.Fate.TheVariants.{Drop}
 use Rattle.vsw_base.specs.declared.flow.Crossing.{Crossing}
 use Rattle.vsw_base.specs.Frame.{Parts}
 use Rattle.vsw_commit.specs.Fate.{fate_at}
-use Rattle.vsw_core.specs.Core.{IsOf, Looking}
+use Rattle.vsw_transit.specs.Core.{IsOf, Looking}
 use Rattle.vsw_history.specs.Calls.{Call, Carried, HasBytes}
 use Rattle.vsw_history.specs.History.{AllRight, Opening, replay}
 use Rattle.vsw_layer.specs.Layer.{LayerSeen}

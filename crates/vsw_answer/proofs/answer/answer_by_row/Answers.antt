@@ -1,7 +1,7 @@
 use Rattle.std.proofs.Common.{rules, ◌≡◌, sym}
 use Rattle.vsw_answer.proofs.Looks.{misses, sees_of, tells_of}
 use Rattle.vsw_base.specs.declared.packet.Control.TheVariants as control
-use Rattle.vsw_story.specs.Rows.{opening_of}
+use Rattle.vsw_core.specs.Rows.{opening_of}
 use Rattle.vsw_answer.proofs.answer.answer_by_row.Goals as goal
 
 pub returns-in-Miss-clause-tells : goal.returns-in-Miss-clause-tells

@@ -5,7 +5,7 @@ use Rattle.vsw_history.specs.declared.event.Event.TheVariants as event
 use Rattle.vsw_history.specs.Calls.{named}
 use Rattle.vsw_history.specs.History.{IsRight}
 use Rattle.vsw_rows.specs.Rows.{HasRoom, Spares, layers_after, layers_then}
-use Rattle.vsw_story.specs.Rows.{opening_of}
+use Rattle.vsw_rows.specs.StoryRows.{opening_of}
 use Rattle.vsw_core.proofs.crossing.follow.Goals as goal
 
 pub last_of-requires : goal.last_of-requires

@@ -1,7 +1,7 @@
 use Rattle.std.proofs.Common.{◌≡◌, ◌-◌, ℕ, List}
 use Rattle.vsw_host.specs.Outside.{Outside}
 use Rattle.vsw_promise.specs.Jobs.{Setting}
-use Rattle.vsw_switch.specs.Switch.{AreServed}
+use Rattle.vsw_rounds.specs.Switch.{AreServed}
 use Rattle.vsw_replay.specs.Private.Going.{IsFilled, IsNear}
 use Rattle.vsw_replay.proofs.trace.run_stretches.Given as goal
 

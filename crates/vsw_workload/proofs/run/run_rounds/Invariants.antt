@@ -1,7 +1,7 @@
 use Rattle.std.proofs.Common.{◌≡◌, ◌≤◌, ◌+◌, List, []}
 use Rattle.vsw_pcap.specs.declared.capture.Record.{Record}
 use Rattle.vsw_promise.specs.Jobs.{Setting}
-use Rattle.vsw_switch.specs.Switch.{AreServed}
+use Rattle.vsw_replay.specs.Switch.{AreServed}
 use Rattle.vsw_workload.specs.Going.{Goes}
 use Rattle.vsw_workload.proofs.run.run_rounds.Given as goal
 

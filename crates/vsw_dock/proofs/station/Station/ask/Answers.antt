@@ -1,7 +1,7 @@
 use Rattle.std.proofs.Common.{refl, subst}
 use Rattle.vsw_history.specs.Calls.{Ask}
 use Rattle.vsw_live.specs.Calls.{asked}
-use Rattle.vsw_story.specs.Rows.{opening_of}
+use Rattle.vsw_live.specs.StoryRows.{opening_of}
 use Rattle.vsw_dock.proofs.Working.{asked_so, counted_on}
 use Rattle.vsw_dock.specs.Private.Does.{Does}
 use Rattle.vsw_dock.specs.Seen.{StationSeen}

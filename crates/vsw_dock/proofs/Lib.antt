@@ -3,3 +3,4 @@ pub mod Placing
 pub mod Resting
 pub mod Same
 pub mod Working
+pub mod Sharing

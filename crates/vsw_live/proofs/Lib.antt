@@ -5,3 +5,4 @@ pub mod Fasts
 pub mod Answered
 pub mod Openings
 pub mod Names
+pub mod Sharing

@@ -1,0 +1,16 @@
+use Rattle.vsw_actors.proofs.Doing.{ready_of}
+use Rattle.vsw_deal.specs.Work.{job_in}
+use Rattle.vsw_dock.specs.Docks.{is_of, pass_in, permits, port_in}
+use Rattle.vsw_harbour.proofs.Standing.{fit_long, own_at_ports, works_one}
+use Rattle.vsw_harbour.proofs.row.step_lanes.Goals as goal
+
+pub step_at-requires-clause-same : goal.step_at-requires-clause-same
+step_at-requires-clause-same g c = fit_long c.args.caller 1 c.args.docks.now c.args.lanes.now c.requires.fit
+
+pub step_at-requires-clause-ready : goal.step_at-requires-clause-ready
+step_at-requires-clause-ready g c = ready_of port_in pass_in job_in is_of permits c.args.caller 0 c.args.job.now c.args.docks.now c.args.lanes.now c.requires.own c.requires.fit
+
+pub returns : goal.returns
+returns g c = record {
+  works = λ hs calls s. works_one c.args.place c.args.caller (job_in c.args.job.now) c.args.docks.now hs calls c.args.lanes.now c.step_at.new.lanes (own_at_ports c.args.caller c.args.job.now c.args.docks.now c.requires.own) s (c.step_at.ensures.fit c.args.caller 0 c.requires.fit) c.step_at.ensures.does;
+}

@@ -1,0 +1,54 @@
+-- What callers did between two meetings, and what they tell.
+use Rattle.std.specs.Prelude.{◌≡◌, ℕ, List, length, map, filter, not, Some}
+use Rattle.std.specs.List.{slice_get}
+use Rattle.vsw_actors.specs.declared.lane.Lane.{Lane}
+use Rattle.vsw_commandfile.specs.declared.line.Line.{Line}
+use Rattle.vsw_dock.specs.Seen.{DockSeen, StationSeen}
+use Rattle.vsw_history.specs.declared.event.Event.{Event}
+use Rattle.vsw_history.specs.Calls.{Ask, Call}
+use Rattle.vsw_many.specs.Actors.{AreRows}
+use Rattle.vsw_many.specs.Phases as many
+use Rattle.vsw_many.specs.Rounds.{AreJournals, calls_by_port}
+use Rattle.vsw_policy.specs.Layers.{place_of}
+use Rattle.vsw_ports.specs.Ports.{ports_of}
+use Rattle.vsw_promise.specs.Jobs.{Placed, Setting}
+use Rattle.vsw_crew_law.specs.Turns.{PlacedTurns, append_each}
+use Rattle.vsw_harbour.specs.Harbour.{HarbourSeen, callers, ports_in}
+use Rattle.vsw_harbour.specs.Standing.{RowsMay, RowsStand}
+
+-- since all stood at these histories, of whose rounds these calls are told, each caller has done its own of these jobs; and all have met again
+pub record Did (h : HarbourSeen) (hs : List (List Event)) (calls : List (List Call)) (jobs : List Placed) (met : List (List (Lane StationSeen))) : Type 0 where
+  pub histories : List (List Event)
+  pub rows : List (List many.Lane)
+  pub size : length rows ≡ callers h
+  pub done : AreRows h.controllers jobs 0 0 (ports_in h.docks) hs histories rows
+  pub journals : AreJournals (callers h) (ports_in h.docks) hs histories
+  pub stand : RowsStand 0 h.docks histories (append_each calls (calls_by_port (ports_in h.docks) rows)) met
+
+-- since then these jobs were done in turn at the ports of a run
+pub record Turned (h : HarbourSeen) (s : Setting) (hs : List (List Event)) (calls : List (List Call)) (jobs : List Placed) (met : List (List (Lane StationSeen))) : Type 0 where
+  pub histories : List (List Event)
+  pub more : List (List Call)
+  pub turns : PlacedTurns 0 (ports_of s.policy) jobs hs histories more
+  pub journals : AreJournals (callers h) (ports_of s.policy) hs histories
+  pub stand : RowsStand 0 h.docks histories (append_each calls more) met
+
+-- callers that stand somewhere, and may make so many entries
+pub record MayGo (h : HarbourSeen) (needs : List ℕ) (rows : List (List (Lane StationSeen))) : Type 0 where
+  pub histories : List (List Event)
+  pub calls : List (List Call)
+  pub size : length rows ≡ callers h
+  pub stand : RowsStand 0 h.docks histories calls rows
+  pub may : RowsMay needs rows
+
+-- these are the commands at these places of the file
+abbrev pub AreAt : List Line → List ℕ → List Line → Type 0
+AreAt lines places cs = map (λ place. slice_get lines place) places ≡ map Some cs
+
+-- a command at the place of its port among these
+abbrev pub placed_ask : List DockSeen → Line → Placed
+placed_ask ds l = (place_of l.port (map (λ d. d.number) ds), Ask l)
+
+-- of these commands those that run before the packets, each at its place
+abbrev pub asks_before : List DockSeen → List Line → List Placed
+asks_before ds cs = map (placed_ask ds) (filter (λ l. not l.during) cs)

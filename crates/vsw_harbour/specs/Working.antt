@@ -1,0 +1,34 @@
+-- The callers of a round at work.
+use Rattle.std.specs.Prelude.{◌≡◌, ℕ, suc, List, [], ◌∷◌, ◌++◌}
+use Rattle.vsw_actors.specs.declared.lane.Lane.{Lane}
+use Rattle.vsw_live.specs.Core.{IsOf}
+use Rattle.vsw_dock.specs.Docks.{pass_in, port_in, tells}
+use Rattle.vsw_dock.specs.Seen.{DockSeen, StationSeen}
+use Rattle.vsw_history.specs.Calls.{Call, calls_of}
+use Rattle.vsw_history.specs.declared.event.Event.{Event}
+use Rattle.vsw_many.specs.Actors.{AtWork}
+use Rattle.vsw_many.specs.Phases.{Track}
+use Rattle.vsw_promise.specs.Jobs.{Placed, deal}
+use Rattle.vsw_harbour.specs.Harbour.{ports_in}
+
+-- a lane on this track: the pass is where the track is, and the station tells these calls and then the track's
+pub record IsWorking (d : DockSeen) (told : List Call) (t : Track) (l : Lane StationSeen) : Type 0 where
+  pub of : IsOf d.live.looking l.station.pass
+  pub now : t.now ≡ pass_in l.station
+  pub tells_all : tells l.station (told ++ t.calls)
+
+abbrev pub AreWorking : ℕ → List DockSeen → List (List Call) → List Track → List (Lane StationSeen) → Type 0
+AreWorking k [] [] [] [] = Unit {0}
+AreWorking k (d ∷ ds) (c ∷ cs) (t ∷ ts) (l ∷ ls) = IsWorking d (calls_of (port_in d).controllers k c) t l × AreWorking k ds cs ts ls
+AreWorking k _ _ _ _ = ⊥
+
+-- caller k has done these jobs since all stood at these histories, where of these calls its own were told
+pub record RowWorks (k : ℕ) (ds : List DockSeen) (hs : List (List Event)) (calls : List (List Call)) (row : List (Lane StationSeen)) (done : List Placed) : Type 0 where
+  pub tracks : List Track
+  pub work : AtWork 0 k (ports_in ds) hs tracks done
+  pub lanes : AreWorking k ds calls tracks row
+
+-- all callers, from caller k on, have done their own of these jobs
+abbrev pub RowsWork : List ℕ → ℕ → List DockSeen → List (List Event) → List (List Call) → List Placed → List (List (Lane StationSeen)) → Type 0
+RowsWork cs k ds hs calls jobs [] = Unit {0}
+RowsWork cs k ds hs calls jobs (r ∷ rs) = RowWorks k ds hs calls r (deal cs k jobs) × RowsWork cs (suc k) ds hs calls jobs rs

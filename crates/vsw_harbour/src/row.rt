@@ -1,0 +1,55 @@
+//! The lanes of a caller.
+
+ghost use Rattle.std.specs.Prelude.{◌≡◌, ◌≤◌, ◌∷◌, [], List, length};
+ghost use Rattle.vsw_actors.specs.Lanes.{AreFit, IsOwn, IsTaken};
+ghost use Rattle.vsw_deal.specs.Work.{job_in};
+ghost use Rattle.vsw_dock.specs.Docks.{is_of, pass_in, permits, port_in, takes};
+ghost use Rattle.vsw_harbour.specs.Standing.{RowStands};
+ghost use Rattle.vsw_harbour.specs.Working.{RowWorks};
+ghost use Rattle.vsw_history.specs.Calls.{Call};
+ghost use Rattle.vsw_history.specs.declared.event.Event.{Event};
+
+use std::alloc::Global;
+use std::sync::Wait;
+use vsw_actors::{Lane, step_at};
+use vsw_deal::Work;
+use vsw_dock::{Dock, Station, Watch};
+use vsw_live::Naming;
+
+/// The lanes of a caller do a job at the port at a place, and nothing at the others.
+fn step_lanes<'w, 'g, J: Naming, G: Watch, R: Wait>(
+    rt: &R,
+    alloc: Global,
+    docks: &[Dock<'g, J, G>],
+    lanes: &mut [Lane<Station>],
+    caller: usize,
+    place: usize,
+    job: &Work<'w>,
+)
+    requires few { length docks.now ≤ 16 }
+    requires own { IsOwn port_in job_in caller job.now docks.now }
+    requires taken { IsTaken takes 0 place job.now docks.now }
+    requires fit { AreFit pass_in is_of permits caller 1 docks.now lanes.old }
+    ensures works { (hs : List (List Event)) (calls : List (List Call)) → RowStands caller docks.now hs calls lanes.old → RowWorks caller docks.now hs calls lanes.new ((place, job_in job.now) ∷ []) }
+{
+    step_at(rt, alloc, docks, lanes, 0, place, job);
+}
+
+/// The row of a caller does a job at the port at a place, and nothing at the others.
+pub fn step<'w, 'g, J: Naming, G: Watch, R: Wait>(
+    rt: &R,
+    alloc: Global,
+    docks: &[Dock<'g, J, G>],
+    row: &mut Vec<Lane<Station>>,
+    caller: usize,
+    place: usize,
+    job: &Work<'w>,
+)
+    requires few { length docks.now ≤ 16 }
+    requires own { IsOwn port_in job_in caller job.now docks.now }
+    requires taken { IsTaken takes 0 place job.now docks.now }
+    requires fit { AreFit pass_in is_of permits caller 1 docks.now row.old.items }
+    ensures works { (hs : List (List Event)) (calls : List (List Call)) → RowStands caller docks.now hs calls row.old.items → RowWorks caller docks.now hs calls row.new.items ((place, job_in job.now) ∷ []) }
+{
+    step_lanes(rt, alloc, docks, row.as_mut_slice(), caller, place, job);
+}

@@ -7,7 +7,6 @@ use crate::given::is_good;
 use crate::packets::{FAR, OWN, id, packet};
 use std::alloc::Global;
 use std::marker::Model;
-use std::process::Abort;
 use vsw_base::{Control, Dir, Fate, Header, Items, Set, Stack, Ufid, Verdict};
 use vsw_core::{Core, Reconciled};
 use vsw_layer::LayerSpec;
@@ -262,75 +261,212 @@ fn opened(alloc: Global, rule: &Command) -> Option<Port> {
     if made { Some(port) } else { None }
 }
 
-/// Whether packets of this identity pass by a row, with this source port and until this moment.
-fn passes(port: &mut Port, id: &Ufid, source: u16, until: u64, count: u32) -> bool {
-    port.look(id)
-        == Some(Seen::Row {
+/// What is tried at a port, and what must come of it. Packets are told by the place of their identity among some.
+#[derive(Clone, Copy)]
+enum Step {
+    /// A packet passes, as an entry or as a read.
+    Passes {
+        who: usize,
+        moment: u64,
+        entry: bool,
+    },
+    /// What a look then tells.
+    Sees {
+        who: usize,
+        seen: Seen,
+    },
+    /// The command is done.
+    Obeys,
+    /// The row is compared that stands so many places behind where the search begins.
+    Compares {
+        who: usize,
+        behind: u32,
+        found: Reconciled,
+    },
+}
+
+fn who(step: &Step) -> usize {
+    match step {
+        Step::Passes { who, .. } => *who,
+        Step::Sees { who, .. } => *who,
+        Step::Obeys => 0,
+        Step::Compares { who, .. } => *who,
+    }
+}
+
+/// Whether a step with packets of this identity, or with this command, comes out as it says.
+fn comes_out(port: &mut Port, id: &Ufid, command: &Command, step: &Step) -> bool {
+    match *step {
+        Step::Passes { moment, entry, .. } => port.send(id, moment) == Some((entry, PASS)),
+        Step::Sees { seen, .. } => port.look(id) == Some(seen),
+        Step::Obeys => port.ask(command),
+        Step::Compares { behind, found, .. } => {
+            behind < 8 && port.reconcile(id, behind) == found
+        }
+    }
+}
+
+/// The place of the first step that doesn't come out as it says.
+fn first_wrong(port: &mut Port, ids: &[Ufid], command: &Command, steps: &[Step]) -> Option<usize> {
+    for place in 0..steps.len() {
+        let step = &steps[place];
+        match ids.get(who(step)) {
+            Some(id) => {
+                if !comes_out(port, id, command, step) {
+                    return Some(place);
+                }
+            }
+            None => return Some(place),
+        }
+    }
+    None
+}
+
+const ALWAYS: u64 = u64::MAX;
+
+const KEPT: [Step; 9] = [
+    Step::Sees {
+        who: 0,
+        seen: Seen::None {
+            generation: 4,
+            count: 3,
+        },
+    },
+    Step::Passes {
+        who: 0,
+        moment: 0,
+        entry: false,
+    },
+    Step::Sees {
+        who: 0,
+        seen: Seen::Row {
             verdict: Verdict::Pass,
-            port: Some(source),
-            until,
-            count,
-        })
-}
-
-fn misses(port: &mut Port, id: &Ufid, generation: u32, count: u32) -> bool {
-    port.look(id) == Some(Seen::None { generation, count })
-}
-
-fn check_kept(rt: &impl Abort, port: &mut Port, out: &Ufid, other: &Command) {
-    assert!(rt; misses(port, out, 4, 3));
-    assert!(rt; port.send(out, 0) == Some((false, PASS)));
-    assert!(rt; passes(port, out, 1234, u64::MAX, 3));
-    assert!(rt; port.ask(other));
-    assert!(rt; misses(port, out, 5, 4));
-    assert!(rt; port.reconcile(out, 0) == Reconciled::Kept);
-    assert!(rt; passes(port, out, 1234, u64::MAX, 4));
-    assert!(rt; port.reconcile(out, 0) == Reconciled::Fresh);
-    assert!(rt; passes(port, out, 1234, u64::MAX, 4));
-}
+            port: Some(1234),
+            until: ALWAYS,
+            count: 3,
+        },
+    },
+    Step::Obeys,
+    Step::Sees {
+        who: 0,
+        seen: Seen::None {
+            generation: 5,
+            count: 4,
+        },
+    },
+    Step::Compares {
+        who: 0,
+        behind: 0,
+        found: Reconciled::Kept,
+    },
+    Step::Sees {
+        who: 0,
+        seen: Seen::Row {
+            verdict: Verdict::Pass,
+            port: Some(1234),
+            until: ALWAYS,
+            count: 4,
+        },
+    },
+    Step::Compares {
+        who: 0,
+        behind: 0,
+        found: Reconciled::Fresh,
+    },
+    Step::Sees {
+        who: 0,
+        seen: Seen::Row {
+            verdict: Verdict::Pass,
+            port: Some(1234),
+            until: ALWAYS,
+            count: 4,
+        },
+    },
+];
 
 #[test]
 fn row_that_a_command_leaves_as_it_is_is_kept(rt: HostRuntime) {
     let rule = put_rule(rt.alloc(), 5, Action::Allow, false);
     let mut port = opened(rt.alloc(), &rule).expect(&rt, "memory");
     let out = id(Dir::Out, OWN, FAR).expect(&rt, "a stack");
-    check_kept(&rt, &mut port, &out, &add_group(rt.alloc(), 2, Dir::In));
+    let other = add_group(rt.alloc(), 2, Dir::In);
+    assert_eq!(rt; first_wrong(&mut port, &[out], &other, &KEPT), None);
 }
 
-fn check_edited(rt: &impl Abort, port: &mut Port, out: &Ufid, other: &Command) {
-    assert!(rt; port.send(out, 0) == Some((false, PASS)));
-    assert!(rt; passes(port, out, 40_000, u64::MAX, 3));
-    assert!(rt; port.ask(other));
-    assert!(rt; port.reconcile(out, 0) == Reconciled::Changed);
-    assert!(rt; passes(port, out, 50_000, u64::MAX, 4));
-    assert!(rt; port.reconcile(out, 0) == Reconciled::Fresh);
-}
+const EDITED: [Step; 6] = [
+    Step::Passes {
+        who: 0,
+        moment: 0,
+        entry: false,
+    },
+    Step::Sees {
+        who: 0,
+        seen: Seen::Row {
+            verdict: Verdict::Pass,
+            port: Some(40_000),
+            until: ALWAYS,
+            count: 3,
+        },
+    },
+    Step::Obeys,
+    Step::Compares {
+        who: 0,
+        behind: 0,
+        found: Reconciled::Changed,
+    },
+    Step::Sees {
+        who: 0,
+        seen: Seen::Row {
+            verdict: Verdict::Pass,
+            port: Some(50_000),
+            until: ALWAYS,
+            count: 4,
+        },
+    },
+    Step::Compares {
+        who: 0,
+        behind: 0,
+        found: Reconciled::Fresh,
+    },
+];
 
 #[test]
 fn row_whose_packets_are_edited_otherwise_is_changed(rt: HostRuntime) {
     let mut port = opened(rt.alloc(), &put_port(rt.alloc(), 40_000)).expect(&rt, "memory");
     let out = id(Dir::Out, OWN, FAR).expect(&rt, "a stack");
-    check_edited(&rt, &mut port, &out, &put_port(rt.alloc(), 50_000));
+    let other = put_port(rt.alloc(), 50_000);
+    assert_eq!(rt; first_wrong(&mut port, &[out], &other, &EDITED), None);
 }
 
-fn check_dropped(rt: &impl Abort, port: &mut Port, out: &Ufid, other: &Command) {
-    let verdict = Verdict::Rule {
-        controller: 1,
-        layer: 10,
-        group: 1,
-        rule: 6,
-    };
-    assert!(rt; port.send(out, 0) == Some((false, PASS)));
-    assert!(rt; port.ask(other));
-    assert!(rt; port.reconcile(out, 0) == Reconciled::Changed);
-    let seen = Seen::Row {
-        verdict,
-        port: None,
-        until: u64::MAX,
-        count: 4,
-    };
-    assert!(rt; port.look(out) == Some(seen));
-}
+const DROPPED: Verdict = Verdict::Rule {
+    controller: 1,
+    layer: 10,
+    group: 1,
+    rule: 6,
+};
+
+const DROPS: [Step; 4] = [
+    Step::Passes {
+        who: 0,
+        moment: 0,
+        entry: false,
+    },
+    Step::Obeys,
+    Step::Compares {
+        who: 0,
+        behind: 0,
+        found: Reconciled::Changed,
+    },
+    Step::Sees {
+        who: 0,
+        seen: Seen::Row {
+            verdict: DROPPED,
+            port: None,
+            until: ALWAYS,
+            count: 4,
+        },
+    },
+];
 
 #[test]
 fn row_whose_packets_are_dropped_now_is_changed(rt: HostRuntime) {
@@ -338,19 +474,45 @@ fn row_whose_packets_are_dropped_now_is_changed(rt: HostRuntime) {
     let mut port = opened(rt.alloc(), &rule).expect(&rt, "memory");
     let out = id(Dir::Out, OWN, FAR).expect(&rt, "a stack");
     let drop = put_rule(rt.alloc(), 6, Action::Drop, false);
-    check_dropped(&rt, &mut port, &out, &drop);
+    assert_eq!(rt; first_wrong(&mut port, &[out], &drop, &DROPS), None);
 }
 
-fn check_cleared(rt: &impl Abort, port: &mut Port, out: &Ufid, other: &Command) {
-    assert!(rt; port.send(out, 0) == Some((false, PASS)));
-    assert!(rt; port.reconcile(out, 1) == Reconciled::Cleared);
-    assert!(rt; port.ask(other));
-    assert!(rt; port.reconcile(out, 0) == Reconciled::Cleared);
-    assert!(rt; misses(port, out, 5, 4));
-    // The pair that it makes.
-    assert!(rt; port.send(out, 1_000) == Some((true, PASS)));
-    assert!(rt; port.reconcile(out, 0) == Reconciled::Fresh);
-}
+/// The pair that the last packet makes is held by its own row.
+const CLEARED: [Step; 7] = [
+    Step::Passes {
+        who: 0,
+        moment: 0,
+        entry: false,
+    },
+    Step::Compares {
+        who: 0,
+        behind: 1,
+        found: Reconciled::Cleared,
+    },
+    Step::Obeys,
+    Step::Compares {
+        who: 0,
+        behind: 0,
+        found: Reconciled::Cleared,
+    },
+    Step::Sees {
+        who: 0,
+        seen: Seen::None {
+            generation: 5,
+            count: 4,
+        },
+    },
+    Step::Passes {
+        who: 0,
+        moment: 1_000,
+        entry: true,
+    },
+    Step::Compares {
+        who: 0,
+        behind: 0,
+        found: Reconciled::Fresh,
+    },
+];
 
 #[test]
 fn row_whose_packets_would_make_a_pair_is_cleared(rt: HostRuntime) {
@@ -358,18 +520,52 @@ fn row_whose_packets_would_make_a_pair_is_cleared(rt: HostRuntime) {
     let mut port = opened(rt.alloc(), &rule).expect(&rt, "memory");
     let out = id(Dir::Out, OWN, FAR).expect(&rt, "a stack");
     let stateful = put_rule(rt.alloc(), 5, Action::Allow, true);
-    check_cleared(&rt, &mut port, &out, &stateful);
+    assert_eq!(rt; first_wrong(&mut port, &[out], &stateful, &CLEARED), None);
 }
 
-fn check_later(rt: &impl Abort, port: &mut Port, out: &Ufid, back: &Ufid) {
-    assert!(rt; port.send(out, 0) == Some((true, PASS)));
-    assert!(rt; passes(port, out, 1236, 60_000_000, 4));
-    // The answer renews the last use of their pair.
-    assert!(rt; port.send(back, 70_000_000) == Some((true, PASS)));
-    assert!(rt; misses(port, out, 5, 5));
-    assert!(rt; port.reconcile(out, 0) == Reconciled::Kept);
-    assert!(rt; passes(port, out, 1236, 130_000_000, 5));
-}
+/// The answer renews the last use of their pair.
+const LATER: [Step; 6] = [
+    Step::Passes {
+        who: 0,
+        moment: 0,
+        entry: true,
+    },
+    Step::Sees {
+        who: 0,
+        seen: Seen::Row {
+            verdict: Verdict::Pass,
+            port: Some(1236),
+            until: 60_000_000,
+            count: 4,
+        },
+    },
+    Step::Passes {
+        who: 1,
+        moment: 70_000_000,
+        entry: true,
+    },
+    Step::Sees {
+        who: 0,
+        seen: Seen::None {
+            generation: 5,
+            count: 5,
+        },
+    },
+    Step::Compares {
+        who: 0,
+        behind: 0,
+        found: Reconciled::Kept,
+    },
+    Step::Sees {
+        who: 0,
+        seen: Seen::Row {
+            verdict: Verdict::Pass,
+            port: Some(1236),
+            until: 130_000_000,
+            count: 5,
+        },
+    },
+];
 
 #[test]
 fn kept_row_has_the_until_of_now(rt: HostRuntime) {
@@ -379,5 +575,5 @@ fn kept_row_has_the_until_of_now(rt: HostRuntime) {
     let own = (OWN.0, 1236);
     let out = id(Dir::Out, own, FAR).expect(&rt, "a stack");
     let back = id(Dir::In, FAR, own).expect(&rt, "a stack");
-    check_later(&rt, &mut port, &out, &back);
+    assert_eq!(rt; first_wrong(&mut port, &[out, back], &rule, &LATER), None);
 }

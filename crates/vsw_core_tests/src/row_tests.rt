@@ -3,42 +3,145 @@
 use crate::desk::{Desk, Seen};
 use crate::packets::{FAR, OTHER, OWN, PUBLIC, id, packet};
 use crate::policies::{hiding, plain, published, tracked};
-use std::process::Abort;
 use vsw_base::{Cause, Control, Dir, Fate, Ufid, Verdict};
 
 const PASS: Fate = Fate::Pass { len: 44 };
 
-/// Whether a packet of this identity at this moment passed, as an entry or as a read.
-fn passes(desk: &mut Desk, id: &Ufid, moment: u64, entry: bool) -> bool {
-    desk.send(&packet(id, Control::None, moment)) == Some((entry, PASS))
+/// What is tried at a desk, and what must come of it. Packets are told by the place of their identity among some.
+#[derive(Clone, Copy)]
+enum Step {
+    /// A packet without a control passes, as an entry or as a read.
+    Passes {
+        who: usize,
+        moment: u64,
+        entry: bool,
+    },
+    /// A packet has this fate, as a read.
+    Ends {
+        who: usize,
+        control: Control,
+        moment: u64,
+        fate: Fate,
+    },
+    /// A row tells this verdict until a moment.
+    Tells {
+        who: usize,
+        verdict: Verdict,
+        until: u64,
+        count: u32,
+    },
+    /// No row answers.
+    Misses {
+        who: usize,
+        generation: u32,
+        count: u32,
+    },
 }
 
-/// Whether a row tells this verdict until a moment.
-fn tells(desk: &mut Desk, id: &Ufid, verdict: Verdict, until: u64, count: u32) -> bool {
-    desk.look(id)
-        == Some(Seen::Row {
+fn who(step: &Step) -> usize {
+    match step {
+        Step::Passes { who, .. } => *who,
+        Step::Ends { who, .. } => *who,
+        Step::Tells { who, .. } => *who,
+        Step::Misses { who, .. } => *who,
+    }
+}
+
+/// Whether a step with packets of this identity comes out as it says.
+fn comes_out(desk: &mut Desk, id: &Ufid, step: &Step) -> bool {
+    match *step {
+        Step::Passes { moment, entry, .. } => {
+            desk.send(&packet(id, Control::None, moment)) == Some((entry, PASS))
+        }
+        Step::Ends {
+            control,
+            moment,
+            fate,
+            ..
+        } => desk.send(&packet(id, control, moment)) == Some((false, fate)),
+        Step::Tells {
             verdict,
             until,
             count,
-        })
+            ..
+        } => {
+            let seen = Seen::Row {
+                verdict,
+                until,
+                count,
+            };
+            desk.look(id) == Some(seen)
+        }
+        Step::Misses {
+            generation,
+            count,
+            ..
+        } => desk.look(id) == Some(Seen::None { generation, count }),
+    }
 }
 
-/// Whether no row answers packets of this identity.
-fn misses(desk: &mut Desk, id: &Ufid, generation: u32, count: u32) -> bool {
-    desk.look(id) == Some(Seen::None { generation, count })
+/// The place of the first step that doesn't come out as it says.
+fn first_wrong(desk: &mut Desk, ids: &[Ufid], steps: &[Step]) -> Option<usize> {
+    for place in 0..steps.len() {
+        let step = &steps[place];
+        match ids.get(who(step)) {
+            Some(id) => {
+                if !comes_out(desk, id, step) {
+                    return Some(place);
+                }
+            }
+            None => return Some(place),
+        }
+    }
+    None
 }
 
-fn check_published(rt: &impl Abort, desk: &mut Desk, out: &Ufid, back: &Ufid) {
-    assert!(rt; misses(desk, out, 1, 0));
-    assert!(rt; passes(desk, out, 0, false));
-    assert!(rt; tells(desk, out, Verdict::Pass, u64::MAX, 0));
-    // The pair that is made holds what the row missed.
-    assert!(rt; passes(desk, back, 1_000, true));
-    assert!(rt; misses(desk, out, 2, 1));
-    assert!(rt; tells(desk, back, Verdict::Pass, 60_001_000, 1));
-    assert!(rt; passes(desk, out, 2_000, false));
-    assert!(rt; tells(desk, out, Verdict::Pass, 60_001_000, 1));
-}
+/// The pair that is made holds what the row missed.
+const PUBLISHED: [Step; 8] = [
+    Step::Misses {
+        who: 0,
+        generation: 1,
+        count: 0,
+    },
+    Step::Passes {
+        who: 0,
+        moment: 0,
+        entry: false,
+    },
+    Step::Tells {
+        who: 0,
+        verdict: Verdict::Pass,
+        until: u64::MAX,
+        count: 0,
+    },
+    Step::Passes {
+        who: 1,
+        moment: 1_000,
+        entry: true,
+    },
+    Step::Misses {
+        who: 0,
+        generation: 2,
+        count: 1,
+    },
+    Step::Tells {
+        who: 1,
+        verdict: Verdict::Pass,
+        until: 60_001_000,
+        count: 1,
+    },
+    Step::Passes {
+        who: 0,
+        moment: 2_000,
+        entry: false,
+    },
+    Step::Tells {
+        who: 0,
+        verdict: Verdict::Pass,
+        until: 60_001_000,
+        count: 1,
+    },
+];
 
 #[test]
 fn pair_that_a_row_missed_raises_the_generation(rt: HostRuntime) {
@@ -46,64 +149,124 @@ fn pair_that_a_row_missed_raises_the_generation(rt: HostRuntime) {
     let mut desk = Desk::open(rt.alloc(), policy, 64).expect(&rt, "memory");
     let out = id(Dir::Out, OWN, FAR).expect(&rt, "a stack");
     let back = id(Dir::In, FAR, PUBLIC).expect(&rt, "a stack");
-    check_published(&rt, &mut desk, &out, &back);
+    assert_eq!(rt; first_wrong(&mut desk, &[out, back], &PUBLISHED), None);
 }
 
-fn check_dropped(rt: &impl Abort, desk: &mut Desk, out: &Ufid) {
-    let dropped = Fate::Drop(Cause::Default {
-        controller: 2,
-        layer: 20,
-        dir: Dir::Out,
-    });
-    let verdict = Verdict::Default {
-        controller: 2,
-        layer: 20,
-        dir: Dir::Out,
-    };
-    let first = desk.send(&packet(out, Control::None, 0));
-    assert!(rt; first == Some((false, dropped)));
-    assert!(rt; tells(desk, out, verdict, u64::MAX, 0));
-    let second = desk.send(&packet(out, Control::None, 1_000));
-    assert!(rt; second == Some((false, dropped)));
-    assert!(rt; tells(desk, out, verdict, u64::MAX, 0));
-}
+const DEFAULT: Verdict = Verdict::Default {
+    controller: 2,
+    layer: 20,
+    dir: Dir::Out,
+};
+
+const BY_DEFAULT: Fate = Fate::Drop(Cause::Default {
+    controller: 2,
+    layer: 20,
+    dir: Dir::Out,
+});
+
+const DROPPED: [Step; 4] = [
+    Step::Ends {
+        who: 0,
+        control: Control::None,
+        moment: 0,
+        fate: BY_DEFAULT,
+    },
+    Step::Tells {
+        who: 0,
+        verdict: DEFAULT,
+        until: u64::MAX,
+        count: 0,
+    },
+    Step::Ends {
+        who: 0,
+        control: Control::None,
+        moment: 1_000,
+        fate: BY_DEFAULT,
+    },
+    Step::Tells {
+        who: 0,
+        verdict: DEFAULT,
+        until: u64::MAX,
+        count: 0,
+    },
+];
 
 #[test]
 fn drop_behind_a_layer_that_would_make_a_pair_leaves_a_row(rt: HostRuntime) {
     let policy = hiding(rt.alloc()).expect(&rt, "memory");
     let mut desk = Desk::open(rt.alloc(), policy, 64).expect(&rt, "memory");
     let out = id(Dir::Out, OTHER, FAR).expect(&rt, "a stack");
-    check_dropped(&rt, &mut desk, &out);
+    assert_eq!(rt; first_wrong(&mut desk, &[out], &DROPPED), None);
 }
 
-fn check_renewed(rt: &impl Abort, desk: &mut Desk, out: &Ufid) {
-    assert!(rt; passes(desk, out, 0, true));
-    assert!(rt; tells(desk, out, Verdict::Pass, 60_000_000, 1));
-    assert!(rt; passes(desk, out, 60_000_000, false));
-    // The last use is renewed, which shakes the row of the packet itself.
-    assert!(rt; passes(desk, out, 60_000_001, true));
-    assert!(rt; tells(desk, out, Verdict::Pass, 120_000_001, 2));
-}
+/// The last use is renewed, which shakes the row of the packet itself.
+const RENEWED: [Step; 5] = [
+    Step::Passes {
+        who: 0,
+        moment: 0,
+        entry: true,
+    },
+    Step::Tells {
+        who: 0,
+        verdict: Verdict::Pass,
+        until: 60_000_000,
+        count: 1,
+    },
+    Step::Passes {
+        who: 0,
+        moment: 60_000_000,
+        entry: false,
+    },
+    Step::Passes {
+        who: 0,
+        moment: 60_000_001,
+        entry: true,
+    },
+    Step::Tells {
+        who: 0,
+        verdict: Verdict::Pass,
+        until: 120_000_001,
+        count: 2,
+    },
+];
 
 #[test]
 fn late_packet_leaves_its_row_anew(rt: HostRuntime) {
     let policy = tracked(rt.alloc(), 100).expect(&rt, "memory");
     let mut desk = Desk::open(rt.alloc(), policy, 8).expect(&rt, "memory");
     let out = id(Dir::Out, OWN, FAR).expect(&rt, "a stack");
-    check_renewed(&rt, &mut desk, &out);
+    assert_eq!(rt; first_wrong(&mut desk, &[out], &RENEWED), None);
 }
 
-fn check_refused(rt: &impl Abort, desk: &mut Desk, own: &Ufid, other: &Ufid) {
-    assert!(rt; passes(desk, own, 0, true));
-    let full = Fate::Drop(Cause::Full {
-        controller: 1,
-        layer: 10,
-    });
-    let refused = desk.send(&packet(other, Control::None, 1_000));
-    assert!(rt; refused == Some((false, full)));
-    assert!(rt; misses(desk, other, 1, 1));
-    assert!(rt; tells(desk, own, Verdict::Pass, 60_000_000, 1));
-}
+const FULL: Fate = Fate::Drop(Cause::Full {
+    controller: 1,
+    layer: 10,
+});
+
+const REFUSED: [Step; 4] = [
+    Step::Passes {
+        who: 0,
+        moment: 0,
+        entry: true,
+    },
+    Step::Ends {
+        who: 1,
+        control: Control::None,
+        moment: 1_000,
+        fate: FULL,
+    },
+    Step::Misses {
+        who: 1,
+        generation: 1,
+        count: 1,
+    },
+    Step::Tells {
+        who: 0,
+        verdict: Verdict::Pass,
+        until: 60_000_000,
+        count: 1,
+    },
+];
 
 #[test]
 fn packet_whose_pair_is_refused_leaves_no_row(rt: HostRuntime) {
@@ -111,24 +274,56 @@ fn packet_whose_pair_is_refused_leaves_no_row(rt: HostRuntime) {
     let mut desk = Desk::open(rt.alloc(), policy, 64).expect(&rt, "memory");
     let own = id(Dir::Out, OWN, FAR).expect(&rt, "a stack");
     let other = id(Dir::Out, OTHER, FAR).expect(&rt, "a stack");
-    check_refused(&rt, &mut desk, &own, &other);
+    assert_eq!(rt; first_wrong(&mut desk, &[own, other], &REFUSED), None);
 }
 
-fn check_controlled(rt: &impl Abort, desk: &mut Desk, out: &Ufid) {
-    let syn = desk.send(&packet(out, Control::Syn, 0));
-    assert!(rt; syn == Some((false, PASS)));
-    assert!(rt; misses(desk, out, 1, 0));
-    assert!(rt; passes(desk, out, 1_000, false));
-    assert!(rt; tells(desk, out, Verdict::Pass, u64::MAX, 0));
-}
+const CONTROLLED: [Step; 4] = [
+    Step::Ends {
+        who: 0,
+        control: Control::Syn,
+        moment: 0,
+        fate: PASS,
+    },
+    Step::Misses {
+        who: 0,
+        generation: 1,
+        count: 0,
+    },
+    Step::Passes {
+        who: 0,
+        moment: 1_000,
+        entry: false,
+    },
+    Step::Tells {
+        who: 0,
+        verdict: Verdict::Pass,
+        until: u64::MAX,
+        count: 0,
+    },
+];
 
 #[test]
 fn packet_with_a_control_leaves_no_row(rt: HostRuntime) {
     let policy = plain(rt.alloc()).expect(&rt, "memory");
     let mut desk = Desk::open(rt.alloc(), policy, 64).expect(&rt, "memory");
     let out = id(Dir::Out, OWN, FAR).expect(&rt, "a stack");
-    check_controlled(&rt, &mut desk, &out);
+    assert_eq!(rt; first_wrong(&mut desk, &[out], &CONTROLLED), None);
 }
+
+/// A packet that leaves a row.
+const LEFT: [Step; 2] = [
+    Step::Passes {
+        who: 0,
+        moment: 0,
+        entry: false,
+    },
+    Step::Tells {
+        who: 0,
+        verdict: Verdict::Pass,
+        until: u64::MAX,
+        count: 0,
+    },
+];
 
 /// Sends packets from so many ports, of which each should have a row then.
 fn fill(desk: &mut Desk, count: u16) -> bool {
@@ -136,19 +331,32 @@ fn fill(desk: &mut Desk, count: u16) -> bool {
         let Some(out) = id(Dir::Out, (OWN.0, number), FAR) else {
             return false;
         };
-        if !passes(desk, &out, 0, false) || !tells(desk, &out, Verdict::Pass, u64::MAX, 0) {
+        if first_wrong(desk, &[out], &LEFT).is_some() {
             return false;
         }
     }
     true
 }
 
-fn check_full(rt: &impl Abort, desk: &mut Desk, first: &Ufid, ninth: &Ufid) {
-    assert!(rt; fill(desk, 8));
-    assert!(rt; passes(desk, ninth, 0, false));
-    assert!(rt; misses(desk, ninth, 1, 0));
-    assert!(rt; tells(desk, first, Verdict::Pass, u64::MAX, 0));
-}
+/// The first of the eight, and a ninth.
+const NINTH: [Step; 3] = [
+    Step::Passes {
+        who: 1,
+        moment: 0,
+        entry: false,
+    },
+    Step::Misses {
+        who: 1,
+        generation: 1,
+        count: 0,
+    },
+    Step::Tells {
+        who: 0,
+        verdict: Verdict::Pass,
+        until: u64::MAX,
+        count: 0,
+    },
+];
 
 #[test]
 fn ninth_flow_of_one_slot_leaves_the_eight_rows(rt: HostRuntime) {
@@ -156,5 +364,6 @@ fn ninth_flow_of_one_slot_leaves_the_eight_rows(rt: HostRuntime) {
     let mut desk = Desk::open(rt.alloc(), policy, 8).expect(&rt, "memory");
     let first = id(Dir::Out, (OWN.0, 0), FAR).expect(&rt, "a stack");
     let ninth = id(Dir::Out, (OWN.0, 8), FAR).expect(&rt, "a stack");
-    check_full(&rt, &mut desk, &first, &ninth);
+    assert!(&rt; fill(&mut desk, 8));
+    assert_eq!(rt; first_wrong(&mut desk, &[first, ninth], &NINTH), None);
 }

@@ -1,0 +1,10 @@
+mod Texts
+mod Taking
+mod Idle
+mod Meets
+mod Quiet
+mod Asking
+mod Doing
+mod Joining
+mod Told
+mod Between

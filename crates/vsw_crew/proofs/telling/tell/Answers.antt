@@ -1,0 +1,35 @@
+use Rattle.std.proofs.Common.{refl}
+use Rattle.vsw_dock.specs.Opening.{rows_in}
+use Rattle.vsw_harbour.specs.Harbour.{HarbourSeen}
+use Rattle.vsw_harbour.proofs.Gathering.{harbour_is}
+use Rattle.vsw_crew.specs.Private.Round.{numbers_in}
+use Rattle.vsw_crew.proofs.Told.{has_told, is_rising, is_sized, is_taken, plainly, whole_back}
+use Rattle.vsw_crew.proofs.telling.tell.Goals as goal
+
+pub say-requires-clause-sizes : goal.say-requires-clause-sizes
+say-requires-clause-sizes g c =
+    let h : HarbourSeen = c.args.harbour.now in
+    let i = plainly h _ _ _ _ (harbour_is _ h _ _ _ _ c.harbour.view_is c.harbour.invariant) in
+    let w = c.requires.worked in
+    let t = is_taken h w.0 w.1 c.args.first w.2 c.args.worked.befores.items c.deref-3.result.now c.in_ok-afters.afters.items c.deref-4.result.now c.in_ok-lines.lines.items c.args.worked.firsts.items c.args.worked.loose.items c.deref-5.result.now c.args.worked.rows.items c.deref-2.result.now
+    c.deref-3.ensures.value c.deref-4.ensures.value c.deref-5.ensures.value c.deref-2.ensures.value c.in_ok-afters.ensures c.in_ok-lines.ensures.lines w.3 in
+    is_sized h (numbers_in h) _ _ _ w.0 w.1 c.args.first w.2 c.deref-3.result.now c.deref-4.result.now c.in_ok-lines.lines.items c.args.worked.firsts.items c.deref-5.result.now (rows_in c.args.worked.rows.items) i t
+
+pub say-requires-clause-grows : goal.say-requires-clause-grows
+say-requires-clause-grows g c =
+    let h : HarbourSeen = c.args.harbour.now in
+    let w = c.requires.worked in
+    let t = is_taken h w.0 w.1 c.args.first w.2 c.args.worked.befores.items c.deref-3.result.now c.in_ok-afters.afters.items c.deref-4.result.now c.in_ok-lines.lines.items c.args.worked.firsts.items c.args.worked.loose.items c.deref-5.result.now c.args.worked.rows.items c.deref-2.result.now
+    c.deref-3.ensures.value c.deref-4.ensures.value c.deref-5.ensures.value c.deref-2.ensures.value c.in_ok-afters.ensures c.in_ok-lines.ensures.lines w.3 in
+    is_rising h w.0 w.1 c.args.first w.2 c.deref-3.result.now c.deref-4.result.now c.in_ok-lines.lines.items c.args.worked.firsts.items c.deref-5.result.now (rows_in c.args.worked.rows.items) t
+
+pub returns : goal.returns
+returns g c =
+    let h : HarbourSeen = c.args.harbour.now in
+    let i = plainly h _ _ _ _ (harbour_is _ h _ _ _ _ c.harbour.view_is c.harbour.invariant) in
+    record {
+      told = λ s hs packets asked w. has_told h _ _ s hs c.args.first packets c.deref-3.result.now c.deref-4.result.now c.in_ok-lines.lines.items c.args.worked.firsts.items c.deref-5.result.now (rows_in c.args.worked.rows.items) (rows_in c.take_all.new.rows.items) c.in_ok-short.short c.args.out.now.items c.say.new.out.items i
+          (whole_back c.args.worked.rows.items c.deref.result.now c.deref.ensures.value (c.if-not-are_whole.ensures refl)) c.in_ok-lines.ensures.rows c.in_ok-short.ensures.text c.in_ok-short.ensures.short asked
+          (is_taken h s hs c.args.first packets c.args.worked.befores.items c.deref-3.result.now c.in_ok-afters.afters.items c.deref-4.result.now c.in_ok-lines.lines.items c.args.worked.firsts.items c.args.worked.loose.items c.deref-5.result.now c.args.worked.rows.items c.deref-2.result.now
+          c.deref-3.ensures.value c.deref-4.ensures.value c.deref-5.ensures.value c.deref-2.ensures.value c.in_ok-afters.ensures c.in_ok-lines.ensures.lines w);
+    }

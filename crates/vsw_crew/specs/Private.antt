@@ -1,0 +1,4 @@
+-- What contracts of private functions are of. No caller need read it.
+pub mod Rows
+pub mod Round
+pub mod Telling

@@ -1,0 +1,78 @@
+-- A round of a crew, step by step.
+use Rattle.std.specs.Prelude.{◌≡◌, ◌++◌, ℕ, Bool, List, [], length, map}
+use Rattle.vsw_actors.specs.declared.lane.Lane.{Lane}
+use Rattle.vsw_commandfile.specs.declared.line.Line.{Line}
+use Rattle.vsw_crew_law.specs.Crew.{CrewDid, CrewTells, crew_text, is_short_crew}
+use Rattle.vsw_crew_law.specs.Turns.{PlacedTurns, placed_before}
+use Rattle.vsw_dock.specs.Seen.{StationSeen}
+use Rattle.vsw_history.specs.Calls.{Call}
+use Rattle.vsw_history.specs.Order.{numbered}
+use Rattle.vsw_history.specs.declared.event.Event.{Event}
+use Rattle.vsw_many.specs.Rounds.{AreJournals, calls_by_port}
+use Rattle.vsw_merge.specs.Line.{TextLine}
+use Rattle.vsw_pcap.specs.declared.capture.Record.{Record}
+use Rattle.vsw_ports.specs.Ports.{ports_of}
+use Rattle.vsw_promise.specs.Jobs.{Placed, Setting, loose_among, macs_of, numbers_of, placed_lines, placed_packets}
+use Rattle.vsw_report.specs.declared.round.Loose.{Loose}
+use Rattle.vsw_harbour.specs.Harbour.{HarbourSeen, IsOfRun, callers, ports_in}
+use Rattle.vsw_harbour.specs.Standing.{RowsStand, no_calls}
+use Rattle.vsw_harbour.specs.Steps.{Did}
+use Rattle.vsw_crew.specs.Crew.{AreReady}
+use Rattle.vsw_crew.specs.Told.{told_rows}
+
+-- the numbers and the addresses of the ports
+abbrev pub numbers_in : HarbourSeen → List ℕ
+numbers_in h = map (λ d. d.number) h.docks
+
+abbrev pub macs_in : HarbourSeen → List ℕ
+macs_in h = map (λ d. d.mac) h.docks
+
+-- what is done beside each other in the round of these packets
+abbrev pub jobs_here : HarbourSeen → List Line → ℕ → List Record → List Placed
+jobs_here h lines first packets = placed_lines (numbers_in h) lines first ++ placed_packets h.workers (macs_in h) (numbered first packets)
+
+-- since all were ready at these histories, the commands before the packets were asked in turn
+pub record HasAsked (h : HarbourSeen) (s : Setting) (hs : List (List Event)) (first : ℕ) (rows : List (List (Lane StationSeen))) : Type 0 where
+  pub middles : List (List Event)
+  pub calls : List (List Call)
+  pub turns : PlacedTurns 0 (ports_of s.policy) (placed_before (numbers_of s.policy) s.commands first) hs middles calls
+  pub size : length rows ≡ callers h
+  pub stand : RowsStand 0 h.docks middles calls rows
+
+-- and the controllers' lines of them were taken
+pub record HasBegun (h : HarbourSeen) (s : Setting) (hs : List (List Event)) (first : ℕ) (firsts : List (List (List TextLine))) (rows : List (List (Lane StationSeen))) : Type 0 where
+  pub middles : List (List Event)
+  pub calls : List (List Call)
+  pub turns : PlacedTurns 0 (ports_of s.policy) (placed_before (numbers_of s.policy) s.commands first) hs middles calls
+  pub size : length rows ≡ callers h
+  pub stand : RowsStand 0 h.docks middles (no_calls h.docks) rows
+  pub lines : firsts ≡ told_rows h.controllers calls 16 (length h.controllers)
+
+-- since all stood at these histories they have met, and then each has done its own of these jobs
+pub record DidBeside (h : HarbourSeen) (hs : List (List Event)) (jobs : List Placed) (rows : List (List (Lane StationSeen))) : Type 0 where
+  pub met : List (List (Lane StationSeen))
+  pub quiet : Did h hs (no_calls h.docks) [] met
+  pub did : Did h quiet.histories (no_calls h.docks) jobs rows
+  pub size : length rows ≡ callers h
+
+-- all was done that a round is, and the lines of the commands before the packets are taken
+pub record HasWorked (h : HarbourSeen) (s : Setting) (hs : List (List Event)) (first : ℕ) (packets : List Record) (befores : List ℕ) (firsts : List (List (List TextLine))) (loose : List Loose) (rows : List (List (Lane StationSeen))) : Type 0 where
+  pub run : IsOfRun h s
+  pub histories : List (List Event)
+  pub texts : List (List (List TextLine))
+  pub did : CrewDid s first packets hs histories texts
+  pub size : length rows ≡ callers h
+  pub stand : RowsStand 0 h.docks histories (calls_by_port (ports_of s.policy) did.rows) rows
+  pub journals : AreJournals (callers h) (ports_in h.docks) histories histories
+  pub befores_are : befores ≡ map length hs
+  pub firsts_are : firsts ≡ told_rows h.controllers did.firsts 16 (length h.controllers)
+  pub loose_are : loose ≡ loose_among (macs_of s.policy) (numbered first packets)
+
+-- the round was told, and all are ready for the next one
+pub record HasTold (h : HarbourSeen) (s : Setting) (hs : List (List Event)) (first : ℕ) (packets : List Record) (short : Bool) (old new : List ℕ) (rows : List (List (Lane StationSeen))) : Type 0 where
+  pub histories : List (List Event)
+  pub texts : List (List (List TextLine))
+  pub tells : CrewTells s first packets hs histories texts
+  pub ready : AreReady h histories rows
+  pub short_is : short ≡ is_short_crew hs histories texts
+  pub text : new ≡ old ++ crew_text first (ports_of s.policy) hs histories texts (loose_among (macs_of s.policy) (numbered first packets))

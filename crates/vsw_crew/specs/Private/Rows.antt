@@ -1,0 +1,31 @@
+-- Rows of lanes, whose lines are taken.
+use Rattle.std.specs.Prelude.{ℕ, List, [], ◌∷◌, length, map, Vec}
+use Rattle.vsw_actors.specs.declared.actor.Placed.{Placed}
+use Rattle.vsw_actors.specs.declared.lane.Lane.{Lane}
+use Rattle.vsw_deal.specs.declared.work.Work.{Work}
+use Rattle.vsw_dock.specs.Seen.{StationSeen}
+use Rattle.vsw_merge.specs.Line.{TextLine}
+
+-- what a row tells, a list a port
+abbrev pub lines_of : List (Lane StationSeen) → List (List TextLine)
+lines_of row = map (λ l. l.station.lines) row
+
+-- the row without lines
+abbrev pub cleared_lane : Lane StationSeen → Lane StationSeen
+cleared_lane l = record l { station = record l.station { lines = [] } }
+
+abbrev pub cleared : List (Lane StationSeen) → List (Lane StationSeen)
+cleared row = map cleared_lane row
+
+-- how many entries of each port a row has seen, and how many the first of some rows
+abbrev pub counts_of : List (Lane StationSeen) → List ℕ
+counts_of row = map (λ l. l.base) row
+
+abbrev pub first_counts : List (List (Lane StationSeen)) → List ℕ
+first_counts [] = []
+first_counts (row ∷ rows) = counts_of row
+
+-- as many entries as each share has jobs
+abbrev pub needs_in : {G : Type 0} → List (Vec (Placed Work) G) → List ℕ
+needs_in [] = []
+needs_in (s ∷ ss) = length s.items ∷ needs_in ss

@@ -1,0 +1,88 @@
+//! The beginning of a round: the commands before the packets.
+
+ghost use Rattle.std.specs.Prelude.{◌≡◌, ◌≤◌, ◌++◌, List, IfOk, OnOk, drop, length, map, take};
+ghost use Rattle.vsw_crew.specs.Crew.{AreReady, IsOfSome};
+ghost use Rattle.vsw_crew.specs.Private.Round.{HasAsked, HasBegun};
+ghost use Rattle.vsw_crew.specs.Private.Rows.{cleared, lines_of};
+ghost use Rattle.vsw_dock.specs.Opening.{rows_in};
+ghost use Rattle.vsw_harbour.specs.Harbour.{IsOfRun, MayAsk};
+ghost use Rattle.vsw_history.specs.declared.event.Event.{Event};
+ghost use Rattle.vsw_policy.specs.Sound.{Each};
+ghost use Rattle.vsw_promise.specs.Jobs.{Setting};
+
+use crate::lines::{are_whole, take_rows};
+use std::alloc::Global;
+use std::sync::Wait;
+use vsw_actors::Lane;
+use vsw_base::NoMemory;
+use vsw_dock::{Station, Watch};
+use vsw_harbour::{Harbour, ask_before, meet_all};
+use vsw_live::Naming;
+use vsw_schedule::Schedule;
+use vsw_tell::Lines;
+
+/// All callers meet the ports, and the commands before the packets of the round that begins with this one are asked.
+fn meet_and_ask<'g, J: Naming, G: Watch, R: Wait>(
+    rt: &R,
+    harbour: &Harbour<'g, J, G>,
+    rows: &mut [Vec<Lane<Station>>],
+    schedule: &Schedule,
+    first: u32,
+) -> Result<(), NoMemory>
+    requires ready { (hs : List (List Event)) × AreReady harbour.now hs (rows_in rows.old) }
+    requires lines { Each (MayAsk harbour.now) schedule.now }
+    ensures asked { OnOk result ((s : Setting) (hs : List (List Event)) → IsOfRun harbour.now s → s.commands ≡ schedule.now → AreReady harbour.now hs (rows_in rows.old) → HasAsked harbour.now s hs first (rows_in rows.new)) }
+{
+    meet_all(rt, harbour.alloc, &harbour.docks, rows, &harbour.asks)?;
+    ask_before(rt, harbour, rows, schedule, first)?;
+    Ok(())
+}
+
+/// Takes the lines of the rows behind those of the workers.
+fn take_firsts(alloc: Global, rows: &mut [Vec<Lane<Station>>]) -> Result<Vec<Lines>, NoMemory>
+    requires many { 16 ≤ length rows.old }
+    ensures lines { IfOk result (λ firsts. firsts.items ≡ map lines_of (drop 16 (rows_in rows.old))) }
+    ensures rows { OnOk result (rows_in rows.new ≡ take 16 (rows_in rows.old) ++ map cleared (drop 16 (rows_in rows.old))) }
+{
+    let mut firsts = Vec::new(alloc);
+    take_rows(alloc, &mut rows[16..], &mut firsts)?;
+    Ok(firsts)
+}
+
+/// Begins a round: the commands before its packets are asked. Gives what the controllers tell of them.
+fn begin_rows<'g, J: Naming, G: Watch, R: Wait>(
+    rt: &R,
+    harbour: &Harbour<'g, J, G>,
+    rows: &mut [Vec<Lane<Station>>],
+    schedule: &Schedule,
+    first: u32,
+) -> Result<Vec<Lines>, NoMemory>
+    requires run { IsOfSome harbour.now }
+    requires ready { (hs : List (List Event)) × AreReady harbour.now hs (rows_in rows.old) }
+    requires lines { Each (MayAsk harbour.now) schedule.now }
+    ensures begun { IfOk result (λ firsts. (s : Setting) (hs : List (List Event)) → IsOfRun harbour.now s → s.commands ≡ schedule.now → AreReady harbour.now hs (rows_in rows.old) → HasBegun harbour.now s hs first firsts.items (rows_in rows.new)) }
+{
+    meet_and_ask(rt, harbour, rows, schedule, first)?;
+    if !are_whole(rows) {
+        return Err(NoMemory);
+    }
+    let firsts = take_firsts(harbour.alloc, rows)?;
+    Ok(firsts)
+}
+
+/// The same of rows that can be handed on.
+pub(crate) fn begin<'g, J: Naming, G: Watch, R: Wait>(
+    rt: &R,
+    harbour: &Harbour<'g, J, G>,
+    rows: &mut Vec<Vec<Lane<Station>>>,
+    schedule: &Schedule,
+    first: u32,
+) -> Result<Vec<Lines>, NoMemory>
+    requires run { IsOfSome harbour.now }
+    requires ready { (hs : List (List Event)) × AreReady harbour.now hs (rows_in rows.old.items) }
+    requires lines { Each (MayAsk harbour.now) schedule.now }
+    ensures begun { IfOk result (λ firsts. (s : Setting) (hs : List (List Event)) → IsOfRun harbour.now s → s.commands ≡ schedule.now → AreReady harbour.now hs (rows_in rows.old.items) → HasBegun harbour.now s hs first firsts.items (rows_in rows.new.items)) }
+{
+    let firsts = begin_rows(rt, harbour, rows.as_mut_slice(), schedule, first)?;
+    Ok(firsts)
+}

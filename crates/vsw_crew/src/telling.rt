@@ -1,0 +1,86 @@
+//! A round that was done is told.
+
+ghost use Rattle.std.specs.Prelude.{◌≡◌, List, IfOk, OnOk, length, map};
+ghost use Rattle.vsw_crew.specs.Private.Round.{HasTold, HasWorked, numbers_in};
+ghost use Rattle.vsw_crew.specs.Private.Telling.{IsCounted, text_of, texts_so};
+ghost use Rattle.vsw_crew_law.specs.Crew.{is_short_crew};
+ghost use Rattle.vsw_dock.specs.Opening.{rows_in};
+ghost use Rattle.vsw_history.specs.declared.event.Event.{Event};
+ghost use Rattle.vsw_history_law.specs.Law.{AreAsked};
+ghost use Rattle.vsw_pcap.specs.declared.capture.Record.{Record};
+ghost use Rattle.vsw_ports.specs.Ports.{PortSeen};
+ghost use Rattle.vsw_promise.specs.Jobs.{Setting};
+ghost use Rattle.vsw_tell.specs.Texts.{AreRising, AreSized};
+
+use crate::lines::{are_whole, count_first, take_all};
+use crate::round::Worked;
+use vsw_actors::Lane;
+use vsw_base::NoMemory;
+use vsw_dock::Station;
+use vsw_harbour::Harbour;
+use vsw_live::Naming;
+use vsw_report::Loose;
+use vsw_tell::{Lines, tell_round};
+
+/// Appends the text of a round, out of the lines of all callers and the controllers' of the commands before the packets.
+fn say<'g, J: Naming, G>(
+    harbour: &Harbour<'g, J, G>,
+    first: u32,
+    befores: &[u32],
+    afters: &[u32],
+    lines: Vec<Lines>,
+    firsts: Vec<Lines>,
+    loose: &[Loose],
+    out: &mut Vec<u8>,
+) -> Result<bool, NoMemory>
+    requires sizes { AreSized harbour.now.workers (length harbour.now.controllers) (numbers_in harbour.now) befores.now afters.now lines.items }
+    requires grows { AreRising befores.now afters.now }
+    ensures text { (ps : List PortSeen) (hs gs : List (List Event)) → IsCounted harbour.now ps hs gs befores.now afters.now lines.items firsts.items → OnOk result (out.new.items ≡ text_of harbour.now first ps hs gs lines.items firsts.items loose.now out.old.items) }
+    ensures short { (ps : List PortSeen) (hs gs : List (List Event)) → IsCounted harbour.now ps hs gs befores.now afters.now lines.items firsts.items → IfOk result (λ short. short ≡ is_short_crew hs gs (texts_so harbour.now lines.items firsts.items)) }
+{
+    let mut lines = lines;
+    let mut firsts = firsts;
+    let short = tell_round(
+        harbour.alloc,
+        harbour.workers,
+        &harbour.controllers,
+        &harbour.listed,
+        &harbour.numbers,
+        first,
+        befores,
+        afters,
+        &mut lines,
+        &mut firsts,
+        loose,
+        out,
+    )?;
+    Ok(short)
+}
+
+/// Appends the text of a round that was done, and answers whether want of memory is told in it. Gives the rows back, without lines.
+pub(crate) fn tell<'g, J: Naming, G>(
+    harbour: &Harbour<'g, J, G>,
+    first: u32,
+    worked: Worked,
+    out: &mut Vec<u8>,
+) -> Result<(bool, Vec<Vec<Lane<Station>>>), NoMemory>
+    requires worked { (s : Setting) × (hs : List (List Event)) × (packets : List Record) × HasWorked harbour.now s hs first packets worked.befores.items worked.firsts.items worked.loose.items (rows_in worked.rows.items) }
+    ensures told { IfOk result (λ r. (s : Setting) (hs : List (List Event)) (packets : List Record) → AreAsked s → HasWorked harbour.now s hs first packets worked.befores.items worked.firsts.items worked.loose.items (rows_in worked.rows.items) → HasTold harbour.now s hs first packets r.0 out.old.items out.new.items (rows_in r.1.items)) }
+{
+    let Worked {
+        befores,
+        rows,
+        firsts,
+        loose,
+    } = worked;
+    let mut rows = rows;
+    if !are_whole(&rows) {
+        return Err(NoMemory);
+    }
+    let afters = count_first(harbour.alloc, &rows)?;
+    let lines = take_all(harbour.alloc, &mut rows)?;
+    let short = say(
+        harbour, first, &befores, &befores, lines, firsts, &loose, out,
+    )?;
+    Ok((short, rows))
+}

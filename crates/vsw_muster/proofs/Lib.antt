@@ -1,0 +1,3 @@
+pub mod Fits
+pub mod Mustered
+pub mod Standing

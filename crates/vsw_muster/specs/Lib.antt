@@ -1,0 +1,2 @@
+pub mod Mustered
+pub mod Opening

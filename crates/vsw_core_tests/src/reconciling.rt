@@ -322,6 +322,18 @@ fn first_wrong(port: &mut Port, ids: &[Ufid], command: &Command, steps: &[Step])
     None
 }
 
+/// The first step that doesn't come out as it says, at a port whose layer has this rule, and which is asked this command.
+fn tried(
+    alloc: Global,
+    rule: &Command,
+    ids: &[Ufid],
+    command: &Command,
+    steps: &[Step],
+) -> Option<Option<usize>> {
+    let mut port = opened(alloc, rule)?;
+    Some(first_wrong(&mut port, ids, command, steps))
+}
+
 const ALWAYS: u64 = u64::MAX;
 
 const KEPT: [Step; 9] = [
@@ -384,13 +396,15 @@ const KEPT: [Step; 9] = [
     },
 ];
 
+fn kept(alloc: Global) -> Option<Option<usize>> {
+    let out = id(Dir::Out, OWN, FAR)?;
+    let rule = put_rule(alloc, 5, Action::Allow, false);
+    tried(alloc, &rule, &[out], &add_group(alloc, 2, Dir::In), &KEPT)
+}
+
 #[test]
 fn row_that_a_command_leaves_as_it_is_is_kept(rt: HostRuntime) {
-    let rule = put_rule(rt.alloc(), 5, Action::Allow, false);
-    let mut port = opened(rt.alloc(), &rule).expect(&rt, "memory");
-    let out = id(Dir::Out, OWN, FAR).expect(&rt, "a stack");
-    let other = add_group(rt.alloc(), 2, Dir::In);
-    assert_eq!(rt; first_wrong(&mut port, &[out], &other, &KEPT), None);
+    assert!(&rt; kept(rt.alloc()) == Some(None));
 }
 
 const EDITED: [Step; 6] = [
@@ -430,12 +444,15 @@ const EDITED: [Step; 6] = [
     },
 ];
 
+fn edited(alloc: Global) -> Option<Option<usize>> {
+    let out = id(Dir::Out, OWN, FAR)?;
+    let rule = put_port(alloc, 40_000);
+    tried(alloc, &rule, &[out], &put_port(alloc, 50_000), &EDITED)
+}
+
 #[test]
 fn row_whose_packets_are_edited_otherwise_is_changed(rt: HostRuntime) {
-    let mut port = opened(rt.alloc(), &put_port(rt.alloc(), 40_000)).expect(&rt, "memory");
-    let out = id(Dir::Out, OWN, FAR).expect(&rt, "a stack");
-    let other = put_port(rt.alloc(), 50_000);
-    assert_eq!(rt; first_wrong(&mut port, &[out], &other, &EDITED), None);
+    assert!(&rt; edited(rt.alloc()) == Some(None));
 }
 
 const DROPPED: Verdict = Verdict::Rule {
@@ -468,13 +485,16 @@ const DROPS: [Step; 4] = [
     },
 ];
 
+fn dropped(alloc: Global) -> Option<Option<usize>> {
+    let out = id(Dir::Out, OWN, FAR)?;
+    let rule = put_rule(alloc, 5, Action::Allow, false);
+    let drop = put_rule(alloc, 6, Action::Drop, false);
+    tried(alloc, &rule, &[out], &drop, &DROPS)
+}
+
 #[test]
 fn row_whose_packets_are_dropped_now_is_changed(rt: HostRuntime) {
-    let rule = put_rule(rt.alloc(), 5, Action::Allow, false);
-    let mut port = opened(rt.alloc(), &rule).expect(&rt, "memory");
-    let out = id(Dir::Out, OWN, FAR).expect(&rt, "a stack");
-    let drop = put_rule(rt.alloc(), 6, Action::Drop, false);
-    assert_eq!(rt; first_wrong(&mut port, &[out], &drop, &DROPS), None);
+    assert!(&rt; dropped(rt.alloc()) == Some(None));
 }
 
 /// The pair that the last packet makes is held by its own row.
@@ -514,13 +534,16 @@ const CLEARED: [Step; 7] = [
     },
 ];
 
+fn cleared(alloc: Global) -> Option<Option<usize>> {
+    let out = id(Dir::Out, OWN, FAR)?;
+    let rule = put_rule(alloc, 5, Action::Allow, false);
+    let stateful = put_rule(alloc, 5, Action::Allow, true);
+    tried(alloc, &rule, &[out], &stateful, &CLEARED)
+}
+
 #[test]
 fn row_whose_packets_would_make_a_pair_is_cleared(rt: HostRuntime) {
-    let rule = put_rule(rt.alloc(), 5, Action::Allow, false);
-    let mut port = opened(rt.alloc(), &rule).expect(&rt, "memory");
-    let out = id(Dir::Out, OWN, FAR).expect(&rt, "a stack");
-    let stateful = put_rule(rt.alloc(), 5, Action::Allow, true);
-    assert_eq!(rt; first_wrong(&mut port, &[out], &stateful, &CLEARED), None);
+    assert!(&rt; cleared(rt.alloc()) == Some(None));
 }
 
 /// The answer renews the last use of their pair.
@@ -567,13 +590,16 @@ const LATER: [Step; 6] = [
     },
 ];
 
-#[test]
-fn kept_row_has_the_until_of_now(rt: HostRuntime) {
-    let rule = put_rule(rt.alloc(), 5, Action::Allow, true);
-    let mut port = opened(rt.alloc(), &rule).expect(&rt, "memory");
+fn later(alloc: Global) -> Option<Option<usize>> {
     // The rows of both directions begin at different places of the eight.
     let own = (OWN.0, 1236);
-    let out = id(Dir::Out, own, FAR).expect(&rt, "a stack");
-    let back = id(Dir::In, FAR, own).expect(&rt, "a stack");
-    assert_eq!(rt; first_wrong(&mut port, &[out, back], &rule, &LATER), None);
+    let out = id(Dir::Out, own, FAR)?;
+    let back = id(Dir::In, FAR, own)?;
+    let rule = put_rule(alloc, 5, Action::Allow, true);
+    tried(alloc, &rule, &[out, back], &rule, &LATER)
+}
+
+#[test]
+fn kept_row_has_the_until_of_now(rt: HostRuntime) {
+    assert!(&rt; later(rt.alloc()) == Some(None));
 }

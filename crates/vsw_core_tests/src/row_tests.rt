@@ -1,9 +1,13 @@
 //! Rows that stand after packets.
 
+ghost use Rattle.std.specs.Prelude.{◌≤◌};
+
 use crate::desk::{Desk, Seen};
 use crate::packets::{FAR, OTHER, OWN, PUBLIC, id, packet};
 use crate::policies::{hiding, plain, published, tracked};
+use std::alloc::Global;
 use vsw_base::{Cause, Control, Dir, Fate, Ufid, Verdict};
+use vsw_policy::Policy;
 
 const PASS: Fate = Fate::Pass { len: 44 };
 
@@ -96,6 +100,20 @@ fn first_wrong(desk: &mut Desk, ids: &[Ufid], steps: &[Step]) -> Option<usize> {
     None
 }
 
+/// The first step that doesn't come out as it says, at a desk of this policy with so many rows.
+fn tried(
+    alloc: Global,
+    policy: Option<Policy>,
+    rows: u32,
+    ids: &[Ufid],
+    steps: &[Step],
+) -> Option<Option<usize>>
+    requires { (8 ≤ rows) × (rows ≤ 16384) }
+{
+    let mut desk = Desk::open(alloc, policy?, rows)?;
+    Some(first_wrong(&mut desk, ids, steps))
+}
+
 /// The pair that is made holds what the row missed.
 const PUBLISHED: [Step; 8] = [
     Step::Misses {
@@ -143,13 +161,15 @@ const PUBLISHED: [Step; 8] = [
     },
 ];
 
+fn missed(alloc: Global) -> Option<Option<usize>> {
+    let out = id(Dir::Out, OWN, FAR)?;
+    let back = id(Dir::In, FAR, PUBLIC)?;
+    tried(alloc, published(alloc), 64, &[out, back], &PUBLISHED)
+}
+
 #[test]
 fn pair_that_a_row_missed_raises_the_generation(rt: HostRuntime) {
-    let policy = published(rt.alloc()).expect(&rt, "memory");
-    let mut desk = Desk::open(rt.alloc(), policy, 64).expect(&rt, "memory");
-    let out = id(Dir::Out, OWN, FAR).expect(&rt, "a stack");
-    let back = id(Dir::In, FAR, PUBLIC).expect(&rt, "a stack");
-    assert_eq!(rt; first_wrong(&mut desk, &[out, back], &PUBLISHED), None);
+    assert!(&rt; missed(rt.alloc()) == Some(None));
 }
 
 const DEFAULT: Verdict = Verdict::Default {
@@ -191,12 +211,14 @@ const DROPPED: [Step; 4] = [
     },
 ];
 
+fn hidden(alloc: Global) -> Option<Option<usize>> {
+    let out = id(Dir::Out, OTHER, FAR)?;
+    tried(alloc, hiding(alloc), 64, &[out], &DROPPED)
+}
+
 #[test]
 fn drop_behind_a_layer_that_would_make_a_pair_leaves_a_row(rt: HostRuntime) {
-    let policy = hiding(rt.alloc()).expect(&rt, "memory");
-    let mut desk = Desk::open(rt.alloc(), policy, 64).expect(&rt, "memory");
-    let out = id(Dir::Out, OTHER, FAR).expect(&rt, "a stack");
-    assert_eq!(rt; first_wrong(&mut desk, &[out], &DROPPED), None);
+    assert!(&rt; hidden(rt.alloc()) == Some(None));
 }
 
 /// The last use is renewed, which shakes the row of the packet itself.
@@ -230,12 +252,14 @@ const RENEWED: [Step; 5] = [
     },
 ];
 
+fn late(alloc: Global) -> Option<Option<usize>> {
+    let out = id(Dir::Out, OWN, FAR)?;
+    tried(alloc, tracked(alloc, 100), 8, &[out], &RENEWED)
+}
+
 #[test]
 fn late_packet_leaves_its_row_anew(rt: HostRuntime) {
-    let policy = tracked(rt.alloc(), 100).expect(&rt, "memory");
-    let mut desk = Desk::open(rt.alloc(), policy, 8).expect(&rt, "memory");
-    let out = id(Dir::Out, OWN, FAR).expect(&rt, "a stack");
-    assert_eq!(rt; first_wrong(&mut desk, &[out], &RENEWED), None);
+    assert!(&rt; late(rt.alloc()) == Some(None));
 }
 
 const FULL: Fate = Fate::Drop(Cause::Full {
@@ -268,13 +292,15 @@ const REFUSED: [Step; 4] = [
     },
 ];
 
+fn refused(alloc: Global) -> Option<Option<usize>> {
+    let own = id(Dir::Out, OWN, FAR)?;
+    let other = id(Dir::Out, OTHER, FAR)?;
+    tried(alloc, tracked(alloc, 1), 64, &[own, other], &REFUSED)
+}
+
 #[test]
 fn packet_whose_pair_is_refused_leaves_no_row(rt: HostRuntime) {
-    let policy = tracked(rt.alloc(), 1).expect(&rt, "memory");
-    let mut desk = Desk::open(rt.alloc(), policy, 64).expect(&rt, "memory");
-    let own = id(Dir::Out, OWN, FAR).expect(&rt, "a stack");
-    let other = id(Dir::Out, OTHER, FAR).expect(&rt, "a stack");
-    assert_eq!(rt; first_wrong(&mut desk, &[own, other], &REFUSED), None);
+    assert!(&rt; refused(rt.alloc()) == Some(None));
 }
 
 const CONTROLLED: [Step; 4] = [
@@ -302,12 +328,14 @@ const CONTROLLED: [Step; 4] = [
     },
 ];
 
+fn controlled(alloc: Global) -> Option<Option<usize>> {
+    let out = id(Dir::Out, OWN, FAR)?;
+    tried(alloc, plain(alloc), 64, &[out], &CONTROLLED)
+}
+
 #[test]
 fn packet_with_a_control_leaves_no_row(rt: HostRuntime) {
-    let policy = plain(rt.alloc()).expect(&rt, "memory");
-    let mut desk = Desk::open(rt.alloc(), policy, 64).expect(&rt, "memory");
-    let out = id(Dir::Out, OWN, FAR).expect(&rt, "a stack");
-    assert_eq!(rt; first_wrong(&mut desk, &[out], &CONTROLLED), None);
+    assert!(&rt; controlled(rt.alloc()) == Some(None));
 }
 
 /// A packet that leaves a row.
@@ -358,12 +386,17 @@ const NINTH: [Step; 3] = [
     },
 ];
 
+fn ninth(alloc: Global) -> Option<Option<usize>> {
+    let first = id(Dir::Out, (OWN.0, 0), FAR)?;
+    let ninth = id(Dir::Out, (OWN.0, 8), FAR)?;
+    let mut desk = Desk::open(alloc, plain(alloc)?, 8)?;
+    if !fill(&mut desk, 8) {
+        return None;
+    }
+    Some(first_wrong(&mut desk, &[first, ninth], &NINTH))
+}
+
 #[test]
 fn ninth_flow_of_one_slot_leaves_the_eight_rows(rt: HostRuntime) {
-    let policy = plain(rt.alloc()).expect(&rt, "memory");
-    let mut desk = Desk::open(rt.alloc(), policy, 8).expect(&rt, "memory");
-    let first = id(Dir::Out, (OWN.0, 0), FAR).expect(&rt, "a stack");
-    let ninth = id(Dir::Out, (OWN.0, 8), FAR).expect(&rt, "a stack");
-    assert!(&rt; fill(&mut desk, 8));
-    assert_eq!(rt; first_wrong(&mut desk, &[first, ninth], &NINTH), None);
+    assert!(&rt; ninth(rt.alloc()) == Some(None));
 }

@@ -2,3 +2,7 @@ pub mod Doing
 pub mod Ending
 pub mod Lanes
 pub mod Rounds
+pub use Rattle.vsw_many.proofs.Actors
+pub use Rattle.vsw_many.proofs.Dealing
+pub use Rattle.vsw_many.proofs.Passes
+pub use Rattle.vsw_many.proofs.Rounds as ManyRounds

@@ -3,3 +3,7 @@ pub mod Ends
 pub mod Lanes
 pub mod Private
 pub mod Rows
+pub use Rattle.vsw_many.specs.Actors as ManyActors
+pub use Rattle.vsw_many.specs.Passes
+pub use Rattle.vsw_many.specs.Phases
+pub use Rattle.vsw_many.specs.Rounds

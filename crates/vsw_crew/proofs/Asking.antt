@@ -1,10 +1,10 @@
 -- The beginning of a round.
 use Rattle.std.proofs.Common.{◌≡◌, ℕ, zero, suc, ◌+◌, List, [], ◌∷◌, ◌++◌, length, map, take, drop, ap, sym, ◌∙◌, subst, arith}
-use Rattle.vsw_actors.specs.declared.lane.Lane.{Lane}
+use Rattle.vsw_harbour.specs.Lane.{Lane}
 use Rattle.vsw_commandfile.specs.declared.line.Line.{Line}
-use Rattle.vsw_crew_law.specs.Turns.{PlacedTurns, placed_before}
-use Rattle.vsw_crew_law.proofs.Turns.{journals_end, turns_join}
-use Rattle.vsw_dock.specs.Seen.{StationSeen}
+use Rattle.vsw_harbour.specs.Turns.{PlacedTurns, placed_before}
+use Rattle.vsw_harbour.proofs.Turns.{journals_end, turns_join}
+use Rattle.vsw_harbour.specs.Seen.{StationSeen}
 use Rattle.vsw_harbour.specs.Harbour.{HarbourSeen, IsHarbour, IsOfRun, asks_of, callers}
 use Rattle.vsw_harbour.specs.Meeting.{AllMeet}
 use Rattle.vsw_harbour.specs.Standing.{IsWhole, RowsStand, no_calls}
@@ -12,7 +12,7 @@ use Rattle.vsw_harbour.specs.Steps.{Did, MayGo, Turned}
 use Rattle.vsw_harbour.proofs.Likes.{journals_like}
 use Rattle.vsw_history.specs.Calls.{Call}
 use Rattle.vsw_history.specs.declared.event.Event.{Event}
-use Rattle.vsw_many.specs.Rounds.{AreJournals}
+use Rattle.vsw_harbour.specs.Rounds.{AreJournals}
 use Rattle.vsw_merge.specs.Line.{TextLine}
 use Rattle.vsw_policy.specs.Sound.{Each}
 use Rattle.vsw_ports.specs.Ports.{ports_of}

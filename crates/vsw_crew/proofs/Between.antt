@@ -1,14 +1,14 @@
 -- The ports between two rounds, as those know them who run rounds.
 use Rattle.std.proofs.Common.{◌≡◌, ◌<◌, ℕ, Bool, true, List, [], ◌∷◌, ◌++◌, length, map, refl, ap, ap₂, sym, ◌∙◌, subst, arith}
-use Rattle.vsw_actors.specs.declared.lane.Lane.{Lane}
+use Rattle.vsw_harbour.specs.Lane.{Lane}
 use Rattle.vsw_commandfile.specs.declared.line.Line.{Line}
-use Rattle.vsw_dock.specs.Seen.{DockSeen, StationSeen}
+use Rattle.vsw_harbour.specs.Seen.{DockSeen, StationSeen}
 use Rattle.vsw_harbour.specs.Harbour.{AreLike, HarbourSeen, IsHarbour, IsOfRun, MayAsk, callers, ports_in}
 use Rattle.vsw_harbour.specs.Standing.{no_calls}
 use Rattle.vsw_history.specs.declared.event.Event.{Event}
 use Rattle.vsw_history_law.specs.Law.{AreAsked}
-use Rattle.vsw_many.specs.Rounds.{AreJournals}
-use Rattle.vsw_many.proofs.Dealing.{all_know}
+use Rattle.vsw_harbour.specs.Rounds.{AreJournals}
+use Rattle.vsw_harbour.proofs.Dealing.{all_know}
 use Rattle.vsw_pcap.specs.declared.capture.Record.{Record}
 use Rattle.vsw_policy.specs.Sound.{Each, is_listed}
 use Rattle.vsw_ports.specs.Ports.{PortSeen, ports_of}

@@ -1,16 +1,16 @@
 -- Each caller does its share.
 use Rattle.std.proofs.Common.{◌≡◌, ℕ, zero, suc, List, [], ◌∷◌, length, map, take, ◌==◌, Bool, true, false, subst, refl, ap, sym, ◌∙◌, arith, if◌then◌else◌, Vec}
-use Rattle.vsw_actors.specs.declared.actor.Placed.{Placed}
-use Rattle.vsw_actors.specs.declared.lane.Lane.{Lane}
-use Rattle.vsw_actors.specs.Actors.{AreMine, Begins, HasDone, placed_of}
-use Rattle.vsw_actors.specs.Lanes.{AreFit, AreTold, fronts_of}
-use Rattle.vsw_actors.specs.Rows.{HaveDone, MayBegin}
-use Rattle.vsw_deal.specs.Deal.{AreFew, AreWork, dealt, shared}
-use Rattle.vsw_deal.specs.Work.{IsWork, job_in}
-use Rattle.vsw_deal.specs.declared.work.Work.{Work}
-use Rattle.vsw_dock.specs.Docks.{is_of, pass_in, permits, port_in, takes, tells}
-use Rattle.vsw_dock.specs.Opening.{rows_in}
-use Rattle.vsw_dock.specs.Seen.{DockSeen, StationSeen}
+use Rattle.vsw_harbour.specs.Placed.{Placed}
+use Rattle.vsw_harbour.specs.Lane.{Lane}
+use Rattle.vsw_harbour.specs.Actors.{AreMine, Begins, HasDone, placed_of}
+use Rattle.vsw_harbour.specs.Lanes.{AreFit, AreTold, fronts_of}
+use Rattle.vsw_harbour.specs.Rows.{HaveDone, MayBegin}
+use Rattle.vsw_harbour.specs.Deal.{AreFew, AreWork, dealt, shared}
+use Rattle.vsw_harbour.specs.Work.{IsWork, job_in}
+use Rattle.vsw_harbour.specs.DealWork.{Work}
+use Rattle.vsw_harbour.specs.Docks.{is_of, pass_in, permits, port_in, takes, tells}
+use Rattle.vsw_harbour.specs.Opening.{rows_in}
+use Rattle.vsw_harbour.specs.Seen.{DockSeen, StationSeen}
 use Rattle.vsw_harbour.specs.Harbour.{HarbourSeen, IsHarbour, callers, ports_in}
 use Rattle.vsw_harbour.specs.Meeting.{AllMeet, AreLanesAt}
 use Rattle.vsw_harbour.specs.Standing.{RowStands, RowsMay, RowsStand, no_calls}
@@ -23,9 +23,9 @@ use Rattle.vsw_history.specs.Calls.{job_doer}
 use Rattle.vsw_history.specs.Order.{counted}
 use Rattle.vsw_history.specs.declared.event.Event.{Event}
 use Rattle.vsw_history_law.proofs.Callers.{eqb_is}
-use Rattle.vsw_many.specs.Actors.{AtWork}
-use Rattle.vsw_many.specs.Passes.{AtRest}
-use Rattle.vsw_many.specs.Phases.{Track}
+use Rattle.vsw_harbour.specs.ManyActors.{AtWork}
+use Rattle.vsw_harbour.specs.Passes.{AtRest}
+use Rattle.vsw_harbour.specs.Phases.{Track}
 use Rattle.vsw_policy.specs.Sound.{Each}
 use Rattle.vsw_promise.specs.Jobs as jobs
 use Rattle.vsw_promise.specs.Rounds.{opening_of}

@@ -1,10 +1,10 @@
 -- Rows that stood somewhere meet the ports, and stand where these are.
 use Rattle.std.proofs.Common.{◌≡◌, ◌≤◌, ℕ, zero, suc, List, [], ◌∷◌, ◌++◌, length, take, drop, refl, ap, sym, ◌∙◌, subst, arith, Vec}
-use Rattle.vsw_actors.specs.declared.lane.Lane.{Lane}
-use Rattle.vsw_dock.specs.Docks.{pass_in, port_in, tells}
-use Rattle.vsw_dock.specs.Meeting.{AreHeld, LaneMeets, RowMeets, histories_of}
-use Rattle.vsw_dock.specs.Opening.{rows_in}
-use Rattle.vsw_dock.specs.Seen.{DockSeen, StationSeen}
+use Rattle.vsw_harbour.specs.Lane.{Lane}
+use Rattle.vsw_harbour.specs.Docks.{pass_in, port_in, tells}
+use Rattle.vsw_harbour.specs.DockMeeting.{AreHeld, LaneMeets, RowMeets, histories_of}
+use Rattle.vsw_harbour.specs.Opening.{rows_in}
+use Rattle.vsw_harbour.specs.Seen.{DockSeen, StationSeen}
 use Rattle.vsw_harbour.specs.Harbour.{HarbourSeen, IsHarbour, asks_of, callers}
 use Rattle.vsw_harbour.specs.Meeting.{AllMeet, AreLanesAt, RowsMeet}
 use Rattle.vsw_harbour.specs.Standing.{RowStands, RowsMay, RowsStand, Stands}
@@ -16,10 +16,10 @@ use Rattle.vsw_harbour.proofs.Standing.{works_none}
 use Rattle.vsw_harbour.proofs.Together.{did}
 use Rattle.vsw_history.specs.Calls.{Call, calls_of, entries_naming}
 use Rattle.vsw_history.specs.declared.event.Event.{Event}
-use Rattle.vsw_live.specs.Core.{IsOf}
-use Rattle.vsw_live.specs.Meeting.{HeldSeen}
-use Rattle.vsw_live.specs.Ports as live
-use Rattle.vsw_many.specs.Passes.{AtRest, Meets}
+use Rattle.vsw_harbour.specs.Core.{IsOf}
+use Rattle.vsw_harbour.specs.LiveMeeting.{HeldSeen}
+use Rattle.vsw_harbour.specs.Ports as live
+use Rattle.vsw_harbour.specs.Passes.{AtRest, Meets}
 use Rattle.vsw_policy.specs.Sound.{Each}
 use Rattle.vsw_promise.specs.Jobs.{Placed}
 use Rattle.vsw_promise.specs.Rounds.{opening_of}

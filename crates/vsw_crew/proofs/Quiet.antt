@@ -1,10 +1,10 @@
 -- Callers that only met did nothing.
 use Rattle.std.proofs.Common.{◌≡◌, ◌<◌, ℕ, suc, ◌+◌, List, [], ◌∷◌, length, map, refl, ap, ap₂, sym, ◌∙◌, subst, arith}
-use Rattle.vsw_actors.specs.declared.lane.Lane.{Lane}
-use Rattle.vsw_crew_law.specs.Crew.{callers_in}
-use Rattle.vsw_crew_law.specs.Turns.{PlacedTurns, append_each}
-use Rattle.vsw_crew_law.proofs.Turns.{quiet_turns}
-use Rattle.vsw_dock.specs.Seen.{DockSeen, StationSeen}
+use Rattle.vsw_harbour.specs.Lane.{Lane}
+use Rattle.vsw_harbour.specs.Crew.{callers_in}
+use Rattle.vsw_harbour.specs.Turns.{PlacedTurns, append_each}
+use Rattle.vsw_harbour.proofs.Turns.{quiet_turns}
+use Rattle.vsw_harbour.specs.Seen.{DockSeen, StationSeen}
 use Rattle.vsw_harbour.specs.Harbour.{AreLike, HarbourSeen, IsOfRun, callers}
 use Rattle.vsw_harbour.specs.Standing.{RowsStand, no_calls}
 use Rattle.vsw_harbour.specs.Steps.{Did}
@@ -12,9 +12,9 @@ use Rattle.vsw_harbour.proofs.Likes.{journals_like, rows_like}
 use Rattle.vsw_history.specs.Calls.{Call}
 use Rattle.vsw_history.specs.declared.event.Event.{Event}
 use Rattle.vsw_history.proofs.Fronts.{append_end}
-use Rattle.vsw_many.specs.Actors.{AreRows}
-use Rattle.vsw_many.specs.Phases as many
-use Rattle.vsw_many.specs.Rounds.{AreJournals}
+use Rattle.vsw_harbour.specs.ManyActors.{AreRows}
+use Rattle.vsw_harbour.specs.Phases as many
+use Rattle.vsw_harbour.specs.Rounds.{AreJournals}
 use Rattle.vsw_ports.specs.Ports.{PortSeen, ports_of}
 use Rattle.vsw_promise.specs.Jobs.{Placed, Setting}
 use Rattle.vsw_crew.proofs.Taking.{seen_are}

@@ -1,11 +1,11 @@
 -- What standing rows tell, and rows whose lines were taken.
 use Rattle.std.proofs.Common.{◌≡◌, ◌<◌, ℕ, zero, suc, ◌+◌, List, [], ◌∷◌, ◌++◌, length, map, take, drop, refl, ap, ap₂, ◌∙◌, subst, arith}
-use Rattle.vsw_actors.specs.declared.lane.Lane.{Lane}
+use Rattle.vsw_harbour.specs.Lane.{Lane}
 use Rattle.vsw_crew.specs.Crew.{seen_by}
 use Rattle.vsw_crew.specs.Private.Rows.{cleared, counts_of, first_counts, lines_of}
 use Rattle.vsw_crew.specs.Told.{told_row, told_rows}
-use Rattle.vsw_crew_law.specs.Crew.{lines_for}
-use Rattle.vsw_dock.specs.Seen.{DockSeen, StationSeen}
+use Rattle.vsw_harbour.specs.Crew.{lines_for}
+use Rattle.vsw_harbour.specs.Seen.{DockSeen, StationSeen}
 use Rattle.vsw_harbour.specs.Standing.{IsWhole, RowStands, RowsStand, no_calls}
 use Rattle.vsw_history.specs.Calls.{Call, calls_of}
 use Rattle.vsw_history.specs.declared.event.Event.{Event}

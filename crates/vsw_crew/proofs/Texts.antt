@@ -1,12 +1,12 @@
 -- The rows of all callers are the lines of each port.
 use Rattle.std.proofs.Common.{◌≡◌, ◌≤◌, ◌<◌, ℕ, zero, suc, ◌+◌, ◌==◌, ◌||◌, Bool, true, false, nat_lt, if◌then◌else◌, List, [], ◌∷◌, ◌++◌, length, map, take, get_or, refl, ap, ap₂, sym, ◌∙◌, arith, eq-eqb}
 use Rattle.std.specs.List.{flat_map}
-use Rattle.vsw_crew_law.specs.Crew.{AreTexts, crew_texts, lines_for}
+use Rattle.vsw_harbour.specs.Crew.{AreTexts, crew_texts, lines_for}
 use Rattle.vsw_history.specs.Calls.{Call, calls_of, controller_at}
 use Rattle.vsw_history.specs.Order.{ascending, counted, put_in}
 use Rattle.vsw_merge.specs.Line.{TextLine}
-use Rattle.vsw_many.proofs.Dealing.{place_within}
-use Rattle.vsw_many.proofs.Passes.{each_weaker}
+use Rattle.vsw_harbour.proofs.Dealing.{place_within}
+use Rattle.vsw_harbour.proofs.Passes.{each_weaker}
 use Rattle.vsw_policy.specs.Layers.{place_of}
 use Rattle.vsw_policy.specs.Sound.{Each, is_listed}
 use Rattle.vsw_ports.specs.Ports.{PortSeen}

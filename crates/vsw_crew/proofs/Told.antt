@@ -1,11 +1,11 @@
 -- The round that was done is told.
 use Rattle.std.proofs.Common.{◌≡◌, ◌≤◌, ◌<◌, ℕ, suc, ◌+◌, Bool, true, List, [], ◌∷◌, ◌++◌, length, map, refl, ap, ap₂, sym, ◌∙◌, subst, arith, Vec}
-use Rattle.vsw_actors.specs.declared.lane.Lane.{Lane}
-use Rattle.vsw_crew_law.specs.Crew.{AreCounted, CrewTells, callers_in, crew_text, is_short_crew}
-use Rattle.vsw_crew_law.specs.Turns.{PlacedTurns}
-use Rattle.vsw_crew_law.proofs.Crew.{crew_is_told}
-use Rattle.vsw_dock.specs.Opening.{rows_in}
-use Rattle.vsw_dock.specs.Seen.{DockSeen, StationSeen}
+use Rattle.vsw_harbour.specs.Lane.{Lane}
+use Rattle.vsw_harbour.specs.Crew.{AreCounted, CrewTells, callers_in, crew_text, is_short_crew}
+use Rattle.vsw_harbour.specs.Turns.{PlacedTurns}
+use Rattle.vsw_harbour.proofs.Crew.{crew_is_told}
+use Rattle.vsw_harbour.specs.Opening.{rows_in}
+use Rattle.vsw_harbour.specs.Seen.{DockSeen, StationSeen}
 use Rattle.vsw_harbour.specs.Harbour.{AreLike, HarbourSeen, IsHarbour, callers}
 use Rattle.vsw_harbour.specs.Standing.{IsWhole, RowsStand}
 use Rattle.vsw_harbour.proofs.Likes.{numbers_like}
@@ -14,8 +14,8 @@ use Rattle.vsw_history.specs.Order.{ascending}
 use Rattle.vsw_history.specs.declared.event.Event.{Event}
 use Rattle.vsw_history.proofs.Fronts.{prefix_length}
 use Rattle.vsw_history_law.specs.Law.{AreAsked}
-use Rattle.vsw_many.specs.Rounds.{AreJournals, calls_by_port}
-use Rattle.vsw_many.proofs.Dealing.{all_know}
+use Rattle.vsw_harbour.specs.Rounds.{AreJournals, calls_by_port}
+use Rattle.vsw_harbour.proofs.Dealing.{all_know}
 use Rattle.vsw_merge.specs.Line.{TextLine}
 use Rattle.vsw_pcap.specs.declared.capture.Record.{Record}
 use Rattle.vsw_policy.specs.Sound.{Each, are_distinct}

@@ -1,11 +1,11 @@
 -- A crew between two rounds.
 use Rattle.std.specs.Prelude.{◌≡◌, List, [], ◌∷◌, length, map}
-use Rattle.vsw_actors.specs.declared.lane.Lane.{Lane}
-use Rattle.vsw_dock.specs.Docks.{port_in}
-use Rattle.vsw_dock.specs.Seen.{DockSeen, StationSeen}
+use Rattle.vsw_harbour.specs.Lane.{Lane}
+use Rattle.vsw_harbour.specs.Docks.{port_in}
+use Rattle.vsw_harbour.specs.Seen.{DockSeen, StationSeen}
 use Rattle.vsw_history.specs.Order.{ascending, counted}
 use Rattle.vsw_history.specs.declared.event.Event.{Event}
-use Rattle.vsw_many.specs.Rounds.{AreJournals}
+use Rattle.vsw_harbour.specs.Rounds.{AreJournals}
 use Rattle.vsw_promise.specs.Jobs.{Setting}
 use Rattle.vsw_promise.specs.Rounds.{opening_of}
 use Rattle.vsw_rounds.specs.Switch.{PortNow, SwitchNow}

@@ -1,6 +1,6 @@
 -- What callers tell of their calls.
 use Rattle.std.specs.Prelude.{ℕ, List, map}
-use Rattle.vsw_crew_law.specs.Crew.{lines_for}
+use Rattle.vsw_harbour.specs.Crew.{lines_for}
 use Rattle.vsw_history.specs.Calls.{Call, calls_of}
 use Rattle.vsw_history.specs.Order.{counted}
 use Rattle.vsw_merge.specs.Line.{TextLine}

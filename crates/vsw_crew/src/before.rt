@@ -4,7 +4,7 @@ ghost use Rattle.std.specs.Prelude.{◌≡◌, ◌≤◌, ◌++◌, List, IfOk, 
 ghost use Rattle.vsw_crew.specs.Crew.{AreReady, IsOfSome};
 ghost use Rattle.vsw_crew.specs.Private.Round.{HasAsked, HasBegun};
 ghost use Rattle.vsw_crew.specs.Private.Rows.{cleared, lines_of};
-ghost use Rattle.vsw_dock.specs.Opening.{rows_in};
+ghost use Rattle.vsw_harbour.specs.Opening.{rows_in};
 ghost use Rattle.vsw_harbour.specs.Harbour.{IsOfRun, MayAsk};
 ghost use Rattle.vsw_history.specs.declared.event.Event.{Event};
 ghost use Rattle.vsw_policy.specs.Sound.{Each};
@@ -13,11 +13,8 @@ ghost use Rattle.vsw_promise.specs.Jobs.{Setting};
 use crate::lines::{are_whole, take_rows};
 use std::alloc::Global;
 use std::sync::Wait;
-use vsw_actors::Lane;
 use vsw_base::NoMemory;
-use vsw_dock::{Station, Watch};
-use vsw_harbour::{Harbour, ask_before, meet_all};
-use vsw_live::Naming;
+use vsw_harbour::{Harbour, Lane, Naming, Station, Watch, ask_before, meet_all};
 use vsw_schedule::Schedule;
 use vsw_tell::Lines;
 

@@ -1,13 +1,13 @@
 //! What is done beside each other: the packets, and the commands beside them.
 
 ghost use Rattle.std.specs.Prelude.{◌≡◌, ◌++◌, ◌∷◌, [], List, IfOk, OnOk, length};
-ghost use Rattle.vsw_actors.specs.Rows.{HaveDone, MayBegin};
+ghost use Rattle.vsw_harbour.specs.Rows.{HaveDone, MayBegin};
 ghost use Rattle.vsw_crew.specs.Private.Round.{DidBeside};
 ghost use Rattle.vsw_crew.specs.Private.Rows.{needs_in};
-ghost use Rattle.vsw_deal.specs.Deal.{AreFew, AreWork, dealt, shared};
-ghost use Rattle.vsw_deal.specs.Work.{job_in};
-ghost use Rattle.vsw_dock.specs.Docks.{is_of, pass_in, permits, port_in, takes, tells};
-ghost use Rattle.vsw_dock.specs.Opening.{rows_in};
+ghost use Rattle.vsw_harbour.specs.Deal.{AreFew, AreWork, dealt, shared};
+ghost use Rattle.vsw_harbour.specs.Work.{job_in};
+ghost use Rattle.vsw_harbour.specs.Docks.{is_of, pass_in, permits, port_in, takes, tells};
+ghost use Rattle.vsw_harbour.specs.Opening.{rows_in};
 ghost use Rattle.vsw_harbour.specs.Harbour.{asks_of, callers};
 ghost use Rattle.vsw_harbour.specs.Meeting.{AllMeet, AreLanesAt};
 ghost use Rattle.vsw_harbour.specs.Standing.{RowsStand, no_calls};
@@ -18,12 +18,8 @@ ghost use Rattle.vsw_promise.specs.Jobs as jobs;
 use std::alloc::Global;
 use std::sync::Wait;
 use std::thread::Threads;
-use vsw_actors::{Lane, Placed, run_rows};
 use vsw_base::NoMemory;
-use vsw_deal::Work;
-use vsw_dock::{Station, Watch};
-use vsw_harbour::{Harbour, meet_all};
-use vsw_live::Naming;
+use vsw_harbour::{Harbour, Lane, Naming, Placed, Station, Watch, Work, meet_all, run_rows};
 use vsw_workers::Gate;
 
 fn add_need(need: u32, needs: &mut Vec<u32>) -> Result<(), NoMemory>

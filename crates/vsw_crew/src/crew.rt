@@ -4,7 +4,7 @@ ghost use Rattle.std.specs.Prelude.{◌≡◌, ◌<◌, ◌+◌, ◌^◌, List, 
 ghost use Rattle.vsw_commandfile.specs.declared.line.Line.{Line};
 ghost use Rattle.vsw_crew.specs.Crew.{AreReady, AreRowsOf, IsOfSome, crew_now, seen_by, switch_now};
 ghost use Rattle.vsw_crew.specs.Private.Round.{HasTold};
-ghost use Rattle.vsw_dock.specs.Opening.{rows_in};
+ghost use Rattle.vsw_harbour.specs.Opening.{rows_in};
 ghost use Rattle.vsw_harbour.specs.Harbour.{IsOfRun, MayAsk};
 ghost use Rattle.vsw_history.specs.declared.event.Event.{Event};
 ghost use Rattle.vsw_policy.specs.Sound.{Each};
@@ -18,11 +18,8 @@ use std::marker::Model;
 use std::mem::replace;
 use std::sync::Wait;
 use std::thread::Threads;
-use vsw_actors::Lane;
 use vsw_base::NoMemory;
-use vsw_dock::{Station, Watch};
-use vsw_harbour::Harbour;
-use vsw_live::Naming;
+use vsw_harbour::{Harbour, Lane, Naming, Station, Watch};
 use vsw_pcap::Batch;
 use vsw_schedule::Schedule;
 use vsw_workers::Gate;
@@ -37,7 +34,7 @@ pub struct Crew<'g, J: Naming, G> {
 
 impl<'g, J: Naming, G> Model for Crew<'g, J, G> {
     ghost use Rattle.vsw_crew.specs.Crew.{AreRowsOf, CrewSeen, seen_by};
-    ghost use Rattle.vsw_dock.specs.Opening.{rows_in};
+    ghost use Rattle.vsw_harbour.specs.Opening.{rows_in};
 
     ghost Value = { CrewSeen };
 

@@ -2,14 +2,13 @@
 
 ghost use Rattle.std.specs.Prelude.{◌≡◌, ◌++◌, ◌∷◌, [], IfOk, IsTrue, OnOk, map};
 ghost use Rattle.vsw_crew.specs.Private.Rows.{cleared, cleared_lane, counts_of, first_counts, lines_of};
-ghost use Rattle.vsw_dock.specs.Opening.{rows_in};
+ghost use Rattle.vsw_harbour.specs.Opening.{rows_in};
 ghost use Rattle.vsw_harbour.specs.Standing.{IsWhole};
 ghost use Rattle.vsw_policy.specs.Sound.{Each};
 
 use std::alloc::Global;
-use vsw_actors::Lane;
 use vsw_base::NoMemory;
-use vsw_dock::Station;
+use vsw_harbour::{Lane, Station};
 use vsw_merge::Caller;
 use vsw_tell::Lines;
 

@@ -3,8 +3,8 @@
 ghost use Rattle.std.specs.Prelude.{◌≡◌, List, IfOk, OnOk, length, map};
 ghost use Rattle.vsw_crew.specs.Private.Round.{HasTold, HasWorked, numbers_in};
 ghost use Rattle.vsw_crew.specs.Private.Telling.{IsCounted, text_of, texts_so};
-ghost use Rattle.vsw_crew_law.specs.Crew.{is_short_crew};
-ghost use Rattle.vsw_dock.specs.Opening.{rows_in};
+ghost use Rattle.vsw_harbour.specs.Crew.{is_short_crew};
+ghost use Rattle.vsw_harbour.specs.Opening.{rows_in};
 ghost use Rattle.vsw_history.specs.declared.event.Event.{Event};
 ghost use Rattle.vsw_history_law.specs.Law.{AreAsked};
 ghost use Rattle.vsw_pcap.specs.declared.capture.Record.{Record};
@@ -14,11 +14,8 @@ ghost use Rattle.vsw_tell.specs.Texts.{AreRising, AreSized};
 
 use crate::lines::{are_whole, count_first, take_all};
 use crate::round::Worked;
-use vsw_actors::Lane;
 use vsw_base::NoMemory;
-use vsw_dock::Station;
-use vsw_harbour::Harbour;
-use vsw_live::Naming;
+use vsw_harbour::{Harbour, Lane, Naming, Station};
 use vsw_report::Loose;
 use vsw_tell::{Lines, tell_round};
 
@@ -80,7 +77,7 @@ pub(crate) fn tell<'g, J: Naming, G>(
     let afters = count_first(harbour.alloc, &rows)?;
     let lines = take_all(harbour.alloc, &mut rows)?;
     let short = say(
-        harbour, first, &befores, &befores, lines, firsts, &loose, out,
+        harbour, first, &befores, &afters, lines, firsts, &loose, out,
     )?;
     Ok((short, rows))
 }

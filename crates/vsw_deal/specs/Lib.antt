@@ -1,3 +1,13 @@
 pub mod Deal
 pub mod Work
 pub mod Private
+pub use Rattle.vsw_actors.specs.Actors
+pub use Rattle.vsw_actors.specs.Ends
+pub use Rattle.vsw_actors.specs.Lanes
+pub use Rattle.vsw_actors.specs.declared.lane.Lane
+pub use Rattle.vsw_actors.specs.ManyActors
+pub use Rattle.vsw_actors.specs.Passes
+pub use Rattle.vsw_actors.specs.Phases
+pub use Rattle.vsw_actors.specs.Rounds
+pub use Rattle.vsw_actors.specs.Rows
+pub use Rattle.vsw_actors.specs.declared.actor.Placed

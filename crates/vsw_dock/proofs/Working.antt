@@ -11,7 +11,7 @@ use Rattle.vsw_live.specs.Calls as live
 use Rattle.vsw_live.specs.Calls.{asked, call_of}
 use Rattle.vsw_live.specs.declared.answer.Told.{Told}
 use Rattle.vsw_lookup.specs.Rules.{one_if}
-use Rattle.vsw_many.specs.Passes.{Crosses}
+use Rattle.vsw_deal.specs.Passes.{Crosses}
 use Rattle.vsw_merge.specs.Line.{TextLine, text_of}
 use Rattle.vsw_promise.specs.Rounds as promise
 use Rattle.vsw_promise.specs.Told.{line_of}

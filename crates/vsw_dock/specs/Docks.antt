@@ -4,7 +4,7 @@ use Rattle.vsw_live.specs.Core.{IsOf}
 use Rattle.vsw_deal.specs.declared.work.Work.{Work}
 use Rattle.vsw_deal.specs.Work.{MayDo}
 use Rattle.vsw_history.specs.Calls.{Call}
-use Rattle.vsw_many.specs.Passes.{PassNow}
+use Rattle.vsw_deal.specs.Passes.{PassNow}
 use Rattle.vsw_merge.specs.Line.{text_of}
 use Rattle.vsw_ports.specs.Ports.{PortSeen}
 use Rattle.vsw_promise.specs.Told.{line_of}

@@ -1,6 +1,6 @@
 -- Ports are opened, and each caller has a station at each.
 use Rattle.std.specs.Prelude.{◌≡◌, ◌≤◌, ℕ, zero, suc, List, [], ◌∷◌, ◌++◌, length, map, drop, true, Vec}
-use Rattle.vsw_actors.specs.declared.lane.Lane.{Lane}
+use Rattle.vsw_deal.specs.Lane.{Lane}
 use Rattle.vsw_live.specs.Ports.{AreNewPasses, IsNewPass, OpenSeen}
 use Rattle.vsw_live.specs.Ports as live
 use Rattle.vsw_policy.specs.Sound.{Each}

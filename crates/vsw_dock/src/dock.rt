@@ -13,9 +13,8 @@ use crate::watch::Watch;
 use std::alloc::Global;
 use std::marker::Model;
 use std::sync::Wait;
-use vsw_actors::Port;
 use vsw_base::Mac;
-use vsw_deal::{Packet, Work};
+use vsw_deal::{Packet, Port, Work};
 use vsw_frame::read_frame;
 use vsw_live::{LivePort, Naming};
 

@@ -1,8 +1,8 @@
 //! What holds of docks and rows before, between and after rounds.
 
 ghost use Rattle.std.specs.Prelude.{◌≡◌, ℕ, List, map};
-ghost use Rattle.vsw_actors.specs.declared.lane.Lane.{Lane};
-ghost use Rattle.vsw_actors.specs.Lanes.{AreFit};
+ghost use Rattle.vsw_deal.specs.Lane.{Lane};
+ghost use Rattle.vsw_deal.specs.Lanes.{AreFit};
 ghost use Rattle.vsw_dock.specs.Docks.{is_of, pass_in, permits};
 ghost use Rattle.vsw_dock.specs.Laws.{AreDocked, MayMeet, NewRests, RowRests};
 ghost use Rattle.vsw_dock.specs.Meeting.{AreHeld, AreOfCaller, RowMeets};

@@ -1,6 +1,6 @@
 -- All callers of a run meet its ports.
 use Rattle.std.proofs.Common.{◌≡◌, ℕ, suc, List, [], ◌∷◌, length, Vec, subst, ap, sym, ◌∙◌}
-use Rattle.vsw_actors.specs.declared.lane.Lane.{Lane}
+use Rattle.vsw_dock.specs.Lane.{Lane}
 use Rattle.vsw_dock.specs.Meeting.{AreHeld}
 use Rattle.vsw_dock.specs.Opening.{rows_in}
 use Rattle.vsw_dock.specs.Seen.{DockSeen, StationSeen}

@@ -1,12 +1,12 @@
 -- Rows that meet the ports of their docks.
 use Rattle.std.proofs.Common.{◌≡◌, ℕ, List, [], ◌∷◌, length, Vec, subst, sym, refl, arith}
-use Rattle.vsw_actors.specs.declared.lane.Lane.{Lane}
+use Rattle.vsw_dock.specs.Lane.{Lane}
 use Rattle.vsw_dock.specs.Meeting.{AreHeld, AreLanes, RowMeets}
 use Rattle.vsw_dock.specs.Opening.{rows_in}
 use Rattle.vsw_dock.specs.Seen.{DockSeen, StationSeen}
-use Rattle.vsw_live.specs.Core.{IsOf}
-use Rattle.vsw_live.specs.Meeting.{HeldSeen}
-use Rattle.vsw_live.specs.Ports as live
+use Rattle.vsw_dock.specs.Core.{IsOf}
+use Rattle.vsw_dock.specs.LiveMeeting.{HeldSeen}
+use Rattle.vsw_dock.specs.Ports as live
 use Rattle.vsw_policy.specs.Sound.{Each}
 use Rattle.vsw_harbour.specs.Meeting.{AreLanesAt, RowsMeet}
 use Rattle.vsw_harbour.specs.Standing.{RowMay, RowsMay}

@@ -4,9 +4,9 @@ use Rattle.vsw_dock.specs.Seen.{DockSeen}
 use Rattle.vsw_history.specs.Calls.{named}
 use Rattle.vsw_history.specs.History.{AllRight, Opening}
 use Rattle.vsw_history.specs.declared.event.Event.{Event}
-use Rattle.vsw_many.specs.Actors.{AreRows, HasWorked}
-use Rattle.vsw_many.specs.Phases.{IsLane, Lane, calls_in}
-use Rattle.vsw_many.specs.Rounds.{AreJournals, calls_by_port, column, other_columns}
+use Rattle.vsw_dock.specs.Actors.{AreRows, HasWorked}
+use Rattle.vsw_dock.specs.Phases.{IsLane, Lane, calls_in}
+use Rattle.vsw_dock.specs.Rounds.{AreJournals, calls_by_port, column, other_columns}
 use Rattle.vsw_policy.specs.Sound.{Each}
 use Rattle.vsw_ports.specs.Ports.{PortSeen}
 use Rattle.vsw_promise.specs.Jobs.{Placed, deal}

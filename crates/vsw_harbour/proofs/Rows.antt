@@ -1,6 +1,6 @@
 -- One caller does a job, and the others nothing.
 use Rattle.std.proofs.Common.{◌≡◌, ◌≢◌, ◌<◌, ℕ, suc, List, [], ◌∷◌, ◌+◌, ◌==◌, Vec, true, false, subst, refl, sym, ◌∙◌, arith, eq-eqb, ne_eqb}
-use Rattle.vsw_actors.specs.declared.lane.Lane.{Lane}
+use Rattle.vsw_dock.specs.Lane.{Lane}
 use Rattle.vsw_dock.specs.Opening.{rows_in}
 use Rattle.vsw_dock.specs.Seen.{DockSeen, StationSeen}
 use Rattle.vsw_history.specs.Calls.{Call, Job, job_doer}

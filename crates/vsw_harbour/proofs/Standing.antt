@@ -1,10 +1,10 @@
 -- A row that stands begins to work.
 use Rattle.std.proofs.Common.{◌≡◌, ℕ, suc, List, [], ◌∷◌, ◌++◌, length, map, drop, subst, refl, ap, sym, ◌∙◌, arith}
 use native.Mathlib.Decide.{ℕ_discrete}
-use Rattle.vsw_actors.specs.declared.lane.Lane.{Lane}
-use Rattle.vsw_actors.specs.Lanes.{start_of, AreTold, AreFit, IsOwn}
-use Rattle.vsw_deal.specs.Work.{job_in}
-use Rattle.vsw_deal.specs.declared.work.Work.{Work}
+use Rattle.vsw_dock.specs.Lane.{Lane}
+use Rattle.vsw_dock.specs.Lanes.{start_of, AreTold, AreFit, IsOwn}
+use Rattle.vsw_dock.specs.Work.{job_in}
+use Rattle.vsw_dock.specs.DealWork.{Work}
 use Rattle.vsw_dock.specs.Docks.{is_of, pass_in, permits, port_in, tells}
 use Rattle.vsw_dock.specs.Meeting.{passes_in}
 use Rattle.vsw_dock.specs.Seen.{DockSeen, StationSeen}
@@ -12,10 +12,10 @@ use Rattle.vsw_history.specs.Calls.{Call, Job, calls_of, job_doer}
 use Rattle.vsw_history.specs.History.{Opening}
 use Rattle.vsw_history.specs.declared.event.Event.{Event}
 use Rattle.vsw_history.proofs.Fronts.{append_end}
-use Rattle.vsw_many.specs.Actors.{AllRest, Does, Moves, begun}
-use Rattle.vsw_many.specs.Passes.{Crosses, PassNow}
-use Rattle.vsw_many.specs.Phases.{Track}
-use Rattle.vsw_many.proofs.Actors.{actor_begins, actor_goes_on}
+use Rattle.vsw_dock.specs.Actors.{AllRest, Does, Moves, begun}
+use Rattle.vsw_dock.specs.Passes.{Crosses, PassNow}
+use Rattle.vsw_dock.specs.Phases.{Track}
+use Rattle.vsw_dock.proofs.Actors.{actor_begins, actor_goes_on}
 use Rattle.vsw_policy.specs.Sound.{Each}
 use Rattle.vsw_promise.specs.Rounds.{opening_of}
 use Rattle.vsw_harbour.specs.Harbour.{ports_in}

@@ -1,8 +1,8 @@
 -- All callers meet the ports.
 use Rattle.std.proofs.Common.{◌≡◌, ◌<◌, ℕ, suc, List, [], ◌∷◌, ◌++◌, length, Some, slice_get, ◌+◌, ◌==◌, subst, refl, ap, sym, ◌∙◌, arith, append_assoc}
 use mathlib.Core.List.{IsPrefix}
-use Rattle.vsw_actors.specs.declared.lane.Lane.{Lane}
-use Rattle.vsw_live.specs.Core.{IsOf}
+use Rattle.vsw_dock.specs.Lane.{Lane}
+use Rattle.vsw_dock.specs.Core.{IsOf}
 use Rattle.vsw_dock.specs.Docks.{pass_in, port_in, tells}
 use Rattle.vsw_dock.specs.Meeting.{AreHeld, RowMeets, histories_of, passes_in}
 use Rattle.vsw_dock.specs.Seen.{DockSeen, StationSeen}
@@ -10,14 +10,14 @@ use Rattle.vsw_history.specs.Calls.{Call, calls_of, doer, named}
 use Rattle.vsw_history.specs.History.{AllRight}
 use Rattle.vsw_history.specs.declared.event.Event.{Event}
 use Rattle.vsw_history.proofs.Fronts.{prefix_trans}
-use Rattle.vsw_live.specs.Meeting.{HeldSeen}
-use Rattle.vsw_live.specs.Ports as live
-use Rattle.vsw_many.specs.Actors.{AllMeet, AllRest, AreRows, HasWorked, lanes_of}
-use Rattle.vsw_many.specs.Passes.{AtRest, Meets, PassNow}
-use Rattle.vsw_many.specs.Phases as many
-use Rattle.vsw_many.specs.Phases.{Track}
-use Rattle.vsw_many.specs.Rounds.{AreJournals, calls_by_port}
-use Rattle.vsw_many.proofs.Actors.{actor_ends, filter_append}
+use Rattle.vsw_dock.specs.LiveMeeting.{HeldSeen}
+use Rattle.vsw_dock.specs.Ports as live
+use Rattle.vsw_dock.specs.Actors.{AllMeet, AllRest, AreRows, HasWorked, lanes_of}
+use Rattle.vsw_dock.specs.Passes.{AtRest, Meets, PassNow}
+use Rattle.vsw_dock.specs.Phases as many
+use Rattle.vsw_dock.specs.Phases.{Track}
+use Rattle.vsw_dock.specs.Rounds.{AreJournals, calls_by_port}
+use Rattle.vsw_dock.proofs.Actors.{actor_ends, filter_append}
 use Rattle.vsw_policy.specs.Sound.{Each}
 use Rattle.vsw_promise.specs.Jobs.{Placed, deal}
 use Rattle.vsw_promise.specs.Rounds.{opening_of}

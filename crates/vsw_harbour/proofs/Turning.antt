@@ -1,18 +1,18 @@
 -- Jobs of one caller after the other are done in turn at the ports of a run.
 use Rattle.std.proofs.Common.{◌≡◌, ◌<◌, ◌+◌, ◌++◌, ◌==◌, ◌&&◌, ◌∷◌, [], ℕ, suc, List, Bool, true, false, not, Some, length, map, filter, slice_get, if◌then◌else◌, subst, refl, ap, sym, ◌∙◌, arith, append_assoc}
 use Rattle.std.proofs.lemmas.Option.{slice_get_within}
-use Rattle.vsw_actors.specs.declared.lane.Lane.{Lane}
+use Rattle.vsw_dock.specs.Lane.{Lane}
 use Rattle.vsw_commandfile.specs.declared.line.Line.{Line}
 use Rattle.vsw_crew_law.specs.Turns.{append_each, placed_before}
 use Rattle.vsw_crew_law.proofs.Turns.{journals_end, journals_join, one_caller_turns, turns_begin, turns_join}
-use Rattle.vsw_deal.proofs.Steps.{place_within}
+use Rattle.vsw_dock.proofs.Steps.{place_within}
 use Rattle.vsw_dock.specs.Docks.{port_in}
 use Rattle.vsw_dock.specs.Seen.{DockSeen, StationSeen}
 use Rattle.vsw_history.specs.Calls.{Ask, Call, calls_of, controller_at, job_doer}
 use Rattle.vsw_history.specs.declared.event.Event.{Event}
 use Rattle.vsw_history.proofs.Fronts.{append_end}
-use Rattle.vsw_many.specs.Actors.{AreRows}
-use Rattle.vsw_many.specs.Rounds.{AreJournals, calls_by_port}
+use Rattle.vsw_dock.specs.Actors.{AreRows}
+use Rattle.vsw_dock.specs.Rounds.{AreJournals, calls_by_port}
 use Rattle.vsw_policy.specs.Sound.{Each}
 use Rattle.vsw_ports.specs.Ports.{PortSeen, ports_of}
 use Rattle.vsw_policy.specs.Layers.{place_of}

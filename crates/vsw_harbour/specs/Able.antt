@@ -1,7 +1,7 @@
 -- A caller that may do a job.
 use Rattle.std.specs.Prelude.{◌≡◌, ℕ, suc, List, [], ◌∷◌}
-use Rattle.vsw_actors.specs.declared.lane.Lane.{Lane}
-use Rattle.vsw_actors.specs.Lanes.{AreFit}
+use Rattle.vsw_dock.specs.Lane.{Lane}
+use Rattle.vsw_dock.specs.Lanes.{AreFit}
 use Rattle.vsw_dock.specs.Docks.{is_of, pass_in, permits}
 use Rattle.vsw_dock.specs.Seen.{DockSeen, StationSeen}
 

@@ -4,3 +4,24 @@ pub mod Working
 pub mod Meeting
 pub mod Steps
 pub mod Able
+pub use Rattle.vsw_dock.specs.Docks
+pub use Rattle.vsw_dock.specs.Opening
+pub use Rattle.vsw_dock.specs.Seen
+pub use Rattle.vsw_dock.specs.Ports
+pub use Rattle.vsw_dock.specs.Lane
+pub use Rattle.vsw_dock.specs.Rounds
+pub use Rattle.vsw_dock.specs.Meeting as DockMeeting
+pub use Rattle.vsw_dock.specs.Core
+pub use Rattle.vsw_dock.specs.LiveMeeting
+pub use Rattle.vsw_dock.specs.Deal
+pub use Rattle.vsw_dock.specs.Work
+pub use Rattle.vsw_dock.specs.DealWork
+pub use Rattle.vsw_crew_law.specs.Crew
+pub use Rattle.vsw_crew_law.specs.Turns
+pub use Rattle.vsw_dock.specs.ActorsDone as Actors
+pub use Rattle.vsw_dock.specs.Lanes
+pub use Rattle.vsw_dock.specs.Rows
+pub use Rattle.vsw_dock.specs.Placed
+pub use Rattle.vsw_dock.specs.Actors as ManyActors
+pub use Rattle.vsw_dock.specs.Passes
+pub use Rattle.vsw_dock.specs.Phases

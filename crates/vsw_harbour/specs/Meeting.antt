@@ -1,10 +1,10 @@
 -- All callers meet the ports.
 use Rattle.std.specs.Prelude.{ℕ, List, [], ◌∷◌}
-use Rattle.vsw_actors.specs.declared.lane.Lane.{Lane}
-use Rattle.vsw_live.specs.Core.{IsOf}
+use Rattle.vsw_dock.specs.Lane.{Lane}
+use Rattle.vsw_dock.specs.Core.{IsOf}
 use Rattle.vsw_dock.specs.Meeting.{AreHeld, RowMeets}
 use Rattle.vsw_dock.specs.Seen.{DockSeen, StationSeen}
-use Rattle.vsw_live.specs.Meeting.{HeldSeen}
+use Rattle.vsw_dock.specs.LiveMeeting.{HeldSeen}
 
 -- lanes at these docks
 abbrev pub AreLanesAt : List DockSeen → List (Lane StationSeen) → Type 0

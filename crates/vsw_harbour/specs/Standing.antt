@@ -1,12 +1,12 @@
 -- The callers of a round when all have met the ports: what each has seen, and what it tells of the round so far.
 use Rattle.std.specs.Prelude.{◌≡◌, ◌≤◌, ℕ, suc, List, [], ◌∷◌, length, map, true}
-use Rattle.vsw_actors.specs.declared.lane.Lane.{Lane}
-use Rattle.vsw_live.specs.Core.{IsOf}
+use Rattle.vsw_dock.specs.Lane.{Lane}
+use Rattle.vsw_dock.specs.Core.{IsOf}
 use Rattle.vsw_dock.specs.Docks.{pass_in, port_in, tells}
 use Rattle.vsw_dock.specs.Seen.{DockSeen, StationSeen}
 use Rattle.vsw_history.specs.Calls.{Call, calls_of}
 use Rattle.vsw_history.specs.declared.event.Event.{Event}
-use Rattle.vsw_many.specs.Passes.{AtRest}
+use Rattle.vsw_dock.specs.Passes.{AtRest}
 use Rattle.vsw_policy.specs.Sound.{Each}
 use Rattle.vsw_promise.specs.Rounds.{opening_of}
 

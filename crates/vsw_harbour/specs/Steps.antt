@@ -1,14 +1,14 @@
 -- What callers did between two meetings, and what they tell.
 use Rattle.std.specs.Prelude.{◌≡◌, ℕ, List, length, map, filter, not, Some}
 use Rattle.std.specs.List.{slice_get}
-use Rattle.vsw_actors.specs.declared.lane.Lane.{Lane}
+use Rattle.vsw_dock.specs.Lane.{Lane}
 use Rattle.vsw_commandfile.specs.declared.line.Line.{Line}
 use Rattle.vsw_dock.specs.Seen.{DockSeen, StationSeen}
 use Rattle.vsw_history.specs.declared.event.Event.{Event}
 use Rattle.vsw_history.specs.Calls.{Ask, Call}
-use Rattle.vsw_many.specs.Actors.{AreRows}
-use Rattle.vsw_many.specs.Phases as many
-use Rattle.vsw_many.specs.Rounds.{AreJournals, calls_by_port}
+use Rattle.vsw_dock.specs.Actors.{AreRows}
+use Rattle.vsw_dock.specs.Phases as many
+use Rattle.vsw_dock.specs.Rounds.{AreJournals, calls_by_port}
 use Rattle.vsw_policy.specs.Layers.{place_of}
 use Rattle.vsw_ports.specs.Ports.{ports_of}
 use Rattle.vsw_promise.specs.Jobs.{Placed, Setting}

@@ -1,13 +1,13 @@
 -- The callers of a round at work.
 use Rattle.std.specs.Prelude.{◌≡◌, ℕ, suc, List, [], ◌∷◌, ◌++◌}
-use Rattle.vsw_actors.specs.declared.lane.Lane.{Lane}
-use Rattle.vsw_live.specs.Core.{IsOf}
+use Rattle.vsw_dock.specs.Lane.{Lane}
+use Rattle.vsw_dock.specs.Core.{IsOf}
 use Rattle.vsw_dock.specs.Docks.{pass_in, port_in, tells}
 use Rattle.vsw_dock.specs.Seen.{DockSeen, StationSeen}
 use Rattle.vsw_history.specs.Calls.{Call, calls_of}
 use Rattle.vsw_history.specs.declared.event.Event.{Event}
-use Rattle.vsw_many.specs.Actors.{AtWork}
-use Rattle.vsw_many.specs.Phases.{Track}
+use Rattle.vsw_dock.specs.Actors.{AtWork}
+use Rattle.vsw_dock.specs.Phases.{Track}
 use Rattle.vsw_promise.specs.Jobs.{Placed, deal}
 use Rattle.vsw_harbour.specs.Harbour.{ports_in}
 

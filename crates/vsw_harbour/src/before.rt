@@ -1,10 +1,10 @@
 //! The commands before the packets, one after the other.
 
 ghost use Rattle.std.specs.Prelude.{◌≡◌, ◌≤◌, ◌+◌, ◌∷◌, [], ℕ, List, OnOk, length};
-ghost use Rattle.vsw_actors.specs.Lanes.{IsOwn, IsTaken};
+ghost use Rattle.vsw_dock.specs.Lanes.{IsOwn, IsTaken};
 ghost use Rattle.vsw_commandfile.specs.declared.line.Line.{Line};
 ghost use Rattle.vsw_crew_law.specs.Turns.{placed_before};
-ghost use Rattle.vsw_deal.specs.Work.{job_in};
+ghost use Rattle.vsw_dock.specs.Work.{job_in};
 ghost use Rattle.vsw_dock.specs.Docks.{port_in, takes};
 ghost use Rattle.vsw_dock.specs.Opening.{rows_in};
 ghost use Rattle.vsw_harbour.specs.Able.{IsAble};
@@ -14,7 +14,7 @@ ghost use Rattle.vsw_harbour.specs.Steps.{AreAt, Did, MayGo, Turned, asks_before
 ghost use Rattle.vsw_harbour.specs.Working.{RowsWork};
 ghost use Rattle.vsw_history.specs.Calls.{Call, job_doer};
 ghost use Rattle.vsw_history.specs.declared.event.Event.{Event};
-ghost use Rattle.vsw_many.specs.Rounds.{AreJournals};
+ghost use Rattle.vsw_dock.specs.Rounds.{AreJournals};
 ghost use Rattle.vsw_policy.specs.Sound.{Each};
 ghost use Rattle.vsw_ports.specs.Ports.{ports_of};
 ghost use Rattle.vsw_promise.specs.Jobs.{Setting, numbers_of};
@@ -25,12 +25,9 @@ use crate::place::place_of;
 use crate::row::step;
 use std::alloc::Global;
 use std::sync::Wait;
-use vsw_actors::Lane;
 use vsw_base::NoMemory;
 use vsw_commandfile::Line;
-use vsw_deal::Work;
-use vsw_dock::{Dock, Station, Watch};
-use vsw_live::Naming;
+use vsw_dock::{Dock, Lane, Naming, Station, Watch, Work};
 use vsw_schedule::Schedule;
 
 /// Of these rows, the first of which is caller `at`'s, that of a caller does a job.

@@ -3,8 +3,7 @@
 use std::alloc::Global;
 use std::marker::Model;
 use vsw_base::{Items, Mac};
-use vsw_dock::Dock;
-use vsw_live::Naming;
+use vsw_dock::{Dock, Naming};
 
 /// The workers, the ports and the controllers of a run.
 #[derive(Drop)]

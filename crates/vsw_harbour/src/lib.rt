@@ -12,3 +12,7 @@ pub use harbour::Harbour;
 pub use meeting::{meet_again, meet_all};
 pub use place::place_of;
 pub use row::step;
+pub use vsw_dock::{
+    Dock, Lane, Naming, OpenDocks, OpenPort, Placed, Station, Watch, Work, deal, dock_all,
+    name_all, open_ports, rows_of, run_rows,
+};

@@ -16,10 +16,8 @@ ghost use Rattle.vsw_promise.specs.Jobs.{Placed};
 use crate::harbour::Harbour;
 use std::alloc::Global;
 use std::sync::Wait;
-use vsw_actors::Lane;
 use vsw_base::NoMemory;
-use vsw_dock::{Dock, Station, hold_all, meet_row};
-use vsw_live::{Held, Naming};
+use vsw_dock::{Dock, Held, Lane, Naming, Station, hold_all, meet_row};
 
 /// The row of a caller meets the ports.
 fn meet_one<J: Naming>(

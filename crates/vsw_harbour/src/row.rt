@@ -1,8 +1,8 @@
 //! The lanes of a caller.
 
 ghost use Rattle.std.specs.Prelude.{◌≡◌, ◌≤◌, ◌∷◌, [], List, length};
-ghost use Rattle.vsw_actors.specs.Lanes.{AreFit, IsOwn, IsTaken};
-ghost use Rattle.vsw_deal.specs.Work.{job_in};
+ghost use Rattle.vsw_dock.specs.Lanes.{AreFit, IsOwn, IsTaken};
+ghost use Rattle.vsw_dock.specs.Work.{job_in};
 ghost use Rattle.vsw_dock.specs.Docks.{is_of, pass_in, permits, port_in, takes};
 ghost use Rattle.vsw_harbour.specs.Standing.{RowStands};
 ghost use Rattle.vsw_harbour.specs.Working.{RowWorks};
@@ -11,10 +11,7 @@ ghost use Rattle.vsw_history.specs.declared.event.Event.{Event};
 
 use std::alloc::Global;
 use std::sync::Wait;
-use vsw_actors::{Lane, step_at};
-use vsw_deal::Work;
-use vsw_dock::{Dock, Station, Watch};
-use vsw_live::Naming;
+use vsw_dock::{Dock, Lane, Naming, Station, Watch, Work, step_at};
 
 /// The lanes of a caller do a job at the port at a place, and nothing at the others.
 fn step_lanes<'w, 'g, J: Naming, G: Watch, R: Wait>(

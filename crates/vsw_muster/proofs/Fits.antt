@@ -2,7 +2,7 @@
 use Rattle.std.proofs.Common.{◌≡◌, ◌≢◌, ◌≤◌, ◌<◌, ◌==◌, ℕ, suc, List, [], ◌∷◌, length, map, slice_index_or, true, false, refl, sym, subst, arith, ne_eqb}
 use Rattle.std.specs.Prelude.{All}
 use Rattle.std.specs.List.{AllPairs}
-use Rattle.vsw_dock.specs.Opening.{CanOpen}
+use Rattle.vsw_harbour.specs.Opening.{CanOpen}
 use Rattle.vsw_policy.proofs.Keeps.{each-placed}
 use Rattle.vsw_policy.specs.Sound.{Each, are_distinct, is_listed}
 use Rattle.vsw_policyfile.specs.Good.{AreGoodPorts, IsGoodPolicy}

@@ -1,15 +1,15 @@
 -- The harbour of a policy file, whose ports were opened and then named.
 use Rattle.std.proofs.Common.{◌≡◌, ◌≤◌, ◌+◌, ℕ, List, [], ◌∷◌, length, map, refl, ap, sym, subst, ◌∙◌, arith}
 use Rattle.std.proofs.lemmas.List.{length-map}
-use Rattle.vsw_actors.specs.declared.lane.Lane.{Lane}
-use Rattle.vsw_dock.proofs.Docked.{docked}
-use Rattle.vsw_dock.specs.Docks.{port_in}
-use Rattle.vsw_dock.specs.Opening.{AreIdle, AreOpened, docks_of, rows_from}
-use Rattle.vsw_dock.specs.Seen.{DockSeen, StationSeen}
+use Rattle.vsw_harbour.specs.Lane.{Lane}
+use Rattle.vsw_harbour.proofs.Docked.{docked}
+use Rattle.vsw_harbour.specs.Docks.{port_in}
+use Rattle.vsw_harbour.specs.Opening.{AreIdle, AreOpened, docks_of, rows_from}
+use Rattle.vsw_harbour.specs.Seen.{DockSeen, StationSeen}
 use Rattle.vsw_harbour.proofs.Likes.{macs_like, numbers_like}
 use Rattle.vsw_harbour.specs.Harbour.{AreLike, HarbourSeen, IsHarbour}
-use Rattle.vsw_live.specs.Ports.{OpenSeen, passes_of}
-use Rattle.vsw_live.specs.Ports as live
+use Rattle.vsw_harbour.specs.Ports.{OpenSeen, passes_of}
+use Rattle.vsw_harbour.specs.Ports as live
 use Rattle.vsw_policy.specs.Sound.{Each, are_distinct, is_listed}
 use Rattle.vsw_policyfile.specs.declared.file.PolicyFile.{PolicyFile}
 use Rattle.vsw_policyfile.specs.declared.file.PortFile.{PortFile}

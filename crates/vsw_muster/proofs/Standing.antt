@@ -1,13 +1,13 @@
 -- New rows stand at empty histories.
 use Rattle.std.proofs.Common.{ℕ, suc, List, [], ◌∷◌}
-use Rattle.vsw_actors.specs.declared.lane.Lane.{Lane}
-use Rattle.vsw_dock.specs.Opening.{AreNewRows, IsNewLane, IsNewRow}
-use Rattle.vsw_dock.specs.Seen.{DockSeen, StationSeen}
+use Rattle.vsw_harbour.specs.Lane.{Lane}
+use Rattle.vsw_harbour.specs.Opening.{AreNewRows, IsNewLane, IsNewRow}
+use Rattle.vsw_harbour.specs.Seen.{DockSeen, StationSeen}
 use Rattle.vsw_harbour.specs.Harbour.{ports_in}
 use Rattle.vsw_harbour.specs.Meeting.{AreLanesAt}
 use Rattle.vsw_harbour.specs.Standing.{IsWhole, RowStands, RowsStand, Stands, no_calls}
 use Rattle.vsw_history.proofs.Fronts.{prefix_self}
-use Rattle.vsw_many.specs.Rounds.{AreJournals}
+use Rattle.vsw_harbour.specs.Rounds.{AreJournals}
 use Rattle.vsw_policy.specs.Sound.{Each}
 use Rattle.vsw_muster.specs.Mustered.{no_entries}
 

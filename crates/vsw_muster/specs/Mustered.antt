@@ -1,13 +1,13 @@
 -- The harbour of a policy file and the rows of all its callers, before the first round.
 use Rattle.std.specs.Prelude.{◌≡◌, ℕ, List, [], length, map, true}
-use Rattle.vsw_actors.specs.declared.lane.Lane.{Lane}
+use Rattle.vsw_harbour.specs.Lane.{Lane}
 use Rattle.vsw_commandfile.specs.declared.line.Line.{Line}
-use Rattle.vsw_dock.specs.Seen.{DockSeen, StationSeen}
+use Rattle.vsw_harbour.specs.Seen.{DockSeen, StationSeen}
 use Rattle.vsw_harbour.specs.Harbour.{HarbourSeen, IsOfRun, MayAsk, callers, ports_in}
 use Rattle.vsw_harbour.specs.Meeting.{AreLanesAt}
 use Rattle.vsw_harbour.specs.Standing.{IsWhole, RowsStand, no_calls}
 use Rattle.vsw_history.specs.declared.event.Event.{Event}
-use Rattle.vsw_many.specs.Rounds.{AreJournals}
+use Rattle.vsw_harbour.specs.Rounds.{AreJournals}
 use Rattle.vsw_policy.specs.Obey.{rules_given}
 use Rattle.vsw_policy.specs.Sound.{Each, IsGoodRule, is_listed}
 use Rattle.vsw_policyfile.specs.declared.file.PolicyFile.{PolicyFile}

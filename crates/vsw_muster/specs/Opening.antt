@@ -1,8 +1,8 @@
 -- The ports of a policy file, opened for a run of some workers.
 use Rattle.std.specs.Prelude.{◌≡◌, ◌<◌, ◌≤◌, ◌+◌, ◌++◌, ℕ, List, length, map, replicate}
-use Rattle.vsw_dock.specs.Opening.{AreOpened}
+use Rattle.vsw_harbour.specs.Opening.{AreOpened}
 use Rattle.vsw_history.specs.Order.{ascending}
-use Rattle.vsw_live.specs.Ports.{OpenSeen}
+use Rattle.vsw_harbour.specs.Ports.{OpenSeen}
 use Rattle.vsw_policyfile.specs.declared.file.PolicyFile.{PolicyFile}
 use Rattle.vsw_policyfile.specs.Good.{IsGoodPolicy}
 use Rattle.vsw_ports.specs.declared.port.Port.{Port}

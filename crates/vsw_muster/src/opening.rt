@@ -1,8 +1,8 @@
 //! The ports of a policy file are opened, and then named.
 
 ghost use Rattle.std.specs.Prelude.{◌≡◌, ◌≤◌, ◌<◌, ℕ, length, IfOk};
-ghost use Rattle.vsw_dock.specs.Opening.{AreIdle, docks_of, rows_from, rows_in};
-ghost use Rattle.vsw_live.specs.Ports as live;
+ghost use Rattle.vsw_harbour.specs.Opening.{AreIdle, docks_of, rows_from, rows_in};
+ghost use Rattle.vsw_harbour.specs.Ports as live;
 ghost use Rattle.vsw_muster.specs.Mustered.{IsMustered};
 ghost use Rattle.vsw_muster.specs.Opening.{ArePortsFor, IsOpenFor};
 ghost use Rattle.vsw_policyfile.specs.Good.{IsGoodPolicy};
@@ -11,11 +11,11 @@ ghost use Rattle.vsw_policyfile.specs.declared.file.PolicyFile.{PolicyFile};
 use crate::lists::{ascending, callers_of, copied, needs_of};
 use std::alloc::Global;
 use std::marker::Model;
-use vsw_actors::Lane;
 use vsw_base::{Items, Mac, NoMemory};
-use vsw_dock::{Dock, OpenDocks, Station, dock_all, open_ports, rows_of};
-use vsw_harbour::Harbour;
-use vsw_live::{Naming, OpenPort, name_all};
+use vsw_harbour::{
+    Dock, Harbour, Lane, Naming, OpenDocks, OpenPort, Station, dock_all, name_all, open_ports,
+    rows_of,
+};
 use vsw_policyfile::PolicyFile;
 use vsw_ports::ports_of;
 

@@ -1,14 +1,14 @@
 -- A round of a crew, step by step.
 use Rattle.std.specs.Prelude.{◌≡◌, ◌++◌, ℕ, Bool, List, [], length, map}
-use Rattle.vsw_actors.specs.declared.lane.Lane.{Lane}
+use Rattle.vsw_harbour.specs.Lane.{Lane}
 use Rattle.vsw_commandfile.specs.declared.line.Line.{Line}
-use Rattle.vsw_crew_law.specs.Crew.{CrewDid, CrewTells, crew_text, is_short_crew}
-use Rattle.vsw_crew_law.specs.Turns.{PlacedTurns, placed_before}
-use Rattle.vsw_dock.specs.Seen.{StationSeen}
+use Rattle.vsw_harbour.specs.Crew.{CrewDid, CrewTells, crew_text, is_short_crew}
+use Rattle.vsw_harbour.specs.Turns.{PlacedTurns, placed_before}
+use Rattle.vsw_harbour.specs.Seen.{StationSeen}
 use Rattle.vsw_history.specs.Calls.{Call}
 use Rattle.vsw_history.specs.Order.{numbered}
 use Rattle.vsw_history.specs.declared.event.Event.{Event}
-use Rattle.vsw_many.specs.Rounds.{AreJournals, calls_by_port}
+use Rattle.vsw_harbour.specs.Rounds.{AreJournals, calls_by_port}
 use Rattle.vsw_merge.specs.Line.{TextLine}
 use Rattle.vsw_pcap.specs.declared.capture.Record.{Record}
 use Rattle.vsw_ports.specs.Ports.{ports_of}

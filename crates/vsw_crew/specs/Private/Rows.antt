@@ -1,9 +1,9 @@
 -- Rows of lanes, whose lines are taken.
 use Rattle.std.specs.Prelude.{ℕ, List, [], ◌∷◌, length, map, Vec}
-use Rattle.vsw_actors.specs.declared.actor.Placed.{Placed}
-use Rattle.vsw_actors.specs.declared.lane.Lane.{Lane}
-use Rattle.vsw_deal.specs.declared.work.Work.{Work}
-use Rattle.vsw_dock.specs.Seen.{StationSeen}
+use Rattle.vsw_harbour.specs.Placed.{Placed}
+use Rattle.vsw_harbour.specs.Lane.{Lane}
+use Rattle.vsw_harbour.specs.DealWork.{Work}
+use Rattle.vsw_harbour.specs.Seen.{StationSeen}
 use Rattle.vsw_merge.specs.Line.{TextLine}
 
 -- what a row tells, a list a port

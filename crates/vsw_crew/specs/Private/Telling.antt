@@ -1,6 +1,6 @@
 -- The text of a crew's round, out of the rows of its lines.
 use Rattle.std.specs.Prelude.{◌≡◌, ◌++◌, ℕ, List, length, map}
-use Rattle.vsw_crew_law.specs.Crew.{AreCounted, crew_text}
+use Rattle.vsw_harbour.specs.Crew.{AreCounted, crew_text}
 use Rattle.vsw_history.specs.Order.{ascending}
 use Rattle.vsw_history.specs.declared.event.Event.{Event}
 use Rattle.vsw_merge.specs.Line.{TextLine}

@@ -1,5 +1,5 @@
 use denote.Param.Send.{sendable}
-use Rattle.vsw_dock.proofs.Sharing.{dock_sync}
+use Rattle.vsw_harbour.proofs.Sharing.{dock_sync}
 use Rattle.vsw_crew.proofs.beside.work.Goals as goal
 
 pub run_rows-requires-sync-P : goal.run_rows-requires-sync-P

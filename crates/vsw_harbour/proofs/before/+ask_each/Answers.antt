@@ -1,5 +1,5 @@
 use Rattle.std.proofs.Common.{rules}
-use Rattle.vsw_deal.proofs.Steps.{line_each}
+use Rattle.vsw_dock.proofs.Steps.{line_each}
 use Rattle.vsw_dock.specs.Opening.{rows_in}
 use Rattle.vsw_harbour.specs.Harbour.{MayAsk}
 use Rattle.vsw_harbour.proofs.Turning.{first_within, later_places, more_places, no_places}

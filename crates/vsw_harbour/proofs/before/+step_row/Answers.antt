@@ -1,5 +1,5 @@
 use Rattle.std.proofs.Common.{rules}
-use Rattle.vsw_deal.specs.Work.{job_in}
+use Rattle.vsw_dock.specs.Work.{job_in}
 use Rattle.vsw_harbour.proofs.Rows.{row_here, row_there}
 use Rattle.vsw_harbour.proofs.before.+step_row.Goals as goal
 

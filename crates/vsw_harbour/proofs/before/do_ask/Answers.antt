@@ -1,5 +1,5 @@
 use Rattle.std.proofs.Common.{◌≡◌, ◌+◌}
-use Rattle.vsw_deal.specs.declared.work.Work.TheVariants as work
+use Rattle.vsw_dock.specs.DealWork.TheVariants as work
 use Rattle.vsw_dock.specs.Opening.{rows_in}
 use Rattle.vsw_harbour.specs.Harbour.{HarbourSeen, asks_of}
 use Rattle.vsw_history.specs.Calls.{controller_at}

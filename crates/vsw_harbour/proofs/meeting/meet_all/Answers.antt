@@ -1,7 +1,7 @@
 use Rattle.std.proofs.Common.{List, subst, sym}
 use Rattle.vsw_dock.specs.Meeting.{AreLanes}
 use Rattle.vsw_dock.specs.Opening.{rows_in}
-use Rattle.vsw_live.specs.Meeting.{HeldSeen}
+use Rattle.vsw_dock.specs.LiveMeeting.{HeldSeen}
 use Rattle.vsw_policy.specs.Sound.{Each}
 use Rattle.vsw_harbour.proofs.Held.{rows_held}
 use Rattle.vsw_harbour.proofs.meeting.meet_all.Goals as goal

@@ -1,5 +1,5 @@
-use Rattle.vsw_actors.proofs.Doing.{ready_of}
-use Rattle.vsw_deal.specs.Work.{job_in}
+use Rattle.vsw_dock.proofs.Doing.{ready_of}
+use Rattle.vsw_dock.specs.Work.{job_in}
 use Rattle.vsw_dock.specs.Docks.{is_of, pass_in, permits, port_in}
 use Rattle.vsw_harbour.proofs.Standing.{fit_long, own_at_ports, works_one}
 use Rattle.vsw_harbour.proofs.row.step_lanes.Goals as goal

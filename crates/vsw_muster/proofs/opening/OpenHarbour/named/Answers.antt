@@ -1,5 +1,5 @@
 use Rattle.std.proofs.Common.{◌≤◌, ℕ, List, length, sym, subst}
-use Rattle.vsw_dock.specs.Opening.{rows_in}
+use Rattle.vsw_harbour.specs.Opening.{rows_in}
 use Rattle.vsw_muster.specs.Opening.{IsOpenFor, OpenHarbourSeen}
 use Rattle.vsw_muster.proofs.Mustered.{docks_are, few, idle, is_harbour, mustered, rows_are}
 use Rattle.vsw_muster.proofs.opening.OpenHarbour.named.Goals as goal

@@ -16,7 +16,7 @@ use Rattle.vsw_promise.specs.Jobs.{Setting}
 use Rattle.vsw_promise.specs.Rounds.{AreHistories}
 use Rattle.vsw_rounds.specs.Round.{TellsRound}
 use Rattle.vsw_rounds.specs.Switch.{AllStandAt, AreServed, IsAt, PortNow}
-use Rattle.vsw_crew.specs.Crew.{AreReady, AreRowsOf, IsOfSome, port_now, ports_now, seen_by, switch_now}
+use Rattle.vsw_crew.specs.Crew.{AreReady, AreRowsOf, CrewSeen, IsOfSome, port_now, ports_now, seen_by, switch_now}
 use Rattle.vsw_crew.specs.Private.Round.{HasTold}
 use Rattle.vsw_crew.proofs.Taking.{seen_are}
 
@@ -174,3 +174,11 @@ taken_ready h taken rows e some r =
     let some_too : 0 < length rows = subst (λ (w : List (List (Lane StationSeen))). 0 < length w) e some in
     let x = ready_rows h rows some_too r in
     (x.0, subst (AreReady h (seen_by rows)) (sym e) x.1)
+
+-- ---- a crew is made
+
+pub crew_is : (h : HarbourSeen) (hs : List (List Event)) (rows : List (List (Lane StationSeen))) → AreReady h hs rows → ◌≡◌ {A = CrewSeen} (record { harbour = h; histories = seen_by rows }) (record { harbour = h; histories = hs })
+crew_is h hs rows r =
+    let some : 0 < length rows = omega (arith, r.size) in
+    let make : List (List Event) → CrewSeen = λ gs. record { harbour = h; histories = gs } in
+    ap make (seen_are 0 h.docks hs (no_calls h.docks) rows some r.stand)

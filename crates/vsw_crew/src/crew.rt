@@ -43,6 +43,17 @@ impl<'g, J: Naming, G> Model for Crew<'g, J, G> {
     ghost invariant = { λ c. AreRowsOf c.harbour (rows_in c.rows.items) };
 }
 
+impl<'g, J: Naming, G> Crew<'g, J, G> {
+    /// A crew of this harbour, whose callers have these rows and have seen the whole histories of its ports.
+    pub fn new(harbour: Harbour<'g, J, G>, rows: Vec<Vec<Lane<Station>>>) -> Crew<'g, J, G>
+        requires run { IsOfSome harbour }
+        requires ready { (hs : List (List Event)) × AreReady harbour hs (rows_in rows.items) }
+        ensures now { (hs : List (List Event)) → AreReady harbour.entry hs (rows_in rows.items) → result ≡ record { harbour = harbour.entry; histories = hs } }
+    {
+        Crew { harbour, rows }
+    }
+}
+
 /// The round of these packets, done and told.
 fn run<'g, J: Naming + Send + Sync, G: Gate + Watch + Sync, R: Threads + Wait + Sync>(
     rt: &R,

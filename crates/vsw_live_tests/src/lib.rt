@@ -11,3 +11,5 @@ mod opening;
 mod packets;
 #[cfg(test)]
 mod row_tests;
+#[cfg(test)]
+mod thread_tests;

@@ -1,0 +1,27 @@
+//! Commands that may be given.
+
+ghost use Rattle.std.specs.Prelude.{IsTrue};
+ghost use Rattle.vsw_policy.specs.Obey.{rules_given};
+ghost use Rattle.vsw_policy.specs.Sound.{Each, IsGoodRule};
+
+use vsw_policy::Command;
+use vsw_rule::Rule;
+
+fn are_good(rules: &[Rule]) -> bool
+    ensures { IsTrue result → Each IsGoodRule rules.now }
+{
+    match rules {
+        [] => true,
+        [first, rest @ ..] => first.check().is_ok() && are_good(rest),
+    }
+}
+
+pub fn is_good(command: &Command) -> bool
+    ensures { IsTrue result → Each IsGoodRule (rules_given command.now) }
+{
+    match command {
+        Command::PutRules { rules, .. } => are_good(rules.as_slice()),
+        Command::AddRule { rule, .. } => rule.check().is_ok(),
+        _ => true,
+    }
+}

@@ -1,0 +1,23 @@
+//! Tests of the port that threads share, by threads: each answer is judged by a replay of the port's entries.
+#![tactic(auto)]
+
+#[cfg(test)]
+mod commands;
+#[cfg(test)]
+mod controller;
+#[cfg(test)]
+mod crew;
+#[cfg(test)]
+mod given;
+#[cfg(test)]
+mod judging;
+#[cfg(test)]
+mod million_tests;
+#[cfg(test)]
+mod opening;
+#[cfg(test)]
+mod packets;
+#[cfg(test)]
+mod replay;
+#[cfg(test)]
+mod worker;

@@ -2,6 +2,8 @@ pub mod Doing
 pub mod Ending
 pub mod Lanes
 pub mod Rounds
+pub mod Seats
+pub mod Turning
 pub use Rattle.vsw_many.proofs.Actors
 pub use Rattle.vsw_many.proofs.Dealing
 pub use Rattle.vsw_many.proofs.Passes

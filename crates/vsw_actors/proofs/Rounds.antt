@@ -12,7 +12,7 @@ use Rattle.vsw_actors.specs.declared.actor.Placed.{Placed}
 use Rattle.vsw_actors.specs.declared.lane.Lane.{Lane}
 use Rattle.vsw_actors.specs.Actors.{HasDone}
 use Rattle.vsw_actors.specs.Lanes.{AreFit, fronts_of}
-use Rattle.vsw_actors.specs.Private.Rows.{ActorSeen, AllEnd, HaveNone, begun_rows}
+use Rattle.vsw_actors.specs.Private.Rows.{ActorSeen, AllEnd, begun_rows}
 use Rattle.vsw_actors.specs.Rows.{HaveDone, IsSetUp, MayBegin}
 
 -- ---- all begin
@@ -59,31 +59,6 @@ none_left pass_in k ps [] [] old whole none e = sym (append_end old) ∙ e
 none_left pass_in k ps [] (s ∷ ss) old whole none e = sym (append_end old) ∙ e
 none_left pass_in k ps (r ∷ rs) ss old whole none e = absurd (omega (arith, none))
 
--- ---- some rest
-
--- who has no jobs has finished as it is
-none_finish : {J P : Type 0} (actors : List (ActorSeen P J)) → HaveNone actors → AllFinish (λ a. a.0) (λ a. a.1) (λ a. a.2) actors actors
-none_finish [] none = tt
-none_finish (a ∷ actors) none = ((refl, none.0, sym (ap (λ w. a.1 ++ w) none.0 ∙ append_end a.1)), none_finish actors none.1)
-
--- the first ones have finished, and the others have no jobs
-pub all_finish : {J P : Type 0} (busy : ℕ) (all ys : List (ActorSeen P J)) → AllFinish (λ a. a.0) (λ a. a.1) (λ a. a.2) (take busy all) ys → HaveNone (drop busy all) → AllFinish (λ a. a.0) (λ a. a.1) (λ a. a.2) all (ys ++ drop busy all)
-all_finish zero [] [] f none = tt
-all_finish zero [] (y ∷ ys) f none = absurd f
-all_finish zero (a ∷ all) [] f none = none_finish (a ∷ all) none
-all_finish zero (a ∷ all) (y ∷ ys) f none = absurd f
-all_finish (suc busy) [] [] f none = tt
-all_finish (suc busy) [] (y ∷ ys) f none = absurd f
-all_finish (suc busy) (a ∷ all) [] f none = absurd f
-all_finish (suc busy) (a ∷ all) (y ∷ ys) f none = (f.0, all_finish busy all ys f.1 none)
-
--- no actor is added or lost
-pub finish_length : {J P : Type 0} (xs ys : List (ActorSeen P J)) → AllFinish (λ a. a.0) (λ a. a.1) (λ a. a.2) xs ys → length ys ≡ length xs
-finish_length [] [] f = refl
-finish_length [] (y ∷ ys) f = absurd f
-finish_length (x ∷ xs) [] f = absurd f
-finish_length (x ∷ xs) (y ∷ ys) f = ap suc (finish_length xs ys f.1)
-
 -- ---- all end
 
 -- whatever the rows of those that are left, with them behind these the rows of all are whole
@@ -127,9 +102,9 @@ pub all_taken : {A : Type 0} (n : ℕ) (xs ys : List A) → length xs ≡ n → 
 all_taken n xs ys e = ap (λ m. take m (xs ++ ys)) (sym e) ∙ take-append_seam xs ys
 
 -- the rows that the round gives back, if it had memory
-pub rows_given : {J P S E F G H K : Type 0} (port_in : P → PortSeen) (pass_in : S → PassNow) (job_in : J → Job) (tells : S → List Call → Type 0) (is_of : P → S → Type 0) (permits : S → ℕ) (takes : P → J → Type 0) (ps : List P) (rs : List (Vec (Lane S) F)) (ss : List (Vec (Placed J) G)) (begun actors new : List (ActorSeen P J)) (r : Result (Vec (Vec (Lane S) H) K) E)
-    → MayBegin port_in pass_in job_in tells is_of permits takes 0 ps rs ss → begun ≡ begun_rows pass_in 0 ps rs ss → AllFinish (λ a. a.0) (λ a. a.1) (λ a. a.2) begun actors → IfOk r (λ v. AllEnd port_in pass_in job_in tells is_of permits new v.items) → new ≡ actors
+pub rows_given : {J P S E F G H K : Type 0} (port_in : P → PortSeen) (pass_in : S → PassNow) (job_in : J → Job) (tells : S → List Call → Type 0) (is_of : P → S → Type 0) (permits : S → ℕ) (takes : P → J → Type 0) (ps : List P) (rs : List (Vec (Lane S) F)) (ss : List (Vec (Placed J) G)) (begun actors : List (ActorSeen P J)) (r : Result (Vec (Vec (Lane S) H) K) E)
+    → MayBegin port_in pass_in job_in tells is_of permits takes 0 ps rs ss → begun ≡ begun_rows pass_in 0 ps rs ss → AllFinish (λ a. a.0) (λ a. a.1) (λ a. a.2) begun actors → IfOk r (λ v. AllEnd port_in pass_in job_in tells is_of permits actors v.items)
     → IfOk r (λ v. HaveDone port_in pass_in job_in tells is_of permits 0 ps rs ss v.items)
-rows_given port_in pass_in job_in tells is_of permits takes ps rs ss begun actors new (Err e) m b f a same = tt
-rows_given port_in pass_in job_in tells is_of permits takes ps rs ss begun actors new (Ok v) m b f a same =
-    rows_done port_in pass_in job_in tells is_of permits takes 0 ps rs ss actors v.items m (subst (λ w. AllFinish (λ a. a.0) (λ a. a.1) (λ a. a.2) w actors) b f) (subst (λ w. AllEnd port_in pass_in job_in tells is_of permits w v.items) same a)
+rows_given port_in pass_in job_in tells is_of permits takes ps rs ss begun actors (Err e) m b f a = tt
+rows_given port_in pass_in job_in tells is_of permits takes ps rs ss begun actors (Ok v) m b f a =
+    rows_done port_in pass_in job_in tells is_of permits takes 0 ps rs ss actors v.items m (subst (λ w. AllFinish (λ a. a.0) (λ a. a.1) (λ a. a.2) w actors) b f) a

@@ -4,11 +4,17 @@
 mod actor;
 mod lane;
 mod law;
+mod numbering;
 mod port;
+mod reconciler;
+mod round;
 mod rows;
+mod seat;
 
 pub use actor::{Actor, Begun, Placed, run_actors};
 pub use lane::{Lane, step, step_at};
 pub use law::actor_laws;
 pub use port::Port;
+pub use reconciler::RowPort;
+pub use round::Lineup;
 pub use rows::run_rows;

@@ -1,28 +1,39 @@
 //! A round of all actors, from rows of lanes to rows of lanes.
 
 ghost use Rattle.std.specs.Prelude.{◌≡◌, ◌<◌, ◌+◌, ◌++◌, ◌∷◌, [], IfOk, IsTrue, OnOk, length, vec_len};
-ghost use Rattle.vsw_actors.specs.Private.Rows.{AllEnd, HaveNone, MayRest, begun_rows};
+ghost use Rattle.vsw_actors.specs.Private.Rows.{AllEnd, begun_rows};
+ghost use Rattle.vsw_actors.specs.Private.Seats.{callers_in, seats_of};
 ghost use Rattle.vsw_actors.specs.Rows.{HaveDone, MayBegin};
 ghost use Rattle.vsw_workers.specs.Rounds.{AllFinish};
 
-use crate::actor::{Actor, Placed, run_actors};
+use crate::actor::{Actor, Placed};
 use crate::lane::Lane;
 use crate::port::Port;
+use crate::reconciler::{Reconciler, RowPort};
+use crate::round::{Lineup, run_seats};
+use crate::seat::Seat;
 use std::alloc::Global;
 use std::sync::Wait;
 use std::thread::Threads;
 use vsw_base::NoMemory;
-use vsw_workers::{Forwarder, Gate};
+use vsw_workers::Gate;
 
-/// Does the jobs of all actors of a round: actor k, from 0, has row k of lanes, one lane a port, and share k of the jobs. Where all
-/// actors from `busy` on have no jobs, only those before have threads of their own; else all have. Gives the rows back, in order.
-pub fn run_rows<'a, R: Threads + Wait + Sync, J: Send + Drop, P: Port<J> + Sync, G: Gate + Sync>(
+/// Does the jobs of all actors of a round: actor k, from 0, has row k of lanes, one lane a port, and share k of the jobs. Beside them
+/// 256 rows of each port are reconciled, in turn from round to round, which no clause tells. The round's slice has the workers, the
+/// controllers and the reconciler, and by their places in it the gate is told. Gives the rows back, in order.
+pub fn run_rows<
+    'a,
+    R: Threads + Wait + Sync,
+    J: Send + Drop,
+    P: Port<J> + RowPort + Sync,
+    G: Gate + Sync,
+>(
     rt: &R,
     alloc: Global,
     ports: &'a [P],
     rows: Vec<Vec<Lane<P::Station>>>,
     shares: Vec<Vec<Placed<J>>>,
-    busy: usize,
+    lineup: Lineup,
     gate: &G,
 ) -> Result<Vec<Vec<Lane<P::Station>>>, NoMemory>
 where
@@ -30,9 +41,35 @@ where
     requires begin { MayBegin P.port_in P.pass_in P.job_in P.tells P.is_of P.permits P.takes 0 ports.now rows.items shares.items }
     ensures done { IfOk result (λ after. HaveDone P.port_in P.pass_in P.job_in P.tells P.is_of P.permits 0 ports.now rows.items shares.items after.items) }
 {
-    let mut actors = begin_all(alloc, ports, rows, shares)?;
-    run_first(rt, alloc, actors.as_mut_slice(), busy, gate);
+    let actors = begin_all(alloc, ports, rows, shares)?;
+    let actors = run_all(rt, alloc, ports, actors, lineup, gate)?;
     end_all(alloc, actors)
+}
+
+/// Does all jobs of these actors, and those of the reconciler beside them.
+fn run_all<
+    'a,
+    R: Threads + Wait + Sync,
+    J: Send + Drop,
+    P: Port<J> + RowPort + Sync,
+    G: Gate + Sync,
+>(
+    rt: &R,
+    alloc: Global,
+    ports: &'a [P],
+    actors: Vec<Actor<'a, J, P>>,
+    lineup: Lineup,
+    gate: &G,
+) -> Result<Vec<Actor<'a, J, P>>, NoMemory>
+where
+    P::Station: Send + Drop,
+    ensures { IfOk result (λ v. AllFinish (λ a. a.0) (λ a. a.1) (λ a. a.2) actors.entry.items v.items) }
+{
+    let reconciler = Reconciler::begin(ports, lineup.round);
+    let mut seats = seat_all(alloc, actors, reconciler)?;
+    run_seats(rt, alloc, seats.as_mut_slice(), lineup, gate);
+    let after = callers_of(alloc, seats)?;
+    Ok(after)
 }
 
 /// Begins a round of all actors.
@@ -59,59 +96,52 @@ where
     Ok(actors)
 }
 
-/// Does all jobs of all actors. Those from `busy` on need no threads if they have no jobs.
-fn run_first<'a, R: Threads + Wait + Sync, J: Send, P: Port<J> + Sync, G: Gate + Sync>(
-    rt: &R,
+/// The seats of all actors, and behind them the reconciler's.
+fn seat_all<'a, J: Drop, P: Port<J>>(
     alloc: Global,
-    actors: &mut [Actor<'a, J, P>],
-    busy: usize,
-    gate: &G,
-)
+    actors: Vec<Actor<'a, J, P>>,
+    reconciler: Reconciler<'a, P>,
+) -> Result<Vec<Seat<'a, J, P>>, NoMemory>
 where
-    P::Station: Send,
-    ensures { AllFinish (λ a. a.0) (λ a. a.1) (λ a. a.2) actors.old actors.new }
+    P::Station: Drop,
+    ensures { IfOk result (λ v. v.items ≡ seats_of actors.entry.items reconciler.entry) }
 {
-    if may_rest(actors, busy) {
-        run_before(rt, alloc, actors, busy, gate);
-    } else {
-        run_actors(rt, alloc, actors, gate);
+    let mut seats = Vec::new(alloc);
+    for actor in actors {
+        put(&mut seats, Seat::Caller(actor))?;
     }
+    put(&mut seats, Seat::Reconciler(reconciler))?;
+    Ok(seats)
 }
 
-/// Does all jobs of the actors before `busy`.
-fn run_before<'a, R: Threads + Wait + Sync, J: Send, P: Port<J> + Sync, G: Gate + Sync>(
-    rt: &R,
+/// The callers among these seats.
+fn callers_of<'a, J: Drop, P: Port<J>>(
     alloc: Global,
-    actors: &mut [Actor<'a, J, P>],
-    busy: usize,
-    gate: &G,
-)
+    seats: Vec<Seat<'a, J, P>>,
+) -> Result<Vec<Actor<'a, J, P>>, NoMemory>
 where
-    P::Station: Send,
-    requires rest { MayRest busy actors.old }
-    ensures { AllFinish (λ a. a.0) (λ a. a.1) (λ a. a.2) actors.old actors.new }
+    P::Station: Drop,
+    ensures { IfOk result (λ v. v.items ≡ callers_in seats.entry.items) }
 {
-    run_actors(rt, alloc, &mut actors[..busy], gate);
-}
-
-/// Whether the actors from `busy` on have no jobs; false where there aren't as many before.
-fn may_rest<'a, J, P: Port<J>>(actors: &[Actor<'a, J, P>], busy: usize) -> bool
-    ensures { IsTrue result → MayRest busy actors.now }
-{
-    if busy > actors.len() {
-        return false;
+    let mut actors = Vec::new(alloc);
+    for seat in seats {
+        put_caller(&mut actors, seat)?;
     }
-    let (_before, behind) = actors.split_at(busy);
-    have_no_jobs(behind)
+    Ok(actors)
 }
 
-/// Whether none of these actors has a job left.
-fn have_no_jobs<'a, J, P: Port<J>>(actors: &[Actor<'a, J, P>]) -> bool
-    ensures { IsTrue result → HaveNone actors.now }
+/// Puts the caller of a seat at the end, if it is one.
+fn put_caller<'a, J: Drop, P: Port<J>>(
+    actors: &mut Vec<Actor<'a, J, P>>,
+    seat: Seat<'a, J, P>,
+) -> Result<(), NoMemory>
+where
+    P::Station: Drop,
+    ensures { OnOk result (actors.new.items ≡ actors.old.items ++ callers_in (seat.entry ∷ [])) }
 {
-    match actors.split_first() {
-        None => true,
-        Some((actor, others)) => actor.left() == 0 && have_no_jobs(others),
+    match seat {
+        Seat::Caller(actor) => put(actors, actor),
+        Seat::Reconciler(_) => Ok(()),
     }
 }
 

@@ -51,7 +51,7 @@ fn asked_at(lanes: &[Lane<Notes>], place: usize) -> [u32; 4] {
 
 #[test]
 fn each_job_is_done_at_its_port_and_in_its_turn(rt: HostRuntime) {
-    let ports = [Refusing { number: 1 }, Refusing { number: 2 }];
+    let ports = [Refusing::new(1, 0), Refusing::new(2, 0)];
     let lanes = two_lanes(rt.alloc()).expect(&rt, "memory");
     let jobs = three_jobs(rt.alloc()).expect(&rt, "memory");
     let mut actor = Actor::begin(16, &ports, lanes, jobs);

@@ -2,12 +2,41 @@
 
 use std::alloc::Global;
 use std::sync::Wait;
-use vsw_actors::Port;
+use std::sync::atomic::{AtomicU64, Ordering};
+use vsw_actors::{Port, RowPort};
 
-/// A port that has memory for no command.
+/// A port that has memory for no command. Any thread may use it. It counts how many rows were reconciled, and keeps the last one's
+/// number; each is one step on an atomic word.
 #[derive(Drop)]
 pub struct Refusing {
     pub number: u16,
+    pub rows: u32,
+    pub reconciled: AtomicU64,
+    pub last: AtomicU64,
+}
+
+impl Refusing {
+    pub fn new(number: u16, rows: u32) -> Refusing {
+        Refusing {
+            number,
+            rows,
+            reconciled: AtomicU64::new(0),
+            last: AtomicU64::new(0),
+        }
+    }
+}
+
+impl RowPort for Refusing {
+    ghost row_count = { λ p. p.rows };
+
+    fn rows(&self) -> u32 {
+        self.rows
+    }
+
+    fn reconcile<R: Wait>(&self, _rt: &R, row: u32) {
+        self.reconciled.fetch_add(1, Ordering::SeqCst);
+        self.last.store(u64::from(row), Ordering::SeqCst);
+    }
 }
 
 /// The numbers of the first four lines that an actor asked there.

@@ -7,5 +7,5 @@ mod share;
 mod work;
 
 pub use share::deal;
-pub use vsw_actors::{Lane, Placed, Port, run_rows, step_at};
+pub use vsw_actors::{Lane, Lineup, Placed, Port, RowPort, run_rows, step_at};
 pub use work::{Packet, Work};

@@ -8,13 +8,14 @@ ghost use Rattle.vsw_deal.specs.declared.work.Work.TheVariants as work;
 ghost use Rattle.vsw_dock.specs.Private.Does.{Does};
 ghost use Rattle.vsw_live.specs.StoryRows.{opening_of};
 
+use crate::named::NamedPort;
 use crate::station::Station;
 use crate::watch::Watch;
 use std::alloc::Global;
 use std::marker::Model;
 use std::sync::Wait;
 use vsw_base::Mac;
-use vsw_deal::{Packet, Port, Work};
+use vsw_deal::{Packet, Port, RowPort, Work};
 use vsw_frame::read_frame;
 use vsw_live::{LivePort, Naming};
 
@@ -23,26 +24,32 @@ use vsw_live::{LivePort, Naming};
 pub struct Dock<'g, J: Naming, G> {
     number: u16,
     mac: Mac,
+    rows: u32,
     port: LivePort<J>,
     watch: &'g G,
 }
 
 impl<'g, J: Naming, G> Model for Dock<'g, J, G> {
+    ghost use Rattle.std.specs.Prelude.{◌≡◌};
     ghost use Rattle.vsw_dock.specs.Seen.{DockSeen};
 
     ghost Value = { DockSeen };
 
     ghost view = { λ d. record { number = d.number; mac = d.mac; live = d.port } };
+
+    ghost invariant = { λ d. d.rows ≡ d.port.looking.2 };
 }
 
 impl<'g, J: Naming, G> Dock<'g, J, G> {
     /// The port of this number and address in the policy.
-    pub fn new(number: u16, mac: Mac, port: LivePort<J>, watch: &'g G) -> Dock<'g, J, G>
+    pub fn new(number: u16, mac: Mac, port: NamedPort<J>, watch: &'g G) -> Dock<'g, J, G>
         ensures { result ≡ record { number = number; mac = mac; live = port } }
     {
+        let (rows, port) = port.parts();
         Dock {
             number,
             mac,
+            rows,
             port,
             watch,
         }
@@ -112,5 +119,17 @@ impl<'w, 'g, J: Naming, G: Watch> Port<Work<'w>> for Dock<'g, J, G> {
             Work::Packet(packet) => self.carry(rt, station, packet),
             Work::Line(line) => station.ask(rt, &self.port, line),
         }
+    }
+}
+
+impl<'g, J: Naming, G> RowPort for Dock<'g, J, G> {
+    ghost row_count = { λ d. d.live.looking.2 };
+
+    fn rows(&self) -> u32 {
+        self.rows
+    }
+
+    fn reconcile<R: Wait>(&self, rt: &R, row: u32) {
+        self.port.reconcile(rt, row);
     }
 }

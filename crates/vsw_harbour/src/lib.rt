@@ -13,6 +13,6 @@ pub use meeting::{meet_again, meet_all};
 pub use place::place_of;
 pub use row::step;
 pub use vsw_dock::{
-    Dock, Lane, Naming, OpenDocks, OpenPort, Placed, Station, Watch, Work, deal, dock_all,
-    name_all, open_ports, rows_of, run_rows,
+    Answer, Dock, Lane, Lineup, Naming, OpenDocks, OpenPort, Placed, Station, Watch, Why, Work,
+    deal, dock_all, name_all, open_ports, rows_of, run_rows,
 };

@@ -1,5 +1,5 @@
 -- Actors of a round between its beginning and its end.
-use Rattle.std.specs.Prelude.{◌≡◌, ◌≤◌, ℕ, suc, List, [], ◌∷◌, length, drop, Vec}
+use Rattle.std.specs.Prelude.{ℕ, suc, List, [], ◌∷◌, length, Vec}
 use Rattle.vsw_ports.specs.Ports.{PortSeen}
 use Rattle.vsw_history.specs.Calls.{Job, Call}
 use Rattle.vsw_many.specs.Passes.{PassNow}
@@ -17,15 +17,6 @@ ActorSeen P J = Begun P × List (Placed J) × List (Placed J)
 abbrev pub begun_rows : {J P S F G : Type 0} → (S → PassNow) → ℕ → List P → List (Vec (Lane S) F) → List (Vec (Placed J) G) → List (ActorSeen P J)
 begun_rows pass_in k ps (r ∷ rs) (s ∷ ss) = (record { number = k; ports = ps; histories = fronts_of pass_in r.items }, [], s.items) ∷ begun_rows pass_in (suc k) ps rs ss
 begun_rows pass_in k ps _ _ = []
-
--- none of these actors has a job left
-abbrev pub HaveNone : {J P : Type 0} → List (ActorSeen P J) → Type 0
-HaveNone [] = Unit {0}
-HaveNone (a ∷ actors) = (a.2 ≡ []) × HaveNone actors
-
--- nor has any of those from this one on
-abbrev pub MayRest : {J P : Type 0} → ℕ → List (ActorSeen P J) → Type 0
-MayRest busy actors = (busy ≤ length actors) × HaveNone (drop busy actors)
 
 -- the rows of actors, as they end
 abbrev pub AllEnd : {J P S F : Type 0} → (P → PortSeen) → (S → PassNow) → (J → Job) → (S → List Call → Type 0) → (P → S → Type 0) → (S → ℕ) → List (ActorSeen P J) → List (Vec (Lane S) F) → Type 0

@@ -5,8 +5,6 @@ mod lines;
 mod port;
 mod ports;
 mod round;
-#[cfg(test)]
-mod tests;
 
 pub use lines::Lines;
 pub use round::tell_round;

@@ -4,6 +4,7 @@ pub mod Reading
 pub mod Limits
 pub mod Opening
 pub mod Running
+pub mod Mustering
 pub mod Drawing
 pub mod Finishing
 pub mod Completing

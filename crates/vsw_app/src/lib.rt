@@ -6,6 +6,8 @@ mod ending;
 mod files;
 mod open;
 mod run;
+mod through;
 
 pub use open::Open;
 pub use run::run_words;
+pub use vsw_workload::{Answer, Watch, Why};

@@ -1,13 +1,11 @@
 //! The run of the program.
 
-ghost use Rattle.std.specs.Prelude.{◌≡◌, ◌↔◌, ◌<◌, ◌≤◌, ◌^◌, All, None, Ok};
-ghost use Rattle.vsw_commandfile_law.specs.Good.{CanAsk};
+ghost use Rattle.std.specs.Prelude.{◌≡◌, ◌↔◌, ◌<◌, ◌≤◌, ◌^◌, None, Ok};
 ghost use Rattle.vsw_host.specs.Outside.{Rose};
 ghost use Rattle.vsw_generate.specs.Policy.{policy_text};
 ghost use Rattle.vsw_policyfile.specs.Good.{IsGoodPolicy};
 ghost use Rattle.vsw_policyfile.specs.Policy.{policy_file_of};
 ghost use Rattle.vsw_promise.specs.IsRun.{IsRun, IsComplete, IsCompleteAlone};
-ghost use Rattle.vsw_workload.specs.ReplayRuns.{RunsTrace};
 ghost use Rattle.vsw_request.specs.Seen.{IsWithin, asked_seen, request_seen};
 ghost use Rattle.vsw_request.specs.Words.{asked_in};
 ghost use Rattle.vsw_workload.specs.Runs.{RunsWorkload};
@@ -15,91 +13,20 @@ ghost use Rattle.vsw_app.specs.Stages.{HasEnded, HasEndedBy, HasGenerated};
 
 use crate::ending::{drawn_ending, ending_of, finish};
 use crate::files::{open_commands, open_policy};
+use crate::through::run_through;
 use std::alloc::Global;
 use std::sync::Wait;
 use std::thread::Threads;
-use vsw_base::Items;
-use vsw_commandfile::Line;
 use vsw_generate::Workload;
 use vsw_host::Host;
 use vsw_policyfile::{PolicyFile, read_policy};
 use vsw_promise::{Ending, Status};
 use vsw_request::{Asked, Request, Word, read_words};
-use vsw_schedule::Schedule;
 use vsw_workers::Gate;
-use vsw_workload::{Switch, TraceEnd, WorkloadEnd, run_trace, run_workload};
-
-/// Runs the trace of this name in one thread, which does the work of all workers. It waits for nobody.
-fn run_alone<R: Threads + Wait + Sync, H: Host>(
-    rt: &R,
-    alloc: Global,
-    host: &mut H,
-    workers: u32,
-    policy: &PolicyFile,
-    schedule: &Schedule,
-    trace: &str,
-) -> TraceEnd
-    requires some { 0 < workers }
-    requires few { workers ≤ 16 }
-    requires good { IsGoodPolicy policy.now }
-    requires asked { All (CanAsk policy.now) schedule.now }
-    ensures { RunsTrace (record { workers = workers; policy = policy.now; commands = schedule.now }) (H.outside host.old) (H.outside host.new) trace.now result }
-{
-    let Ok(mut switch) = Switch::open(alloc, workers, policy) else {
-        return TraceEnd::Memory;
-    };
-    run_trace(rt, alloc, host, &mut switch, schedule, trace)
-}
-
-/// Runs the trace of this name with more than one worker. One thread does their work, and the gate isn't told of it.
-fn run_many<R: Threads + Wait + Sync, H: Host, G: Gate + Sync>(
-    rt: &R,
-    alloc: Global,
-    host: &mut H,
-    _gate: &G,
-    workers: u32,
-    policy: &PolicyFile,
-    schedule: &Schedule,
-    trace: &str,
-) -> TraceEnd
-    requires some { 0 < workers }
-    requires few { workers ≤ 16 }
-    requires good { IsGoodPolicy policy.now }
-    requires asked { All (CanAsk policy.now) schedule.now }
-    ensures { RunsTrace (record { workers = workers; policy = policy.now; commands = schedule.now }) (H.outside host.old) (H.outside host.new) trace.now result }
-{
-    run_alone(rt, alloc, host, workers, policy, schedule, trace)
-}
-
-/// Runs the trace of this name through the ports of a policy, with these commands.
-fn run_through<R: Threads + Wait + Sync, H: Host, G: Gate + Sync>(
-    rt: &R,
-    alloc: Global,
-    host: &mut H,
-    gate: &G,
-    workers: u32,
-    policy: &PolicyFile,
-    lines: Items<Line>,
-    trace: &str,
-) -> TraceEnd
-    requires some { 0 < workers }
-    requires few { workers ≤ 16 }
-    requires good { IsGoodPolicy policy.now }
-    requires asked { All (CanAsk policy.now) lines }
-    ensures { RunsTrace (record { workers = workers; policy = policy.now; commands = lines }) (H.outside host.old) (H.outside host.new) trace.now result }
-{
-    let Ok(schedule) = Schedule::new(alloc, lines) else {
-        return TraceEnd::Memory;
-    };
-    if workers == 1 {
-        run_alone(rt, alloc, host, workers, policy, &schedule, trace)
-    } else {
-        run_many(rt, alloc, host, gate, workers, policy, &schedule, trace)
-    }
-}
+use vsw_workload::{Switch, Watch, WorkloadEnd, run_workload};
 
 /// Runs over the files that the words name, each read and judged before the next is opened.
-fn forward<R: Threads + Wait + Sync, H: Host, G: Gate + Sync>(
+fn forward<R: Threads + Wait + Sync, H: Host, G: Gate + Watch + Sync>(
     rt: &R,
     alloc: Global,
     host: &mut H,
@@ -159,7 +86,7 @@ fn generate<H: Host>(alloc: Global, host: &mut H, start: u32, packets: u32) -> E
 }
 
 /// Runs as the words ask.
-fn run_asked<R: Threads + Wait + Sync, H: Host, G: Gate + Sync>(
+fn run_asked<R: Threads + Wait + Sync, H: Host, G: Gate + Watch + Sync>(
     rt: &R,
     alloc: Global,
     host: &mut H,
@@ -176,7 +103,7 @@ fn run_asked<R: Threads + Wait + Sync, H: Host, G: Gate + Sync>(
 }
 
 /// Reads the words, runs as they ask, and complains.
-fn run<R: Threads + Wait + Sync, H: Host, G: Gate + Sync>(
+fn run<R: Threads + Wait + Sync, H: Host, G: Gate + Watch + Sync>(
     rt: &R,
     alloc: Global,
     words: &[Word],
@@ -203,7 +130,7 @@ fn run<R: Threads + Wait + Sync, H: Host, G: Gate + Sync>(
 ///
 /// A run of more than one worker may wait, in calls of the gate too. So all of this is promised if the call returns.
 /// With one worker nothing waits.
-pub fn run_words<R: Threads + Wait + Sync, H: Host, G: Gate + Sync>(
+pub fn run_words<R: Threads + Wait + Sync, H: Host, G: Gate + Watch + Sync>(
     rt: &R,
     alloc: Global,
     words: &[Word],

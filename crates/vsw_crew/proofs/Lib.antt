@@ -8,3 +8,5 @@ mod Doing
 mod Joining
 mod Told
 mod Between
+pub use Rattle.vsw_rounds.proofs.Totals
+pub use Rattle.vsw_rounds.proofs.Running

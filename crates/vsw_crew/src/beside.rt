@@ -19,7 +19,9 @@ use std::alloc::Global;
 use std::sync::Wait;
 use std::thread::Threads;
 use vsw_base::NoMemory;
-use vsw_harbour::{Harbour, Lane, Naming, Placed, Station, Watch, Work, meet_all, run_rows};
+use vsw_harbour::{
+    Harbour, Lane, Lineup, Naming, Placed, Station, Watch, Work, meet_all, run_rows,
+};
 use vsw_workers::Gate;
 
 fn add_need(need: u32, needs: &mut Vec<u32>) -> Result<(), NoMemory>
@@ -87,24 +89,31 @@ fn meet_after<'g, J: Naming, G, R: Wait>(
     Ok(())
 }
 
-/// The callers do their shares, each in a thread of its own, but for those behind the first `busy` where they have no jobs.
+/// The callers do their shares in the round of this number, each in a thread of its own where it is one of the workers or the
+/// controllers have jobs.
 fn work<'g, 'w, J: Naming + Send + Sync, G: Gate + Watch + Sync, R: Threads + Wait + Sync>(
     rt: &R,
     harbour: &Harbour<'g, J, G>,
-    busy: usize,
+    workers: usize,
+    round: u32,
     rows: Vec<Vec<Lane<Station>>>,
     shares: Vec<Vec<Placed<Work<'w>>>>,
 ) -> Result<Vec<Vec<Lane<Station>>>, NoMemory>
     requires begin { MayBegin port_in pass_in job_in tells is_of permits takes 0 harbour.now.docks rows.items shares.items }
     ensures done { IfOk result (λ after. HaveDone port_in pass_in job_in tells is_of permits 0 harbour.now.docks rows.items shares.entry.items after.items) }
 {
+    let lineup = Lineup {
+        workers,
+        controllers: harbour.controllers.len(),
+        round,
+    };
     let after = run_rows(
         rt,
         harbour.alloc,
         &harbour.docks,
         rows,
         shares,
-        busy,
+        lineup,
         harbour.gate,
     )?;
     Ok(after)
@@ -120,6 +129,7 @@ pub(crate) fn do_beside<
 >(
     rt: &R,
     harbour: &Harbour<'g, J, G>,
+    round: u32,
     rows: Vec<Vec<Lane<Station>>>,
     shares: Vec<Vec<Placed<Work<'w>>>>,
 ) -> Result<Vec<Vec<Lane<Station>>>, NoMemory>
@@ -130,10 +140,10 @@ pub(crate) fn do_beside<
     requires few { AreFew shares.items }
     ensures did { IfOk result (λ after. (hs : List (List Event)) (js : List jobs.Placed) → RowsStand 0 harbour.now.docks hs (no_calls harbour.now.docks) (rows_in rows.items) → shared shares.entry.items ≡ dealt harbour.now.controllers js → DidBeside harbour.now hs js (rows_in after.items)) }
 {
-    let busy = harbour.workers as usize;
+    let workers = harbour.workers as usize;
     let mut rows = rows;
     meet_for(rt, harbour, &mut rows, &shares)?;
-    let mut after = work(rt, harbour, busy, rows, shares)?;
+    let mut after = work(rt, harbour, workers, round, rows, shares)?;
     meet_after(rt, harbour, &mut after)?;
     Ok(after)
 }

@@ -29,6 +29,8 @@ use vsw_workers::Gate;
 #[derive(Drop)]
 pub struct Crew<'g, J: Naming, G> {
     harbour: Harbour<'g, J, G>,
+    /// How many rounds were begun. By it rows of the ports are reconciled in turn, so it may begin again at 0.
+    round: u32,
     rows: Vec<Vec<Lane<Station>>>,
 }
 
@@ -50,14 +52,19 @@ impl<'g, J: Naming, G> Crew<'g, J, G> {
         requires ready { (hs : List (List Event)) × AreReady harbour hs (rows_in rows.items) }
         ensures now { (hs : List (List Event)) → AreReady harbour.entry hs (rows_in rows.items) → result ≡ record { harbour = harbour.entry; histories = hs } }
     {
-        Crew { harbour, rows }
+        Crew {
+            harbour,
+            round: 0,
+            rows,
+        }
     }
 }
 
-/// The round of these packets, done and told.
+/// The round of these packets, the one of this number, done and told.
 fn run<'g, J: Naming + Send + Sync, G: Gate + Watch + Sync, R: Threads + Wait + Sync>(
     rt: &R,
     harbour: &Harbour<'g, J, G>,
+    round: u32,
     rows: Vec<Vec<Lane<Station>>>,
     schedule: &Schedule,
     first: u32,
@@ -70,15 +77,16 @@ fn run<'g, J: Naming + Send + Sync, G: Gate + Watch + Sync, R: Threads + Wait + 
     requires numbers { first + length packets.now < 2 ^ 32 }
     ensures told { IfOk result (λ r. (s : Setting) (hs : List (List Event)) → IsOfRun harbour.now s → s.commands ≡ schedule.now → AreReady harbour.now hs (rows_in rows.items) → HasTold harbour.now s hs first packets.now r.0 out.old.items out.new.items (rows_in r.1.items)) }
 {
-    let worked = work_round(rt, harbour, rows, schedule, first, packets)?;
+    let worked = work_round(rt, harbour, round, rows, schedule, first, packets)?;
     let told = tell(harbour, first, worked, out)?;
     Ok(told)
 }
 
-/// Runs the round of these packets, if there are rows.
+/// Runs the round of these packets, the one of this number, if there are rows.
 fn run_crew<'g, J: Naming + Send + Sync, G: Gate + Watch + Sync, R: Threads + Wait + Sync>(
     rt: &R,
     harbour: &Harbour<'g, J, G>,
+    round: u32,
     rows: &mut Vec<Vec<Lane<Station>>>,
     schedule: &Schedule,
     first: u32,
@@ -96,7 +104,7 @@ fn run_crew<'g, J: Naming + Send + Sync, G: Gate + Watch + Sync, R: Threads + Wa
     if taken.is_empty() {
         return Err(NoMemory);
     }
-    let (short, left) = run(rt, harbour, taken, schedule, first, packets, out)?;
+    let (short, left) = run(rt, harbour, round, taken, schedule, first, packets, out)?;
     *rows = left;
     Ok(short)
 }
@@ -117,9 +125,12 @@ impl<'g, J: Naming + Send + Sync, G: Gate + Watch + Sync> Crew<'g, J, G> {
         ensures runs { IfOk result (λ short. (s : Setting) (hs : List (List Event)) → s.commands ≡ schedule.now → IsAt s hs (crew_now self.old) → TellsRound s hs first packets.now (crew_now self.new) short out.old.items out.new.items) }
         ensures served { (lines : List Line) → AreServed (crew_now self.old) lines → AreServed (crew_now self.new) lines }
     {
+        let round = self.round;
+        self.round = round.wrapping_add(1);
         run_crew(
             rt,
             &self.harbour,
+            round,
             &mut self.rows,
             schedule,
             first,

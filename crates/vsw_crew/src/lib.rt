@@ -9,3 +9,5 @@ mod round;
 mod telling;
 
 pub use crew::Crew;
+pub use vsw_harbour::{Answer, Naming, Watch, Why};
+pub use vsw_rounds::{Switch, Tally, run_round};

@@ -64,7 +64,7 @@ fn share<'g, 'a, J: Naming, G>(
     Ok(shares)
 }
 
-/// Does all that the round of these packets is.
+/// Does all that the round of these packets is, the one of this number.
 pub(crate) fn work_round<
     'g,
     J: Naming + Send + Sync,
@@ -73,6 +73,7 @@ pub(crate) fn work_round<
 >(
     rt: &R,
     harbour: &Harbour<'g, J, G>,
+    round: u32,
     rows: Vec<Vec<Lane<Station>>>,
     schedule: &Schedule,
     first: u32,
@@ -89,7 +90,7 @@ pub(crate) fn work_round<
     let firsts = begin(rt, harbour, &mut rows, schedule, first)?;
     let mut loose = Vec::new(harbour.alloc);
     let shares = share(harbour, schedule, first, packets, &mut loose)?;
-    let rows = do_beside(rt, harbour, rows, shares)?;
+    let rows = do_beside(rt, harbour, round, rows, shares)?;
     Ok(Worked {
         befores,
         rows,

@@ -20,7 +20,7 @@ use Rattle.vsw_promise.specs.Jobs.{Setting, cuts_within}
 use Rattle.vsw_promise.specs.Trace.{most_records, Trace, All, Fault, Stopped}
 use Rattle.vsw_promise.specs.declared.ending.Ending.TheVariants as ending
 use Rattle.vsw_report.specs.Print.{head_line, report_text}
-use Rattle.vsw_rounds.specs.Switch.{SwitchNow}
+use Rattle.vsw_crew.specs.Switch.{SwitchNow}
 use Rattle.vsw_replay.specs.declared.ending.TraceEnd.{TraceEnd}
 use Rattle.vsw_replay.specs.declared.ending.TraceEnd.TheVariants as end
 use Rattle.vsw_replay.specs.declared.reading.Reading.{Reading}
@@ -31,7 +31,7 @@ use Rattle.vsw_replay.specs.declared.trace.Stretch.{Stretch}
 use Rattle.vsw_replay.specs.Private.Cut.{IsNextCut}
 use Rattle.vsw_replay.specs.Private.Going.{Since, IsFilled, IsOpened, IsFirst, unheaded_of}
 use Rattle.vsw_replay.specs.Private.Passed.{IsPassed}
-use Rattle.vsw_replay.specs.Private.Reads.{IsRead, Holds, Says}
+use Rattle.vsw_replay.specs.Private.Reads.{IsRead, IsOpen, Holds, Says}
 use Rattle.vsw_replay.specs.Runs.{Reads, RunsTrace}
 use Rattle.vsw_replay.specs.Private.SoFar.{AreSoFar}
 use Rattle.vsw_replay.proofs.Carried.{none_so_far}
@@ -191,3 +191,8 @@ unopened_memory s start now name why e opens =
       inputs_later = omega (arith, o.1.input_faults);
       puts_later = omega (arith, o.0.put_faults);
     }
+
+-- ---- nothing was read yet
+
+pub open_begun : (start now : Outside) (name : List ℕ) (r : Reading) → r.batch ≡ [] → IsRead start now name r [] [] → IsOpen now r
+open_begun start now name r e read = record { start = start; name = name; given = []; reads = record { bytes = []; read = subst (λ (b : List Record). IsRead start now name r [] b) (sym e) read } }

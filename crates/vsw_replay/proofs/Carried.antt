@@ -10,8 +10,8 @@ use Rattle.vsw_promise.specs.Rounds.{IsRound, IsPortRound, ArePortRounds, AreRou
 use Rattle.vsw_promise.proofs.Exists.{rounds_exist, ports_later, none_yet, no_counts}
 use Rattle.vsw_report.specs.declared.round.PortRound.{PortRound}
 use Rattle.vsw_report.specs.declared.round.Round.{Round}
-use Rattle.vsw_rounds.specs.Round.{TellsRound}
-use Rattle.vsw_rounds.specs.Switch.{SwitchNow}
+use Rattle.vsw_crew.specs.Round.{TellsRound}
+use Rattle.vsw_crew.specs.Switch.{SwitchNow}
 use Rattle.vsw_replay.specs.Private.SoFar.{AreSoFar}
 use Rattle.vsw_replay.proofs.Ordered.{Has, Ascends, ascends_lower}
 

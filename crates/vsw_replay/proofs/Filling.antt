@@ -14,7 +14,7 @@ use Rattle.vsw_promise.specs.Jobs.{Setting, cuts_within}
 use Rattle.vsw_promise.specs.Trace.{most_records, Stopped}
 use Rattle.vsw_promise.specs.declared.ending.Ending.TheVariants as ending
 use Rattle.vsw_report.specs.Print.{report_text}
-use Rattle.vsw_rounds.specs.Switch.{SwitchNow}
+use Rattle.vsw_crew.specs.Switch.{SwitchNow}
 use Rattle.vsw_replay.specs.declared.ending.TraceEnd.TheVariants as end
 use Rattle.vsw_replay.specs.declared.reading.Reading.{Reading}
 use Rattle.vsw_replay.specs.declared.reading.Stop.{Stop}

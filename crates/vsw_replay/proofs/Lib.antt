@@ -12,4 +12,4 @@ pub mod Putting
 pub mod Lasting
 pub mod Filling
 pub mod Beginning
-pub use Rattle.vsw_rounds.proofs.Totals
+pub use Rattle.vsw_crew.proofs.Totals

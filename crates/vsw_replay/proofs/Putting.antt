@@ -16,7 +16,7 @@ use Rattle.vsw_report.specs.Print.{round_text, report_text}
 use Rattle.vsw_report.specs.Short.{are_short, is_short_round}
 use Rattle.vsw_report.specs.declared.round.Round.{Round}
 use Rattle.vsw_schedule.specs.Schedule.{next_at}
-use Rattle.vsw_rounds.specs.Switch.{SwitchNow, IsAt}
+use Rattle.vsw_crew.specs.Switch.{SwitchNow, IsAt}
 use Rattle.vsw_replay.specs.declared.ending.TraceEnd.{TraceEnd}
 use Rattle.vsw_replay.specs.declared.ending.TraceEnd.TheVariants as end
 use Rattle.vsw_replay.specs.declared.reading.Reading.{Reading}

@@ -9,9 +9,9 @@ use Rattle.vsw_promise.specs.Jobs.{Setting, cuts_within, packets_between}
 use Rattle.vsw_report.specs.Print.{round_text, report_text}
 use Rattle.vsw_report.specs.Short.{are_short, is_short_round}
 use Rattle.vsw_report.specs.declared.round.Round.{Round}
-use Rattle.vsw_rounds.specs.Round.{TellsRound}
+use Rattle.vsw_crew.specs.Round.{TellsRound}
 use Rattle.vsw_schedule.specs.Schedule.{next_at}
-use Rattle.vsw_rounds.specs.Switch.{SwitchNow}
+use Rattle.vsw_crew.specs.Switch.{SwitchNow}
 use Rattle.vsw_replay.specs.declared.reading.Stop.{Stop}
 use Rattle.vsw_replay.specs.declared.reading.Stop.TheVariants as stop
 use Rattle.vsw_replay.specs.Private.Cut.{is_named_by, IsCut, IsNextCut, cuts_until, AreBehind}

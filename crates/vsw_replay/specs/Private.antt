@@ -4,3 +4,4 @@ pub mod Passed
 pub mod Reads
 pub mod SoFar
 pub mod Going
+pub mod Runner

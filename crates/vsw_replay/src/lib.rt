@@ -4,8 +4,10 @@
 mod cut;
 mod ending;
 mod reading;
+mod runner;
 mod trace;
 
 pub use ending::TraceEnd;
+pub use runner::Runner;
 pub use trace::run_trace;
-pub use vsw_rounds::{Switch, Tally, run_round};
+pub use vsw_crew::{Answer, Crew, Naming, Switch, Tally, Watch, Why, run_round};

@@ -9,20 +9,22 @@ ghost use Rattle.vsw_ports.specs.Ports.{ports_of};
 ghost use Rattle.vsw_replay.specs.Private.Going.{IsFilled, IsBetween, IsPast, IsOpened, IsFirst, IsNear, IsTurn, PutsRound, PutsStretch, PutsNext, GoesOn, is_run_of, unheaded_of, clean_of};
 ghost use Rattle.vsw_replay.specs.Private.Reads.{IsOpen};
 ghost use Rattle.vsw_replay.specs.Runs.{RunsTrace};
-ghost use Rattle.vsw_rounds.specs.Switch.{AreServed, IsAt, SwitchNow};
+ghost use Rattle.vsw_crew.specs.Switch.{AreServed, IsAt, SwitchNow};
 
 use crate::cut::{is_named, next_cut};
 use crate::ending::TraceEnd;
 use crate::reading::{HEADER_LEN, Reading, Stop, begin_reading, fill, peek};
+use crate::runner::Runner;
 use std::alloc::Global;
 use std::sync::Wait;
 use std::thread::Threads;
 use vsw_base::NoMemory;
+use vsw_crew::{Naming, Watch};
 use vsw_host::{Host, Source, Unopened};
 use vsw_pcap::BadTrace;
 use vsw_report::HEAD_LINE;
-use vsw_rounds::Rounds;
 use vsw_schedule::Schedule;
+use vsw_workers::Gate;
 
 /// The most records of a trace.
 const RECORDS_MOST: u32 = 1_048_576;
@@ -49,21 +51,21 @@ struct Stretch {
 }
 
 /// Runs the round of the batch, of which the first packet has this number, and prints it.
-fn run_text<R: Threads + Wait + Sync, S: Rounds>(
+fn run_text<'g, J: Naming + Send + Sync, G: Gate + Watch + Sync, R: Threads + Wait + Sync>(
     rt: &R,
-    switch: &mut S,
+    runner: &mut Runner<'g, J, G>,
     schedule: &Schedule,
     run: &mut Run,
     first: u32,
 ) -> Result<(), NoMemory>
-    requires served { AreServed (S.now switch.old) schedule.now }
+    requires served { AreServed runner.old schedule.now }
     requires numbers { first + length run.old.reading.batch < 2 ^ 32 }
-    ensures turn { OnOk result ((s : Setting) (hs : List (List Event)) → s.commands ≡ schedule.now → IsAt s hs (S.now switch.old) → IsTurn s hs first run.old run.new (S.now switch.new)) }
+    ensures turn { OnOk result ((s : Setting) (hs : List (List Event)) → s.commands ≡ schedule.now → IsAt s hs runner.old → IsTurn s hs first run.old run.new runner.new) }
     ensures reading { run.new.reading ≡ run.old.reading }
-    ensures served { (lines : List Line) → AreServed (S.now switch.old) lines → AreServed (S.now switch.new) lines }
+    ensures served { (lines : List Line) → AreServed runner.old lines → AreServed runner.new lines }
 {
     run.text.clear();
-    match switch.run_round(rt, schedule, first, &run.reading.batch, &mut run.text) {
+    match runner.run_round(rt, schedule, first, &run.reading.batch, &mut run.text) {
         Ok(short) => {
             run.short = run.short || short;
             Ok(())
@@ -73,22 +75,28 @@ fn run_text<R: Threads + Wait + Sync, S: Rounds>(
 }
 
 /// Runs the round of the batch and puts its text at once.
-fn put_round<R: Threads + Wait + Sync, H: Host, S: Rounds>(
+fn put_round<
+    'g,
+    J: Naming + Send + Sync,
+    G: Gate + Watch + Sync,
+    R: Threads + Wait + Sync,
+    H: Host,
+>(
     rt: &R,
     host: &mut H,
-    switch: &mut S,
+    runner: &mut Runner<'g, J, G>,
     schedule: &Schedule,
     run: &mut Run,
     first: u32,
 ) -> Result<(), TraceEnd>
-    requires served { AreServed (S.now switch.old) schedule.now }
+    requires served { AreServed runner.old schedule.now }
     requires numbers { first + length run.old.reading.batch < 2 ^ 32 }
-    ensures puts { (s : Setting) (hs : List (List Event)) → s.commands ≡ schedule.now → IsAt s hs (S.now switch.old) → PutsRound s hs first run.old run.new (S.now switch.new) (H.outside host.old) (H.outside host.new) result }
+    ensures puts { (s : Setting) (hs : List (List Event)) → s.commands ≡ schedule.now → IsAt s hs runner.old → PutsRound s hs first run.old run.new runner.new (H.outside host.old) (H.outside host.new) result }
     ensures reading { run.new.reading ≡ run.old.reading }
     ensures inputs { SameInputs (H.outside host.old) (H.outside host.new) }
-    ensures served { (lines : List Line) → AreServed (S.now switch.old) lines → AreServed (S.now switch.new) lines }
+    ensures served { (lines : List Line) → AreServed runner.old lines → AreServed runner.new lines }
 {
-    match run_text(rt, switch, schedule, run, first) {
+    match run_text(rt, runner, schedule, run, first) {
         Ok(()) => match host.put(run.text.as_slice()) {
             Ok(()) => Ok(()),
             Err(_) => Err(TraceEnd::WriteFault),
@@ -105,46 +113,52 @@ fn is_run(schedule: &Schedule, count: usize, first: u32, stop: Stop) -> bool
 }
 
 /// Runs and puts the round that was read, if it is one.
-fn put_stretch<R: Threads + Wait + Sync, H: Host, S: Rounds>(
+fn put_stretch<
+    'g,
+    J: Naming + Send + Sync,
+    G: Gate + Watch + Sync,
+    R: Threads + Wait + Sync,
+    H: Host,
+>(
     rt: &R,
     host: &mut H,
-    switch: &mut S,
+    runner: &mut Runner<'g, J, G>,
     schedule: &Schedule,
     run: &mut Run,
     stretch: Stretch,
 ) -> Result<(), TraceEnd>
-    requires served { AreServed (S.now switch.old) schedule.now }
+    requires served { AreServed runner.old schedule.now }
     requires near { IsNear (H.outside host.old) run.old stretch }
-    ensures puts { (s : Setting) (start : Outside) (name : List ℕ) → s.commands ≡ schedule.now → IsFilled s start (H.outside host.old) name run.old (S.now switch.old) stretch → PutsStretch s start (H.outside host.new) name run.new (S.now switch.new) stretch result }
+    ensures puts { (s : Setting) (start : Outside) (name : List ℕ) → s.commands ≡ schedule.now → IsFilled s start (H.outside host.old) name run.old runner.old stretch → PutsStretch s start (H.outside host.new) name run.new runner.new stretch result }
     ensures near { IsNear (H.outside host.new) run.new stretch }
-    ensures served { (lines : List Line) → AreServed (S.now switch.old) lines → AreServed (S.now switch.new) lines }
+    ensures served { (lines : List Line) → AreServed runner.old lines → AreServed runner.new lines }
 {
     let count = run.reading.batch.len();
     if is_run(schedule, count, stretch.first, stretch.stop) {
-        put_round(rt, host, switch, schedule, run, stretch.first)
+        put_round(rt, host, runner, schedule, run, stretch.first)
     } else {
         Ok(())
     }
 }
 
 /// Runs and puts the next round of commands alone, behind the trace. Answers its packet, if there is such a round.
-fn put_next<R: Threads + Wait + Sync, H: Host, S: Rounds>(
+fn put_next<'g, J: Naming + Send + Sync, G: Gate + Watch + Sync, R: Threads + Wait + Sync, H: Host>(
     rt: &R,
     host: &mut H,
-    switch: &mut S,
+    runner: &mut Runner<'g, J, G>,
     schedule: &Schedule,
     run: &mut Run,
     first: u32,
 ) -> Result<Option<u32>, TraceEnd>
-    requires served { AreServed (S.now switch.old) schedule.now }
+    requires served { AreServed runner.old schedule.now }
     requires empty { run.old.reading.batch ≡ [] }
-    ensures puts { (s : Setting) (start : Outside) (name : List ℕ) → s.commands ≡ schedule.now → IsPast s start (H.outside host.old) name run.old.short (S.now switch.old) first → PutsNext s start (H.outside host.new) name run.new.short (S.now switch.new) result }
+    ensures puts { (s : Setting) (start : Outside) (name : List ℕ) → s.commands ≡ schedule.now → IsPast s start (H.outside host.old) name run.old.short runner.old first → PutsNext s start (H.outside host.new) name run.new.short runner.new result }
     ensures rises { IfOk result (λ next. IfSome next (λ n. (first < n) × (n < 2 ^ 32))) }
     ensures reading { run.new.reading ≡ run.old.reading }
-    ensures served { (lines : List Line) → AreServed (S.now switch.old) lines → AreServed (S.now switch.new) lines }
+    ensures served { (lines : List Line) → AreServed runner.old lines → AreServed runner.new lines }
 {
     match schedule.after(first) {
-        Some(next) => match put_round(rt, host, switch, schedule, run, next) {
+        Some(next) => match put_round(rt, host, runner, schedule, run, next) {
             Ok(()) => Ok(Some(next)),
             Err(end) => Err(end),
         },
@@ -164,21 +178,21 @@ fn clean_end(short: bool) -> TraceEnd
 }
 
 /// Runs and puts the rounds of commands alone that follow, once the trace ended.
-fn run_past<R: Threads + Wait + Sync, H: Host, S: Rounds>(
+fn run_past<'g, J: Naming + Send + Sync, G: Gate + Watch + Sync, R: Threads + Wait + Sync, H: Host>(
     rt: &R,
     host: &mut H,
-    switch: &mut S,
+    runner: &mut Runner<'g, J, G>,
     schedule: &Schedule,
     run: &mut Run,
     first: u32,
 ) -> TraceEnd
-    requires served { AreServed (S.now switch.old) schedule.now }
-    ensures runs { (s : Setting) (start : Outside) (name : List ℕ) → s.commands ≡ schedule.now → IsPast s start (H.outside host.old) name run.old.short (S.now switch.old) first → RunsTrace s start (H.outside host.new) name result }
+    requires served { AreServed runner.old schedule.now }
+    ensures runs { (s : Setting) (start : Outside) (name : List ℕ) → s.commands ≡ schedule.now → IsPast s start (H.outside host.old) name run.old.short runner.old first → RunsTrace s start (H.outside host.new) name result }
 {
     run.reading.batch.clear();
     let mut first = first;
     loop {
-        match put_next(rt, host, switch, schedule, run, first) {
+        match put_next(rt, host, runner, schedule, run, first) {
             Ok(Some(next)) => first = next,
             Ok(None) => return clean_end(run.short),
             Err(end) => return end,
@@ -214,25 +228,31 @@ fn read_next<H: Host>(
 }
 
 /// Puts a round that was read and reads the next one, or ends the run.
-fn run_stretch<R: Threads + Wait + Sync, H: Host, S: Rounds>(
+fn run_stretch<
+    'g,
+    J: Naming + Send + Sync,
+    G: Gate + Watch + Sync,
+    R: Threads + Wait + Sync,
+    H: Host,
+>(
     rt: &R,
     host: &mut H,
-    switch: &mut S,
+    runner: &mut Runner<'g, J, G>,
     schedule: &Schedule,
     run: &mut Run,
     stretch: Stretch,
 ) -> Result<Stretch, TraceEnd>
-    requires served { AreServed (S.now switch.old) schedule.now }
+    requires served { AreServed runner.old schedule.now }
     requires near { IsNear (H.outside host.old) run.old stretch }
-    ensures goes { (s : Setting) (start : Outside) (name : List ℕ) → s.commands ≡ schedule.now → IsFilled s start (H.outside host.old) name run.old (S.now switch.old) stretch → GoesOn s start (H.outside host.new) name run.new (S.now switch.new) result }
+    ensures goes { (s : Setting) (start : Outside) (name : List ℕ) → s.commands ≡ schedule.now → IsFilled s start (H.outside host.old) name run.old runner.old stretch → GoesOn s start (H.outside host.new) name run.new runner.new result }
     ensures near { IfOk result (λ next. IsNear (H.outside host.new) run.new next) }
     ensures rises { IfOk result (λ next. stretch.first < next.first) }
-    ensures served { OnOk result ((lines : List Line) → AreServed (S.now switch.old) lines → AreServed (S.now switch.new) lines) }
+    ensures served { OnOk result ((lines : List Line) → AreServed runner.old lines → AreServed runner.new lines) }
 {
-    match put_stretch(rt, host, switch, schedule, run, stretch) {
+    match put_stretch(rt, host, runner, schedule, run, stretch) {
         Ok(()) => match stretch.stop {
             Stop::Full => read_next(host, schedule, run, stretch.next),
-            Stop::End => Err(run_past(rt, host, switch, schedule, run, stretch.first)),
+            Stop::End => Err(run_past(rt, host, runner, schedule, run, stretch.first)),
             Stop::Fault => Err(TraceEnd::ReadFault),
             Stop::Bad(bad) => Err(TraceEnd::Refused(bad)),
         },
@@ -241,21 +261,27 @@ fn run_stretch<R: Threads + Wait + Sync, H: Host, S: Rounds>(
 }
 
 /// Runs a trace of which the first round was read.
-fn run_stretches<R: Threads + Wait + Sync, H: Host, S: Rounds>(
+fn run_stretches<
+    'g,
+    J: Naming + Send + Sync,
+    G: Gate + Watch + Sync,
+    R: Threads + Wait + Sync,
+    H: Host,
+>(
     rt: &R,
     host: &mut H,
-    switch: &mut S,
+    runner: &mut Runner<'g, J, G>,
     schedule: &Schedule,
     run: &mut Run,
     first: Stretch,
 ) -> TraceEnd
-    requires served { AreServed (S.now switch.old) schedule.now }
+    requires served { AreServed runner.old schedule.now }
     requires near { IsNear (H.outside host.old) run.old first }
-    ensures runs { (s : Setting) (start : Outside) (name : List ℕ) → s.commands ≡ schedule.now → IsFilled s start (H.outside host.old) name run.old (S.now switch.old) first → RunsTrace s start (H.outside host.new) name result }
+    ensures runs { (s : Setting) (start : Outside) (name : List ℕ) → s.commands ≡ schedule.now → IsFilled s start (H.outside host.old) name run.old runner.old first → RunsTrace s start (H.outside host.new) name result }
 {
     let mut stretch = first;
     loop {
-        match run_stretch(rt, host, switch, schedule, run, stretch) {
+        match run_stretch(rt, host, runner, schedule, run, stretch) {
             Ok(next) => stretch = next,
             Err(end) => return end,
         }
@@ -313,20 +339,26 @@ fn begin<H: Host>(host: &mut H, schedule: &Schedule, run: &mut Run) -> Result<St
 }
 
 /// Runs a trace that was opened, and of which nothing was read.
-fn run_opened<R: Threads + Wait + Sync, H: Host, S: Rounds>(
+fn run_opened<
+    'g,
+    J: Naming + Send + Sync,
+    G: Gate + Watch + Sync,
+    R: Threads + Wait + Sync,
+    H: Host,
+>(
     rt: &R,
     host: &mut H,
-    switch: &mut S,
+    runner: &mut Runner<'g, J, G>,
     schedule: &Schedule,
     run: &mut Run,
 ) -> TraceEnd
-    requires served { AreServed (S.now switch.old) schedule.now }
+    requires served { AreServed runner.old schedule.now }
     requires near { IsOpen (H.outside host.old) run.old.reading }
     requires empty { run.old.reading.batch ≡ [] }
-    ensures runs { (s : Setting) (start : Outside) (name : List ℕ) → s.commands ≡ schedule.now → IsOpened s start (H.outside host.old) name run.old (S.now switch.old) → RunsTrace s start (H.outside host.new) name result }
+    ensures runs { (s : Setting) (start : Outside) (name : List ℕ) → s.commands ≡ schedule.now → IsOpened s start (H.outside host.old) name run.old runner.old → RunsTrace s start (H.outside host.new) name result }
 {
     match begin(host, schedule, run) {
-        Ok(first) => run_stretches(rt, host, switch, schedule, run, first),
+        Ok(first) => run_stretches(rt, host, runner, schedule, run, first),
         Err(end) => end,
     }
 }
@@ -334,16 +366,22 @@ fn run_opened<R: Threads + Wait + Sync, H: Host, S: Rounds>(
 /// Runs the trace of this name through a switch that is at its beginning: opens it, puts the head line once the trace's
 /// header was accepted, and then each round, as soon as its last packet was read, or what ends the trace. It waits only
 /// where a round does.
-pub fn run_trace<R: Threads + Wait + Sync, H: Host, S: Rounds>(
+pub fn run_trace<
+    'g,
+    J: Naming + Send + Sync,
+    G: Gate + Watch + Sync,
+    R: Threads + Wait + Sync,
+    H: Host,
+>(
     rt: &R,
     alloc: Global,
     host: &mut H,
-    switch: &mut S,
+    runner: &mut Runner<'g, J, G>,
     schedule: &Schedule,
     name: &str,
 ) -> TraceEnd
-    requires served { AreServed (S.now switch.old) schedule.now }
-    ensures runs { (s : Setting) → s.commands ≡ schedule.now → IsAt s (map (λ p. []) (ports_of s.policy)) (S.now switch.old) → RunsTrace s (H.outside host.old) (H.outside host.new) name.now result }
+    requires served { AreServed runner.old schedule.now }
+    ensures runs { (s : Setting) → s.commands ≡ schedule.now → IsAt s (map (λ p. []) (ports_of s.policy)) runner.old → RunsTrace s (H.outside host.old) (H.outside host.new) name.now result }
 {
     match Source::open(alloc, host, name) {
         Ok(source) => {
@@ -352,7 +390,7 @@ pub fn run_trace<R: Threads + Wait + Sync, H: Host, S: Rounds>(
                 text: Vec::new(alloc),
                 short: false,
             };
-            run_opened(rt, host, switch, schedule, &mut run)
+            run_opened(rt, host, runner, schedule, &mut run)
         }
         Err(Unopened::Fault) => TraceEnd::ReadFault,
         Err(Unopened::Memory) => TraceEnd::Memory,

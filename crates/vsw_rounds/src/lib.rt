@@ -2,8 +2,6 @@
 #![tactic(auto)]
 
 mod round;
-mod rounds;
 
 pub use round::run_round;
-pub use rounds::Rounds;
 pub use vsw_switch::{Switch, Tally};

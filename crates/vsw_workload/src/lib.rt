@@ -6,4 +6,4 @@ mod run;
 mod summary;
 
 pub use run::{WorkloadEnd, run_workload};
-pub use vsw_replay::{Switch, TraceEnd, run_trace};
+pub use vsw_replay::{Answer, Crew, Naming, Runner, Switch, TraceEnd, Watch, Why, run_trace};

@@ -16,8 +16,8 @@ use Rattle.vsw_promise.specs.Trace.{most_records}
 use Rattle.vsw_report.specs.Print.{report_text}
 use Rattle.vsw_report.specs.Short.{are_short}
 use Rattle.vsw_report.specs.declared.round.Round.{Round}
-use Rattle.vsw_rounds.specs.Round.{TellsRound}
-use Rattle.vsw_rounds.specs.Switch.{SwitchNow, IsAt}
+use Rattle.vsw_crew.specs.Round.{TellsRound}
+use Rattle.vsw_crew.specs.Switch.{SwitchNow, IsAt}
 use Rattle.vsw_replay.specs.declared.ending.TraceEnd.{TraceEnd}
 use Rattle.vsw_replay.specs.declared.ending.TraceEnd.TheVariants as end
 use Rattle.vsw_replay.specs.declared.reading.Reading.{Reading}

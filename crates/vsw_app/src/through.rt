@@ -1,0 +1,149 @@
+//! The trace, run through the ports of a policy.
+
+ghost use Rattle.std.specs.Prelude.{◌≡◌, ◌<◌, ◌≤◌, All, length};
+ghost use Rattle.vsw_commandfile_law.specs.Good.{CanAsk};
+ghost use Rattle.vsw_muster.specs.Ports as live;
+ghost use Rattle.vsw_muster.specs.Opening.{IsOpenFor};
+ghost use Rattle.vsw_policyfile.specs.Good.{IsGoodPolicy};
+ghost use Rattle.vsw_workload.specs.ReplayRuns.{RunsTrace};
+
+use crate::open::Open;
+use std::alloc::Global;
+use std::marker::Brand;
+use std::sync::Wait;
+use std::thread::Threads;
+use vsw_base::Items;
+use vsw_commandfile::Line;
+use vsw_host::Host;
+use vsw_muster::OpenHarbour;
+use vsw_policyfile::PolicyFile;
+use vsw_schedule::Schedule;
+use vsw_workers::Gate;
+use vsw_workload::{Crew, Naming, Runner, Switch, TraceEnd, Watch, run_trace};
+
+/// Runs the trace of this name in one thread, which does the work of all workers and waits for nobody.
+fn run_alone<R: Threads + Wait + Sync, H: Host>(
+    rt: &R,
+    alloc: Global,
+    host: &mut H,
+    workers: u32,
+    policy: &PolicyFile,
+    schedule: &Schedule,
+    trace: &str,
+) -> TraceEnd
+    requires some { 0 < workers }
+    requires few { workers ≤ 16 }
+    requires good { IsGoodPolicy policy.now }
+    requires asked { All (CanAsk policy.now) schedule.now }
+    ensures { RunsTrace (record { workers = workers; policy = policy.now; commands = schedule.now }) (H.outside host.old) (H.outside host.new) trace.now result }
+{
+    let Ok(switch) = Switch::open(alloc, workers, policy) else {
+        return TraceEnd::Memory;
+    };
+    let mut runner = Runner::<Brand, Open>::alone(switch);
+    run_trace(rt, alloc, host, &mut runner, schedule, trace)
+}
+
+/// The name of a trace. A call that picks the names of ports takes no `&str` by itself.
+#[derive(Clone, Copy)]
+struct TraceName<'a> {
+    trace: &'a str,
+}
+
+/// Names the ports that were opened for so many workers, and runs the trace of this name with a thread for each caller.
+fn run_named<J: Naming + Send + Sync, R: Threads + Wait + Sync, H: Host, G: Gate + Watch + Sync>(
+    rt: &R,
+    alloc: Global,
+    host: &mut H,
+    gate: &G,
+    workers: u32,
+    policy: &PolicyFile,
+    opened: OpenHarbour,
+    schedule: &Schedule,
+    name: &TraceName<'_>,
+) -> TraceEnd
+    requires named { J.ports ≡ live.ports_of opened.ports }
+    requires opened { IsOpenFor workers policy.now opened }
+    requires asked { All (CanAsk policy.now) schedule.now }
+    ensures { RunsTrace (record { workers = workers; policy = policy.now; commands = schedule.now }) (H.outside host.old) (H.outside host.new) name.now.trace.now result }
+{
+    let Ok((harbour, rows)) = opened.named::<J, G>(alloc, gate) else {
+        return TraceEnd::Memory;
+    };
+    let mut runner = Runner::beside(Crew::new(harbour, rows));
+    run_trace(rt, alloc, host, &mut runner, schedule, name.trace)
+}
+
+/// Runs the trace of this name with a thread for each caller, through one port or more.
+fn run_beside<R: Threads + Wait + Sync, H: Host, G: Gate + Watch + Sync>(
+    rt: &R,
+    alloc: Global,
+    host: &mut H,
+    gate: &G,
+    workers: u32,
+    policy: &PolicyFile,
+    schedule: &Schedule,
+    trace: &str,
+) -> TraceEnd
+    requires more { 2 ≤ workers }
+    requires few { workers ≤ 16 }
+    requires good { IsGoodPolicy policy.now }
+    requires some { 0 < length policy.now.ports }
+    requires asked { All (CanAsk policy.now) schedule.now }
+    ensures { RunsTrace (record { workers = workers; policy = policy.now; commands = schedule.now }) (H.outside host.old) (H.outside host.new) trace.now result }
+{
+    let Ok(opened) = OpenHarbour::open(alloc, workers, policy) else {
+        return TraceEnd::Memory;
+    };
+    let name = TraceName { trace };
+    run_named::<Brand, _, _, _>(
+        rt, alloc, host, gate, workers, policy, opened, schedule, &name,
+    )
+}
+
+/// Runs the trace of this name with these commands. Many workers have threads where there is a port to work at.
+fn run_scheduled<R: Threads + Wait + Sync, H: Host, G: Gate + Watch + Sync>(
+    rt: &R,
+    alloc: Global,
+    host: &mut H,
+    gate: &G,
+    workers: u32,
+    policy: &PolicyFile,
+    schedule: &Schedule,
+    trace: &str,
+) -> TraceEnd
+    requires some { 0 < workers }
+    requires few { workers ≤ 16 }
+    requires good { IsGoodPolicy policy.now }
+    requires asked { All (CanAsk policy.now) schedule.now }
+    ensures { RunsTrace (record { workers = workers; policy = policy.now; commands = schedule.now }) (H.outside host.old) (H.outside host.new) trace.now result }
+{
+    if workers == 1 || policy.ports.is_empty() {
+        run_alone(rt, alloc, host, workers, policy, schedule, trace)
+    } else {
+        run_beside(rt, alloc, host, gate, workers, policy, schedule, trace)
+    }
+}
+
+/// Runs the trace of this name through the ports of a policy, with these commands.
+pub(crate) fn run_through<R: Threads + Wait + Sync, H: Host, G: Gate + Watch + Sync>(
+    rt: &R,
+    alloc: Global,
+    host: &mut H,
+    gate: &G,
+    workers: u32,
+    policy: &PolicyFile,
+    lines: Items<Line>,
+    trace: &str,
+) -> TraceEnd
+    requires some { 0 < workers }
+    requires few { workers ≤ 16 }
+    requires good { IsGoodPolicy policy.now }
+    requires asked { All (CanAsk policy.now) lines }
+    ensures { RunsTrace (record { workers = workers; policy = policy.now; commands = lines }) (H.outside host.old) (H.outside host.new) trace.now result }
+{
+    let Ok(schedule) = Schedule::new(alloc, lines) else {
+        return TraceEnd::Memory;
+    };
+    run_scheduled(rt, alloc, host, gate, workers, policy, &schedule, trace)
+}

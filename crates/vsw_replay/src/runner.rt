@@ -1,0 +1,86 @@
+//! What runs the rounds of a run.
+
+ghost use Rattle.std.specs.Prelude.{◌≡◌, ◌<◌, ◌+◌, ◌^◌, List, length, IfOk};
+ghost use Rattle.vsw_commandfile.specs.declared.line.Line.{Line};
+ghost use Rattle.vsw_crew.specs.Crew.{crew_now};
+ghost use Rattle.vsw_history.specs.declared.event.Event.{Event};
+ghost use Rattle.vsw_promise.specs.Jobs.{Setting};
+ghost use Rattle.vsw_crew.specs.Round.{TellsRound};
+ghost use Rattle.vsw_crew.specs.Switch.{AreServed, IsAt};
+
+use std::marker::Model;
+use std::sync::Wait;
+use std::thread::Threads;
+use vsw_base::NoMemory;
+use vsw_crew::{Crew, Naming, Switch, Watch, run_round};
+use vsw_pcap::Batch;
+use vsw_schedule::Schedule;
+use vsw_workers::Gate;
+
+/// Who does the work of a round.
+#[derive(Drop)]
+enum Work<'g, J: Naming, G> {
+    /// One thread, which waits for nobody.
+    Alone(Switch),
+    /// Each worker and each controller in a thread of its own.
+    Beside(Crew<'g, J, G>),
+}
+
+/// What runs the rounds of a run: one thread that does the work of all callers, or a thread for each. It is seen as the ports between rounds.
+#[derive(Drop)]
+pub struct Runner<'g, J: Naming, G> {
+    work: Work<'g, J, G>,
+}
+
+impl<'g, J: Naming, G> Model for Runner<'g, J, G> {
+    ghost use Rattle.vsw_replay.specs.Private.Runner.{now_in};
+    ghost use Rattle.vsw_crew.specs.Switch.{SwitchNow};
+
+    ghost Value = { SwitchNow };
+
+    ghost view = { λ r. now_in r.work };
+}
+
+impl<'g, J: Naming, G> Runner<'g, J, G> {
+    /// One thread does all.
+    pub fn alone(switch: Switch) -> Runner<'g, J, G>
+        ensures { result ≡ switch }
+    {
+        Runner {
+            work: Work::Alone(switch),
+        }
+    }
+
+    /// Each caller has a thread.
+    pub fn beside(crew: Crew<'g, J, G>) -> Runner<'g, J, G>
+        ensures { result ≡ crew_now crew.entry }
+    {
+        Runner {
+            work: Work::Beside(crew),
+        }
+    }
+}
+
+impl<'g, J: Naming + Send + Sync, G: Gate + Watch + Sync> Runner<'g, J, G> {
+    /// Runs the round of these packets, the first of which has the number `first` in the trace: the commands that name that
+    /// number, first those before the packets, and then those beside them and the packets. Appends its text, and answers
+    /// whether memory was wanting for one of them. After `NoMemory` nothing is said of the ports and of what was appended.
+    pub fn run_round<R: Threads + Wait + Sync>(
+        &mut self,
+        rt: &R,
+        schedule: &Schedule,
+        first: u32,
+        packets: &Batch,
+        out: &mut Vec<u8>,
+    ) -> Result<bool, NoMemory>
+        requires served { AreServed self.old schedule.now }
+        requires numbers { first + length packets.now < 2 ^ 32 }
+        ensures runs { IfOk result (λ short. (s : Setting) (hs : List (List Event)) → s.commands ≡ schedule.now → IsAt s hs self.old → TellsRound s hs first packets.now self.new short out.old.items out.new.items) }
+        ensures served { (lines : List Line) → AreServed self.old lines → AreServed self.new lines }
+    {
+        match &mut self.work {
+            Work::Alone(switch) => run_round(switch, schedule, first, packets, out),
+            Work::Beside(crew) => crew.run_round(rt, schedule, first, packets, out),
+        }
+    }
+}

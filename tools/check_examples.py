@@ -4,7 +4,7 @@
     tools/check_examples.py [--copy]
 
 Makes each capture anew and compares it; works each report out by the rules once more (tools/plain_switch.py); runs `./vsw`
-over each example and compares what it puts, complains and ends with; compares the files that the crates `vsw` and
+over each example and compares what it puts, complains and ends with; judges what it puts with four workers; compares the files that the crates `vsw` and
 `vsw_examples` run in the gate. `--copy` writes these files first.
 """
 import os
@@ -13,6 +13,7 @@ import shutil
 import subprocess
 import sys
 
+import legal
 import plain_switch
 
 ROOT = os.path.dirname(os.path.dirname(os.path.abspath(__file__)))
@@ -116,12 +117,21 @@ def check_runs():
         yield compare(f"run of {folder}/{policy} with {commands}", is_well)
 
 
+def check_workers():
+    """With four workers the order of calls is free: the report is legal (tools/legal.py)."""
+    for folder in ["flows", *FOLDERS[:-1]]:
+        names = [os.path.join(EXAMPLES, folder, name) for name in ("policy.json", "commands.jsonl", "trace.pcap")]
+        ran = subprocess.run([os.path.join(ROOT, "vsw"), "forward", "--workers=4", *names], capture_output=True)
+        why = legal.fault(*(read(folder, os.path.basename(name)) for name in names), 4, ran.stdout.decode())
+        yield compare(f"run of {folder} with four workers", ran.returncode == 0 and why is None)
+
+
 def main():
     if sys.argv[1:] not in ([], ["--copy"]):
         sys.exit(__doc__)
     if sys.argv[1:]:
         copy()
-    results = [*check_copies(), *check_captures(), *check_reports(), *check_guide(), *check_runs()]
+    results = [*check_copies(), *check_captures(), *check_reports(), *check_guide(), *check_runs(), *check_workers()]
     print(f"{sum(results)} of {len(results)} as they should be")
     sys.exit(0 if all(results) else 1)
 

@@ -438,20 +438,32 @@ def read_commands(text):
     return [{**json.loads(line), "line": number} for number, line in lines if line.strip(" \t\r")]
 
 
-def carry(ports, macs, told, loose, place, record, workers):
-    """Brings a packet to its port, or tells why it is loose."""
-    moment, data, original = record
+def met(macs, record):
+    """A record's port, its direction there, and its packet; or why it is loose."""
+    _, data, original = record
     if len(data) < original:
-        return loose.append(f"{place} snapped")
+        return "snapped"
     packet = Packet(data)
-    worker = flow_sum(packet.fields) % workers
     outermost = (packet.encaps or [packet.fields])[0]["src_mac"]
-    way = "out" if outermost in macs else "in"
     port = macs.get(outermost) or macs.get(packet.fields["dst_mac"])
-    if port is None:
-        return loose.append(f"{place} noport")
-    fate, is_entry = cross(port, way, packet, moment)
+    return "noport" if port is None else (port, "out" if outermost in macs else "in", packet)
+
+
+def carry(macs, told, loose, place, record, workers):
+    """Brings a packet to its port, or tells why it is loose."""
+    found = met(macs, record)
+    if isinstance(found, str):
+        return loose.append(f"{place} {found}")
+    port, way, packet = found
+    worker = flow_sum(packet.fields) % workers
+    fate, is_entry = cross(port, way, packet, record[0])
     return tell(port, told, ("w", worker), place, fate, is_entry)
+
+
+def rounds(records, commands):
+    """The first packet of each round, and that of the next, None behind the last."""
+    cuts = sorted({0, *(command["at"] for command in commands), *range(0, len(records), ROUND)})
+    return zip(cuts, [*cuts[1:], None])
 
 
 def report(policy_text, trace, commands_text=b"", workers=1):
@@ -461,8 +473,7 @@ def report(policy_text, trace, commands_text=b"", workers=1):
     ports = opened_ports(policy, places)
     macs = {mac(port["mac"]): port for port in ports}
     lines = ["vsw report 1"]
-    cuts = sorted({0, *(command["at"] for command in commands), *range(0, len(records), ROUND)})
-    for first, following in zip(cuts, [*cuts[1:], None]):
+    for first, following in rounds(records, commands):
         told, loose, begun = {port["port"]: [] for port in ports}, [], [port["count"] for port in ports]
         here = [command for command in commands if command["at"] == first]
         for command in sorted(here, key=lambda command: command["when"] == "during"):
@@ -470,7 +481,7 @@ def report(policy_text, trace, commands_text=b"", workers=1):
             reply = obey(port, places, command)
             tell(port, told, ("c", command["controller"]), command["line"], reply, True)
         for place, record in enumerate(records[first:following], first):
-            carry(ports, macs, told, loose, place, record, workers)
+            carry(macs, told, loose, place, record, workers)
         lines.append(f"round {first}")
         for port, before in zip(ports, begun):
             lines += [f"port {port['port']} {before} {port['count']}", *(line for _, line in sorted(told[port["port"]], key=lambda t: t[0]))]

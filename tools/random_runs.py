@@ -1,12 +1,14 @@
 #!/usr/bin/env python3
-"""Runs the program over random policies, commands and captures, and compares its reports with those of a plain program.
+"""Runs the program over random policies, commands and captures, and judges its reports by a plain program.
 
-    tools/random_runs.py [RUNS] [SEED]
+    tools/random_runs.py [RUNS] [SEED] [PROGRAM]
 
 The plain program is tools/plain_switch.py, written from docs/MODEL.md apart from the switch. Policies have up to four
 layers of three controllers on each of two ports; packets are ARP, UDP, TCP and ICMP, some of them in VXLAN, among few
 addresses and ports, and replies to what passed; commands come before and beside them, and past the last. Every run is made
-with 1 to 4 workers. Prints how often each fate and reply came, and the seed of a run that differs.
+with 1 to 8 workers. The report of one worker is the plain program's; that of more is legal in the order that it tells
+(tools/legal.py). PROGRAM is ./vsw if it isn't given. Prints how often each fate and reply came, what the runs of many workers
+had, and the seed of a run whose report is wrong.
 """
 import collections
 import json
@@ -16,6 +18,7 @@ import subprocess
 import sys
 import tempfile
 
+import legal
 import plain_switch
 from packets import ether, ipv4, read_report, tcp, udp, vxlan, write_capture
 
@@ -148,9 +151,9 @@ def drawn(seed):
     """A policy, commands, a capture and a number of workers, and the report of the plain program."""
     draw = random.Random(seed)
     made, records, moment = policy(draw), [], 0
-    text, lines, workers = json.dumps(made), commands(draw, made), draw.choice([1, 1, 2, 4])
+    text, lines, workers = json.dumps(made), commands(draw, made), draw.choice([1, 1, 2, 3, 4, 8])
     often = [frame(draw) for _ in range(8)]
-    for _ in range(40):
+    for _ in range(40 if workers == 1 else 300):
         moment += draw.choice(STEPS)
         data = draw.choice(often) if draw.random() < 0.6 else frame(draw)
         records.append((moment, data, len(data)))
@@ -164,31 +167,56 @@ def drawn(seed):
     return (text.encode(), lines, trace, workers), plain_switch.report(text, trace, lines, workers)
 
 
-def run(folder, text, lines, trace, workers):
+def run(program, folder, text, lines, trace, workers):
     names = [os.path.join(folder, name) for name in ("policy.json", "commands.jsonl", "trace.pcap")]
     for name, data in zip(names, (text, lines, trace)):
         with open(name, "wb") as file:
             file.write(data)
-    words = [os.path.join(ROOT, "vsw"), "forward", *([f"--workers={workers}"] if workers > 1 else []), *names]
+    words = [program, "forward", *([f"--workers={workers}"] if workers > 1 else []), *names]
     return subprocess.run(words, capture_output=True, check=True).stdout.decode()
+
+
+def fault(files, got, wanted):
+    """What is wrong with a report, None where nothing is."""
+    if files[3] == 1:
+        return None if got == wanted else "differs from the plain program's"
+    return legal.fault(*files, got)
+
+
+def kinds(files, got, wanted):
+    """What a run of many workers had."""
+    text, lines, _, workers = files
+    if workers > 1:
+        yield "runs of many workers"
+        if b'"when": "during"' in lines:
+            yield "of these with commands beside the packets"
+        if b'"stateful": true' in text + lines:
+            yield "of these with stateful rules"
+        if got != wanted:
+            yield "of these in another order than that of one thread"
 
 
 def main():
     runs = int(sys.argv[1]) if len(sys.argv) > 1 else 100
     first = int(sys.argv[2]) if len(sys.argv) > 2 else 1
-    fates, differ = collections.Counter(), []
+    program = sys.argv[3] if len(sys.argv) > 3 else os.path.join(ROOT, "vsw")
+    fates, had, wrong = collections.Counter(), collections.Counter(), []
     with tempfile.TemporaryDirectory() as folder:
         for seed in range(first, first + runs):
             files, wanted = drawn(seed)
-            if run(folder, *files) != wanted:
-                differ.append(seed)
-            for told in read_report(wanted).values():
+            got = run(program, folder, *files)
+            why = fault(files, got, wanted)
+            if why is not None:
+                wrong.append(seed)
+                print(f"seed {seed}, {files[3]} workers: {why}")
+            for told in read_report(got).values():
                 fates[told.mark + " ".join(told.fate.split()[:2 if told.fate.startswith("drop") else 1])] += 1
-            fates.update(" ".join(line.split()[3:]) for line in wanted.splitlines() if line.startswith("c"))
-    for fate, count in sorted(fates.items()):
-        print(fate, count)
-    print(f"{runs - len(differ)} of {runs} runs agree; seeds that differ: {differ}")
-    sys.exit(1 if differ else 0)
+            fates.update(" ".join(line.split()[3:]) for line in got.splitlines() if line.startswith("c"))
+            had.update(kinds(files, got, wanted))
+    for name, count in [*sorted(fates.items()), *had.items()]:
+        print(name, count)
+    print(f"{runs - len(wrong)} of {runs} runs are right; seeds that are wrong: {wrong}")
+    sys.exit(1 if wrong else 0)
 
 
 main()

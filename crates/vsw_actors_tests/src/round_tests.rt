@@ -253,7 +253,11 @@ fn controllers_stand_behind_the_workers_that_are_asked_for(rt: HostRuntime) {
 }
 
 /// How many rows of two ports, one of 10 rows and one of 600, were reconciled in a round, and which were the last.
-fn reconciled<R: Threads + Wait + Sync>(rt: &R, alloc: Global, round_number: u32) -> Option<[u64; 4]> {
+fn reconciled<R: Threads + Wait + Sync>(
+    rt: &R,
+    alloc: Global,
+    round_number: u32,
+) -> Option<[u64; 4]> {
     let ports = [Refusing::new(1, 10), Refusing::new(2, 600)];
     let lineup = Lineup {
         workers: 2,

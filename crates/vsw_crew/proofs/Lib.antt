@@ -6,6 +6,7 @@ mod Quiet
 mod Asking
 mod Doing
 mod Joining
+mod Gone
 mod Told
 mod Between
 pub use Rattle.vsw_rounds.proofs.Totals

@@ -2,7 +2,7 @@
 use Rattle.std.proofs.Common.{◌≡◌, ◌<◌, ℕ, zero, suc, ◌+◌, List, [], ◌∷◌, ◌++◌, length, map, take, drop, refl, ap, ap₂, ◌∙◌, subst, arith}
 use Rattle.vsw_harbour.specs.Lane.{Lane}
 use Rattle.vsw_crew.specs.Crew.{seen_by}
-use Rattle.vsw_crew.specs.Private.Rows.{cleared, counts_of, first_counts, lines_of}
+use Rattle.vsw_crew.specs.Private.Rows.{cleared, counts_of, first_counts, lines_of, rested}
 use Rattle.vsw_crew.specs.Told.{told_row, told_rows}
 use Rattle.vsw_harbour.specs.Crew.{lines_for}
 use Rattle.vsw_harbour.specs.Seen.{DockSeen, StationSeen}
@@ -35,6 +35,17 @@ row_cleared k [] (h ∷ hs) calls row s = absurd s
 row_cleared k (d ∷ ds) [] calls row s = absurd s
 row_cleared k (d ∷ ds) (h ∷ hs) [] row s = absurd s
 row_cleared k (d ∷ ds) (h ∷ hs) (c ∷ calls) [] s = absurd s
+
+-- nor with room for lines
+row_rested : (k : ℕ) (ds : List DockSeen) (hs : List (List Event)) (calls : List (List Call)) (row : List (Lane StationSeen)) → RowStands k ds hs calls row → RowStands k ds hs (no_calls ds) (rested row)
+row_rested k [] [] [] [] s = tt
+row_rested k (d ∷ ds) (h ∷ hs) (c ∷ calls) (l ∷ row) s = (record { of = s.0.of; rest = s.0.rest; base = s.0.base; told = λ w. refl }, row_rested k ds hs calls row s.1)
+row_rested k [] [] [] (l ∷ row) s = absurd s
+row_rested k [] [] (c ∷ calls) row s = absurd s
+row_rested k [] (h ∷ hs) calls row s = absurd s
+row_rested k (d ∷ ds) [] calls row s = absurd s
+row_rested k (d ∷ ds) (h ∷ hs) [] row s = absurd s
+row_rested k (d ∷ ds) (h ∷ hs) (c ∷ calls) [] s = absurd s
 
 -- none of the calls is caller k's
 abbrev pub HasNone : List ℕ → ℕ → List (List Call) → Type 0
@@ -96,6 +107,10 @@ pub rows_cleared : (k : ℕ) (ds : List DockSeen) (hs : List (List Event)) (call
 rows_cleared k ds hs calls [] s = tt
 rows_cleared k ds hs calls (row ∷ rows) s = (row_cleared k ds hs calls row s.0, rows_cleared (suc k) ds hs calls rows s.1)
 
+pub rows_rested : (k : ℕ) (ds : List DockSeen) (hs : List (List Event)) (calls : List (List Call)) (rows : List (List (Lane StationSeen))) → RowsStand k ds hs calls rows → RowsStand k ds hs (no_calls ds) (map rested rows)
+rows_rested k ds hs calls [] s = tt
+rows_rested k ds hs calls (row ∷ rows) s = (row_rested k ds hs calls row s.0, rows_rested (suc k) ds hs calls rows s.1)
+
 -- the first of the rows tell nothing, and the lines of the others were taken
 pub rows_left : (cs : List ℕ) (n k : ℕ) (ds : List DockSeen) (hs : List (List Event)) (calls : List (List Call)) (rows : List (List (Lane StationSeen))) → Each (λ d. d.live.looking.1.controllers ≡ cs) ds → ((j : ℕ) → j < k + n → HasNone cs j calls) → RowsStand k ds hs calls rows
     → RowsStand k ds hs (no_calls ds) (take n rows ++ map cleared (drop n rows))
@@ -133,6 +148,10 @@ seen_are k ds hs calls (row ∷ rows) some s = row_seen k ds hs calls row s.0
 pub cleared_many : (rows : List (List (Lane StationSeen))) → length (map cleared rows) ≡ length rows
 cleared_many [] = refl
 cleared_many (row ∷ rows) = ap suc (cleared_many rows)
+
+pub rested_many : (rows : List (List (Lane StationSeen))) → length (map rested rows) ≡ length rows
+rested_many [] = refl
+rested_many (row ∷ rows) = ap suc (rested_many rows)
 
 pub left_many : (n : ℕ) (rows : List (List (Lane StationSeen))) → length (take n rows ++ map cleared (drop n rows)) ≡ length rows
 left_many zero [] = refl

@@ -7,7 +7,7 @@ use Rattle.vsw_harbour.proofs.Crew.{crew_is_told}
 use Rattle.vsw_harbour.specs.Opening.{rows_in}
 use Rattle.vsw_harbour.specs.Seen.{DockSeen, StationSeen}
 use Rattle.vsw_harbour.specs.Harbour.{AreLike, HarbourSeen, IsHarbour, callers}
-use Rattle.vsw_harbour.specs.Standing.{IsWhole, RowsStand}
+use Rattle.vsw_harbour.specs.Standing.{IsWhole, RowsStand, no_calls}
 use Rattle.vsw_harbour.proofs.Likes.{numbers_like}
 use Rattle.vsw_history.specs.Calls.{Call}
 use Rattle.vsw_history.specs.Order.{ascending}
@@ -25,9 +25,9 @@ use Rattle.vsw_report.specs.declared.round.Loose.{Loose}
 use Rattle.vsw_tell.specs.Texts.{AreRising, AreSized, texts_by_port}
 use Rattle.vsw_crew.specs.Private.Round.{HasTold, HasWorked, numbers_in}
 use Rattle.vsw_crew.specs.Private.Telling.{IsCounted, text_of, texts_so}
-use Rattle.vsw_crew.specs.Private.Rows.{cleared, first_counts, lines_of}
+use Rattle.vsw_crew.specs.Private.Rows.{cleared, first_counts, lines_of, rested}
 use Rattle.vsw_crew.specs.Told.{told_rows}
-use Rattle.vsw_crew.proofs.Taking.{cleared_many, counts_are, rows_cleared, rows_told, rows_wide}
+use Rattle.vsw_crew.proofs.Taking.{cleared_many, counts_are, rested_many, rows_cleared, rows_rested, rows_told, rows_wide}
 use Rattle.vsw_crew.proofs.Texts.{texts_are}
 
 -- ---- as many as there are ports
@@ -56,7 +56,7 @@ many_journals n [] (h ∷ hs) gs j = absurd j
 many_journals n (p ∷ ps) [] gs j = absurd j
 many_journals n (p ∷ ps) (h ∷ hs) [] j = absurd j
 
-map_many : {A B : Type 0} (f : A → B) (xs : List A) → length (map f xs) ≡ length xs
+pub map_many : {A B : Type 0} (f : A → B) (xs : List A) → length (map f xs) ≡ length xs
 map_many f [] = refl
 map_many f (x ∷ xs) = ap suc (map_many f xs)
 
@@ -139,12 +139,12 @@ is_text h numbers macs listed asks s hs first packets befores afters lines first
       tells = crew_is_told s first packets hs w.histories w.texts (record { least = omega (arith, w.run.workers, i.more); most = few; asked = asked }) (λ one. omega (arith, one, w.run.workers, i.more)) apart w.did;
     }
 
-pub has_told : (h : HarbourSeen) (macs asks : List ℕ) (s : Setting) (hs : List (List Event)) (first : ℕ) (packets : List Record) (befores afters : List ℕ) (lines firsts : List (List (List TextLine))) (loose : List Loose) (rows left : List (List (Lane StationSeen))) (short : Bool) (old new : List ℕ)
-    → IsHarbour h (numbers_in h) macs (ascending h.controllers) asks → Each IsWhole rows → left ≡ map cleared rows
+pub has_told : (h : HarbourSeen) (macs asks : List ℕ) (s : Setting) (hs : List (List Event)) (first : ℕ) (packets : List Record) (befores afters : List ℕ) (lines firsts : List (List (List TextLine))) (loose : List Loose) (rows mid left : List (List (Lane StationSeen))) (short : Bool) (old new : List ℕ)
+    → IsHarbour h (numbers_in h) macs (ascending h.controllers) asks → Each IsWhole rows → mid ≡ map cleared rows → left ≡ map rested mid
     → ((ps : List PortSeen) (hs gs : List (List Event)) → IsCounted h ps hs gs befores afters lines firsts → new ≡ text_of h first ps hs gs lines firsts loose old)
     → ((ps : List PortSeen) (hs gs : List (List Event)) → IsCounted h ps hs gs befores afters lines firsts → short ≡ is_short_crew hs gs (texts_so h lines firsts))
     → AreAsked s → IsTaken h s hs first packets befores afters lines firsts loose rows → HasTold h s hs first packets short old new left
-has_told h macs asks s hs first packets befores afters lines firsts loose rows left short old new i whole cleared_so says shorts asked t =
+has_told h macs asks s hs first packets befores afters lines firsts loose rows mid left short old new i whole cleared_so rested_so says shorts asked t =
     let w = t.done in
     let ps = ports_of s.policy in
     let x = is_text h (numbers_in h) macs (ascending h.controllers) asks s hs first packets befores afters lines firsts loose rows i whole asked t in
@@ -155,8 +155,8 @@ has_told h macs asks s hs first packets befores afters lines firsts loose rows l
       texts = w.texts;
       tells = x.tells;
       ready = record {
-        size = ap length cleared_so ∙ (cleared_many rows ∙ w.size);
-        stand = subst (RowsStand 0 h.docks w.histories (map (λ d. []) h.docks)) (sym cleared_so) (rows_cleared 0 h.docks w.histories _ rows w.stand);
+        size = ap length rested_so ∙ (rested_many mid ∙ (ap length cleared_so ∙ (cleared_many rows ∙ w.size)));
+        stand = subst (RowsStand 0 h.docks w.histories (no_calls h.docks)) (sym rested_so) (rows_rested 0 h.docks w.histories (no_calls h.docks) mid (subst (RowsStand 0 h.docks w.histories (no_calls h.docks)) (sym cleared_so) (rows_cleared 0 h.docks w.histories _ rows w.stand)));
         journals = w.journals;
       };
       short_is = shorts ps hs w.histories counted ∙ ap (is_short_crew hs w.histories) x.same;

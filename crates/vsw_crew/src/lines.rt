@@ -1,7 +1,7 @@
 //! What rows of lanes tell, and how much their callers have seen.
 
-ghost use Rattle.std.specs.Prelude.{◌≡◌, ◌++◌, ◌∷◌, [], IfOk, IsTrue, OnOk, map};
-ghost use Rattle.vsw_crew.specs.Private.Rows.{cleared, cleared_lane, counts_of, first_counts, lines_of};
+ghost use Rattle.std.specs.Prelude.{◌≡◌, ◌++◌, ◌∷◌, [], IfOk, IsTrue, OnOk, length, map};
+ghost use Rattle.vsw_crew.specs.Private.Rows.{AreGone, cleared, cleared_lane, counts_of, first_counts, lines_of, rested, rested_lane};
 ghost use Rattle.vsw_harbour.specs.Opening.{rows_in};
 ghost use Rattle.vsw_harbour.specs.Standing.{IsWhole};
 ghost use Rattle.vsw_policy.specs.Sound.{Each};
@@ -130,4 +130,52 @@ pub(crate) fn take_all(
     let mut lines = Vec::new(alloc);
     take_rows(alloc, rows.as_mut_slice(), &mut lines)?;
     Ok(lines)
+}
+
+/// Gives a lane the room of lines that were told.
+fn give_lane(lane: &mut Lane<Station>, room: Caller)
+    requires { room ≡ [] }
+    ensures { lane.new ≡ rested_lane lane.old }
+{
+    lane.station.put_lines(room);
+}
+
+/// Gives the lanes of a row the rooms of a caller's lines, those from a place on.
+fn give_lanes(alloc: Global, row: &mut [Lane<Station>], rooms: &mut Lines, place: usize)
+    requires { AreGone rooms.old }
+    ensures { row.new ≡ rested row.old }
+{
+    if let Some((lane, others)) = row.split_first_mut() {
+        give_lane(lane, rooms.take(alloc, place));
+        give_lanes(alloc, others, rooms, place.wrapping_add(1));
+    }
+}
+
+fn give_row(alloc: Global, row: &mut Vec<Lane<Station>>, rooms: &mut Lines)
+    requires { AreGone rooms.old }
+    ensures { row.new.items ≡ rested row.old.items }
+{
+    give_lanes(alloc, row.as_mut_slice(), rooms, 0);
+}
+
+fn give_rows(alloc: Global, rows: &mut [Vec<Lane<Station>>], rooms: &mut [Lines])
+    requires same { length rooms.old ≡ length rows.old }
+    requires gone { Each AreGone rooms.old }
+    ensures { rows_in rows.new ≡ map rested (rows_in rows.old) }
+{
+    if let Some((row, others)) = rows.split_first_mut() {
+        if let Some((own, left)) = rooms.split_first_mut() {
+            give_row(alloc, row, own);
+            give_rows(alloc, others, left);
+        }
+    }
+}
+
+/// Gives rows the rooms of their lines, which were told, for those of the next round.
+pub(crate) fn give_all(alloc: Global, rows: &mut Vec<Vec<Lane<Station>>>, rooms: &mut Vec<Lines>)
+    requires same { length rooms.old.items ≡ length rows.old.items }
+    requires gone { Each AreGone rooms.old.items }
+    ensures { rows_in rows.new.items ≡ map rested (rows_in rows.old.items) }
+{
+    give_rows(alloc, rows.as_mut_slice(), rooms.as_mut_slice());
 }

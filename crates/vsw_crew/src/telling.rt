@@ -10,9 +10,9 @@ ghost use Rattle.vsw_history_law.specs.Law.{AreAsked};
 ghost use Rattle.vsw_pcap.specs.declared.capture.Record.{Record};
 ghost use Rattle.vsw_ports.specs.Ports.{PortSeen};
 ghost use Rattle.vsw_promise.specs.Jobs.{Setting};
-ghost use Rattle.vsw_tell.specs.Texts.{AreRising, AreSized};
+ghost use Rattle.vsw_tell.specs.Texts.{AreRising, AreSized, all_emptied};
 
-use crate::lines::{are_whole, count_first, take_all};
+use crate::lines::{are_whole, count_first, give_all, take_all};
 use crate::round::Worked;
 use vsw_base::NoMemory;
 use vsw_harbour::{Harbour, Lane, Naming, Station};
@@ -25,17 +25,17 @@ fn say<'g, J: Naming, G>(
     first: u32,
     befores: &[u32],
     afters: &[u32],
-    lines: Vec<Lines>,
+    lines: &mut Vec<Lines>,
     firsts: Vec<Lines>,
     loose: &[Loose],
     out: &mut Vec<u8>,
 ) -> Result<bool, NoMemory>
-    requires sizes { AreSized harbour.now.workers (length harbour.now.controllers) (numbers_in harbour.now) befores.now afters.now lines.items }
+    requires sizes { AreSized harbour.now.workers (length harbour.now.controllers) (numbers_in harbour.now) befores.now afters.now lines.old.items }
     requires grows { AreRising befores.now afters.now }
-    ensures text { (ps : List PortSeen) (hs gs : List (List Event)) → IsCounted harbour.now ps hs gs befores.now afters.now lines.items firsts.items → OnOk result (out.new.items ≡ text_of harbour.now first ps hs gs lines.items firsts.items loose.now out.old.items) }
-    ensures short { (ps : List PortSeen) (hs gs : List (List Event)) → IsCounted harbour.now ps hs gs befores.now afters.now lines.items firsts.items → IfOk result (λ short. short ≡ is_short_crew hs gs (texts_so harbour.now lines.items firsts.items)) }
+    ensures text { (ps : List PortSeen) (hs gs : List (List Event)) → IsCounted harbour.now ps hs gs befores.now afters.now lines.old.items firsts.items → OnOk result (out.new.items ≡ text_of harbour.now first ps hs gs lines.old.items firsts.items loose.now out.old.items) }
+    ensures short { (ps : List PortSeen) (hs gs : List (List Event)) → IsCounted harbour.now ps hs gs befores.now afters.now lines.old.items firsts.items → IfOk result (λ short. short ≡ is_short_crew hs gs (texts_so harbour.now lines.old.items firsts.items)) }
+    ensures taken { OnOk result (lines.new.items ≡ all_emptied lines.old.items) }
 {
-    let mut lines = lines;
     let mut firsts = firsts;
     let short = tell_round(
         harbour.alloc,
@@ -46,7 +46,7 @@ fn say<'g, J: Naming, G>(
         first,
         befores,
         afters,
-        &mut lines,
+        lines.as_mut_slice(),
         &mut firsts,
         loose,
         out,
@@ -75,9 +75,10 @@ pub(crate) fn tell<'g, J: Naming, G>(
         return Err(NoMemory);
     }
     let afters = count_first(harbour.alloc, &rows)?;
-    let lines = take_all(harbour.alloc, &mut rows)?;
+    let mut lines = take_all(harbour.alloc, &mut rows)?;
     let short = say(
-        harbour, first, &befores, &afters, lines, firsts, &loose, out,
+        harbour, first, &befores, &afters, &mut lines, firsts, &loose, out,
     )?;
+    give_all(harbour.alloc, &mut rows, &mut lines);
     Ok((short, rows))
 }

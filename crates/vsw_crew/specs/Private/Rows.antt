@@ -1,5 +1,5 @@
 -- Rows of lanes, whose lines are taken.
-use Rattle.std.specs.Prelude.{ℕ, List, [], ◌∷◌, length, map, Vec}
+use Rattle.std.specs.Prelude.{◌≡◌, ℕ, List, [], ◌∷◌, get_or, length, map, true, Vec}
 use Rattle.vsw_harbour.specs.Placed.{Placed}
 use Rattle.vsw_harbour.specs.Lane.{Lane}
 use Rattle.vsw_harbour.specs.DealWork.{Work}
@@ -16,6 +16,17 @@ cleared_lane l = record l { station = record l.station { lines = [] } }
 
 abbrev pub cleared : List (Lane StationSeen) → List (Lane StationSeen)
 cleared row = map cleared_lane row
+
+-- the row without lines, which has room for those of the next round
+abbrev pub rested_lane : Lane StationSeen → Lane StationSeen
+rested_lane l = record l { station = record l.station { lines = []; whole = true } }
+
+abbrev pub rested : List (Lane StationSeen) → List (Lane StationSeen)
+rested row = map rested_lane row
+
+-- none of a caller's lines are left, at any place
+abbrev pub AreGone : List (List TextLine) → Type 0
+AreGone lines = (place : ℕ) → get_or lines place [] ≡ []
 
 -- how many entries of each port a row has seen, and how many the first of some rows
 abbrev pub counts_of : List (Lane StationSeen) → List ℕ

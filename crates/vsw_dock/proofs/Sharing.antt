@@ -12,5 +12,5 @@ use Rattle.vsw_live.specs.declared.naming.Naming as Naming
 module _ (J : RattleType) (n : Naming.Ghosts J.Denot) (s : IsSend J) (κ : NamedLft) (G : RattleType) (y : IsSync G) where
   pub dock_sync : IsSync (Dock.the_row κ J G n)
   dock_sync =
-      let fields : FieldsHave IsSync ((dock.the_type κ J G n).parts) = (search sendable, (mac.the_sync, (search sendable, (search (port_sync, s), (search sendable, tt))))) in
+      let fields : FieldsHave IsSync ((dock.the_type κ J G n).parts) = (search sendable, (mac.the_sync, (search (port_sync, s), (search sendable, tt)))) in
       view_sync _ _ _ _ _ (declared_sync (dock.the_type κ J G n) fields)

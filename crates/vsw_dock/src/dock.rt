@@ -8,7 +8,6 @@ ghost use Rattle.vsw_deal.specs.declared.work.Work.TheVariants as work;
 ghost use Rattle.vsw_dock.specs.Private.Does.{Does};
 ghost use Rattle.vsw_live.specs.StoryRows.{opening_of};
 
-use crate::named::NamedPort;
 use crate::station::Station;
 use crate::watch::Watch;
 use std::alloc::Global;
@@ -24,32 +23,26 @@ use vsw_live::{LivePort, Naming};
 pub struct Dock<'g, J: Naming, G> {
     number: u16,
     mac: Mac,
-    rows: u32,
     port: LivePort<J>,
     watch: &'g G,
 }
 
 impl<'g, J: Naming, G> Model for Dock<'g, J, G> {
-    ghost use Rattle.std.specs.Prelude.{◌≡◌};
     ghost use Rattle.vsw_dock.specs.Seen.{DockSeen};
 
     ghost Value = { DockSeen };
 
     ghost view = { λ d. record { number = d.number; mac = d.mac; live = d.port } };
-
-    ghost invariant = { λ d. d.rows ≡ d.port.looking.2 };
 }
 
 impl<'g, J: Naming, G> Dock<'g, J, G> {
     /// The port of this number and address in the policy.
-    pub fn new(number: u16, mac: Mac, port: NamedPort<J>, watch: &'g G) -> Dock<'g, J, G>
+    pub fn new(number: u16, mac: Mac, port: LivePort<J>, watch: &'g G) -> Dock<'g, J, G>
         ensures { result ≡ record { number = number; mac = mac; live = port } }
     {
-        let (rows, port) = port.parts();
         Dock {
             number,
             mac,
-            rows,
             port,
             watch,
         }
@@ -126,7 +119,7 @@ impl<'g, J: Naming, G> RowPort for Dock<'g, J, G> {
     ghost row_count = { λ d. d.live.looking.2 };
 
     fn rows(&self) -> u32 {
-        self.rows
+        self.port.rows()
     }
 
     fn reconcile<R: Wait>(&self, rt: &R, row: u32) {

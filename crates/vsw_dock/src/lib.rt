@@ -4,7 +4,6 @@
 mod dock;
 mod law;
 mod meeting;
-mod named;
 mod opening;
 mod station;
 mod watch;
@@ -12,9 +11,8 @@ mod watch;
 pub use dock::Dock;
 pub use law::laws;
 pub use meeting::{count_of, hold_all, meet_row};
-pub use named::{NamedPort, OpenPort, name_all};
 pub use opening::{OpenDocks, dock_all, open_ports, rows_of};
 pub use station::Station;
 pub use vsw_deal::{Lane, Lineup, Placed, Work, deal, run_rows, step_at};
-pub use vsw_live::{Answer, Held, Naming, Why};
+pub use vsw_live::{Answer, Held, Naming, OpenPort, Why, name_all};
 pub use watch::Watch;

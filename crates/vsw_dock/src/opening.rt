@@ -7,12 +7,11 @@ ghost use Rattle.vsw_live.specs.Ports.{items_of};
 ghost use Rattle.vsw_policy.specs.Sound.{Each};
 
 use crate::dock::Dock;
-use crate::named::{NamedPort, OpenPort};
 use crate::station::Station;
 use std::alloc::Global;
 use vsw_base::{Items, Mac, NoMemory};
 use vsw_deal::Lane;
-use vsw_live::{Naming, PortStory};
+use vsw_live::{LivePort, Naming, OpenPort, PortStory};
 use vsw_lookup::Pass;
 use vsw_ports::{Port, macs};
 
@@ -53,9 +52,8 @@ fn open_port(alloc: Global, port: Port, passes: u32) -> Result<OpenPort, NoMemor
     requires passes { passes ≤ 24 }
     ensures { IfOk result (λ o. IsOpened passes port o) }
 {
-    let rows = port.rows;
-    let opened = vsw_live::OpenPort::open(alloc, port.policy, rows, passes)?;
-    Ok(OpenPort::of(rows, opened))
+    let opened = OpenPort::open(alloc, port.policy, port.rows, passes)?;
+    Ok(opened)
 }
 
 fn open_all(alloc: Global, made: Items<Port>, passes: u32) -> Result<Vec<OpenPort>, NoMemory>
@@ -89,7 +87,7 @@ pub fn open_ports(alloc: Global, made: Items<Port>, passes: u32) -> Result<OpenD
 }
 
 /// Takes the first port out.
-fn first_port<J: Naming>(ports: &mut Vec<NamedPort<J>>) -> NamedPort<J>
+fn first_port<J: Naming>(ports: &mut Vec<LivePort<J>>) -> LivePort<J>
     requires { 0 < length ports.old.items }
     ensures { ports.old.items ≡ result ∷ ports.new.items }
 {
@@ -99,7 +97,7 @@ fn first_port<J: Naming>(ports: &mut Vec<NamedPort<J>>) -> NamedPort<J>
 fn add_docks<'g, J: Naming, G>(
     numbers: &[u16],
     macs: &[Mac],
-    left: &mut Vec<NamedPort<J>>,
+    left: &mut Vec<LivePort<J>>,
     watch: &'g G,
     docks: &mut Vec<Dock<'g, J, G>>,
 ) -> Result<(), NoMemory>
@@ -122,7 +120,7 @@ pub fn dock_all<'g, J: Naming, G>(
     alloc: Global,
     numbers: &[u16],
     macs: &[Mac],
-    ports: Vec<NamedPort<J>>,
+    ports: Vec<LivePort<J>>,
     watch: &'g G,
 ) -> Result<Vec<Dock<'g, J, G>>, NoMemory>
     ensures { IfOk result (λ docks. docks.items ≡ docks_of numbers.now macs.now ports.items) }

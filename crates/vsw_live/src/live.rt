@@ -70,6 +70,13 @@ impl<J: Naming> LivePort<J> {
         }
     }
 
+    /// How many rows it has.
+    pub fn rows(&self) -> u32
+        ensures { result ≡ self.now.looking.2 }
+    {
+        self.lookup.rows()
+    }
+
     /// Keeps the lock.
     pub fn hold<'b, R: Wait>(&'b self, rt: &R) -> Held<'b, J>
         ensures port { result.port ≡ self.now }

@@ -9,10 +9,6 @@ mod layer;
 mod memory;
 mod order;
 mod ranks;
-#[cfg(test)]
-mod samples;
-#[cfg(test)]
-mod tests;
 
 pub use index::GroupIndex;
 pub use layer::{build_layer, pick_layer};

@@ -6,8 +6,6 @@ mod interval;
 mod near;
 mod placed;
 mod search;
-#[cfg(test)]
-mod tests;
 
 pub use interval::Interval;
 pub use placed::PlacedRange;

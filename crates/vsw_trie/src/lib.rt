@@ -7,8 +7,6 @@ mod memory;
 mod order;
 mod placed;
 mod span;
-#[cfg(test)]
-mod tests;
 mod trie;
 
 pub use placed::PlacedPrefix;

@@ -1,8 +1,8 @@
 //! The index beside a walk over the list that it was built of.
 
-use crate::{Interval, PlacedRange};
 use std::alloc::{AllocError, Global};
 use std::test::Fail;
+use vsw_interval::{Interval, PlacedRange};
 
 fn placed(place: u32, low: u64, high: u64) -> PlacedRange {
     PlacedRange { place, low, high }

@@ -1,9 +1,9 @@
 //! The trie beside a walk over the list that it was built of.
 
-use crate::{PlacedPrefix, Trie};
 use std::alloc::{AllocError, Global};
 use std::test::Fail;
 use vsw_base::{Ip4, Prefix};
+use vsw_trie::{PlacedPrefix, Trie};
 
 fn placed(place: u32, value: u32, bits: u8) -> PlacedPrefix {
     PlacedPrefix {

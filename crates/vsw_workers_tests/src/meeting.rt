@@ -1,4 +1,4 @@
-//! A gate at which two actors wait for each other, and one that looks for an actor.
+//! A gate at which two actors wait for each other.
 
 use std::sync::atomic::{AtomicU64, Ordering};
 use vsw_app::{Answer, Watch};

@@ -31,7 +31,7 @@ class Packet:
         while True:
             self.sizes.append(len(data))
             fields, rest = self.headers(data)
-            is_vxlan = len(self.encaps) < 2 and fields.get("proto") == 17 and fields["dst_port"] == VXLAN_PORT
+            is_vxlan = len(self.encaps) < 2 and fields.get("proto") == 17 and fields.get("dst_port") == VXLAN_PORT
             if not (is_vxlan and len(rest) >= 8 and rest[0] & 8):
                 break
             self.encaps.append({**fields, "vni": int.from_bytes(rest[4:7], "big")})
@@ -40,15 +40,16 @@ class Packet:
         self.fields, self.data, self.kept, self.pushed = fields, data, len(self.encaps), []
 
     def headers(self, data):
-        """The fields of an Ethernet frame, with IPv4 and ports where it has them, and its UDP payload."""
+        """The fields of an Ethernet frame, with IPv4 and ports where it has them, and its UDP payload. A fragment has no ports."""
         fields = {"dst_mac": int.from_bytes(data[:6], "big"), "src_mac": int.from_bytes(data[6:12], "big")}
         fields["kind"] = struct.unpack(">H", data[12:14])[0]
         if fields["kind"] != 0x0800:
             return fields, b""
         start = 14 + (data[14] & 15) * 4
         end = 14 + struct.unpack(">H", data[16:18])[0]
-        fields.update(proto=data[23], part=0, src_ip=int.from_bytes(data[26:30], "big"), dst_ip=int.from_bytes(data[30:34], "big"))
-        if fields["proto"] not in (6, 17):
+        part = int(struct.unpack(">H", data[20:22])[0] & 0x3FFF != 0)
+        fields.update(proto=data[23], part=part, src_ip=int.from_bytes(data[26:30], "big"), dst_ip=int.from_bytes(data[30:34], "big"))
+        if part or fields["proto"] not in (6, 17):
             return fields, b""
         fields["src_port"], fields["dst_port"] = struct.unpack(">HH", data[start:start + 4])
         if fields["proto"] == 6:

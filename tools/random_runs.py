@@ -4,8 +4,8 @@
     tools/random_runs.py [RUNS] [SEED] [PROGRAM]
 
 The plain program is tools/plain_switch.py, written from docs/MODEL.md apart from the switch. Policies have up to four
-layers of three controllers on each of two ports; packets are ARP, UDP, TCP and ICMP, some of them in VXLAN, among few
-addresses and ports, and replies to what passed; commands come before and beside them, and past the last. Every run is made
+layers of three controllers on each of two ports; packets are ARP, UDP, TCP and ICMP, some of them fragments or in VXLAN,
+among few addresses and ports, and replies to what passed; commands come before and beside them, and past the last. Every run is made
 with 1 to 8 workers. The report of one worker is the plain program's; that of more is legal in the order that it tells
 (tools/legal.py). PROGRAM is ./vsw if it isn't given. Prints how often each fate and reply came, what the runs of many workers
 had, and the seed of a run whose report is wrong.
@@ -14,13 +14,14 @@ import collections
 import json
 import os
 import random
+import struct
 import subprocess
 import sys
 import tempfile
 
 import legal
 import plain_switch
-from packets import ether, ipv4, read_report, tcp, udp, vxlan, write_capture
+from packets import ether, ipv4, ones_sum, read_report, tcp, udp, vxlan, write_capture
 
 ROOT = os.path.dirname(os.path.dirname(os.path.abspath(__file__)))
 PORT_MACS = ["02:00:00:00:00:01", "02:00:00:00:00:02"]
@@ -122,6 +123,12 @@ def commands(draw, policy):
     return "".join(line + draw.choice(["\n", "\n", "\n\n", " \r\n"]) for line in lines).encode()
 
 
+def fragment(draw, packet):
+    """An IPv4 packet marked as a first, a middle or a last fragment (RFC 791)."""
+    front = packet[:6] + struct.pack(">H", draw.choice([0x2000, 0x2010, 0x0010])) + packet[8:10] + b"\0\0" + packet[12:20]
+    return front[:10] + struct.pack(">H", ones_sum(front)) + front[12:] + packet[20:]
+
+
 def frame(draw):
     to, came, (src, dst) = draw.choice(MACS), draw.choice(MACS), draw.choices(ADDRESSES, k=2)
     ports, payload, kind = draw.choices(PORTS, k=2), draw.randbytes(draw.randint(0, 9)), draw.random()
@@ -133,6 +140,8 @@ def frame(draw):
         made = ipv4(src, dst, 17, udp(src, dst, *ports, payload, draw.random() < 0.8))
     else:
         made = ipv4(src, dst, 6, tcp(src, dst, *ports, draw.choice([0x02, 0x02, 0x12, 0x10, 0x10, 0x11, 0x04]), 1, 2, payload))
+    if draw.random() < 0.05:
+        made = fragment(draw, made)
     made = ether(to, came, 0x0800, made)
     if draw.random() < 0.15:
         datagram = udp("172.16.0.2", "172.16.0.1", 60_000, 4_789, vxlan(draw.choice([5_001, 5_002]), made), False)
@@ -141,8 +150,8 @@ def frame(draw):
 
 
 def reply(sent):
-    """The frame with source and destination exchanged, None where it has no ports or is VXLAN."""
-    if sent[12:14] != b"\x08\0" or sent[23] not in (6, 17) or sent[36:38] == b"\x12\xb5":
+    """The frame with source and destination exchanged, None where it has no ports, is a fragment or is VXLAN."""
+    if sent[12:14] != b"\x08\0" or sent[23] not in (6, 17) or int.from_bytes(sent[20:22], "big") & 0x3FFF or sent[36:38] == b"\x12\xb5":
         return None
     return sent[6:12] + sent[:6] + sent[12:26] + sent[30:34] + sent[26:30] + sent[36:38] + sent[34:36] + sent[38:]
 

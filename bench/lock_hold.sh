@@ -4,7 +4,8 @@
 #
 #   bench/lock_hold.sh [PROGRAM]
 #
-# Prints the instructions of one such call in the port's core, with all that it calls. PROGRAM is the proved one if it isn't given.
+# Prints what the core's calls take for one such packet or command, with all that they call; what the compiler puts inline around them
+# isn't counted. PROGRAM is the proved one if it isn't given.
 set -eu
 root=$(cd "$(dirname "$0")/.." && pwd)
 work=$(mktemp -d)
@@ -74,6 +75,8 @@ def spent(names, commands, trace):
         if re.search(rf"vsw_core::\w+::({names})$", name):
             total += sum(cost for cost, caller in callers if "vsw_core::" not in caller)
         callers = []
+    if total == 0:
+        sys.exit(f"no calls of {names} found: does the program have its symbols?")
     return total
 
 

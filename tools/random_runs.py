@@ -4,11 +4,11 @@
     tools/random_runs.py [RUNS] [SEED] [PROGRAM]
 
 The plain program is tools/plain_switch.py, written from docs/MODEL.md apart from the switch. Policies have up to four
-layers of three controllers on each of two ports; packets are ARP, UDP, TCP and ICMP, some of them fragments or in VXLAN,
-among few addresses and ports, and replies to what passed; commands come before and beside them, and past the last. Every run is made
-with 1 to 8 workers. The report of one worker is the plain program's; that of more is legal in the order that it tells
-(tools/legal.py). PROGRAM is ./vsw if it isn't given. Prints how often each fate and reply came, what the runs of many workers
-had, and the seed of a run whose report is wrong.
+layers of three controllers on each of two ports; packets are ARP, UDP, TCP and ICMP, some of them fragments or in
+VXLAN, among few addresses and ports, and replies to what passed; commands come before and beside them, and past the
+last. Every run is made with 1 to 8 workers. The report of one worker is the plain program's; that of more is legal in
+the order that it tells (tools/legal.py). PROGRAM is ./vsw if it isn't given. Prints how often each fate and reply came,
+what the runs of many workers had, and the seed of a run whose report is wrong.
 """
 import collections
 import json

@@ -1,8 +1,8 @@
 -- What standing rows tell, and rows whose lines were taken.
-use Rattle.std.proofs.Common.{◌≡◌, ◌<◌, ℕ, zero, suc, ◌+◌, List, [], ◌∷◌, ◌++◌, length, map, take, drop, refl, ap, ap₂, ◌∙◌, subst, arith}
+use Rattle.std.proofs.Common.{◌≡◌, ◌<◌, ℕ, zero, suc, ◌+◌, Bool, true, List, [], ◌∷◌, ◌++◌, length, map, take, drop, refl, ap, ap₂, ◌∙◌, subst, arith}
 use Rattle.vsw_harbour.specs.Lane.{Lane}
 use Rattle.vsw_crew.specs.Crew.{seen_by}
-use Rattle.vsw_crew.specs.Private.Rows.{cleared, counts_of, first_counts, lines_of, rested}
+use Rattle.vsw_crew.specs.Private.Rows.{cleared, counts_of, emptied_lane, first_counts, lines_of, rested}
 use Rattle.vsw_crew.specs.Told.{told_row, told_rows}
 use Rattle.vsw_harbour.specs.Crew.{lines_for}
 use Rattle.vsw_harbour.specs.Seen.{DockSeen, StationSeen}
@@ -25,27 +25,16 @@ row_told cs k (d ∷ ds) [] calls row same s w = absurd s
 row_told cs k (d ∷ ds) (h ∷ hs) [] row same s w = absurd s
 row_told cs k (d ∷ ds) (h ∷ hs) (c ∷ calls) [] same s w = absurd s
 
--- without its lines it tells nothing
-row_cleared : (k : ℕ) (ds : List DockSeen) (hs : List (List Event)) (calls : List (List Call)) (row : List (Lane StationSeen)) → RowStands k ds hs calls row → RowStands k ds hs (no_calls ds) (cleared row)
-row_cleared k [] [] [] [] s = tt
-row_cleared k (d ∷ ds) (h ∷ hs) (c ∷ calls) (l ∷ row) s = (record { of = s.0.of; rest = s.0.rest; base = s.0.base; told = λ w. refl }, row_cleared k ds hs calls row s.1)
-row_cleared k [] [] [] (l ∷ row) s = absurd s
-row_cleared k [] [] (c ∷ calls) row s = absurd s
-row_cleared k [] (h ∷ hs) calls row s = absurd s
-row_cleared k (d ∷ ds) [] calls row s = absurd s
-row_cleared k (d ∷ ds) (h ∷ hs) [] row s = absurd s
-row_cleared k (d ∷ ds) (h ∷ hs) (c ∷ calls) [] s = absurd s
-
--- nor with room for lines
-row_rested : (k : ℕ) (ds : List DockSeen) (hs : List (List Event)) (calls : List (List Call)) (row : List (Lane StationSeen)) → RowStands k ds hs calls row → RowStands k ds hs (no_calls ds) (rested row)
-row_rested k [] [] [] [] s = tt
-row_rested k (d ∷ ds) (h ∷ hs) (c ∷ calls) (l ∷ row) s = (record { of = s.0.of; rest = s.0.rest; base = s.0.base; told = λ w. refl }, row_rested k ds hs calls row s.1)
-row_rested k [] [] [] (l ∷ row) s = absurd s
-row_rested k [] [] (c ∷ calls) row s = absurd s
-row_rested k [] (h ∷ hs) calls row s = absurd s
-row_rested k (d ∷ ds) [] calls row s = absurd s
-row_rested k (d ∷ ds) (h ∷ hs) [] row s = absurd s
-row_rested k (d ∷ ds) (h ∷ hs) (c ∷ calls) [] s = absurd s
+-- without its lines it tells nothing, whether it is whole or not
+row_emptied : (w : Lane StationSeen → Bool) (k : ℕ) (ds : List DockSeen) (hs : List (List Event)) (calls : List (List Call)) (row : List (Lane StationSeen)) → RowStands k ds hs calls row → RowStands k ds hs (no_calls ds) (map (λ l. emptied_lane (w l) l) row)
+row_emptied w k [] [] [] [] s = tt
+row_emptied w k (d ∷ ds) (h ∷ hs) (c ∷ calls) (l ∷ row) s = (record { of = s.0.of; rest = s.0.rest; base = s.0.base; told = λ w. refl }, row_emptied w k ds hs calls row s.1)
+row_emptied w k [] [] [] (l ∷ row) s = absurd s
+row_emptied w k [] [] (c ∷ calls) row s = absurd s
+row_emptied w k [] (h ∷ hs) calls row s = absurd s
+row_emptied w k (d ∷ ds) [] calls row s = absurd s
+row_emptied w k (d ∷ ds) (h ∷ hs) [] row s = absurd s
+row_emptied w k (d ∷ ds) (h ∷ hs) (c ∷ calls) [] s = absurd s
 
 -- none of the calls is caller k's
 abbrev pub HasNone : List ℕ → ℕ → List (List Call) → Type 0
@@ -103,13 +92,15 @@ rows_told cs k (suc n) ds hs calls (row ∷ rows) same size s w = ap₂ (λ x y.
 rows_told cs k (suc n) ds hs calls [] same size s w = absurd (omega (arith, size))
 rows_told cs k zero ds hs calls (row ∷ rows) same size s w = absurd (omega (arith, size))
 
+rows_emptied : (w : Lane StationSeen → Bool) (k : ℕ) (ds : List DockSeen) (hs : List (List Event)) (calls : List (List Call)) (rows : List (List (Lane StationSeen))) → RowsStand k ds hs calls rows → RowsStand k ds hs (no_calls ds) (map (λ row. map (λ l. emptied_lane (w l) l) row) rows)
+rows_emptied w k ds hs calls [] s = tt
+rows_emptied w k ds hs calls (row ∷ rows) s = (row_emptied w k ds hs calls row s.0, rows_emptied w (suc k) ds hs calls rows s.1)
+
 pub rows_cleared : (k : ℕ) (ds : List DockSeen) (hs : List (List Event)) (calls : List (List Call)) (rows : List (List (Lane StationSeen))) → RowsStand k ds hs calls rows → RowsStand k ds hs (no_calls ds) (map cleared rows)
-rows_cleared k ds hs calls [] s = tt
-rows_cleared k ds hs calls (row ∷ rows) s = (row_cleared k ds hs calls row s.0, rows_cleared (suc k) ds hs calls rows s.1)
+rows_cleared k ds hs calls rows s = rows_emptied (λ l. l.station.whole) k ds hs calls rows s
 
 pub rows_rested : (k : ℕ) (ds : List DockSeen) (hs : List (List Event)) (calls : List (List Call)) (rows : List (List (Lane StationSeen))) → RowsStand k ds hs calls rows → RowsStand k ds hs (no_calls ds) (map rested rows)
-rows_rested k ds hs calls [] s = tt
-rows_rested k ds hs calls (row ∷ rows) s = (row_rested k ds hs calls row s.0, rows_rested (suc k) ds hs calls rows s.1)
+rows_rested k ds hs calls rows s = rows_emptied (λ l. true) k ds hs calls rows s
 
 -- the first of the rows tell nothing, and the lines of the others were taken
 pub rows_left : (cs : List ℕ) (n k : ℕ) (ds : List DockSeen) (hs : List (List Event)) (calls : List (List Call)) (rows : List (List (Lane StationSeen))) → Each (λ d. d.live.looking.1.controllers ≡ cs) ds → ((j : ℕ) → j < k + n → HasNone cs j calls) → RowsStand k ds hs calls rows

@@ -1,5 +1,5 @@
 -- Rows of lanes, whose lines are taken.
-use Rattle.std.specs.Prelude.{◌≡◌, ℕ, List, [], ◌∷◌, get_or, length, map, true, Vec}
+use Rattle.std.specs.Prelude.{◌≡◌, ℕ, Bool, List, [], ◌∷◌, get_or, length, map, true, Vec}
 use Rattle.vsw_harbour.specs.Placed.{Placed}
 use Rattle.vsw_harbour.specs.Lane.{Lane}
 use Rattle.vsw_harbour.specs.DealWork.{Work}
@@ -10,16 +10,20 @@ use Rattle.vsw_merge.specs.Line.{TextLine}
 abbrev pub lines_of : List (Lane StationSeen) → List (List TextLine)
 lines_of row = map (λ l. l.station.lines) row
 
--- the row without lines
+-- the lane without lines, and whether it is whole
+abbrev pub emptied_lane : Bool → Lane StationSeen → Lane StationSeen
+emptied_lane whole l = record l { station = record l.station { lines = []; whole = whole } }
+
+-- the row without lines, each lane as whole as it was
 abbrev pub cleared_lane : Lane StationSeen → Lane StationSeen
-cleared_lane l = record l { station = record l.station { lines = [] } }
+cleared_lane l = emptied_lane l.station.whole l
 
 abbrev pub cleared : List (Lane StationSeen) → List (Lane StationSeen)
 cleared row = map cleared_lane row
 
--- the row without lines, which has room for those of the next round
+-- the row without lines, each lane whole: it has nothing to tell yet
 abbrev pub rested_lane : Lane StationSeen → Lane StationSeen
-rested_lane l = record l { station = record l.station { lines = []; whole = true } }
+rested_lane l = emptied_lane true l
 
 abbrev pub rested : List (Lane StationSeen) → List (Lane StationSeen)
 rested row = map rested_lane row

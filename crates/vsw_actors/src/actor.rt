@@ -4,7 +4,6 @@ ghost use Rattle.std.specs.Prelude.{◌≡◌, ◌<◌, ◌≤◌, ◌+◌, ◌-
 ghost use Rattle.vsw_many.specs.Phases.{Track};
 ghost use Rattle.vsw_many.specs.Actors.{Does};
 ghost use Rattle.vsw_actors.specs.Lanes.{AreFit, AreTold, IsReady, IsTaken, fronts_of};
-ghost use Rattle.vsw_workers.specs.Rounds.{AllFinish};
 ghost use Rattle.vsw_actors.specs.Actors.{AreMine, Begins, HasDone};
 
 use crate::lane::{Lane, step_at};
@@ -13,9 +12,8 @@ use std::alloc::Global;
 use std::collections::LinkedList;
 use std::marker::Model;
 use std::sync::Wait;
-use std::thread::Threads;
 use vsw_history::Event;
-use vsw_workers::{Forwarder, Gate, run_round};
+use vsw_workers::Forwarder;
 
 /// A job, and the place of the port at which it is to be done.
 #[derive(Drop)]
@@ -124,20 +122,6 @@ impl<'a, J, P: Port<J>> Forwarder for Actor<'a, J, P> {
     fn left(&self) -> u32 {
         (self.jobs.len() - self.next) as u32
     }
-}
-
-/// Does all jobs of all actors, each actor in a thread of its own.
-pub fn run_actors<'a, R: Threads + Wait + Sync, J: Send, P: Port<J> + Sync, G: Gate + Sync>(
-    rt: &R,
-    alloc: Global,
-    actors: &mut [Actor<'a, J, P>],
-    gate: &G,
-)
-where
-    P::Station: Send,
-    ensures { AllFinish (λ a. a.0) (λ a. a.1) (λ a. a.2) actors.old actors.new }
-{
-    run_round(rt, alloc, actors, gate);
 }
 
 /// Does a job of an actor at the port at its place.

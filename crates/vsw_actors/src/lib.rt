@@ -11,7 +11,7 @@ mod round;
 mod rows;
 mod seat;
 
-pub use actor::{Actor, Begun, Placed, run_actors};
+pub use actor::{Actor, Begun, Placed};
 pub use lane::{Lane, step, step_at};
 pub use law::actor_laws;
 pub use port::Port;

@@ -1,4 +1,5 @@
 pub mod Ranked
+pub mod Sharing
 pub mod Gathered
 pub mod Complete
 pub mod Picked

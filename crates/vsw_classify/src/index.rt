@@ -53,12 +53,20 @@ impl GroupIndex {
     pub fn build(alloc: Global, group: &Group) -> Result<GroupIndex, NoMemory>
         ensures { IfOk result (λ index. index ≡ group.now.rules) }
     {
-        let rules = group.rules.as_slice();
+        GroupIndex::of(alloc, &group.rules)
+    }
+
+    /// The index of these rules. `NoMemory` where growth was refused, or there are 2^32 rules or more.
+    pub fn of(alloc: Global, rules: &Items<Rule>) -> Result<GroupIndex, NoMemory>
+        ensures { IfOk result (λ index. index ≡ rules.now) }
+    {
+        let snapshot = Snapshot::of(rules);
+        let rules = rules.as_slice();
         let keys = keys_of(alloc, rules)?;
         let gathered = gather(alloc, rules, &keys, &Sample::of(rules))?;
         let fields = fields_of(alloc, &gathered.entries)?;
         Ok(GroupIndex {
-            rules: Snapshot::of(&group.rules),
+            rules: snapshot,
             keys,
             listed: gathered.listed,
             fields,

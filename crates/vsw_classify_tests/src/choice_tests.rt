@@ -1,6 +1,6 @@
 //! Indexes beside the choice over lists.
 
-use crate::samples::{Random, group, packet};
+use crate::samples::{Random, Tally, group, packet};
 use std::alloc::Global;
 use std::test::Fail;
 use vsw_base::{Dir, Header, Ip4, Items, Mac, Prefix, Stack};
@@ -78,20 +78,6 @@ fn the_first_of_two_equal_rules_is_picked(rt: HostRuntime) -> Result<(), Fail> {
     let six = near(alloc, 6, Action::Drop)?;
     assert_eq!(rt; of_two(alloc, six, five)?, (Some(0), Some(6)));
     Ok(())
-}
-
-/// How many packets met a rule, and of how many index and list tell otherwise.
-#[derive(Drop)]
-struct Tally {
-    met: u32,
-    differ: u32,
-}
-
-impl Tally {
-    fn note(&mut self, met: bool, differ: bool) {
-        self.met = self.met.wrapping_add(u32::from(met));
-        self.differ = self.differ.wrapping_add(u32::from(differ));
-    }
 }
 
 /// Numbers of rules are their places.

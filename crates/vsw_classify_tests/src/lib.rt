@@ -4,6 +4,8 @@
 #[cfg(test)]
 mod choice_tests;
 #[cfg(test)]
+mod groups_tests;
+#[cfg(test)]
 mod interval_tests;
 #[cfg(test)]
 mod samples;

@@ -198,3 +198,17 @@ pub fn packet(alloc: Global, random: &mut Random) -> Result<Stack, Fail> {
     }
     Ok(Stack::of(&headers)?)
 }
+
+/// How many packets met a rule, and of how many index and list tell otherwise.
+#[derive(Drop)]
+pub struct Tally {
+    pub met: u32,
+    pub differ: u32,
+}
+
+impl Tally {
+    pub fn note(&mut self, met: bool, differ: bool) {
+        self.met = self.met.wrapping_add(u32::from(met));
+        self.differ = self.differ.wrapping_add(u32::from(differ));
+    }
+}

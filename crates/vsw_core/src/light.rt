@@ -6,12 +6,29 @@ use vsw_layer::Layer;
 const ALLOWANCE: usize = 24;
 /// How many of them a layer costs beside those of its rules.
 const LAYER: usize = 3;
+/// How many a layer costs besides once it has pairs: a look for one, and an entry for its last use.
+const PAIRS: usize = 8;
+/// From how many rules on a group is asked by its index, which costs about as many tests.
+const INDEXED: usize = 8;
+/// How many rules more make an index cost a test more.
+const SPREAD: usize = 16;
+
+/// What a choice among so many rules of a group costs.
+fn choice(rules: usize) -> usize {
+    if rules < INDEXED {
+        return rules;
+    }
+    (rules / SPREAD).saturating_add(INDEXED)
+}
 
 /// What is left of an allowance after a walk over the layer, if it costs no more.
 fn left_after(layer: &Layer, allowance: usize) -> Option<usize> {
     let mut left = allowance.checked_sub(LAYER)?;
+    if layer.flows.len() > 0 {
+        left = left.checked_sub(PAIRS)?;
+    }
     for group in layer.groups.as_slice() {
-        left = left.checked_sub(group.rules.len())?;
+        left = left.checked_sub(choice(group.rules.len()))?;
     }
     Some(left)
 }

@@ -1,2 +1,3 @@
-pub mod Firsts
+pub use Rattle.vsw_groups.proofs.Firsts
+pub mod Sharing
 pub mod Stays

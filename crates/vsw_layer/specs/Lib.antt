@@ -1,4 +1,4 @@
+pub use Rattle.vsw_groups.specs.Groups
 pub mod Layer
-pub mod Groups
 pub mod Staying
 pub mod Numbers

@@ -8,11 +8,10 @@ ghost use Rattle.vsw_layer.specs.Groups.{is_group, changed, removed, with_rules,
 ghost use Rattle.vsw_layer.specs.Layer.{seen, room, with_spec, with_parts, with_pair, with_touched, without_pair, defaulting, CanTake};
 ghost use Rattle.vsw_layer.specs.Staying.{staying};
 
-use crate::copies::{copy_conditions, copy_rule, copy_rules};
-use crate::groups::{cut_group, cut_in, push_in, set_rules};
-use crate::places::{mark_gone, rules_in, unmarked};
+use crate::gone::{mark_gone, unmarked};
 use std::alloc::Global;
 use vsw_base::{Dir, Items, Moment, NoMemory, Track};
+use vsw_groups::{Groups, IndexedRules, copy_conditions, copy_rules, rules_in};
 use vsw_layerflow::{Flows, Pair};
 use vsw_rule::{Cond, Group, Rule};
 
@@ -39,7 +38,7 @@ pub struct Layer {
     pub controller: u16,
     pub spec: LayerSpec,
     /// In the order in which they were added.
-    pub groups: Items<Group>,
+    pub groups: Groups,
     pub flows: Flows,
     /// The number of the next pair.
     pub next_pair: u32,
@@ -56,17 +55,6 @@ fn drop_gone(flows: &mut Flows, group: u16, old: &[Rule], new: &[Rule])
 }
 
 impl Layer {
-    /// Adds a group behind those of the layer.
-    fn push_group(&mut self, group: Group) -> Result<(), NoMemory>
-        ensures ok { OnOk result (seen self.new ≡ with_parts (self.old.groups ++ group ∷ []) self.old.flows.pairs (seen self.old)) }
-        ensures err { OnErr result (seen self.new ≡ seen self.old) }
-    {
-        match self.groups.push(group) {
-            Ok(()) => Ok(()),
-            Err(_) => Err(NoMemory),
-        }
-    }
-
     /// Adds a group without rules behind those of the layer.
     pub fn add_group(
         &mut self,
@@ -85,24 +73,24 @@ impl Layer {
             when,
             rules: Items::new(alloc),
         };
-        self.push_group(group)
+        self.groups.push(alloc, group)
     }
 
     /// A group goes, with its rules and their pairs.
-    pub fn remove_group(&mut self, alloc: Global, group: u16)
+    pub fn remove_group(&mut self, group: u16)
         ensures { seen self.new ≡ with_parts (removed (is_group group) self.old.groups) (staying group (groups.rules_in self.old.groups group) [] self.old.flows.pairs) (seen self.old) }
     {
         let old = rules_in(self.groups.as_slice(), group);
         drop_gone(&mut self.flows, group, old, &[]);
-        cut_group(alloc, &mut self.groups, group);
+        self.groups.remove(group);
     }
 
-    fn put_copies(&mut self, alloc: Global, group: u16, rules: Items<Rule>)
+    fn put_indexed(&mut self, group: u16, rules: IndexedRules)
         ensures { seen self.new ≡ with_parts (changed (is_group group) (with_rules rules) self.old.groups) (staying group (groups.rules_in self.old.groups group) rules self.old.flows.pairs) (seen self.old) }
     {
         let old = rules_in(self.groups.as_slice(), group);
         drop_gone(&mut self.flows, group, old, rules.as_slice());
-        set_rules(alloc, &mut self.groups, group, rules);
+        self.groups.put_rules(group, rules);
     }
 
     /// Puts other rules in place of all that a group has. An old one that isn't among them takes its pairs with it.
@@ -110,8 +98,8 @@ impl Layer {
         ensures ok { OnOk result (seen self.new ≡ with_parts (changed (is_group group) (with_rules rules.now) self.old.groups) (staying group (groups.rules_in self.old.groups group) rules.now self.old.flows.pairs) (seen self.old)) }
         ensures err { OnErr result (seen self.new ≡ seen self.old) }
     {
-        let rules = copy_rules(alloc, rules)?;
-        self.put_copies(alloc, group, rules);
+        let rules = IndexedRules::of(alloc, copy_rules(alloc, rules)?)?;
+        self.put_indexed(group, rules);
         Ok(())
     }
 
@@ -120,16 +108,17 @@ impl Layer {
         ensures ok { OnOk result (seen self.new ≡ with_parts (changed (is_group group) (with_rule rule.now) self.old.groups) self.old.flows.pairs (seen self.old)) }
         ensures err { OnErr result (seen self.new ≡ seen self.old) }
     {
-        let rule = copy_rule(alloc, rule)?;
-        push_in(alloc, &mut self.groups, group, rule)
+        self.groups.add_rule(alloc, group, rule)
     }
 
     /// A rule goes, with its pairs.
-    pub fn remove_rule(&mut self, alloc: Global, group: u16, number: u16)
-        ensures { seen self.new ≡ with_parts (changed (is_group group) (without_rule number) self.old.groups) (filter (λ p. not (of_rule group number p)) self.old.flows.pairs) (seen self.old) }
+    pub fn remove_rule(&mut self, alloc: Global, group: u16, number: u16) -> Result<(), NoMemory>
+        ensures ok { OnOk result (seen self.new ≡ with_parts (changed (is_group group) (without_rule number) self.old.groups) (filter (λ p. not (of_rule group number p)) self.old.flows.pairs) (seen self.old)) }
+        ensures err { OnErr result (seen self.new ≡ seen self.old) }
     {
+        self.groups.remove_rule(alloc, group, number)?;
         let _ = self.flows.drop_rule(group, number);
-        cut_in(alloc, &mut self.groups, group, number);
+        Ok(())
     }
 
     /// Sets whether packets of a direction go on that meet no rule.

@@ -15,7 +15,7 @@ use Rattle.vsw_live.specs.contracts.locked.Locked as Locked
 use Rattle.vsw_live.specs.contracts.locked.Locked.TheInside as locked
 use Rattle.vsw_live.specs.declared.naming.Naming as Naming
 use Rattle.vsw_lookup.proofs.lookup.Lookup.TheSendSync as lookup
-use Rattle.vsw_policy.proofs.policy.Policy.TheSendSync as policy
+use Rattle.vsw_policy.proofs.Sharing.{policy_send}
 use Rattle.vsw_port.specs.contracts.ledger.Ledger as Ledger
 use Rattle.vsw_port.specs.contracts.ledger.Ledger.TheInside as ledger
 use Rattle.vsw_rows.proofs.rows.Rows.TheSendSync as rows
@@ -23,7 +23,7 @@ use Rattle.vsw_walk.proofs.scratch.Scratch.TheSendSync as scratch
 
 ledger_send : IsSend Ledger.the_row
 ledger_send =
-    let fields : FieldsHave IsSend ((ledger.the_type).parts) = (send, (policy.the_send, (search (event.the_send, crosses), (search crosses, tt)))) in
+    let fields : FieldsHave IsSend ((ledger.the_type).parts) = (send, (policy_send, (search (event.the_send, crosses), (search crosses, tt)))) in
     view_send _ _ _ _ _ (declared_send ledger.the_type fields)
 
 core_send : IsSend Core.the_row

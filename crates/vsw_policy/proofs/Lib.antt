@@ -5,3 +5,4 @@ pub mod Counts
 pub mod Alone
 pub mod At
 pub mod Ascending
+pub mod Sharing

@@ -10,8 +10,8 @@ ghost use Rattle.vsw_policy.specs.Obey.{after};
 use crate::command::Command;
 use crate::places::{layer_place, place_for};
 use std::alloc::Global;
-use vsw_base::{Items, NoMemory};
-use vsw_layer::{Layer, LayerSpec};
+use vsw_base::NoMemory;
+use vsw_layer::{Groups, Layer, LayerSpec};
 use vsw_layerflow::Flows;
 
 /// A layer without groups and pairs.
@@ -21,7 +21,7 @@ fn empty_layer(alloc: Global, controller: u16, spec: &LayerSpec) -> Layer
     Layer {
         controller,
         spec: *spec,
-        groups: Items::new(alloc),
+        groups: Groups::new(alloc),
         flows: Flows::new(alloc),
         next_pair: 0,
     }
@@ -69,17 +69,14 @@ fn change_within(alloc: Global, layer: &mut Layer, command: &Command) -> Result<
             ..
         } => layer.add_group(alloc, *group, *dir, when.as_slice()),
         Command::RemoveGroup { group, .. } => {
-            layer.remove_group(alloc, *group);
+            layer.remove_group(*group);
             Ok(())
         }
         Command::PutRules { group, rules, .. } => {
             layer.put_rules(alloc, *group, rules.as_slice())
         }
         Command::AddRule { group, rule, .. } => layer.add_rule(alloc, *group, rule),
-        Command::RemoveRule { group, number, .. } => {
-            layer.remove_rule(alloc, *group, *number);
-            Ok(())
-        }
+        Command::RemoveRule { group, number, .. } => layer.remove_rule(alloc, *group, *number),
         Command::SetDefault { dir, allow, .. } => {
             layer.set_default(*dir, *allow);
             Ok(())

@@ -7,7 +7,7 @@ use crate::commands::{put_two, remove_group, remove_rule, rule, spec};
 use crate::told::told_rules;
 use std::alloc::Global;
 use vsw_base::{Dir, Ip4, Items, LayerKey, Moment, Set, Track};
-use vsw_layer::Layer;
+use vsw_layer::{Groups, Layer};
 use vsw_layerflow::{Flows, Pair};
 use vsw_policy::{Command, change};
 use vsw_rule::Group;
@@ -114,9 +114,9 @@ fn group(alloc: Global, number: u16) -> Group {
 
 /// Layer 10 of controller 1, with such groups 1 and 2 and those pairs.
 fn layers(alloc: Global) -> Vec<Layer> {
-    let mut groups = Items::new(alloc);
-    let _ = groups.push(group(alloc, 1));
-    let _ = groups.push(group(alloc, 2));
+    let mut groups = Groups::new(alloc);
+    let _ = groups.push(alloc, group(alloc, 1));
+    let _ = groups.push(alloc, group(alloc, 2));
     let mut layers = Vec::new(alloc);
     let _ = layers.push(Layer {
         controller: 1,

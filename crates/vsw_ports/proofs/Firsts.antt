@@ -53,14 +53,6 @@ twice-changed p f g k (x ∷ xs) = by (p x) refl (twice-changed p f g k xs)
     by true e ih = rw e (rw (k x) (rw e refl))
     by false e ih = rw e (rw e (ap (λ ys. x ∷ ys) ih))
 
-pub changed-as : {A : Type 0} (p : A → Bool) (f g : A → A) (xs : List A) → ((x : A) → find p xs ≡ Some x → f x ≡ g x) → changed p f xs ≡ changed p g xs
-changed-as p f g [] h = refl
-changed-as {A} p f g (x ∷ xs) h = by (p x) refl (changed-as p f g xs)
-  where
-    by : (b : Bool) → p x ≡ b → (((y : A) → find p xs ≡ Some y → f y ≡ g y) → changed p f xs ≡ changed p g xs) → changed p f (x ∷ xs) ≡ changed p g (x ∷ xs)
-    by true e ih = let i = h x (rw e refl) in rw e (ap (λ y. y ∷ xs) i)
-    by false e ih = rw e (ap (λ ys. x ∷ ys) (ih (λ y i. h y (rw e i))))
-
 pub changed-same : {A : Type 0} (p : A → Bool) (f : A → A) → ((x : A) → f x ≡ x) → (xs : List A) → changed p f xs ≡ xs
 changed-same p f k [] = refl
 changed-same p f k (x ∷ xs) = by (p x) refl (changed-same p f k xs)

@@ -12,7 +12,6 @@ ghost use Rattle.vsw_visit.specs.Visit as spec;
 
 use crate::outcome::Decision;
 use vsw_base::{Control, Dir, Stack, Verdict};
-use vsw_choice::choose;
 use vsw_layer::{Layer, LayerSpec};
 use vsw_layerflow::Pair;
 use vsw_rule::{Action, Rule};
@@ -73,7 +72,7 @@ fn ask<'a>(layer: &'a Layer, dir: Dir, stack: &Stack, leaves: Option<&'a Pair>) 
     ensures goes_on { IfRule result (λ rule. IsTrue (goes_on rule.action)) }
     ensures can { IfRule result (λ rule. IsTrue (can_do rule.action stack.now)) }
 {
-    match choose(dir, layer.groups.as_slice(), stack) {
+    match layer.groups.choose(dir, stack) {
         None => by_default(layer, dir, leaves),
         Some(choice) => by_rule(layer, choice.group, choice.rule, leaves),
     }

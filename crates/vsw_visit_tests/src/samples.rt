@@ -3,7 +3,7 @@
 
 use std::alloc::{AllocError, Global};
 use vsw_base::{BadShape, Dir, Header, Ip4, Items, LayerKey, Mac, Moment, Set, Stack, Track};
-use vsw_layer::{Layer, LayerSpec};
+use vsw_layer::{Groups, Layer, LayerSpec};
 use vsw_layerflow::{Flows, Pair};
 use vsw_rule::{Action, Group, Rule};
 
@@ -178,6 +178,8 @@ fn layer(alloc: Global, action: &Action, flows: Flows) -> Result<Layer, AllocErr
         when: Items::new(alloc),
         rules: Items::of(Vec::from_array(alloc, [rule(alloc, action)])?),
     };
+    let mut groups = Groups::new(alloc);
+    let _ = groups.push(alloc, group);
     Ok(Layer {
         controller: 3,
         spec: LayerSpec {
@@ -189,7 +191,7 @@ fn layer(alloc: Global, action: &Action, flows: Flows) -> Result<Layer, AllocErr
             idle: 240,
             linger: 10,
         },
-        groups: Items::of(Vec::from_array(alloc, [group])?),
+        groups,
         flows,
         next_pair: 6,
     })

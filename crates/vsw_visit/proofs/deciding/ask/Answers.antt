@@ -13,4 +13,4 @@ pub returns-in-None-clause-can : goal.returns-in-None-clause-can
 returns-in-None-clause-can c = c.by_default.ensures.none (λ (r : Rule). can_do r.action c.args.stack.now)
 
 pub returns-in-Some-clause-can : goal.returns-in-Some-clause-can
-returns-in-Some-clause-can c = c.by_rule.ensures.can c.args.stack.now (chosen_can c.args.dir c.as_slice.result.now c.args.stack.now _ (sym c.choose.ensures ∙ ap (option_map seen) c.in-Some.is))
+returns-in-Some-clause-can c = c.by_rule.ensures.can c.args.stack.now (chosen_can c.args.dir c.args.layer.now.groups c.args.stack.now _ (sym c.choose.ensures ∙ ap (option_map seen) c.in-Some.is))

@@ -1,0 +1,4 @@
+pub mod Built
+pub mod Firsts
+pub mod Ruled
+pub mod Sharing

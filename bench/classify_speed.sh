@@ -1,12 +1,13 @@
 #!/bin/sh
-# Instructions of a choice in a layer, counted by callgrind: `pick_layer` over indexes beside `choose` over the lists.
+# Instructions of a choice in a layer, counted by callgrind: `pick_layer` over indexes beside `choose` over the lists
+# and, for addresses alone, beside a plain C program of binary tries (classify_trie.c); and of making the indexes.
 #
 #   bench/classify_speed.sh
 #
 # One group of 10, 100 and 1,000 rules, and 32 groups of 32, with conditions on the destination address, on the
 # destination port, and on both, each with few rules that match a packet and with many. Half of the packets are taken
-# from rules. Each count is the difference of 30 and 10 rounds over 64 packets, over 1,280. With LLVM at level 2.
-# It says so where the two disagree.
+# from rules. Each count is the difference of 30 and 10 rounds over 64 packets, over 1,280; that of making is the
+# difference of 30 and 10 times, over 20. With LLVM and gcc at level 2. It says so where two choices disagree.
 set -eu
 root=$(cd "$(dirname "$0")/.." && pwd)
 work=$(mktemp -d)
@@ -28,8 +29,8 @@ grep -E '^vsw_(base|rule|choice|least|trie|interval|classify):' "$root/crates.tx
 echo 'classify_speed: vsw_base vsw_rule vsw_choice vsw_classify' >> crates.txt
 cd crates/classify_speed
 cat > src/main.rt << 'END'
-//! Chooses often among the rules of a layer. The words: 0 for the lists or 1 for indexes, the kind of rules, rules a group,
-//! groups, rounds over 64 packets.
+//! Chooses often among the rules of a layer. The words: 0 for the lists, 1 for indexes or 2 to make indexes only, the kind of
+//! rules, rules a group, groups, rounds over 64 packets.
 #![tactic(auto)]
 
 mod policy;
@@ -37,6 +38,7 @@ mod random;
 
 use policy::{Kind, groups, packets};
 use random::Random;
+use std::alloc::Global;
 use std::{env, io};
 use vsw_base::{Dir, Stack};
 use vsw_choice::choose;
@@ -75,6 +77,17 @@ fn by_index<R: AllocGlobal>(rt: &R, groups: &[Group], packets: &[Stack], rounds:
     sum
 }
 
+/// Makes the indexes so many times.
+fn made_often(alloc: Global, groups: &[Group], times: u32) -> u64 {
+    let mut sum: u64 = 0;
+    for _ in 0..times {
+        if let Ok(index) = build_layer(alloc, groups) {
+            sum = sum.wrapping_add(index.len() as u64);
+        }
+    }
+    sum
+}
+
 fn main(rt: HostRuntime) -> io::Result<()> {
     let mut words = [0u32; 8];
     let mut at = 0usize;
@@ -87,10 +100,10 @@ fn main(rt: HostRuntime) -> io::Result<()> {
     let kind = Kind::of(kind);
     let groups = groups(rt.alloc(), kind, rules, count, &mut random)?;
     let packets = packets(rt.alloc(), &groups, &mut random)?;
-    let sum = if way == 0 {
-        by_list(&groups, &packets, rounds)
-    } else {
-        by_index(&rt, &groups, &packets, rounds)
+    let sum = match way {
+        0 => by_list(&groups, &packets, rounds),
+        1 => by_index(&rt, &groups, &packets, rounds),
+        _ => made_often(rt.alloc(), &groups, rounds),
     };
     println!(rt; "{sum}")
 }
@@ -274,16 +287,31 @@ pub fn packets(alloc: Global, groups: &[Group], random: &mut Random) -> Result<V
 }
 END
 rt run > "$work/said" 2> "$work/log" || { cat "$work/said" "$work/log"; exit 1; }
+gcc -O2 -o "$work/trie" "$root/bench/classify_trie.c"
 count() {
-    valgrind --tool=callgrind --callgrind-out-file=/dev/null out/classify_speed "$@" 2>&1 > /dev/null | sed -n 's/.*Collected : *//p'
+    valgrind --tool=callgrind --callgrind-out-file=/dev/null "$@" 2>&1 > /dev/null | sed -n 's/.*Collected : *//p'
 }
-echo "rules of groups           list    index"
+# The difference of 30 and 10 rounds of a program with these words, over so many.
+each() {
+    over=$1
+    shift
+    echo "$(count "$@" 10) $(count "$@" 30) $over" | awk '{ printf "%.0f", ($2 - $1) / $3 }'
+}
+echo "rules of groups             list    index  C trie     make"
 while read -r kind name; do
     for size in "10 1" "100 1" "1000 1" "32 32"; do
         set -- $size
-        [ "$(out/classify_speed 0 "$kind" "$1" "$2" 3)" = "$(out/classify_speed 1 "$kind" "$1" "$2" 3)" ] || echo DISAGREE
-        echo "$(count 0 "$kind" "$1" "$2" 10) $(count 0 "$kind" "$1" "$2" 30) $(count 1 "$kind" "$1" "$2" 10) $(count 1 "$kind" "$1" "$2" 30)" \
-            | awk -v "name=$name" -v "rules=$1" -v "groups=$2" '{ printf "%-14s %4d x %2d %8.0f %8.0f\n", name, rules, groups, ($2 - $1) / 1280, ($4 - $3) / 1280 }'
+        told=$(out/classify_speed 0 "$kind" "$1" "$2" 3)
+        [ "$told" = "$(out/classify_speed 1 "$kind" "$1" "$2" 3)" ] || echo DISAGREE
+        trie=-
+        case $kind in
+        0 | 3)
+            [ "$told" = "$("$work/trie" "$kind" "$1" "$2" 3)" ] || echo DISAGREE
+            trie=$(each 1280 "$work/trie" "$kind" "$1" "$2")
+            ;;
+        esac
+        printf '%-14s %4d x %2d %8s %8s %7s %8s\n' "$name" "$1" "$2" "$(each 1280 out/classify_speed 0 "$kind" "$1" "$2")" \
+            "$(each 1280 out/classify_speed 1 "$kind" "$1" "$2")" "$trie" "$(each 20 out/classify_speed 2 "$kind" "$1" "$2")"
     done
 done << 'END'
 0 address, few

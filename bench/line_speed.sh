@@ -12,7 +12,7 @@ work=$(mktemp -d)
 trap 'rm -rf "$work"' EXIT
 
 mkdir -p "$work/repo/crates"
-for name in vsw_base vsw_rule vsw_layerflow vsw_layer vsw_policy vsw_hex vsw_report vsw_merge; do
+for name in vsw_base vsw_rule vsw_choice vsw_least vsw_trie vsw_interval vsw_classify vsw_groups vsw_layerflow vsw_layer vsw_policy vsw_hex vsw_report vsw_merge; do
     cp -r "$root/crates/$name" "$work/repo/crates"
 done
 cd "$work/repo"
@@ -23,7 +23,7 @@ rm -rf BUILD.bazel crates/line_speed/BUILD.bazel crates/line_speed/src/*
 mkdir -p crates/line_speed/proofs crates/line_speed/specs
 : > crates/line_speed/specs/Lib.antt
 : > crates/line_speed/proofs/Lib.antt
-grep -E '^vsw_(base|rule|layerflow|layer|policy|hex|report|merge):' "$root/crates.txt" > crates.txt
+grep -E '^vsw_(base|rule|choice|least|trie|interval|classify|groups|layerflow|layer|policy|hex|report|merge):' "$root/crates.txt" > crates.txt
 echo 'line_speed: vsw_base vsw_merge' >> crates.txt
 cd crates/line_speed
 cat > src/main.rt << 'END'

@@ -13,7 +13,7 @@ work=$(mktemp -d)
 trap 'rm -rf "$work"' EXIT
 
 mkdir -p "$work/repo/crates"
-for crate in vsw_base vsw_rule vsw_layerflow vsw_layer; do
+for crate in vsw_base vsw_rule vsw_choice vsw_least vsw_trie vsw_interval vsw_classify vsw_groups vsw_layerflow vsw_layer; do
     cp -r "$root/crates/$crate" "$work/repo/crates"
 done
 cd "$work/repo"
@@ -24,13 +24,8 @@ rm -rf crates/pair_speed/proofs crates/pair_speed/specs crates/pair_speed/src/*
 mkdir -p crates/pair_speed/proofs/fill crates/pair_speed/proofs/reopen_all crates/pair_speed/specs
 : > crates/pair_speed/specs/Lib.antt
 : > crates/pair_speed/proofs/Lib.antt
-cat > crates.txt << 'END'
-vsw_base: byteorder
-vsw_rule: vsw_base
-vsw_layerflow: vsw_base indexmap
-vsw_layer: vsw_base vsw_rule vsw_layerflow
-pair_speed: vsw_base vsw_rule vsw_layerflow vsw_layer
-END
+grep -E '^vsw_(base|rule|choice|least|trie|interval|classify|groups|layerflow|layer):' "$root/crates.txt" > crates.txt
+echo 'pair_speed: vsw_base vsw_rule vsw_layerflow vsw_layer' >> crates.txt
 cat > crates/pair_speed/src/main.rt << 'END'
 //! Times the calls of a layer's pairs.
 #![tactic(auto)]
@@ -44,7 +39,7 @@ use std::rt::Clock;
 use std::time::Instant;
 use std::{env, io};
 use vsw_base::{Dir, Ip4, Items, LayerKey, Moment, Set, Track};
-use vsw_layer::{Layer, LayerSpec};
+use vsw_layer::{Groups, Layer, LayerSpec};
 use vsw_layerflow::{Flows, Pair};
 use vsw_rule::{Action, Group, Rule};
 
@@ -277,14 +272,15 @@ fn rules(alloc: Global, priority: u16) -> Items<Rule> {
     rules
 }
 
-fn groups(alloc: Global) -> Items<Group> {
-    let mut groups = Items::new(alloc);
-    let _ = groups.push(Group {
+fn groups(alloc: Global) -> Groups {
+    let mut groups = Groups::new(alloc);
+    let group = Group {
         number: 2,
         dir: Dir::Out,
         when: Items::new(alloc),
         rules: rules(alloc, 10),
-    });
+    };
+    let _ = groups.push(alloc, group);
     groups
 }
 

@@ -7,7 +7,7 @@ use vsw_base::Dir;
 use vsw_choice::choose;
 use vsw_groups::{Groups, IndexedRules};
 
-/// Does to one of six groups what a command may do: it comes or goes, it gets other rules, or one of them comes or goes.
+/// Does to one of six groups what commands may do: it goes, it comes anew, it gets other rules, or one of them comes or goes.
 fn change(alloc: Global, groups: &mut Groups, random: &mut Random) -> Result<(), Fail> {
     let number = (random.next() % 6) as u16;
     let drawn = group(alloc, number, random)?;
@@ -20,7 +20,10 @@ fn change(alloc: Global, groups: &mut Groups, random: &mut Random) -> Result<(),
             }
         }
         3 => groups.remove_rule(alloc, number, (random.next() % 16) as u16)?,
-        _ => groups.push(alloc, drawn)?,
+        _ => {
+            groups.remove(number);
+            groups.push(alloc, drawn)?;
+        }
     }
     Ok(())
 }

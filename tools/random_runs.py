@@ -65,9 +65,14 @@ def rule(draw, number):
             "stateful": is_stateful, "last": draw.random() < 0.2}
 
 
+def rules(draw):
+    """How many rules a group has: few, or so many that it is asked by its index (8 or more)."""
+    return draw.randint(1, 5) if draw.random() < 0.7 else draw.randint(8, 24)
+
+
 def group(draw, number):
     return {"group": number, "dir": draw.choice(["in", "out"]), "when": conditions(draw, 0.3),
-            "rules": [rule(draw, place + 1) for place in range(draw.randint(1, 5))]}
+            "rules": [rule(draw, place + 1) for place in range(rules(draw))]}
 
 
 def layer(draw, controller, number):
@@ -101,16 +106,16 @@ def command(draw, layers):
     named = {"layer": number, "group": draw.randint(1, 4) if draw.random() < 0.5 else 1}
     ways = {"dir": draw.choice(["in", "out"])}
     made = layer(draw, own, named["layer"])
-    rules = [rule(draw, place + 1) for place in range(draw.randint(0, 4))]
+    listed = [rule(draw, place + 1) for place in range(rules(draw) - 1)]
     more = draw.choice([
         {"do": "add_layer", **{name: made[name] for name in ("layer", "order", "default_out", "default_in", "pairs", "idle", "linger")}},
         {"do": "remove_layer", "layer": named["layer"]},
         {"do": "add_group", **named, **ways, "when_all": conditions(draw, 0.3)},
         {"do": "remove_group", **named},
-        {"do": "put_rules", **named, "rules": rules + rules[:draw.random() < 0.1]},
-        {"do": "put_rules", **named, "rules": rules},
-        {"do": "add_rule", **named, "rule": rule(draw, draw.randint(1, 6))},
-        {"do": "remove_rule", **named, "rule": draw.randint(1, 5)},
+        {"do": "put_rules", **named, "rules": listed + listed[:draw.random() < 0.1]},
+        {"do": "put_rules", **named, "rules": listed},
+        {"do": "add_rule", **named, "rule": rule(draw, draw.randint(1, 26))},
+        {"do": "remove_rule", **named, "rule": draw.randint(1, draw.choice([5, 24]))},
         {"do": "set_default", "layer": named["layer"], **ways, "default": draw.choice(["allow", "drop"])},
         {"do": "sweep", "layer": named["layer"], "now": draw.randrange(60_000_000)},
     ])

@@ -25,7 +25,7 @@ fn group_at(layers: &[Layer], layer: usize, group: usize) -> Option<&Group> {
 
 /// How many groups the layer at a place has.
 pub fn count_groups(layers: &[Layer], layer: usize) -> Option<usize> {
-    Some(layers.get(layer)?.groups.len())
+    Some(layers.get(layer)?.groups.as_slice().len())
 }
 
 /// The number and direction of the group at a place of the first layer, and how many conditions and

@@ -16,7 +16,8 @@ use Rattle.vsw_policy.specs.Obey.{groups_of, groups_in, within, tests, first_ref
 use Rattle.vsw_policy.specs.Sound.{Each, AreApart, IsGoodGroup, same_group, same_number, is_listed}
 use Rattle.vsw_policy.proofs.Keeps.{flip-equal, each-as}
 use Rattle.vsw_ports.specs.Groups.{with_groups, Admits, AdmitsAll}
-use Rattle.vsw_ports.proofs.Firsts.{none-any, found, find-changed, any-changed, twice-changed, changed-as, changed-same, any-last, find-last, changed-last}
+use Rattle.vsw_layer.proofs.Firsts.{changed-as}
+use Rattle.vsw_ports.proofs.Firsts.{none-any, found, find-changed, any-changed, twice-changed, changed-same, any-last, find-last, changed-last}
 
 itself : (n : ℕ) → (n == n) ≡ true
 itself n = grind (arith, nat_tests)

@@ -64,7 +64,11 @@ fn layer_at(ports: &[Port], port: usize, place: usize) -> Option<&Layer> {
 /// The controller, the number, and how many groups.
 fn layer_name(ports: &[Port], port: usize, place: usize) -> (u16, u16, usize) {
     match layer_at(ports, port, place) {
-        Some(layer) => (layer.controller, layer.spec.layer, layer.groups.len()),
+        Some(layer) => (
+            layer.controller,
+            layer.spec.layer,
+            layer.groups.as_slice().len(),
+        ),
         None => (0, 0, 0),
     }
 }

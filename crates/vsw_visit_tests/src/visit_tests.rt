@@ -6,9 +6,9 @@ use crate::samples::{
 };
 use std::alloc::{AllocError, Global};
 use std::test::Fail;
-use vsw_base::{BadShape, Control, Dir, Items, Moment, Stack, Track, Verdict};
+use vsw_base::{BadShape, Control, Dir, Moment, Stack, Track, Verdict};
 use vsw_compose::act_of;
-use vsw_layer::Layer;
+use vsw_layer::{Groups, Layer};
 use vsw_rule::Action;
 use vsw_visit::{Visit, Want, visit};
 
@@ -57,7 +57,7 @@ fn a_closed_pair_stays_where_the_syn_is_dropped(rt: HostRuntime) -> Result<(), F
 /// The layer without rules.
 fn by_default(alloc: Global, allow_out: bool, allow_in: bool) -> Result<Layer, AllocError> {
     let mut layer = without_pairs(alloc, &Action::Drop)?;
-    layer.groups = Items::new(alloc);
+    layer.groups = Groups::new(alloc);
     layer.spec.allow_out = allow_out;
     layer.spec.allow_in = allow_in;
     Ok(layer)

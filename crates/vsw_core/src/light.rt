@@ -11,7 +11,7 @@ const PAIRS: usize = 8;
 /// From how many rules on a group is asked by its index, which costs about as many tests.
 const INDEXED: usize = 8;
 /// How many rules more make an index cost a test more.
-const SPREAD: usize = 16;
+const SPREAD: usize = 128;
 
 /// What a choice among so many rules of a group costs.
 fn choice(rules: usize) -> usize {

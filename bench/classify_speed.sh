@@ -14,7 +14,7 @@ work=$(mktemp -d)
 trap 'rm -rf "$work"' EXIT
 
 mkdir -p "$work/repo/crates"
-for name in vsw_base vsw_rule vsw_choice vsw_least vsw_trie vsw_interval vsw_classify; do
+for name in vsw_base vsw_rule vsw_least vsw_trie vsw_interval vsw_classify; do
     cp -r "$root/crates/$name" "$work/repo/crates"
 done
 cd "$work/repo"
@@ -25,8 +25,8 @@ rm -rf BUILD.bazel crates/classify_speed/BUILD.bazel crates/classify_speed/src/*
 mkdir -p crates/classify_speed/proofs crates/classify_speed/specs
 : > crates/classify_speed/specs/Lib.antt
 : > crates/classify_speed/proofs/Lib.antt
-grep -E '^vsw_(base|rule|choice|least|trie|interval|classify):' "$root/crates.txt" > crates.txt
-echo 'classify_speed: vsw_base vsw_rule vsw_choice vsw_classify' >> crates.txt
+grep -E '^vsw_(base|rule|least|trie|interval|classify):' "$root/crates.txt" > crates.txt
+echo 'classify_speed: vsw_base vsw_rule vsw_classify' >> crates.txt
 cd crates/classify_speed
 cat > src/main.rt << 'END'
 //! Chooses often among the rules of a layer. The words: 0 for the lists, 1 for indexes or 2 to make indexes only, the kind of
@@ -41,9 +41,8 @@ use random::Random;
 use std::alloc::Global;
 use std::{env, io};
 use vsw_base::{Dir, Stack};
-use vsw_choice::choose;
 use vsw_classify::{build_layer, pick_layer};
-use vsw_rule::Group;
+use vsw_rule::{Group, choose};
 
 #[inline(never)]
 fn by_list(groups: &[Group], packets: &[Stack], rounds: u32) -> u64 {

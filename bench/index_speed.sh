@@ -15,7 +15,7 @@ work=$(mktemp -d)
 trap 'rm -rf "$work"' EXIT
 
 mkdir -p "$work/repo/crates"
-cp -r "$root/crates/vsw_base" "$root/crates/vsw_trie" "$root/crates/vsw_interval" "$work/repo/crates"
+cp -r "$root/crates/vsw_base" "$root/crates/vsw_least" "$root/crates/vsw_trie" "$root/crates/vsw_interval" "$work/repo/crates"
 cd "$work/repo"
 git init -q .
 touch crates.txt
@@ -26,8 +26,9 @@ mkdir -p crates/index_speed/proofs crates/index_speed/specs
 : > crates/index_speed/proofs/Lib.antt
 cat > crates.txt << 'END'
 vsw_base: byteorder
-vsw_trie: vsw_base
-vsw_interval: vsw_base
+vsw_least:
+vsw_trie: vsw_base vsw_least
+vsw_interval: vsw_base vsw_least
 index_speed: vsw_base vsw_trie vsw_interval
 END
 cd crates/index_speed

@@ -12,7 +12,7 @@ work=$(mktemp -d)
 trap 'rm -rf "$work"' EXIT
 
 mkdir -p "$work/repo/crates"
-for name in vsw_base vsw_rule vsw_choice vsw_least vsw_trie vsw_interval vsw_classify vsw_groups vsw_layerflow vsw_layer vsw_policy vsw_hex vsw_report vsw_merge; do
+for name in vsw_base vsw_rule vsw_least vsw_trie vsw_interval vsw_classify vsw_layerflow vsw_policy vsw_report; do
     cp -r "$root/crates/$name" "$work/repo/crates"
 done
 cd "$work/repo"
@@ -23,8 +23,8 @@ rm -rf BUILD.bazel crates/line_speed/BUILD.bazel crates/line_speed/src/*
 mkdir -p crates/line_speed/proofs crates/line_speed/specs
 : > crates/line_speed/specs/Lib.antt
 : > crates/line_speed/proofs/Lib.antt
-grep -E '^vsw_(base|rule|choice|least|trie|interval|classify|groups|layerflow|layer|policy|hex|report|merge):' "$root/crates.txt" > crates.txt
-echo 'line_speed: vsw_base vsw_merge' >> crates.txt
+grep -E '^vsw_(base|rule|least|trie|interval|classify|layerflow|policy|report):' "$root/crates.txt" > crates.txt
+echo 'line_speed: vsw_base vsw_report' >> crates.txt
 cd crates/line_speed
 cat > src/main.rt << 'END'
 //! Tells and merges rounds of 100 lines. The lengths of the words: bytes of a packet (fewer than 20: a rule drops it), rounds, and the case: one
@@ -34,7 +34,7 @@ cat > src/main.rt << 'END'
 use std::alloc::{AllocError, Global};
 use std::{env, io};
 use vsw_base::{Cause, Fate};
-use vsw_merge::{Caller, merge};
+use vsw_report::{Caller, merge};
 
 #[inline(never)]
 fn tell(caller: &mut Caller, item: u32, entry: bool, count: u32, bytes: &[u8]) -> bool {

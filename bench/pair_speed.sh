@@ -1,5 +1,5 @@
 #!/bin/sh
-# Speed and room of a layer's pairs (vsw_layerflow, vsw_layer): one layer of 65,536 pairs, filled, searched, touched, thinned and swept,
+# Speed and room of a layer's pairs (vsw_layerflow, vsw_policy): one layer of 65,536 pairs, filled, searched, touched, thinned and swept,
 # and one whose 1,024 rules are all replaced.
 #
 #   bench/pair_speed.sh [RUNS]
@@ -13,7 +13,7 @@ work=$(mktemp -d)
 trap 'rm -rf "$work"' EXIT
 
 mkdir -p "$work/repo/crates"
-for crate in vsw_base vsw_rule vsw_choice vsw_least vsw_trie vsw_interval vsw_classify vsw_groups vsw_layerflow vsw_layer; do
+for crate in vsw_base vsw_rule vsw_least vsw_trie vsw_interval vsw_classify vsw_layerflow vsw_policy; do
     cp -r "$root/crates/$crate" "$work/repo/crates"
 done
 cd "$work/repo"
@@ -24,8 +24,8 @@ rm -rf crates/pair_speed/proofs crates/pair_speed/specs crates/pair_speed/src/*
 mkdir -p crates/pair_speed/proofs/fill crates/pair_speed/proofs/reopen_all crates/pair_speed/specs
 : > crates/pair_speed/specs/Lib.antt
 : > crates/pair_speed/proofs/Lib.antt
-grep -E '^vsw_(base|rule|choice|least|trie|interval|classify|groups|layerflow|layer):' "$root/crates.txt" > crates.txt
-echo 'pair_speed: vsw_base vsw_rule vsw_layerflow vsw_layer' >> crates.txt
+grep -E '^vsw_(base|rule|least|trie|interval|classify|layerflow|policy):' "$root/crates.txt" > crates.txt
+echo 'pair_speed: vsw_base vsw_rule vsw_layerflow vsw_policy' >> crates.txt
 cat > crates/pair_speed/src/main.rt << 'END'
 //! Times the calls of a layer's pairs.
 #![tactic(auto)]
@@ -39,8 +39,8 @@ use std::rt::Clock;
 use std::time::Instant;
 use std::{env, io};
 use vsw_base::{Dir, Ip4, Items, LayerKey, Moment, Set, Track};
-use vsw_layer::{Groups, Layer, LayerSpec};
 use vsw_layerflow::{Flows, Pair};
+use vsw_policy::{Groups, Layer, LayerSpec};
 use vsw_rule::{Action, Group, Rule};
 
 const MOST: u32 = 65_536;

@@ -3,10 +3,9 @@
 
     tools/crate_ways.py [CRATES.TXT]
 
-To stamp a library, `rt ci` reads the files of each crate below it once for each way that leads down to
-it, twice a library: some four milliseconds a way. A crate that names each crate below it doubles the ways
-of those above, so a crate passes on what its own clauses speak of (`pub use` in its specs/Lib.antt and
-src/lib.rt), and those above name it alone. Prints the ten crates with the most ways, and the sum over all.
+`rt` goes down each of these ways when it asks what is below a crate, before the first proof too
+(docs/PROVING.md). A crate that names each crate below it doubles the ways of those above, so crates.txt names
+only what a crate's files name. Prints the ten crates with the most ways, and the sum over all.
 """
 import sys
 

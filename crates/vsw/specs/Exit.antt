@@ -9,7 +9,7 @@ use Rattle.vsw_promise.specs.Complaint.{number_of}
 use Rattle.vsw_promise.specs.IsRun.{IsRun, IsComplete, IsCompleteAlone}
 use Rattle.vsw_promise.specs.declared.ending.Status.{Status}
 use Rattle.vsw_promise.specs.declared.ending.Status.TheVariants.{Usage, ReadFault, WriteFault, Memory}
-use Rattle.vsw_request.specs.Words.{asked_in}
+use Rattle.vsw_promise.specs.Words.{asked_in}
 
 -- how a run ends whose words can't be had: where there was no room for them, Memory; a word that isn't UTF-8 is of no grammar
 abbrev pub status_without : ErrorKind → Status

@@ -13,8 +13,7 @@ use std::thread::Threads;
 use std::{env, io};
 use vsw_app::{Open, run_words};
 use vsw_host::{Host, RealHost};
-use vsw_promise::Status;
-use vsw_request::Word;
+use vsw_promise::{Status, Word};
 
 /// How a run ends whose words can't be had: one that isn't UTF-8 is of no grammar.
 fn without_words(error: io::ErrorKind) -> Status
@@ -78,37 +77,5 @@ fn main(rt: HostRuntime) -> ExitCode {
         }
         // No words are refused as those are that can't be read.
         Err(_) => run(&rt, alloc, &[], &mut host),
-    }
-}
-
-#[cfg(test)]
-mod tests {
-    use crate::{exit_code, run};
-    use std::process::ExitCode;
-    use std::test::Fail;
-    use vsw_memory_host::MemoryHost;
-    use vsw_promise::Status;
-
-    #[test]
-    fn every_status_has_its_number(rt: HostRuntime) {
-        for (status, number) in [
-            (Status::Done, 0),
-            (Status::Usage, 2),
-            (Status::ReadFault, 3),
-            (Status::WriteFault, 4),
-            (Status::Refused, 5),
-            (Status::Limit, 6),
-            (Status::Memory, 9),
-        ] {
-            assert_eq!(rt; exit_code(status), number);
-        }
-    }
-
-    #[test]
-    fn a_run_without_words_ends_as_usage(rt: HostRuntime) -> Result<(), Fail> {
-        let alloc = rt.alloc();
-        let mut host = MemoryHost::new(alloc, Vec::new(alloc), 4_096, Vec::new(alloc))?;
-        assert_eq!(rt; run(&rt, alloc, &[], &mut host), ExitCode::from(2));
-        Ok(())
     }
 }

@@ -1,9 +1,9 @@
 -- An actor begins, and does one job after the other.
 use Rattle.std.proofs.Common.{◌≡◌, ◌<◌, ◌+◌, ℕ, zero, suc, List, [], ◌∷◌, ◌++◌, length, map, take, drop, Some, slice_get, get_or, subst, refl, ap, sym, ◌∙◌, arith}
 use Rattle.vsw_policy.specs.Sound.{Each}
-use Rattle.vsw_ports.specs.Ports.{PortSeen}
-use Rattle.vsw_history.specs.Calls.{Job, Call, job_doer, entries_naming}
-use Rattle.vsw_history.specs.History.{Opening}
+use Rattle.vsw_promise.specs.Ports.{PortSeen}
+use Rattle.vsw_port.specs.Calls.{Job, Call, job_doer, entries_naming}
+use Rattle.vsw_port.specs.History.{Opening}
 use Rattle.vsw_promise.specs.Rounds.{opening_of}
 use Rattle.vsw_promise.proofs.PortRounds.{take_whole}
 use Rattle.vsw_history_law.proofs.Reports.{map_append}

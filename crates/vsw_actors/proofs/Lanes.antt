@@ -1,9 +1,9 @@
 -- A lane's step.
 use Rattle.std.proofs.Common.{◌≡◌, ◌≤◌, ◌≢◌, ◌<◌, ℕ, suc, List, [], ◌∷◌, ◌++◌, length, map, take, ◌+◌, subst, refl, ap, sym, ◌∙◌, arith}
-use Rattle.vsw_history.specs.Calls.{Job, Call, entries_naming}
-use Rattle.vsw_history.specs.History.{Opening}
-use Rattle.vsw_history.proofs.Fronts.{prefix_take, prefix_length}
-use Rattle.vsw_ports.specs.Ports.{PortSeen}
+use Rattle.vsw_port.specs.Calls.{Job, Call, entries_naming}
+use Rattle.vsw_port.specs.History.{Opening}
+use Rattle.vsw_port.proofs.Fronts.{prefix_take, prefix_length}
+use Rattle.vsw_promise.specs.Ports.{PortSeen}
 use Rattle.vsw_promise.specs.Rounds.{opening_of}
 use Rattle.vsw_many.specs.Actors.{Moves, Does}
 use Rattle.vsw_many.specs.Passes.{PassNow, Crosses}

@@ -4,6 +4,8 @@ pub mod Lanes
 pub mod Rounds
 pub mod Seats
 pub mod Turning
+pub mod Sharing
+pub mod Steps
 pub use Rattle.vsw_many.proofs.Actors
 pub use Rattle.vsw_many.proofs.Dealing
 pub use Rattle.vsw_many.proofs.Passes

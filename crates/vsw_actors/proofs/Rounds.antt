@@ -2,9 +2,9 @@
 use Rattle.std.proofs.Common.{◌≡◌, ◌+◌, ℕ, zero, suc, List, [], ◌∷◌, ◌++◌, length, take, drop, Vec, subst, refl, ap, sym, ◌∙◌, arith, append_assoc}
 use Rattle.std.proofs.Math.Seq.{take-append_seam}
 use Rattle.std.specs.Prelude.{IfOk, Result, Ok, Err}
-use Rattle.vsw_ports.specs.Ports.{PortSeen}
-use Rattle.vsw_history.specs.Calls.{Job, Call}
-use Rattle.vsw_history.proofs.Fronts.{append_end}
+use Rattle.vsw_promise.specs.Ports.{PortSeen}
+use Rattle.vsw_port.specs.Calls.{Job, Call}
+use Rattle.vsw_port.proofs.Fronts.{append_end}
 use Rattle.vsw_many.specs.Passes.{PassNow}
 use Rattle.vsw_workers.specs.Rounds.{AllFinish}
 use Rattle.vsw_actors.specs.declared.actor.Begun.{Begun}

@@ -1,7 +1,7 @@
 -- Actors of either kind, in one list.
 use Rattle.std.proofs.Common.{◌≡◌, ◌+◌, ℕ, zero, suc, List, [], ◌∷◌, ◌++◌, length, map, replicate, Option, Some, None, Bool, true, false, subst, refl, ap, ap₂, sym, ◌∙◌, arith}
 use Rattle.std.specs.Prelude.{MatchBool}
-use Rattle.vsw_history.proofs.Fronts.{append_end}
+use Rattle.vsw_port.proofs.Fronts.{append_end}
 use Rattle.vsw_history_law.proofs.Reports.{map_append}
 use Rattle.vsw_workers.specs.Rounds.{AllFinish, Does, Finishes, Rests}
 use Rattle.vsw_actors.specs.declared.actor.Begun.{Begun}

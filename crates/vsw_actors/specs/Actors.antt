@@ -1,9 +1,9 @@
 -- What an actor of a round has done, and what it may do.
 use Rattle.std.specs.Prelude.{◌≡◌, ℕ, List, [], ◌∷◌, length, map}
 use Rattle.vsw_policy.specs.Sound.{Each}
-use Rattle.vsw_ports.specs.Ports.{PortSeen}
-use Rattle.vsw_history.specs.declared.event.Event.{Event}
-use Rattle.vsw_history.specs.Calls.{Job, Call}
+use Rattle.vsw_promise.specs.Ports.{PortSeen}
+use Rattle.vsw_port.specs.declared.event.Event.{Event}
+use Rattle.vsw_port.specs.Calls.{Job, Call}
 use Rattle.vsw_promise.specs.Jobs as jobs
 use Rattle.vsw_promise.specs.Rounds.{opening_of}
 use Rattle.vsw_many.specs.Passes.{PassNow, AtRest}

@@ -1,8 +1,8 @@
 -- The end of an actor's round.
 use Rattle.std.specs.Prelude.{ℕ, List, [], ◌∷◌, map}
-use Rattle.vsw_ports.specs.Ports.{PortSeen}
-use Rattle.vsw_history.specs.declared.event.Event.{Event}
-use Rattle.vsw_history.specs.Calls.{Job, Call}
+use Rattle.vsw_promise.specs.Ports.{PortSeen}
+use Rattle.vsw_port.specs.declared.event.Event.{Event}
+use Rattle.vsw_port.specs.Calls.{Job, Call}
 use Rattle.vsw_promise.specs.Rounds.{opening_of}
 use Rattle.vsw_many.specs.Actors.{AllRest, HasWorked}
 use Rattle.vsw_many.specs.Passes.{PassNow, Meets}

@@ -1,8 +1,8 @@
 -- The lanes of an actor, one a port.
 use Rattle.std.specs.Prelude.{◌≡◌, ◌≤◌, ◌<◌, ℕ, suc, List, [], ◌∷◌, length, take}
-use Rattle.vsw_history.specs.declared.event.Event.{Event}
-use Rattle.vsw_history.specs.Calls.{Job, Call, job_doer, entries_naming}
-use Rattle.vsw_ports.specs.Ports.{PortSeen}
+use Rattle.vsw_port.specs.declared.event.Event.{Event}
+use Rattle.vsw_port.specs.Calls.{Job, Call, job_doer, entries_naming}
+use Rattle.vsw_promise.specs.Ports.{PortSeen}
 use Rattle.vsw_many.specs.Passes.{PassNow}
 use Rattle.vsw_many.specs.Phases.{Track}
 use Rattle.vsw_actors.specs.declared.lane.Lane.{Lane}

@@ -3,6 +3,8 @@ pub mod Ends
 pub mod Lanes
 pub mod Private
 pub mod Rows
+pub mod Deal
+pub mod Work
 pub use Rattle.vsw_many.specs.Actors as ManyActors
 pub use Rattle.vsw_many.specs.Passes
 pub use Rattle.vsw_many.specs.Phases

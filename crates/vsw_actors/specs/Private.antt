@@ -2,3 +2,4 @@
 pub mod Reconciling
 pub mod Rows
 pub mod Seats
+pub mod Aims

@@ -1,7 +1,7 @@
 -- All actors of a round: actor k has row k of the lanes, one a port, and share k of the jobs.
 use Rattle.std.specs.Prelude.{◌≡◌, ◌<◌, ℕ, suc, List, [], ◌∷◌, length, Vec}
-use Rattle.vsw_ports.specs.Ports.{PortSeen}
-use Rattle.vsw_history.specs.Calls.{Job, Call}
+use Rattle.vsw_promise.specs.Ports.{PortSeen}
+use Rattle.vsw_port.specs.Calls.{Job, Call}
 use Rattle.vsw_many.specs.Passes.{PassNow}
 use Rattle.vsw_actors.specs.declared.actor.Placed.{Placed}
 use Rattle.vsw_actors.specs.declared.lane.Lane.{Lane}

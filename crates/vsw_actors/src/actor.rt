@@ -12,7 +12,7 @@ use std::alloc::Global;
 use std::collections::LinkedList;
 use std::marker::Model;
 use std::sync::Wait;
-use vsw_history::Event;
+use vsw_port::Event;
 use vsw_workers::Forwarder;
 
 /// A job, and the place of the port at which it is to be done.

@@ -1,7 +1,7 @@
 //! What holds of an actor whose passes have met the ports.
 
 ghost use Rattle.std.specs.Prelude.{ℕ, List};
-ghost use Rattle.vsw_history.specs.declared.event.Event.{Event};
+ghost use Rattle.vsw_port.specs.declared.event.Event.{Event};
 ghost use Rattle.vsw_many.specs.Passes.{PassNow};
 ghost use Rattle.vsw_actors.specs.Actors.{HasDone};
 ghost use Rattle.vsw_actors.specs.Ends.{AllMet, IsWorked};

@@ -1,15 +1,19 @@
-//! Actors of a round: a worker with its packets, a controller with its commands.
+//! Callers of a round as actors: the jobs that each is dealt, done one after the other beside the others.
 #![tactic(auto)]
 
 mod actor;
+mod aim;
 mod lane;
 mod law;
 mod numbering;
+mod place;
 mod port;
 mod reconciler;
 mod round;
 mod rows;
 mod seat;
+mod share;
+mod work;
 
 pub use actor::{Actor, Begun, Placed};
 pub use lane::{Lane, step, step_at};
@@ -18,3 +22,5 @@ pub use port::Port;
 pub use reconciler::RowPort;
 pub use round::Lineup;
 pub use rows::run_rows;
+pub use share::deal;
+pub use work::{Packet, Work};

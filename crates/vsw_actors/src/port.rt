@@ -1,9 +1,9 @@
 //! What an actor needs of a port.
 
 ghost use Rattle.std.specs.Prelude.{◌≡◌, ◌≤◌, ◌<◌, ◌+◌, ◌++◌, ◌∷◌, [], ℕ, List};
-ghost use Rattle.vsw_history.specs.Calls.{Call, Job, job_doer};
+ghost use Rattle.vsw_port.specs.Calls.{Call, Job, job_doer};
 ghost use Rattle.vsw_many.specs.Passes.{PassNow, Crosses};
-ghost use Rattle.vsw_ports.specs.Ports.{PortSeen};
+ghost use Rattle.vsw_promise.specs.Ports.{PortSeen};
 ghost use Rattle.vsw_promise.specs.Rounds.{opening_of};
 
 use std::alloc::Global;

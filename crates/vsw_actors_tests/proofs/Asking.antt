@@ -2,8 +2,8 @@
 use Rattle.std.proofs.Common.{ℕ, [], refl, arith}
 use Rattle.vsw_actors_tests.specs.declared.refusing.Notes.{Notes}
 use Rattle.vsw_actors_tests.specs.declared.refusing.Refusing.{Refusing}
-use Rattle.vsw_history.specs.Calls.{Short}
-use Rattle.vsw_history.proofs.Fronts.{prefix_self}
+use Rattle.vsw_port.specs.Calls.{Short}
+use Rattle.vsw_port.proofs.Fronts.{prefix_self}
 use Rattle.vsw_many.specs.Passes.{Crosses}
 use Rattle.vsw_promise.specs.Rounds.{opening_of}
 use Rattle.vsw_actors_tests.specs.Refusing.{port, pass, asked, refused}

@@ -13,7 +13,7 @@ use Rattle.vsw_base.specs.declared.packet.Dir.TheVariants.{Out}
 use Rattle.vsw_base.specs.Frame.{Parts}
 use Rattle.vsw_commit.specs.Fate.{fate_at}
 use Rattle.vsw_frame.specs.Bytes.{outgoing}
-use Rattle.vsw_history.specs.Calls.{Job, Carry, Carried, Call}
+use Rattle.vsw_port.specs.Calls.{Job, Carry, Carried, Call}
 use Rattle.vsw_many.specs.Passes.{PassNow}
 use Rattle.vsw_policy.specs.Sound.{Each}
 use Rattle.vsw_walk.specs.Walk.{walk_of}

@@ -3,12 +3,12 @@ use Rattle.std.specs.Prelude.{ℕ, List, [], ◌∷◌, true, false}
 use Rattle.vsw_actors_tests.specs.declared.refusing.Notes.{Notes}
 use Rattle.vsw_actors_tests.specs.declared.refusing.Refusing.{Refusing}
 use Rattle.vsw_commandfile.specs.declared.line.Line.{Line}
-use Rattle.vsw_history.specs.Calls.{Job, Ask, Asked, Call}
+use Rattle.vsw_port.specs.Calls.{Job, Ask, Asked, Call}
 use Rattle.vsw_many.specs.Passes.{PassNow}
 use Rattle.vsw_policy.specs.declared.command.Command.TheVariants.{RemoveLayer}
 use Rattle.vsw_policy.specs.declared.refusal.Refusal.TheVariants.{Memory}
 use Rattle.vsw_policy.specs.declared.refusal.Reply.TheVariants.{Refused}
-use Rattle.vsw_ports.specs.Ports.{PortSeen}
+use Rattle.vsw_promise.specs.Ports.{PortSeen}
 
 -- the line of this number, of controller 1
 abbrev pub line : ℕ → Line

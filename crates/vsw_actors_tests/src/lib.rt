@@ -7,6 +7,8 @@ mod job_tests;
 mod refusing;
 #[cfg(test)]
 mod round_tests;
+#[cfg(test)]
+mod workers_tests;
 
 pub use carrying::{Load, Packet};
 pub use refusing::{Notes, Refusing};

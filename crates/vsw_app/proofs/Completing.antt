@@ -16,9 +16,9 @@ use Rattle.vsw_pcap.specs.declared.fault.BadTrace.TheVariants.{NotPcap, Version,
 use Rattle.vsw_pcap.proofs.Format.{whole_is, accepted_long, accepted-append, header_of-append, oversize-append, Splits-append}
 use Rattle.vsw_pcap.proofs.Unique.{captures_are_unique}
 use Rattle.vsw_policy.specs.Sound.{Each}
-use Rattle.vsw_policyfile.specs.Policy.{policy_file_of}
-use Rattle.vsw_policyfile.specs.declared.file.ConfigFault.{ConfigFault}
-use Rattle.vsw_policyfile.specs.declared.file.PolicyFile.{PolicyFile}
+use Rattle.vsw_config.specs.Policy.{policy_file_of}
+use Rattle.vsw_config.specs.declared.file.ConfigFault.{ConfigFault}
+use Rattle.vsw_config.specs.declared.file.PolicyFile.{PolicyFile}
 use Rattle.vsw_promise.specs.Complaint.{status_of}
 use Rattle.vsw_promise.specs.Files.{InTurn, HasBadPolicy, HasBadCommands, Reaches}
 use Rattle.vsw_promise.specs.IsRun.{AreAdmitted, EndsByTrace, IsComplete, IsCompleteAlone, IsRun, Runs, RunsBy, RunsGenerated, TraceRead}
@@ -28,7 +28,7 @@ use Rattle.vsw_promise.specs.declared.ending.Ending.{Ending}
 use Rattle.vsw_promise.specs.declared.ending.Ending.TheVariants as ending
 use Rattle.vsw_promise.specs.declared.ending.Status.{Status}
 use Rattle.vsw_promise.specs.declared.ending.Status.TheVariants as status
-use Rattle.vsw_request.specs.Words.{Request, Forward, Generate}
+use Rattle.vsw_promise.specs.Words.{Request, Forward, Generate}
 
 -- ---- a file that is a capture, of which a trace was read
 

@@ -5,10 +5,10 @@ use Rattle.vsw_host.proofs.CallerLemmas.{TellsSince-SameInputs}
 use Rattle.vsw_promise.specs.declared.ending.Ending.{Ending}
 use Rattle.vsw_promise.specs.declared.ending.Ending.TheVariants as ending
 use Rattle.vsw_promise.specs.IsRun.{EndsGenerated}
-use Rattle.vsw_workload.proofs.Ending.{nothing_put}
-use Rattle.vsw_workload.specs.declared.run.WorkloadEnd.{WorkloadEnd}
-use Rattle.vsw_workload.specs.declared.run.WorkloadEnd.TheVariants as end
-use Rattle.vsw_workload.specs.Runs.{Ends, RunsWorkload}
+use Rattle.vsw_replay.proofs.Summing.{nothing_put}
+use Rattle.vsw_replay.specs.declared.run.WorkloadEnd.{WorkloadEnd}
+use Rattle.vsw_replay.specs.declared.run.WorkloadEnd.TheVariants as end
+use Rattle.vsw_replay.specs.WorkloadRuns.{Ends, RunsWorkload}
 use Rattle.vsw_app.specs.Ending.{drawn_ending}
 use Rattle.vsw_app.specs.Stages.{HasGenerated}
 

@@ -8,21 +8,21 @@ use Rattle.vsw_commandfile.specs.Lines.{lines_of, is_blank}
 use Rattle.vsw_commandfile.specs.declared.fault.CommandsFault.{CommandsFault}
 use Rattle.vsw_commandfile.specs.declared.fault.CommandsFault.TheVariants as commands
 use Rattle.vsw_commandfile.specs.declared.line.Line.{Line}
-use Rattle.vsw_jsonfile.specs.Bytes.{json_of}
-use Rattle.vsw_jsonfile.specs.Fault.{◌>>=◌, under}
-use Rattle.vsw_jsonfile.specs.List.{items_in, items_after, fresh_number}
-use Rattle.vsw_jsonfile.specs.Object.{object_among, read_in}
-use Rattle.vsw_jsonfile.specs.Value.{number_from}
-use Rattle.vsw_jsonfile.specs.declared.fault.Fault.{Fault}
-use Rattle.vsw_jsonfile.specs.declared.fault.Fault.TheVariants as fault
-use Rattle.vsw_jsonfile.specs.declared.fault.Step.TheVariants.{Member}
-use Rattle.vsw_jsonfile.specs.declared.word.Word.{Word}
-use Rattle.vsw_jsonfile.specs.declared.word.Word.TheVariants as word
-use Rattle.vsw_policyfile.specs.Policy.{of_part, few, few_in, controllers_in, ports_in, file_words, policy_of, policy_file_of}
-use Rattle.vsw_policyfile.specs.Port.{port_of}
-use Rattle.vsw_policyfile.specs.declared.file.ConfigFault.{ConfigFault}
-use Rattle.vsw_policyfile.specs.declared.file.ConfigFault.TheVariants as policy
-use Rattle.vsw_policyfile.specs.declared.file.PolicyFile.{PolicyFile}
+use Rattle.vsw_config.specs.Bytes.{json_of}
+use Rattle.vsw_config.specs.Fault.{◌>>=◌, under}
+use Rattle.vsw_config.specs.List.{items_in, items_after, fresh_number}
+use Rattle.vsw_config.specs.Object.{object_among, read_in}
+use Rattle.vsw_config.specs.Value.{number_from}
+use Rattle.vsw_config.specs.declared.fault.Fault.{Fault}
+use Rattle.vsw_config.specs.declared.fault.Fault.TheVariants as fault
+use Rattle.vsw_config.specs.declared.fault.Step.TheVariants.{Member}
+use Rattle.vsw_config.specs.declared.word.Word.{Word}
+use Rattle.vsw_config.specs.declared.word.Word.TheVariants as word
+use Rattle.vsw_config.specs.Policy.{of_part, few, few_in, controllers_in, ports_in, file_words, policy_of, policy_file_of}
+use Rattle.vsw_config.specs.Port.{port_of}
+use Rattle.vsw_config.specs.declared.file.ConfigFault.{ConfigFault}
+use Rattle.vsw_config.specs.declared.file.ConfigFault.TheVariants as policy
+use Rattle.vsw_config.specs.declared.file.PolicyFile.{PolicyFile}
 
 -- ---- a policy
 

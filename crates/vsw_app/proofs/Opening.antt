@@ -9,17 +9,17 @@ use Rattle.vsw_host.specs.Reading.{piece, ReadsFile}
 use Rattle.vsw_host.specs.Told.{TellsHeld, TellsSince}
 use Rattle.vsw_host.specs.declared.reading.ReadEnd.TheVariants.{Whole, Fault, Long, Memory}
 use Rattle.vsw_host.proofs.CallerLemmas.{TellsSince-refl, TellsSince-trans, TellsHeld-before, SameOutputs-refl, SameOutputs-trans}
-use Rattle.vsw_history.proofs.Calls.{each_append}
+use Rattle.vsw_port.proofs.Calls.{each_append}
 use Rattle.vsw_policy.specs.Sound.{Each}
-use Rattle.vsw_policyfile.specs.Policy.{policy_file_of}
-use Rattle.vsw_policyfile.specs.declared.file.ConfigFault.{ConfigFault}
-use Rattle.vsw_policyfile.specs.declared.file.ConfigFault.TheVariants as policy
-use Rattle.vsw_policyfile.specs.declared.file.PolicyFile.{PolicyFile}
+use Rattle.vsw_config.specs.Policy.{policy_file_of}
+use Rattle.vsw_config.specs.declared.file.ConfigFault.{ConfigFault}
+use Rattle.vsw_config.specs.declared.file.ConfigFault.TheVariants as policy
+use Rattle.vsw_config.specs.declared.file.PolicyFile.{PolicyFile}
 use Rattle.vsw_promise.specs.Files.{InTurn, IsPolicy, IsWhole, Opens, ShowsPolicy, ShowsCommands, most_policy, most_commands}
 use Rattle.vsw_promise.specs.IsRun.{Ends, Runs}
 use Rattle.vsw_promise.specs.declared.ending.Ending.{Ending}
 use Rattle.vsw_promise.specs.declared.ending.Ending.TheVariants as ending
-use Rattle.vsw_request.specs.Words.{Request}
+use Rattle.vsw_promise.specs.Words.{Request}
 use Rattle.vsw_app.specs.Stages.{JudgesPolicy, JudgesCommands, HasRead, HasPolicy, HasCommands, HasEnded, ReadsPolicy, ReadsCommands}
 use Rattle.vsw_app.proofs.Growing.{grows_same, rose_from}
 use Rattle.vsw_app.proofs.Limits.{policy_over, policy_long, commands_over, commands_long}

@@ -4,26 +4,26 @@ use native.Mathlib.Decide.{ℕ_discrete}
 use Rattle.std.specs.List.{list_any}
 use Rattle.vsw_commandfile.specs.Line.{is_port}
 use Rattle.vsw_commandfile.specs.declared.line.Line.{Line}
-use Rattle.vsw_commandfile_law.specs.Good.{CanAsk}
+use Rattle.vsw_commandfile.specs.Good.{CanAsk}
 use Rattle.vsw_host.specs.Outside.{Opened, Outside, Grows, Rose}
 use Rattle.vsw_host.specs.Told.{TellsHeld}
 use Rattle.vsw_host.proofs.CallerLemmas.{TellsSince-refl}
 use Rattle.vsw_policy.specs.Obey.{rules_given}
 use Rattle.vsw_policy.specs.Sound.{Each, IsGoodRule, is_listed}
-use Rattle.vsw_policyfile.specs.declared.file.PolicyFile.{PolicyFile}
-use Rattle.vsw_policyfile.specs.declared.file.PortFile.{PortFile}
-use Rattle.vsw_ports.specs.Ports.{port_of, ports_of}
+use Rattle.vsw_config.specs.declared.file.PolicyFile.{PolicyFile}
+use Rattle.vsw_config.specs.declared.file.PortFile.{PortFile}
+use Rattle.vsw_promise.specs.Ports.{port_of, ports_of}
 use Rattle.vsw_promise.specs.Files.{HasTrace, InTurn, IsReadOf, Opens, Reaches}
 use Rattle.vsw_promise.specs.IsRun.{Ends, EndsByTrace, BreaksOff, TraceRead}
 use Rattle.vsw_promise.specs.Jobs.{Setting}
 use Rattle.vsw_promise.specs.Trace.{Reach, All as Whole, Fault, Stopped, Trace, Tells, MayTell}
 use Rattle.vsw_promise.specs.declared.ending.Ending.{Ending}
 use Rattle.vsw_promise.specs.declared.ending.Ending.TheVariants as ending
-use Rattle.vsw_workload.specs.ReplayRuns.{Reads, OpensNothing, EndsSo, RunsTrace}
-use Rattle.vsw_workload.specs.ReplayRuns as runs
-use Rattle.vsw_workload.specs.TraceEnd.{TraceEnd}
-use Rattle.vsw_workload.specs.TraceEnd.TheVariants as end
-use Rattle.vsw_request.specs.Words.{Request}
+use Rattle.vsw_replay.specs.Runs.{Reads, OpensNothing, EndsSo, RunsTrace}
+use Rattle.vsw_replay.specs.Runs as runs
+use Rattle.vsw_replay.specs.declared.ending.TraceEnd.{TraceEnd}
+use Rattle.vsw_replay.specs.declared.ending.TraceEnd.TheVariants as end
+use Rattle.vsw_promise.specs.Words.{Request}
 use Rattle.vsw_app.specs.Ending.{ending_of}
 use Rattle.vsw_app.specs.Stages.{HasCommands, HasEnded}
 use Rattle.vsw_app.proofs.Growing.{grows_none, grows_as, rose_from, rose_as}

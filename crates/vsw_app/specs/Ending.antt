@@ -1,10 +1,10 @@
 -- How a run ends by its trace, or by its workload.
 use Rattle.vsw_promise.specs.declared.ending.Ending.{Ending}
 use Rattle.vsw_promise.specs.declared.ending.Ending.TheVariants as ending
-use Rattle.vsw_workload.specs.TraceEnd.{TraceEnd}
-use Rattle.vsw_workload.specs.TraceEnd.TheVariants as end
-use Rattle.vsw_workload.specs.declared.run.WorkloadEnd.{WorkloadEnd}
-use Rattle.vsw_workload.specs.declared.run.WorkloadEnd.TheVariants as drawn
+use Rattle.vsw_replay.specs.declared.ending.TraceEnd.{TraceEnd}
+use Rattle.vsw_replay.specs.declared.ending.TraceEnd.TheVariants as end
+use Rattle.vsw_replay.specs.declared.run.WorkloadEnd.{WorkloadEnd}
+use Rattle.vsw_replay.specs.declared.run.WorkloadEnd.TheVariants as drawn
 
 -- the run ends as its trace did
 abbrev pub ending_of : TraceEnd → Ending

@@ -2,9 +2,9 @@
 use Rattle.std.specs.Prelude.{◌≡◌, ◌≤◌, ℕ, List, take, Result, Ok, Err, ⊤, decimal}
 use Rattle.vsw_host.specs.Outside.{Outside, Rose, Grows, SameInputs}
 use Rattle.vsw_host.specs.declared.host.Failed.{Failed}
-use Rattle.vsw_jsonfile.specs.Path.{word_text}
-use Rattle.vsw_jsonfile.specs.declared.fault.Step.{Step}
-use Rattle.vsw_jsonfile.specs.declared.fault.Step.TheVariants.{Member, Place}
+use Rattle.vsw_config.specs.Path.{word_text}
+use Rattle.vsw_config.specs.declared.fault.Step.{Step}
+use Rattle.vsw_config.specs.declared.fault.Step.TheVariants.{Member, Place}
 
 -- nothing was put
 pub record KeepsPut (old new : Outside) : Type 0 where

@@ -1,17 +1,16 @@
 //! The words that are complained. They are said in pieces, and take no memory.
 
 ghost use Rattle.std.specs.Prelude.{◌≡◌, ◌++◌, codes, decimal};
-ghost use Rattle.vsw_jsonfile.specs.Path.{step_text, steps_text, path_text};
+ghost use Rattle.vsw_config.specs.Path.{step_text, steps_text, path_text};
 ghost use Rattle.vsw_pcap.specs.Fault.{trace_name};
 ghost use Rattle.vsw_promise.specs.Complaint.{byte_text, fault_text, policy_text, commands_text, complaint};
 ghost use Rattle.vsw_app.specs.Speaks.{name_text, Speaks};
 
 use itoa::Buffer;
 use vsw_commandfile::CommandsFault;
+use vsw_config::{ConfigFault, Kind, Step};
 use vsw_host::{Failed, Host};
-use vsw_jsonfile::{Kind, Step};
 use vsw_pcap::BadTrace;
-use vsw_policyfile::ConfigFault;
 use vsw_promise::Ending;
 
 /// Complains a piece of the words.

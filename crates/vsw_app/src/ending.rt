@@ -8,10 +8,10 @@ ghost use Rattle.vsw_app.specs.Speaks.{KeepsPut};
 
 use crate::complaint::say_ending;
 use vsw_commandfile::CommandsFault;
+use vsw_config::ConfigFault;
 use vsw_host::Host;
-use vsw_policyfile::ConfigFault;
 use vsw_promise::{Ending, Status};
-use vsw_workload::{TraceEnd, WorkloadEnd};
+use vsw_replay::{TraceEnd, WorkloadEnd};
 
 /// The ending of a run by how its trace ended.
 pub fn ending_of(end: TraceEnd) -> Ending

@@ -2,14 +2,14 @@
 
 ghost use Rattle.std.specs.Prelude.{◌≡◌};
 ghost use Rattle.vsw_host.specs.Outside.{Outside};
-ghost use Rattle.vsw_request.specs.Words.{Request};
+ghost use Rattle.vsw_promise.specs.Words.{Request};
 ghost use Rattle.vsw_app.specs.Stages.{JudgesPolicy, JudgesCommands, HasPolicy, ReadsPolicy, ReadsCommands};
 
 use std::alloc::Global;
 use vsw_base::Items;
 use vsw_commandfile::{CommandsFault, Line, read_commands};
+use vsw_config::{ConfigFault, PolicyFile, read_policy};
 use vsw_host::{Host, ReadEnd, read_file};
-use vsw_policyfile::{ConfigFault, PolicyFile, read_policy};
 use vsw_promise::Ending;
 
 /// Bytes of the longest policy file.

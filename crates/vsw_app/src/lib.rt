@@ -10,4 +10,4 @@ mod through;
 
 pub use open::Open;
 pub use run::run_words;
-pub use vsw_workload::{Answer, Watch, Why};
+pub use vsw_replay::{Answer, Watch, Why};

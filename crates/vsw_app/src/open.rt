@@ -1,7 +1,7 @@
 //! A gate that stands open, and a watch that looks away.
 
+use vsw_replay::{Answer, Watch};
 use vsw_workers::Gate;
-use vsw_workload::{Answer, Watch};
 
 /// A gate and a watch that do nothing with what they are told. No call of it waits.
 pub struct Open;

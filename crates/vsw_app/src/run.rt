@@ -3,12 +3,12 @@
 ghost use Rattle.std.specs.Prelude.{◌≡◌, ◌↔◌, ◌<◌, ◌≤◌, ◌^◌, None, Ok};
 ghost use Rattle.vsw_host.specs.Outside.{Rose};
 ghost use Rattle.vsw_generate.specs.Policy.{policy_text};
-ghost use Rattle.vsw_policyfile.specs.Good.{IsGoodPolicy};
-ghost use Rattle.vsw_policyfile.specs.Policy.{policy_file_of};
+ghost use Rattle.vsw_config.specs.Good.{IsGoodPolicy};
+ghost use Rattle.vsw_config.specs.Policy.{policy_file_of};
 ghost use Rattle.vsw_promise.specs.IsRun.{IsRun, IsComplete, IsCompleteAlone};
-ghost use Rattle.vsw_request.specs.Seen.{IsWithin, asked_seen, request_seen};
-ghost use Rattle.vsw_request.specs.Words.{asked_in};
-ghost use Rattle.vsw_workload.specs.Runs.{RunsWorkload};
+ghost use Rattle.vsw_promise.specs.Seen.{IsWithin, asked_seen, request_seen};
+ghost use Rattle.vsw_promise.specs.Words.{asked_in};
+ghost use Rattle.vsw_replay.specs.WorkloadRuns.{RunsWorkload};
 ghost use Rattle.vsw_app.specs.Stages.{HasEnded, HasEndedBy, HasGenerated};
 
 use crate::ending::{drawn_ending, ending_of, finish};
@@ -17,13 +17,12 @@ use crate::through::run_through;
 use std::alloc::Global;
 use std::sync::Wait;
 use std::thread::Threads;
+use vsw_config::{PolicyFile, read_policy};
 use vsw_generate::Workload;
 use vsw_host::Host;
-use vsw_policyfile::{PolicyFile, read_policy};
-use vsw_promise::{Ending, Status};
-use vsw_request::{Asked, Request, Word, read_words};
+use vsw_promise::{Asked, Ending, Request, Status, Word, read_words};
+use vsw_replay::{Switch, Watch, WorkloadEnd, run_workload};
 use vsw_workers::Gate;
-use vsw_workload::{Switch, Watch, WorkloadEnd, run_workload};
 
 /// Runs over the files that the words name, each read and judged before the next is opened.
 fn forward<R: Threads + Wait + Sync, H: Host, G: Gate + Watch + Sync>(
@@ -71,7 +70,7 @@ fn run_drawn<H: Host>(
     run_workload(alloc, host, &mut switch, start, packets)
 }
 
-/// Runs over so many generated packets, drawn from this number. Their policy is good (`vsw_generate_law`), so only want of memory keeps it
+/// Runs over so many generated packets, drawn from this number. Their policy is good (`vsw_generate_tests`), so only want of memory keeps it
 /// from being read.
 fn generate<H: Host>(alloc: Global, host: &mut H, start: u32, packets: u32) -> Ending
     requires start { start < 2 ^ 31 }

@@ -1,11 +1,11 @@
 //! The trace, run through the ports of a policy.
 
 ghost use Rattle.std.specs.Prelude.{◌≡◌, ◌<◌, ◌≤◌, All, length};
-ghost use Rattle.vsw_commandfile_law.specs.Good.{CanAsk};
-ghost use Rattle.vsw_muster.specs.Ports as live;
-ghost use Rattle.vsw_muster.specs.Opening.{IsOpenFor};
-ghost use Rattle.vsw_policyfile.specs.Good.{IsGoodPolicy};
-ghost use Rattle.vsw_workload.specs.ReplayRuns.{RunsTrace};
+ghost use Rattle.vsw_commandfile.specs.Good.{CanAsk};
+ghost use Rattle.vsw_harbour.specs.Ports as live;
+ghost use Rattle.vsw_harbour.specs.Opening.{IsOpenFor};
+ghost use Rattle.vsw_config.specs.Good.{IsGoodPolicy};
+ghost use Rattle.vsw_replay.specs.Runs.{RunsTrace};
 
 use crate::open::Open;
 use std::alloc::Global;
@@ -14,12 +14,12 @@ use std::sync::Wait;
 use std::thread::Threads;
 use vsw_base::Items;
 use vsw_commandfile::Line;
+use vsw_config::PolicyFile;
+use vsw_harbour::OpenHarbour;
 use vsw_host::Host;
-use vsw_muster::OpenHarbour;
-use vsw_policyfile::PolicyFile;
-use vsw_schedule::Schedule;
+use vsw_promise::Schedule;
+use vsw_replay::{Crew, Naming, Runner, Switch, TraceEnd, Watch, run_trace};
 use vsw_workers::Gate;
-use vsw_workload::{Crew, Naming, Runner, Switch, TraceEnd, Watch, run_trace};
 
 /// Runs the trace of this name in one thread, which does the work of all workers and waits for nobody.
 fn run_alone<R: Threads + Wait + Sync, H: Host>(

@@ -10,7 +10,7 @@ use std::sync::Wait;
 use std::test::Fail;
 use std::thread::Threads;
 use vsw_app::{Open, run_words};
-use vsw_memory_host::{MemoryHost, are_distinct};
+use vsw_host::{MemoryHost, are_distinct};
 use vsw_promise::Status;
 
 /// A host that holds this policy and this trace.
@@ -138,7 +138,8 @@ fn words_outside_the_grammar_are_refused(rt: HostRuntime) -> Result<(), Fail> {
         commands: b"",
         trace: &[HEADER],
     };
-    let bad: [&[&str]; 5] = [
+    let bad: [&[&str]; 6] = [
+        &[],
         &["vsw", "forward", "policy", "commands"],
         &["vsw", "forward", "policy", "commands", "trace", "more"],
         &["vsw", "replay", "policy", "commands", "trace"],

@@ -9,4 +9,6 @@ mod policy_tests;
 #[cfg(test)]
 mod report_tests;
 #[cfg(test)]
+mod request_tests;
+#[cfg(test)]
 mod running;

@@ -7,7 +7,7 @@ use std::sync::Wait;
 use std::test::Fail;
 use std::thread::Threads;
 use vsw_app::{Open, run_words};
-use vsw_memory_host::{MemoryHost, are_distinct};
+use vsw_host::{MemoryHost, are_distinct};
 use vsw_promise::Status;
 
 /// The pieces of a policy file: up to the layers of the only port, up to the rules of the only group, a

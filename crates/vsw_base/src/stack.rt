@@ -2,9 +2,8 @@
 
 ghost use Rattle.std.specs.Prelude.{◌≡◌, ◌↔◌, ◌*◌, ◌≤◌, [], List, Ok, Err, IsTrue, length, if◌then◌else◌};
 ghost use Rattle.vsw_base.specs.declared.header.Header.{Header};
-ghost use Rattle.vsw_base.specs.Shape.{is_stack, encaps, inner};
+ghost use Rattle.vsw_base.specs.Shape.{is_stack, encaps, inner, is_covered};
 ghost use Rattle.vsw_base.specs.Shape as shape;
-ghost use Rattle.vsw_base.specs.Shape.{is_covered};
 
 use crate::address::Mac;
 use crate::header::Header;

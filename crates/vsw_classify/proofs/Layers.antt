@@ -3,9 +3,9 @@ use Rattle.std.proofs.Common.{◌≡◌, ◌<◌, ◌++◌, ◌||◌, ℕ, Bool,
 use Rattle.std.specs.Prelude.{if◌then◌else◌}
 use Rattle.vsw_base.specs.declared.header.Header.{Header}
 use Rattle.vsw_base.specs.declared.packet.Dir.{Dir}
-use Rattle.vsw_choice.specs.Choice.{Chosen, Picks, applies, pick}
-use Rattle.vsw_choice.specs.Private.FromEnd.{after, decided}
-use Rattle.vsw_choice.proofs.Picks.{pick_is}
+use Rattle.vsw_rule.specs.Choice.{Chosen, Picks, applies, pick}
+use Rattle.vsw_rule.specs.Private.FromEnd.{after, decided}
+use Rattle.vsw_rule.proofs.Picks.{pick_is}
 use Rattle.vsw_rule.specs.declared.rule.Rule.{Rule}
 use Rattle.vsw_rule.specs.declared.rule.Group.{Group}
 use Rattle.vsw_classify.specs.Place.{AreBuiltOf, rules_of}

@@ -4,3 +4,7 @@ pub mod Gathered
 pub mod Complete
 pub mod Picked
 pub mod Layers
+pub mod Built
+pub mod Firsts
+pub mod Ruled
+pub mod GroupsSharing

@@ -5,8 +5,8 @@ use Rattle.std.specs.List.{Contains, slice_get}
 use Rattle.std.proofs.lemmas.Bool.Decides.{nat_tests}
 use Rattle.std.proofs.lemmas.Option.{slice_get_cases, slice_get_within, get_or_from_slice_get}
 use Rattle.vsw_base.specs.declared.header.Header.{Header}
-use Rattle.vsw_choice.specs.Choice.{NoneMatches, Picks, better, pick}
-use Rattle.vsw_choice.proofs.Picks.{pick_is}
+use Rattle.vsw_rule.specs.Choice.{NoneMatches, Picks, better, pick}
+use Rattle.vsw_rule.proofs.Picks.{pick_is}
 use Rattle.vsw_rule.specs.declared.rule.Rule.{Rule}
 use Rattle.vsw_rule.specs.Match.{matches}
 use Rattle.vsw_classify.specs.declared.field_index.FieldIndex.{FieldIndex}

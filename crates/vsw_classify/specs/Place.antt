@@ -2,7 +2,7 @@
 use Rattle.std.specs.Prelude.{◌≡◌, ◌≤◌, ℕ, List, true, Option, Some, None, map}
 use Rattle.std.specs.List.{slice_get}
 use Rattle.vsw_base.specs.declared.header.Header.{Header}
-use Rattle.vsw_choice.specs.Choice.{NoneMatches}
+use Rattle.vsw_rule.specs.Choice.{NoneMatches}
 use Rattle.vsw_rule.specs.declared.rule.Rule.{Rule}
 use Rattle.vsw_rule.specs.declared.rule.Group.{Group}
 use Rattle.vsw_rule.specs.Match.{matches}

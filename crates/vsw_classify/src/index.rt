@@ -1,7 +1,7 @@
 //! The index of a group.
 
 ghost use Rattle.std.specs.Prelude.{◌≡◌, IfOk};
-ghost use Rattle.vsw_choice.specs.Choice as choice;
+ghost use Rattle.vsw_rule.specs.Choice as choice;
 ghost use Rattle.vsw_classify.specs.Place.{PicksAt, at_place};
 ghost use Rattle.vsw_classify.specs.Private.Layer.{marks_last};
 

@@ -1,10 +1,10 @@
 //! The choice in a layer.
 
 ghost use Rattle.std.specs.Prelude.{◌≡◌, ◌≤◌, ◌<◌, length, drop, is_none, IfOk, None, Option, option_copied, option_map, slice_index_or};
-ghost use Rattle.vsw_choice.specs.Choice as spec;
-ghost use Rattle.vsw_choice.specs.Choice.{Chosen};
-ghost use Rattle.vsw_choice.specs.ChoiceSeen.{seen};
-ghost use Rattle.vsw_choice.specs.Private.FromEnd.{from_end};
+ghost use Rattle.vsw_rule.specs.Choice as spec;
+ghost use Rattle.vsw_rule.specs.Choice.{Chosen};
+ghost use Rattle.vsw_rule.specs.ChoiceSeen.{seen};
+ghost use Rattle.vsw_rule.specs.Private.FromEnd.{from_end};
 ghost use Rattle.vsw_classify.specs.Place.{AreBuiltOf};
 ghost use Rattle.vsw_classify.specs.Private.Layer.{over, with_group};
 ghost use Rattle.vsw_rule.specs.declared.rule.Group.{Group};
@@ -13,8 +13,7 @@ use crate::index::GroupIndex;
 use crate::memory::push;
 use std::alloc::Global;
 use vsw_base::{Dir, NoMemory, Stack};
-use vsw_choice::{Choice, applies, asked, wins};
-use vsw_rule::{Group, Packet, Rule};
+use vsw_rule::{Choice, Group, Packet, Rule, applies, asked, wins};
 
 /// An index for each of a layer's groups, in their order.
 pub fn build_layer(alloc: Global, groups: &[Group]) -> Result<Vec<GroupIndex>, NoMemory>

@@ -4,9 +4,8 @@ use crate::samples::{Random, Tally, group, packet};
 use std::alloc::Global;
 use std::test::Fail;
 use vsw_base::{Dir, Header, Ip4, Items, Mac, Prefix, Stack};
-use vsw_choice::{choose, pick};
 use vsw_classify::{GroupIndex, build_layer, pick_layer};
-use vsw_rule::{Action, Cond, Field, Group, Item, Packet, Rule};
+use vsw_rule::{Action, Cond, Field, Group, Item, Packet, Rule, choose, pick};
 
 /// UDP from port 1234 of 10.0.0.5 to port 53 of 10.0.0.9.
 fn plain() -> Result<Stack, Fail> {

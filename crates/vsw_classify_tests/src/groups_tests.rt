@@ -4,8 +4,8 @@ use crate::samples::{Random, Tally, group, packet};
 use std::alloc::Global;
 use std::test::Fail;
 use vsw_base::Dir;
-use vsw_choice::choose;
-use vsw_groups::{Groups, IndexedRules};
+use vsw_classify::{Groups, IndexedRules};
+use vsw_rule::choose;
 
 /// Does to one of six groups what commands may do: it goes, it comes anew, it gets other rules, or one of them comes or goes.
 fn change(alloc: Global, groups: &mut Groups, random: &mut Random) -> Result<(), Fail> {

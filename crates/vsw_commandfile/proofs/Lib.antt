@@ -1,1 +1,4 @@
 pub mod Cuts
+pub mod Commands
+pub mod LinesRead
+pub mod CutLines

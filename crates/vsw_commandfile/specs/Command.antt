@@ -4,15 +4,15 @@ use Rattle.serde_json.specs.Data.{Data}
 use Rattle.vsw_rule.specs.declared.rule.Rule.{Rule}
 use Rattle.vsw_policy.specs.declared.command.Command.{Command}
 use Rattle.vsw_policy.specs.declared.command.Command.TheVariants as command
-use Rattle.vsw_jsonfile.specs.declared.fault.Fault.{Fault}
-use Rattle.vsw_jsonfile.specs.declared.word.Word.TheVariants as word
-use Rattle.vsw_jsonfile.specs.Fault.{◌>>=◌}
-use Rattle.vsw_jsonfile.specs.Object.{read_in}
-use Rattle.vsw_jsonfile.specs.Value.{short_of, whole_of}
-use Rattle.vsw_jsonfile.specs.List.{items_in, items_after}
-use Rattle.vsw_rulefile.specs.Condition.{conds_of}
-use Rattle.vsw_rulefile.specs.Rule.{rule_of, dir_of}
-use Rattle.vsw_policyfile.specs.Layer.{allows_of, spec_in}
+use Rattle.vsw_config.specs.declared.fault.Fault.{Fault}
+use Rattle.vsw_config.specs.declared.word.Word.TheVariants as word
+use Rattle.vsw_config.specs.Fault.{◌>>=◌}
+use Rattle.vsw_config.specs.Object.{read_in}
+use Rattle.vsw_config.specs.Value.{short_of, whole_of}
+use Rattle.vsw_config.specs.List.{items_in, items_after}
+use Rattle.vsw_config.specs.Condition.{conds_of}
+use Rattle.vsw_config.specs.Rule.{rule_of, dir_of}
+use Rattle.vsw_config.specs.Layer.{allows_of, spec_in}
 use Rattle.vsw_commandfile.specs.declared.verb.Verb.{Verb}
 use Rattle.vsw_commandfile.specs.declared.verb.Verb.TheVariants as verb
 

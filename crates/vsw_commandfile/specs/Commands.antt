@@ -1,10 +1,10 @@
 -- What a commands file says, or the first thing that is wrong with it.
 use Rattle.std.specs.Prelude.{◌≡◌, ℕ, suc, List, [], ◌∷◌, ◌++◌, length, nat_lt, Option, Some, None, option_to_list, Result, Ok, Err, if◌then◌else◌}
-use Rattle.vsw_jsonfile.specs.declared.fault.Fault.{Fault}
-use Rattle.vsw_jsonfile.specs.declared.fault.Fault.TheVariants as fault
-use Rattle.vsw_jsonfile.specs.Fault.{◌>>=◌}
-use Rattle.vsw_jsonfile.specs.Bytes.{json_of}
-use Rattle.vsw_policyfile.specs.declared.file.PolicyFile.{PolicyFile}
+use Rattle.vsw_config.specs.declared.fault.Fault.{Fault}
+use Rattle.vsw_config.specs.declared.fault.Fault.TheVariants as fault
+use Rattle.vsw_config.specs.Fault.{◌>>=◌}
+use Rattle.vsw_config.specs.Bytes.{json_of}
+use Rattle.vsw_config.specs.declared.file.PolicyFile.{PolicyFile}
 use Rattle.vsw_commandfile.specs.declared.line.Line.{Line}
 use Rattle.vsw_commandfile.specs.Line.{line_of}
 use Rattle.vsw_commandfile.specs.declared.fault.CommandsFault.{CommandsFault}

@@ -3,3 +3,4 @@ pub mod Lines
 pub mod Line
 pub mod Command
 pub mod Verb
+pub mod Good

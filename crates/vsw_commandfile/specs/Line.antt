@@ -2,15 +2,15 @@
 use Rattle.std.specs.Prelude.{ℕ, ◌==◌, List, [], ◌∷◌, Bool, true, false, Result, Ok, codes, if◌then◌else◌}
 use Rattle.std.specs.List.{list_any}
 use Rattle.serde_json.specs.Data.{Data}
-use Rattle.vsw_jsonfile.specs.declared.fault.Fault.{Fault}
-use Rattle.vsw_jsonfile.specs.declared.fault.Kind.TheVariants.{Unknown}
-use Rattle.vsw_jsonfile.specs.declared.word.Word.TheVariants as word
-use Rattle.vsw_jsonfile.specs.Fault.{◌>>=◌, bad}
-use Rattle.vsw_jsonfile.specs.Object.{object_among, read_in}
-use Rattle.vsw_jsonfile.specs.Value.{short_of, number_from, text_of, value_for}
-use Rattle.vsw_policyfile.specs.Layer.{listed_number}
-use Rattle.vsw_policyfile.specs.declared.file.PortFile.{PortFile}
-use Rattle.vsw_policyfile.specs.declared.file.PolicyFile.{PolicyFile}
+use Rattle.vsw_config.specs.declared.fault.Fault.{Fault}
+use Rattle.vsw_config.specs.declared.fault.Kind.TheVariants.{Unknown}
+use Rattle.vsw_config.specs.declared.word.Word.TheVariants as word
+use Rattle.vsw_config.specs.Fault.{◌>>=◌, bad}
+use Rattle.vsw_config.specs.Object.{object_among, read_in}
+use Rattle.vsw_config.specs.Value.{short_of, number_from, text_of, value_for}
+use Rattle.vsw_config.specs.Layer.{listed_number}
+use Rattle.vsw_config.specs.declared.file.PortFile.{PortFile}
+use Rattle.vsw_config.specs.declared.file.PolicyFile.{PolicyFile}
 use Rattle.vsw_commandfile.specs.declared.line.Line.{Line}
 use Rattle.vsw_commandfile.specs.Verb.{verb_of, names_of}
 use Rattle.vsw_commandfile.specs.Command.{command_of}

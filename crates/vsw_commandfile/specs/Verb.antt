@@ -1,11 +1,11 @@
 -- What a line is to do, and the names of its members.
 use Rattle.std.specs.Prelude.{ℕ, List, [], ◌∷◌, Result, codes}
 use Rattle.serde_json.specs.Data.{Data}
-use Rattle.vsw_jsonfile.specs.declared.fault.Fault.{Fault}
-use Rattle.vsw_jsonfile.specs.declared.word.Word.{Word}
-use Rattle.vsw_jsonfile.specs.declared.word.Word.TheVariants as word
-use Rattle.vsw_jsonfile.specs.Fault.{◌>>=◌}
-use Rattle.vsw_jsonfile.specs.Value.{text_of, value_for}
+use Rattle.vsw_config.specs.declared.fault.Fault.{Fault}
+use Rattle.vsw_config.specs.declared.word.Word.{Word}
+use Rattle.vsw_config.specs.declared.word.Word.TheVariants as word
+use Rattle.vsw_config.specs.Fault.{◌>>=◌}
+use Rattle.vsw_config.specs.Value.{text_of, value_for}
 use Rattle.vsw_commandfile.specs.declared.verb.Verb.{Verb}
 use Rattle.vsw_commandfile.specs.declared.verb.Verb.TheVariants.{AddLayer, RemoveLayer, AddGroup, RemoveGroup, PutRules, AddRule, RemoveRule, SetDefault, Sweep}
 

@@ -2,20 +2,21 @@
 
 ghost use Rattle.std.specs.Prelude.{◌≡◌, []};
 ghost use Rattle.serde_json.specs.View.{view};
-ghost use Rattle.vsw_jsonfile.specs.Fault.{Says};
-ghost use Rattle.vsw_jsonfile.specs.Value.{whole_of};
-ghost use Rattle.vsw_rulefile.specs.Rule.{rule_of};
+ghost use Rattle.vsw_config.specs.Fault.{Says};
+ghost use Rattle.vsw_config.specs.Value.{whole_of};
+ghost use Rattle.vsw_config.specs.Rule.{rule_of};
 ghost use Rattle.vsw_commandfile.specs.Command as spec;
 
 use crate::verb::Verb;
 use serde_json::Value;
 use std::alloc::Global;
 use vsw_base::{Items, Moment};
-use vsw_jsonfile::{Fault, ReadItem, ReadValue, ShortReader, Word, items, list, member, whole};
+use vsw_config::{
+    AllowsReader, CondsReader, DirReader, Fault, ReadItem, ReadValue, ShortReader, Word, items,
+    list, member, one_rule, spec_in, whole,
+};
 use vsw_policy::Command;
-use vsw_policyfile::{AllowsReader, spec_in};
 use vsw_rule::Rule;
-use vsw_rulefile::{CondsReader, DirReader, one_rule};
 
 /// Reads a rule alone: it is compared with no other.
 struct AloneReader;

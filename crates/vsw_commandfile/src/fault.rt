@@ -4,7 +4,7 @@ ghost use Rattle.std.specs.Prelude.{◌≡◌};
 ghost use Rattle.vsw_commandfile.specs.Commands.{of_line};
 
 use vsw_base::Items;
-use vsw_jsonfile::{Fault, Kind, Step};
+use vsw_config::{Fault, Kind, Step};
 
 /// Why a commands file is refused.
 #[derive(PartialEq, Eq, Drop)]

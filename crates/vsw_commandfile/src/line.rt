@@ -3,16 +3,18 @@
 ghost use Rattle.std.specs.Prelude.{◌≡◌, ◌==◌};
 ghost use Rattle.std.specs.List.{list_any};
 ghost use Rattle.serde_json.specs.View.{view};
-ghost use Rattle.vsw_jsonfile.specs.Fault.{Says};
+ghost use Rattle.vsw_config.specs.Fault.{Says};
 ghost use Rattle.vsw_commandfile.specs.Line.{during_for, during_of, port_number, is_port, line_of};
 
 use crate::command::command;
 use crate::verb::{VerbReader, names};
 use serde_json::Value;
 use std::alloc::Global;
-use vsw_jsonfile::{Fault, Kind, ReadValue, Word, here, member, number_in, object_in, short, text};
+use vsw_config::{
+    ControllerReader, Fault, Kind, PolicyFile, PortFile, ReadValue, Word, here, member, number_in,
+    object_in, short, text,
+};
 use vsw_policy::Command;
-use vsw_policyfile::{ControllerReader, PolicyFile, PortFile};
 
 /// A line of a commands file.
 #[derive(Drop)]

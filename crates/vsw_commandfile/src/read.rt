@@ -1,7 +1,7 @@
 //! Reading a commands file.
 
 ghost use Rattle.std.specs.Prelude.{◌≡◌, ◌≤◌, length};
-ghost use Rattle.vsw_jsonfile.specs.Fault.{Says};
+ghost use Rattle.vsw_config.specs.Fault.{Says};
 ghost use Rattle.vsw_commandfile.specs.Lines.{lines_of};
 ghost use Rattle.vsw_commandfile.specs.Commands.{Tells, line_in, line_at, lines_from, commands_file_of};
 
@@ -10,8 +10,7 @@ use crate::line::{Line, one_line};
 use crate::lines::{Lines, count_lines, is_blank};
 use std::alloc::Global;
 use vsw_base::Items;
-use vsw_jsonfile::{Fault, json};
-use vsw_policyfile::PolicyFile;
+use vsw_config::{Fault, PolicyFile, json};
 
 /// Bytes of the longest commands file that is read.
 const MOST_BYTES: usize = 16_777_216;

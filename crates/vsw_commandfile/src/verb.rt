@@ -5,7 +5,7 @@ ghost use Rattle.vsw_commandfile.specs.Verb.{verb_for, verb_of, names_of};
 
 use serde_json::Value;
 use std::alloc::Global;
-use vsw_jsonfile::{Fault, Kind, ReadValue, Word, here, text};
+use vsw_config::{Fault, Kind, ReadValue, Word, here, text};
 
 /// What a line is to do, each a command of the same name.
 #[derive(Clone, Copy)]

@@ -1,5 +1,12 @@
+pub mod Alike
+pub mod Apart
+pub mod Edits
+pub mod Firsts
+pub mod Follows
+pub mod Stays
+pub mod Visits
+pub mod Walks
 pub mod Rooms
 pub mod Places
 pub mod Makes
 pub mod Moved
-pub use Rattle.vsw_admit.proofs.Walks

@@ -4,16 +4,16 @@ use Rattle.std.specs.Prelude.{if◌then◌else◌}
 use Rattle.std.specs.List.{slice_get}
 use Rattle.std.proofs.lemmas.Option.{slice_get_within}
 use Rattle.std.proofs.lemmas.Map.Entries.{option_filter}
-use Rattle.vsw_admit.specs.declared.stop.Stop.{Stop}
-use Rattle.vsw_admit.specs.declared.stop.Stop.TheVariants.{Long, Full, Taken, Memory}
-use Rattle.vsw_admit.specs.Admit.{left_in, on_pass, refusal, refused, refused_at, staying, stop_of, taken_by}
-use Rattle.vsw_admit.specs.Long.{is_long}
-use Rattle.vsw_admit.specs.Holds.{AllHold, CanHold}
-use Rattle.vsw_admit.proofs.Apart.{crossed_apart, flip, same_place}
-use Rattle.vsw_admit.proofs.Firsts.{of_first, refusal_is}
-use Rattle.vsw_admit.specs.Private.Threaded.{left_at, or_next, refusal_after}
-use Rattle.vsw_admit.proofs.Visits.{IsVisit, Leaves, Wants, visits}
-use Rattle.vsw_admit.proofs.Walks.{each_as, each_crossed, each_told, places, told_by}
+use Rattle.vsw_commit.specs.declared.stop.Stop.{Stop}
+use Rattle.vsw_commit.specs.declared.stop.Stop.TheVariants.{Long, Full, Taken, Memory}
+use Rattle.vsw_commit.specs.Admit.{left_in, on_pass, refusal, refused, refused_at, staying, stop_of, taken_by}
+use Rattle.vsw_commit.specs.Long.{is_long}
+use Rattle.vsw_commit.specs.Holds.{AllHold, CanHold}
+use Rattle.vsw_commit.proofs.Apart.{crossed_apart, flip, same_place}
+use Rattle.vsw_commit.proofs.Firsts.{of_first, refusal_is}
+use Rattle.vsw_commit.specs.Private.Threaded.{left_at, or_next, refusal_after}
+use Rattle.vsw_commit.proofs.Visits.{IsVisit, Leaves, Wants, visits}
+use Rattle.vsw_commit.proofs.Walks.{each_as, each_crossed, each_told, places, told_by}
 use Rattle.vsw_base.specs.declared.fate.Verdict.{Verdict}
 use Rattle.vsw_base.specs.declared.fate.Verdict.TheVariants.{Pass, Rule, Default}
 use Rattle.vsw_base.specs.declared.flow.Crossing.{Crossing}
@@ -25,10 +25,10 @@ use Rattle.vsw_commit.specs.Can.{AreApart, CanAll, IsWithin, NotMade}
 use Rattle.vsw_commit.specs.Cross.{is_memory}
 use Rattle.vsw_commit.proofs.Places.{at_get, get_beside, get_changed}
 use Rattle.vsw_compose.specs.Edit.{edited, kept_after}
-use Rattle.vsw_admit.specs.WalkWanted.{Wanted}
-use Rattle.vsw_admit.specs.Walk.{Walk, along, by_visit, crossed, placed, walk_of}
+use Rattle.vsw_commit.specs.WalkWanted.{Wanted}
+use Rattle.vsw_commit.specs.Walk.{Walk, along, by_visit, crossed, placed, walk_of}
 use Rattle.vsw_flowid.specs.Key.{key_from}
-use Rattle.vsw_layer.specs.Layer.{LayerSeen, CanTake, with_pair, with_touched, without_pair}
+use Rattle.vsw_policy.specs.Layer.{LayerSeen, CanTake, with_pair, with_touched, without_pair}
 use Rattle.vsw_layerflow.specs.declared.pair.Pair.{Pair}
 use Rattle.vsw_layerflow.specs.Pairs.{AllBelow, back, holder, probe, without}
 use Rattle.vsw_layerflow.proofs.Kept.{holder-filter}
@@ -36,10 +36,10 @@ use Rattle.vsw_layerflow.proofs.Order.{below_filter}
 use Rattle.vsw_policy.specs.Layers.{At, changed_at}
 use Rattle.vsw_policy.specs.Sound as sound
 use Rattle.vsw_policy.specs.Sound.{Each}
-use Rattle.vsw_admit.specs.VisitOutcome.{Visit}
-use Rattle.vsw_admit.specs.VisitOutcome.TheVariants.{Stops, Goes}
-use Rattle.vsw_admit.specs.Want.TheVariants.{Make, Touch}
-use Rattle.vsw_admit.specs.Visit.{visit_of}
+use Rattle.vsw_commit.specs.VisitOutcome.{Visit}
+use Rattle.vsw_commit.specs.VisitOutcome.TheVariants.{Stops, Goes}
+use Rattle.vsw_commit.specs.Want.TheVariants.{Make, Touch}
+use Rattle.vsw_commit.specs.Visit.{visit_of}
 
 -- a layer whose next pair has a number above all others, and below the greatest
 abbrev pub HasNumbers : LayerSeen → Type 0

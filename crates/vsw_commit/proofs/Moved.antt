@@ -3,11 +3,11 @@ use Rattle.std.proofs.Common.{◌≡◌, ◌<◌, ◌^◌, ◌==◌, ◌∙◌, 
 use Rattle.std.specs.Prelude.{if◌then◌else◌, nat_lt}
 use Rattle.std.specs.List.{slice_get}
 use Rattle.std.proofs.lemmas.Bool.Decides.{nat_tests}
-use Rattle.vsw_admit.specs.declared.stop.Stop.{Stop}
-use Rattle.vsw_admit.specs.Admit.{stop_of}
-use Rattle.vsw_admit.proofs.Apart.{IsElsewhere, crossed_apart, elsewhere, flip, same_place}
-use Rattle.vsw_admit.proofs.Visits.{IsVisit, MayLeave, visits}
-use Rattle.vsw_admit.proofs.Walks.{each_as, each_crossed, each_told, held_there, places, told_by}
+use Rattle.vsw_commit.specs.declared.stop.Stop.{Stop}
+use Rattle.vsw_commit.specs.Admit.{stop_of}
+use Rattle.vsw_commit.proofs.Apart.{IsElsewhere, crossed_apart, elsewhere, flip, same_place}
+use Rattle.vsw_commit.proofs.Visits.{IsVisit, MayLeave, visits}
+use Rattle.vsw_commit.proofs.Walks.{each_as, each_crossed, each_told, held_there, places, told_by}
 use Rattle.vsw_base.specs.declared.fate.Verdict.{Verdict}
 use Rattle.vsw_base.specs.declared.fate.Verdict.TheVariants.{Pass, Default, Rule}
 use Rattle.vsw_base.specs.declared.flow.Crossing.{Crossing}
@@ -18,17 +18,17 @@ use Rattle.vsw_base.specs.declared.packet.Control.{Control}
 use Rattle.vsw_base.specs.declared.packet.Dir.{Dir}
 use Rattle.vsw_base.specs.declared.packet.Dir.TheVariants.{Out, In}
 use Rattle.vsw_base.specs.Shape.{encaps}
-use Rattle.vsw_choice.specs.Choice.{Chosen, choose}
+use Rattle.vsw_rule.specs.Choice.{Chosen, choose}
 use Rattle.vsw_commit.specs.Cross.{all_done, made_after, made_by}
 use Rattle.vsw_commit.specs.Law.{ChangesTell}
 use Rattle.vsw_commit.proofs.Places.{get_beside, get_changed}
 use Rattle.vsw_compose.specs.Edit.{edited, kept_after}
-use Rattle.vsw_admit.specs.WalkWanted.{Wanted}
-use Rattle.vsw_admit.specs.WalkWanted.TheVariants as wanted
-use Rattle.vsw_admit.specs.Walk.{along, by_visit, crossed, placed, walk_of}
+use Rattle.vsw_commit.specs.WalkWanted.{Wanted}
+use Rattle.vsw_commit.specs.WalkWanted.TheVariants as wanted
+use Rattle.vsw_commit.specs.Walk.{along, by_visit, crossed, placed, walk_of}
 use Rattle.vsw_flowid.specs.Key.{key_from}
-use Rattle.vsw_layer.specs.declared.layer.LayerSpec.{LayerSpec}
-use Rattle.vsw_layer.specs.Layer.{LayerSeen, with_pair, with_touched, without_pair}
+use Rattle.vsw_policy.specs.declared.layer.LayerSpec.{LayerSpec}
+use Rattle.vsw_policy.specs.Layer.{LayerSeen, with_pair, with_touched, without_pair}
 use Rattle.vsw_layerflow.specs.declared.pair.Pair.{Pair}
 use Rattle.vsw_layerflow.specs.declared.pair.Probe.{Probe}
 use Rattle.vsw_layerflow.specs.Life.{due}
@@ -42,14 +42,14 @@ use Rattle.vsw_rule.specs.declared.rule.Action.TheVariants.{Allow, Drop, Edit}
 use Rattle.vsw_tcp.specs.declared.state.Tracked.{Tracked}
 use Rattle.vsw_tcp.specs.declared.state.Tracked.TheVariants.{To, Reopen}
 use Rattle.vsw_tcp.specs.Track.{track_of}
-use Rattle.vsw_admit.specs.VisitOutcome.{Visit}
-use Rattle.vsw_admit.specs.VisitOutcome.TheVariants.{Stops, Goes}
-use Rattle.vsw_admit.specs.Want.{Want}
-use Rattle.vsw_admit.specs.Want.TheVariants.{Make, Touch}
-use Rattle.vsw_admit.specs.Known.{same_state, set_towards, touch}
-use Rattle.vsw_admit.specs.Visit.{allows, by_action, by_choice, by_pair, by_state, visit_of}
-use Rattle.vsw_admit.specs.Visit as visit
-use Rattle.vsw_admit.specs.Wanted.{wanted_pair}
+use Rattle.vsw_commit.specs.VisitOutcome.{Visit}
+use Rattle.vsw_commit.specs.VisitOutcome.TheVariants.{Stops, Goes}
+use Rattle.vsw_commit.specs.Want.{Want}
+use Rattle.vsw_commit.specs.Want.TheVariants.{Make, Touch}
+use Rattle.vsw_commit.specs.Known.{same_state, set_towards, touch}
+use Rattle.vsw_commit.specs.Visit.{allows, by_action, by_choice, by_pair, by_state, visit_of}
+use Rattle.vsw_commit.specs.Visit as visit
+use Rattle.vsw_commit.specs.Wanted.{wanted_pair}
 
 -- a layer after a visit
 abbrev after_leave : Option ℕ → LayerSeen → LayerSeen

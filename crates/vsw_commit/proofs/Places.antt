@@ -1,7 +1,7 @@
 -- Layers at their places.
 use Rattle.std.proofs.Common.{◌≡◌, ◌==◌, ℕ, zero, suc, true, false, List, [], ◌∷◌, Some, None, refl, sym, ap, ◌∙◌, arith, true≢false, is_some}
 use Rattle.std.specs.List.{slice_get}
-use Rattle.vsw_layer.specs.Layer.{LayerSeen}
+use Rattle.vsw_policy.specs.Layer.{LayerSeen}
 use Rattle.vsw_policy.specs.Layers.{At, changed_at}
 
 pub at_get : (P : LayerSeen → Type 0) (ls : List LayerSeen) (n : ℕ) (l : LayerSeen) → slice_get ls n ≡ Some l → P l → At n P ls

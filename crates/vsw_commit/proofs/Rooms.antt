@@ -1,8 +1,8 @@
 -- Room for the pairs that are made, while changes are made.
 use Rattle.std.proofs.Common.{◌≢◌, ◌≤◌, ℕ, List, [], ◌∷◌, sym, ◌∙◌, arith, true≢false}
 use Rattle.vsw_commit.specs.Can.{AllRoom, NotMade}
-use Rattle.vsw_admit.specs.WalkWanted.{Wanted}
-use Rattle.vsw_admit.specs.WalkWanted.TheVariants.{Make, Touch, Leave}
+use Rattle.vsw_commit.specs.WalkWanted.{Wanted}
+use Rattle.vsw_commit.specs.WalkWanted.TheVariants.{Make, Touch, Leave}
 use Rattle.vsw_policy.specs.Layers.{PolicySeen, room_at}
 use Rattle.vsw_policy.specs.Sound.{Each}
 

@@ -1,9 +1,9 @@
 -- When changes can be made of layers, one after the other.
 use Rattle.std.specs.Prelude.{◌≡◌, ◌<◌, ◌≤◌, ◌==◌, ℕ, List, [], ◌∷◌, false, length}
 use Rattle.vsw_commit.specs.Cross.{done}
-use Rattle.vsw_admit.specs.WalkWanted.{Wanted}
-use Rattle.vsw_admit.specs.WalkWanted.TheVariants.{Make, Touch, Leave}
-use Rattle.vsw_layer.specs.Layer.{LayerSeen, CanTake}
+use Rattle.vsw_commit.specs.WalkWanted.{Wanted}
+use Rattle.vsw_commit.specs.WalkWanted.TheVariants.{Make, Touch, Leave}
+use Rattle.vsw_policy.specs.Layer.{LayerSeen, CanTake}
 use Rattle.vsw_policy.specs.Layers.{PolicySeen, At, room_at}
 use Rattle.vsw_policy.specs.Sound.{Each}
 

@@ -1,18 +1,18 @@
 -- What becomes of a packet that crosses the layers of a port, and of these layers.
 use Rattle.std.specs.Prelude.{ℕ, List, [], ◌∷◌, Bool, true, false, not, length, ◌==◌, Option, Some, None, Result, Ok, Err}
-use Rattle.vsw_admit.specs.declared.stop.Stop.{Stop}
-use Rattle.vsw_admit.specs.declared.stop.Stop.TheVariants.{Memory}
-use Rattle.vsw_admit.specs.Admit.{cause_of, stop_of}
+use Rattle.vsw_commit.specs.declared.stop.Stop.{Stop}
+use Rattle.vsw_commit.specs.declared.stop.Stop.TheVariants.{Memory}
+use Rattle.vsw_commit.specs.Admit.{cause_of, stop_of}
 use Rattle.vsw_base.specs.declared.fate.Cause.{Cause}
 use Rattle.vsw_base.specs.declared.fate.Cause.TheVariants as cause
 use Rattle.vsw_base.specs.declared.fate.Verdict.{Verdict}
 use Rattle.vsw_base.specs.declared.fate.Verdict.TheVariants.{Pass, Rule, Default}
 use Rattle.vsw_base.specs.declared.flow.Crossing.{Crossing}
 use Rattle.vsw_base.specs.declared.header.Header.{Header}
-use Rattle.vsw_admit.specs.WalkWanted.{Wanted}
-use Rattle.vsw_admit.specs.WalkWanted.TheVariants.{Make, Touch, Leave}
-use Rattle.vsw_admit.specs.Walk.{walk_of}
-use Rattle.vsw_layer.specs.Layer.{LayerSeen, with_pair, with_touched, without_pair}
+use Rattle.vsw_commit.specs.WalkWanted.{Wanted}
+use Rattle.vsw_commit.specs.WalkWanted.TheVariants.{Make, Touch, Leave}
+use Rattle.vsw_commit.specs.Walk.{walk_of}
+use Rattle.vsw_policy.specs.Layer.{LayerSeen, with_pair, with_touched, without_pair}
 use Rattle.vsw_policy.specs.Layers.{changed_at}
 
 -- a change is made in the layer at its place: a pair goes, has another state and last use, or stands behind the others

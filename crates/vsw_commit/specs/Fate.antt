@@ -1,12 +1,12 @@
 -- The fate of a packet by its crossing alone: the sizes tell how many bytes leave.
 use Rattle.std.specs.Prelude.{ℕ, List, Result, Ok, Err}
-use Rattle.vsw_admit.specs.Long.{outgoing_size}
+use Rattle.vsw_commit.specs.Long.{outgoing_size}
 use Rattle.vsw_base.specs.declared.fate.Cause.{Cause}
 use Rattle.vsw_base.specs.declared.fate.Fate.{Fate}
 use Rattle.vsw_base.specs.declared.fate.Fate.TheVariants.{Pass, Drop}
 use Rattle.vsw_base.specs.declared.flow.Crossing.{Crossing}
 use Rattle.vsw_commit.specs.Cross.{Passing, cross_of}
-use Rattle.vsw_layer.specs.Layer.{LayerSeen}
+use Rattle.vsw_policy.specs.Layer.{LayerSeen}
 
 -- bytes of a packet that passes: those of its frame without the dropped encapsulations, and 50 for each that is pushed
 abbrev pub length_of : Crossing → Passing → ℕ

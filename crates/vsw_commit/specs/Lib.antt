@@ -1,11 +1,18 @@
+pub mod Admit
+pub mod Long
+pub mod Holds
+pub mod AdmissionLaw
+pub mod Walked
+pub mod Private
 pub mod Cross
 pub mod Can
 pub mod Law
 pub mod Fate
-pub use Rattle.vsw_admit.specs.Walk
-pub use Rattle.vsw_admit.specs.WalkWanted as Wanted
-pub use Rattle.vsw_admit.specs.Bytes
-pub use Rattle.vsw_admit.specs.Admit
-pub use Rattle.vsw_admit.specs.Long
-pub use Rattle.vsw_admit.specs.declared.stop.Stop
-pub use Rattle.vsw_admit.specs.Walked
+pub use Rattle.vsw_walk.specs.Known
+pub use Rattle.vsw_walk.specs.Visit
+pub use Rattle.vsw_walk.specs.Wanted
+pub use Rattle.vsw_walk.specs.declared.outcome.Visit as VisitOutcome
+pub use Rattle.vsw_walk.specs.declared.outcome.Want
+pub use Rattle.vsw_walk.specs.Walk
+pub use Rattle.vsw_walk.specs.declared.scratch.Wanted as WalkWanted
+pub use Rattle.vsw_frame.specs.Bytes

@@ -3,9 +3,9 @@
 ghost use Rattle.std.specs.Prelude.{◌≡◌, ◌∷◌, List};
 ghost use Rattle.vsw_commit.specs.Can.{AllRoom, AreApart, CanAll, CanDo, HasRoom};
 ghost use Rattle.vsw_commit.specs.Cross.{all_done, done};
-ghost use Rattle.vsw_admit.specs.WalkWanted.{Wanted};
+ghost use Rattle.vsw_commit.specs.WalkWanted.{Wanted};
 
-use vsw_admit::Wanted;
+use crate::Wanted;
 use vsw_policy::Policy;
 
 fn change(policy: &mut Policy, wanted: &Wanted)

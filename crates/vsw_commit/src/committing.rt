@@ -1,13 +1,13 @@
 //! A walk is carried out.
 
 ghost use Rattle.std.specs.Prelude.{◌≡◌, ◌<◌, ◌-◌, ◌^◌, true, false, OnErr};
-ghost use Rattle.vsw_admit.specs.Walked.{IsWalk};
+ghost use Rattle.vsw_commit.specs.Walked.{IsWalk};
 ghost use Rattle.vsw_commit.specs.Cross.{cross_of, is_memory, made_by, makes, told};
 ghost use Rattle.vsw_policy.specs.Sound.{Each};
 
 use crate::changing::change_all;
 use crate::room::reserve_all;
-use vsw_admit::{Scratch, Stop, Walked, judge};
+use crate::{Scratch, Stop, Walked, judge};
 use vsw_base::{Crossing, Verdict};
 use vsw_policy::Policy;
 

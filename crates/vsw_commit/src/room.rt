@@ -6,7 +6,7 @@ ghost use Rattle.vsw_commit.specs.Cross.{is_make, makes};
 ghost use Rattle.vsw_policy.specs.Layers.{room_at};
 ghost use Rattle.vsw_policy.specs.Sound.{Each};
 
-use vsw_admit::Wanted;
+use crate::Wanted;
 use vsw_base::NoMemory;
 use vsw_policy::Policy;
 

@@ -1,7 +1,7 @@
 -- The writer of a new table is one at the beginning, whatever passes it gives out.
 use Rattle.std.proofs.Common.{◌≡◌, ◌+◌, ◌++◌, ℕ, zero, suc, List, [], ◌∷◌, replicate, refl, sym, ap, subst, ◌∙◌}
 use Rattle.vsw_core.specs.Core.{Begins, total}
-use Rattle.vsw_history.specs.declared.event.Event.{Event}
+use Rattle.vsw_port.specs.declared.event.Event.{Event}
 use Rattle.vsw_lookup.specs.declared.view.View.{View}
 use Rattle.vsw_lookup.specs.Rules.{first_view, one_more, row_at, stamp_at}
 use Rattle.vsw_policy.specs.Layers.{PolicySeen}

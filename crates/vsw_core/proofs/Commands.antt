@@ -5,14 +5,14 @@ use Rattle.vsw_commandfile.specs.declared.line.Line.{Line}
 use Rattle.vsw_core.specs.Adding.{HasLooks}
 use Rattle.vsw_core.specs.Calls.{grown}
 use Rattle.vsw_core.specs.Core.{IsOwned}
-use Rattle.vsw_history.specs.declared.event.Event.{Event}
-use Rattle.vsw_history.specs.declared.event.Event.TheVariants as event
-use Rattle.vsw_history.specs.Calls.{Asked}
-use Rattle.vsw_history.specs.History.{AllRight, IsRight, Opening, left_by, replay, reply_in}
-use Rattle.vsw_history.specs.Next.{IsDone, Enters, Reading, Wanting}
-use Rattle.vsw_history.proofs.Next.{right_more}
-use Rattle.vsw_layer.specs.Groups.{changed, removed}
-use Rattle.vsw_layer.specs.Layer.{LayerSeen}
+use Rattle.vsw_port.specs.declared.event.Event.{Event}
+use Rattle.vsw_port.specs.declared.event.Event.TheVariants as event
+use Rattle.vsw_port.specs.Calls.{Asked}
+use Rattle.vsw_port.specs.History.{AllRight, IsRight, Opening, left_by, replay, reply_in}
+use Rattle.vsw_port.specs.Next.{IsDone, Enters, Reading, Wanting}
+use Rattle.vsw_port.proofs.Next.{right_more}
+use Rattle.vsw_policy.specs.Groups.{changed, removed}
+use Rattle.vsw_policy.specs.Layer.{LayerSeen}
 use Rattle.vsw_rows.specs.Entries.{is_obeyed}
 use Rattle.vsw_lookup.specs.Rules.{after_entry}
 use Rattle.vsw_policy.specs.declared.command.Command.{Command}
@@ -26,7 +26,7 @@ use Rattle.vsw_policy.specs.Refusals.{reply_of}
 use Rattle.vsw_port.specs.Core.{entered}
 use Rattle.vsw_port.specs.Ledger.{LedgerSeen, layers_in}
 use Rattle.vsw_rows.specs.Rows.{HasRoom, Writing, layers_after, layers_then}
-use Rattle.vsw_rows.specs.StoryRows.{opening_of}
+use Rattle.vsw_rows.specs.GoodRows.{opening_of}
 
 -- how many layers a command leaves
 length-changed : {A : Type 0} (p : A → Bool) (f : A → A) (xs : List A) → length (changed p f xs) ≡ length xs

@@ -14,7 +14,7 @@ use Rattle.vsw_core.specs.Reconciling.{Agrees, IsChanged, IsCleared, IsKept, IsO
 use Rattle.vsw_core.specs.Walks.{IsWholeWalk, SaysRowOf}
 use Rattle.vsw_core.proofs.Published.{key_of}
 use Rattle.vsw_core.proofs.Walked.{ActsOf, fresh_row, row_said}
-use Rattle.vsw_layer.specs.Layer.{LayerSeen}
+use Rattle.vsw_policy.specs.Layer.{LayerSeen}
 use Rattle.vsw_lean.specs.Good.{Row}
 use Rattle.vsw_lean.specs.Law.{wants_none}
 use Rattle.vsw_lean.specs.Way.{plain, way_of}

@@ -2,19 +2,19 @@
 use Rattle.std.proofs.Common.{◌≡◌, ◌≢◌, ◌≤◌, ◌<◌, ◌+◌, ◌-◌, ◌==◌, not, ℕ, zero, suc, Bool, true, false, true≢false, List, [], ◌∷◌, ◌++◌, length, set, slice_set, length-set, get_or, get_or-set_same, append-nil, length-append, inl, refl, sym, ap, subst, ◌∙◌, arith, Option, Some, None}
 use Rattle.std.proofs.lemmas.List.{set-set}
 use mathlib.Core.List.{IsPrefix}
-use Rattle.vsw_admit.specs.declared.stop.Stop.{Stop}
+use Rattle.vsw_commit.specs.declared.stop.Stop.{Stop}
 use Rattle.vsw_base.specs.declared.fate.Fate.{Fate}
 use Rattle.vsw_base.specs.declared.fate.Verdict.{Verdict}
 use Rattle.vsw_base.specs.declared.fate.Verdict.TheVariants.{Pass, Rule, Default}
 use Rattle.vsw_base.specs.declared.flow.Crossing.{Crossing}
 use Rattle.vsw_commit.specs.Cross.{all_done, cross_of, made_after, made_by}
-use Rattle.vsw_admit.specs.Admit.{stop_of}
+use Rattle.vsw_commit.specs.Admit.{stop_of}
 use Rattle.vsw_core.specs.Calls.{OneShakes, Raises, ShakesCurrent, called, grown}
 use Rattle.vsw_core.specs.Private.Steps.{Steps, advanced, passing}
-use Rattle.vsw_history.specs.declared.event.Event.{Event}
-use Rattle.vsw_history.specs.declared.event.Event.TheVariants as event
-use Rattle.vsw_history.specs.History.{AllRight, AreRight, IsRight, Opening, after, after_all, replay}
-use Rattle.vsw_layer.specs.Layer.{LayerSeen}
+use Rattle.vsw_port.specs.declared.event.Event.{Event}
+use Rattle.vsw_port.specs.declared.event.Event.TheVariants as event
+use Rattle.vsw_port.specs.History.{AllRight, AreRight, IsRight, Opening, after, after_all, replay}
+use Rattle.vsw_policy.specs.Layer.{LayerSeen}
 use Rattle.vsw_lean.specs.Good.{Row}
 use Rattle.vsw_lean.specs.Shaken.{shake}
 use Rattle.vsw_lean.specs.Way.{looks}
@@ -26,7 +26,7 @@ use Rattle.vsw_port.specs.Core.{entered}
 use Rattle.vsw_port.specs.Crossed.{Crossed, crossed, is_short}
 use Rattle.vsw_port.specs.Ledger.{LedgerSeen, layers_in}
 use Rattle.vsw_rows.specs.Rows.{HasRoom, IsCurrent, IsShaking, Says, ShakesOne, Spares, Writing, layers_after, layers_then, leaning}
-use Rattle.vsw_rows.specs.StoryRows.{opening_of}
+use Rattle.vsw_rows.specs.GoodRows.{opening_of}
 use Rattle.vsw_walk.specs.declared.scratch.Wanted.{Wanted}
 use Rattle.vsw_walk.specs.Walk.{walk_of}
 

@@ -2,7 +2,7 @@
 use Rattle.std.proofs.Common.{◌≡◌, ◌≤◌, ◌<◌, ◌+◌, ◌-◌, ◌++◌, ℕ, zero, suc, List, [], ◌∷◌, length, set, get_or, slice_set, sym, ap, ◌∙◌, arith}
 use Rattle.vsw_core.specs.Calls.{grown}
 use Rattle.vsw_core.specs.Core.{IsOwned, total}
-use Rattle.vsw_history.specs.declared.event.Event.{Event}
+use Rattle.vsw_port.specs.declared.event.Event.{Event}
 use Rattle.vsw_lookup.specs.Rules.{permits_of}
 use Rattle.vsw_port.specs.Ledger.{LedgerSeen}
 use Rattle.vsw_rows.specs.Rows.{Writing}

@@ -2,9 +2,9 @@
 use Rattle.std.proofs.Common.{◌≡◌, ◌≤◌, ◌<◌, ◌+◌, ◌==◌, not, ℕ, suc, Bool, true, false, true≢false, List, [], ◌∷◌, ◌++◌, length, take, slice_set, get_or-set_same, refl, sym, ap, subst, ◌∙◌, arith, Option, Some, None}
 use Rattle.std.specs.Prelude.{nat_le}
 use Rattle.std.proofs.Math.Seq.{take-append_seam}
-use Rattle.vsw_admit.specs.declared.stop.Stop.{Stop}
-use Rattle.vsw_admit.specs.declared.stop.Stop.TheVariants as stop
-use Rattle.vsw_admit.specs.Admit.{stop_of}
+use Rattle.vsw_commit.specs.declared.stop.Stop.{Stop}
+use Rattle.vsw_commit.specs.declared.stop.Stop.TheVariants as stop
+use Rattle.vsw_commit.specs.Admit.{stop_of}
 use Rattle.vsw_base.specs.declared.fate.Fate.{Fate}
 use Rattle.vsw_base.specs.declared.fate.Verdict.{Verdict}
 use Rattle.vsw_base.specs.declared.fate.Verdict.TheVariants.{Pass, Rule, Default}
@@ -20,8 +20,8 @@ use Rattle.vsw_core.specs.Private.Steps.{Publishes, Steps, wants_change}
 use Rattle.vsw_core.specs.Publishing.{HasPlace, IsByWalk, IsPlaceOf, IsSettled, Late, MayWrite, Stale, Stands, StandsUntil, WritesOne}
 use Rattle.vsw_core.specs.Publishing as publishing
 use Rattle.vsw_core.specs.Walks.{IsWholeWalk, SaysRowOf}
-use Rattle.vsw_history.specs.declared.event.Event.{Event}
-use Rattle.vsw_layer.specs.Layer.{LayerSeen}
+use Rattle.vsw_port.specs.declared.event.Event.{Event}
+use Rattle.vsw_policy.specs.Layer.{LayerSeen}
 use Rattle.vsw_lean.specs.Good.{Good, Row}
 use Rattle.vsw_lean.specs.Law.{IsOfWay, wants_none}
 use Rattle.vsw_lean.specs.Way.{way_of}
@@ -32,7 +32,7 @@ use Rattle.vsw_policy.specs.Layers.{PolicySeen}
 use Rattle.vsw_port.specs.Ledger.{LedgerSeen}
 use Rattle.vsw_rows.specs.declared.rows.Found.TheVariants as found
 use Rattle.vsw_rows.specs.Rows.{HasKey, IsCurrent, IsFound, IsProbed, NoneHasKey, Says, Writing, layers_after}
-use Rattle.vsw_rows.specs.StoryRows.{IsGoodRow, opening_of, words_of}
+use Rattle.vsw_rows.specs.GoodRows.{IsGoodRow, opening_of, words_of}
 use Rattle.vsw_rows.proofs.Answers.{key_length, words_are}
 use Rattle.vsw_walk.specs.declared.scratch.Wanted.{Wanted}
 use Rattle.vsw_walk.specs.declared.walking.Walked.{Walked}

@@ -8,7 +8,7 @@ use Rattle.vsw_base.specs.Fits.{AreFit}
 use Rattle.vsw_base.specs.Shape.{is_stack}
 use Rattle.vsw_commit.specs.Cross.{makes}
 use Rattle.vsw_core.specs.Walks.{IsWholeWalk, SaysRowOf}
-use Rattle.vsw_layer.specs.Layer.{LayerSeen}
+use Rattle.vsw_policy.specs.Layer.{LayerSeen}
 use Rattle.vsw_lean.specs.Good.{IsGoodLeaning, Row}
 use Rattle.vsw_lean.proofs.Ways.{walk_makes}
 use Rattle.vsw_rows.specs.Rows.{IsFresh}

@@ -1,7 +1,7 @@
 -- Room for the looks of rows in a layer that a command adds.
 use Rattle.std.specs.Prelude.{◌≡◌, ◌≤◌, ◌+◌, ◌*◌, ℕ, List, length}
-use Rattle.vsw_layer.specs.declared.layer.LayerSpec.{LayerSpec}
-use Rattle.vsw_layer.specs.Layer.{LayerSeen}
+use Rattle.vsw_policy.specs.declared.layer.LayerSpec.{LayerSpec}
+use Rattle.vsw_policy.specs.Layer.{LayerSeen}
 use Rattle.vsw_policy.specs.declared.command.Command.{Command}
 use Rattle.vsw_policy.specs.declared.command.Command.TheVariants.{AddLayer}
 

@@ -1,7 +1,7 @@
 -- What a call leaves: the entry that it makes, if it makes one, and how the generation stands to that.
 use Rattle.std.specs.Prelude.{◌≡◌, ◌+◌, ◌-◌, ◌++◌, ℕ, List, [], ◌∷◌, Bool, true, length, slice_set}
-use Rattle.vsw_history.specs.declared.event.Event.{Event}
-use Rattle.vsw_layer.specs.Layer.{LayerSeen}
+use Rattle.vsw_port.specs.declared.event.Event.{Event}
+use Rattle.vsw_policy.specs.Layer.{LayerSeen}
 use Rattle.vsw_lean.specs.Good.{Row}
 use Rattle.vsw_rows.specs.Entries.{entry_shakes}
 use Rattle.vsw_lookup.specs.declared.view.View.{View}

@@ -2,13 +2,13 @@
 use Rattle.std.specs.Prelude.{◌≡◌, ◌≤◌, ◌+◌, ℕ, List, [], ◌∷◌, Some}
 use Rattle.atomic_table.specs.Seated.{TableId}
 use Rattle.vsw_base.specs.declared.header.Header.{Header}
-use Rattle.vsw_history.specs.declared.event.Event.{Event}
-use Rattle.vsw_layer.specs.Layer.{LayerSeen}
+use Rattle.vsw_port.specs.declared.event.Event.{Event}
+use Rattle.vsw_policy.specs.Layer.{LayerSeen}
 use Rattle.vsw_lookup.specs.Rules.{row_at, stamp_at}
 use Rattle.vsw_policy.specs.Layers.{PolicySeen}
 use Rattle.vsw_port.specs.Ledger.{LedgerSeen}
 use Rattle.vsw_rows.specs.Rows.{IsEmpty, Writing, layers_after}
-use Rattle.vsw_rows.specs.StoryRows.{opening_of}
+use Rattle.vsw_rows.specs.GoodRows.{opening_of}
 
 -- the right to write rows, whose history is the port's, and the headers with which the walk of the last packet ended
 pub record CoreSeen : Type 0 where

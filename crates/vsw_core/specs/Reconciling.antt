@@ -3,7 +3,7 @@ use Rattle.std.specs.Prelude.{◌≡◌, ◌≢◌, ◌⊎◌, ◌<◌, ℕ, Lis
 use Rattle.vsw_base.specs.declared.fate.Verdict.TheVariants.{Pass}
 use Rattle.vsw_core.specs.declared.owner.Reconciled.{Reconciled}
 use Rattle.vsw_core.specs.declared.owner.Reconciled.TheVariants.{Fresh, Kept, Changed, Cleared}
-use Rattle.vsw_layer.specs.Layer.{LayerSeen}
+use Rattle.vsw_policy.specs.Layer.{LayerSeen}
 use Rattle.vsw_lean.specs.Good.{Good, Row}
 use Rattle.vsw_lean.specs.Way.{way_of}
 use Rattle.vsw_lookup.specs.Rules.{row_at, stamp_at}

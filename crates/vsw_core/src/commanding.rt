@@ -6,10 +6,10 @@ ghost use Rattle.vsw_commandfile.specs.declared.line.Line.{Line};
 ghost use Rattle.vsw_core.specs.Adding.{HasLooks};
 ghost use Rattle.vsw_core.specs.Calls.{called, grown};
 ghost use Rattle.vsw_core.specs.Core.{IsOf, IsOwned};
-ghost use Rattle.vsw_history.specs.declared.event.Event.TheVariants as event;
-ghost use Rattle.vsw_history.specs.Calls.{Asked, controller_at};
-ghost use Rattle.vsw_history.specs.History.{AllRight};
-ghost use Rattle.vsw_history.specs.Next.{IsDone};
+ghost use Rattle.vsw_port.specs.declared.event.Event.TheVariants as event;
+ghost use Rattle.vsw_port.specs.Calls.{Asked, controller_at};
+ghost use Rattle.vsw_port.specs.History.{AllRight};
+ghost use Rattle.vsw_port.specs.Next.{IsDone};
 ghost use Rattle.vsw_rows.specs.Entries.{is_obeyed};
 ghost use Rattle.vsw_lookup.specs.Rules.{one_if, permits_of};
 ghost use Rattle.vsw_policy.specs.Obey.{is_memory, rules_given};
@@ -17,13 +17,12 @@ ghost use Rattle.vsw_policy.specs.Refusals.{reply_of};
 ghost use Rattle.vsw_policy.specs.Sound.{Each, IsGoodRule, is_listed};
 ghost use Rattle.vsw_port.specs.Core.{entered};
 ghost use Rattle.vsw_port.specs.Ledger.{layers_in};
-ghost use Rattle.vsw_rows.specs.StoryRows.{opening_of};
+ghost use Rattle.vsw_rows.specs.GoodRows.{opening_of};
 
 use vsw_base::NoMemory;
-use vsw_history::Event;
 use vsw_lookup::{Lookup, Pass};
 use vsw_policy::{Command, Refusal};
-use vsw_port::Ledger;
+use vsw_port::{Event, Ledger};
 use vsw_rows::{PortStory, Rows};
 
 /// Takes room for one look of each row in the layer that the command adds, if it adds one.

@@ -3,10 +3,10 @@
 ghost use Rattle.std.specs.Prelude.{◌≡◌, ◌≤◌, ◌+◌, ℕ, length, slice_set, IfOk, IsOk, OnOk, OnErr};
 ghost use mathlib.Core.List.{IsPrefix};
 ghost use Rattle.vsw_core.specs.Core.{IsOf, IsOwned};
-ghost use Rattle.vsw_history.specs.Calls.{named};
-ghost use Rattle.vsw_history.specs.History.{AllRight};
+ghost use Rattle.vsw_port.specs.Calls.{named};
+ghost use Rattle.vsw_port.specs.History.{AllRight};
 ghost use Rattle.vsw_lookup.specs.Rules.{Meets, permits_of};
-ghost use Rattle.vsw_rows.specs.StoryRows.{opening_of};
+ghost use Rattle.vsw_rows.specs.GoodRows.{opening_of};
 
 use vsw_base::NoMemory;
 use vsw_lookup::{Lookup, Pass};

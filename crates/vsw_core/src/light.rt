@@ -1,6 +1,6 @@
 //! Whether rows pay at these layers.
 
-use vsw_layer::Layer;
+use vsw_policy::Layer;
 
 /// How many tests of a rule cost as much as a row's answer does beyond the shortest walk.
 const ALLOWANCE: usize = 24;

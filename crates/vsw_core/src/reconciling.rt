@@ -6,7 +6,7 @@ ghost use Rattle.vsw_core.specs.Core.{IsOf};
 ghost use Rattle.vsw_core.specs.Private.Comparing.{IsCompared, IsRead, IsSame, row_by};
 ghost use Rattle.vsw_core.specs.Reconciling.{IsOld, OthersStay, Reconciles};
 ghost use Rattle.vsw_core.specs.Walks.{IsWholeWalk};
-ghost use Rattle.vsw_layer.specs.Layer.{LayerSeen};
+ghost use Rattle.vsw_policy.specs.Layer.{LayerSeen};
 ghost use Rattle.vsw_lean.specs.Good.{Row};
 ghost use Rattle.vsw_lean.specs.Way.{plain};
 ghost use Rattle.vsw_lookup.specs.Rules.{row_at};
@@ -22,13 +22,12 @@ use crate::owner::Reconciled;
 use crate::rooms::{Former, Rooms};
 use crate::writing::write_row;
 use vsw_base::{Control, Crossing, Moment, Sizes, Stack, Verdict};
-use vsw_identity::identity_to;
 use vsw_lookup::Lookup;
 use vsw_port::Ledger;
 use vsw_rows::{PortStory, Rows};
 use vsw_transpose::Transposition;
 use vsw_walk::{Scratch, Walked};
-use vsw_words::{Body, body_to, row_of};
+use vsw_words::{Body, body_to, identity_to, row_of};
 
 /// Compares a row with the layers of now, and makes it current where that can be.
 pub fn reconcile(

@@ -6,7 +6,7 @@ ghost use Rattle.vsw_base.specs.declared.packet.Control.TheVariants as control;
 ghost use Rattle.vsw_commit.specs.Cross.{makes};
 ghost use Rattle.vsw_core.specs.Core.{IsOf};
 ghost use Rattle.vsw_core.specs.Walks.{IsWholeWalk, SaysRowOf};
-ghost use Rattle.vsw_layer.specs.Layer.{LayerSeen};
+ghost use Rattle.vsw_policy.specs.Layer.{LayerSeen};
 ghost use Rattle.vsw_lookup.specs.Rules.{stamp_at};
 ghost use Rattle.vsw_rows.specs.Rows.{layers_after};
 ghost use Rattle.vsw_transpose.specs.Apply.{apply};

@@ -5,8 +5,7 @@ ghost use Rattle.vsw_policy.specs.Obey.{rules_given};
 
 use crate::trial::Trial;
 use std::alloc::Global;
-use vsw_layer::LayerSpec;
-use vsw_policy::{Command, Refusal, Reply};
+use vsw_policy::{Command, LayerSpec, Refusal, Reply};
 
 fn add_layer(layer: u16) -> Command
     ensures { rules_given result ≡ [] }

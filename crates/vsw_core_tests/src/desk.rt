@@ -2,17 +2,16 @@
 
 ghost use Rattle.std.specs.Prelude.{◌≡◌, ◌≤◌, [], IsTrue, map};
 ghost use Rattle.vsw_core.specs.Core.{Begins, IsOf};
-ghost use Rattle.vsw_layer.specs.Layer.{seen};
+ghost use Rattle.vsw_policy.specs.Layer.{seen};
 ghost use Rattle.vsw_port.specs.Core.{AreAtMost};
 
 use std::alloc::Global;
 use std::marker::Model;
 use vsw_base::{Crossing, Fate, Ufid, Verdict};
 use vsw_core::Core;
-use vsw_layer::Layer;
 use vsw_lookup::{Look, Lookup, Opened, Pass, Writer};
-use vsw_policy::Policy;
-use vsw_story::PortStory;
+use vsw_policy::{Layer, Policy};
+use vsw_rows::PortStory;
 use vsw_words::{body_of, key_words, slot_of};
 
 /// How many entries a desk may make.

@@ -5,8 +5,7 @@ ghost use Rattle.std.specs.Prelude.{◌<◌, ◌^◌};
 use crate::given::give;
 use std::alloc::Global;
 use vsw_base::{Dir, Ip4, Items, Set};
-use vsw_layer::LayerSpec;
-use vsw_policy::{Command, Policy};
+use vsw_policy::{Command, LayerSpec, Policy};
 use vsw_rule::{Action, Cond, Field, Item, Rule};
 
 const UNSET: Set = Set {

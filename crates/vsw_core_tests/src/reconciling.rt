@@ -9,11 +9,10 @@ use std::alloc::Global;
 use std::marker::Model;
 use vsw_base::{Control, Dir, Fate, Header, Items, Set, Stack, Ufid, Verdict};
 use vsw_core::{Core, Reconciled};
-use vsw_layer::LayerSpec;
 use vsw_lookup::{Look, Lookup, Opened, Pass, Writer};
-use vsw_policy::{Command, Policy};
+use vsw_policy::{Command, LayerSpec, Policy};
+use vsw_rows::PortStory;
 use vsw_rule::{Action, Rule};
-use vsw_story::PortStory;
 use vsw_transpose::Transposition;
 use vsw_words::{body_of, key_words, slot_of};
 

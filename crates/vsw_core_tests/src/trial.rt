@@ -7,10 +7,10 @@ ghost use Rattle.vsw_policy.specs.Obey.{rules_given};
 use std::alloc::Global;
 use std::marker::Model;
 use vsw_core::Core;
-use vsw_history::Event;
 use vsw_lookup::{Look, Lookup, Opened, Pass, Writer};
 use vsw_policy::{Command, Policy, Reply};
-use vsw_story::PortStory;
+use vsw_port::Event;
+use vsw_rows::PortStory;
 
 /// The pass of the first controller, behind those of sixteen workers.
 fn pass_of_first(lookup: &Lookup<PortStory>, writer: &mut Writer<PortStory>) -> Pass<PortStory>

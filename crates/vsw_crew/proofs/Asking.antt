@@ -10,12 +10,12 @@ use Rattle.vsw_harbour.specs.Meeting.{AllMeet}
 use Rattle.vsw_harbour.specs.Standing.{IsWhole, RowsStand, no_calls}
 use Rattle.vsw_harbour.specs.Steps.{Did, MayGo, Turned}
 use Rattle.vsw_harbour.proofs.Likes.{journals_like}
-use Rattle.vsw_history.specs.Calls.{Call}
-use Rattle.vsw_history.specs.declared.event.Event.{Event}
+use Rattle.vsw_port.specs.Calls.{Call}
+use Rattle.vsw_port.specs.declared.event.Event.{Event}
 use Rattle.vsw_harbour.specs.Rounds.{AreJournals}
-use Rattle.vsw_merge.specs.Line.{TextLine}
+use Rattle.vsw_report.specs.Line.{TextLine}
 use Rattle.vsw_policy.specs.Sound.{Each}
-use Rattle.vsw_ports.specs.Ports.{ports_of}
+use Rattle.vsw_promise.specs.Ports.{ports_of}
 use Rattle.vsw_promise.specs.Jobs.{Setting, numbers_of}
 use Rattle.vsw_crew.specs.Crew.{AreReady}
 use Rattle.vsw_crew.specs.Private.Round.{HasAsked, HasBegun}

@@ -5,17 +5,17 @@ use Rattle.vsw_commandfile.specs.declared.line.Line.{Line}
 use Rattle.vsw_harbour.specs.Seen.{DockSeen, StationSeen}
 use Rattle.vsw_harbour.specs.Harbour.{AreLike, HarbourSeen, IsHarbour, IsOfRun, MayAsk, callers, ports_in}
 use Rattle.vsw_harbour.specs.Standing.{no_calls}
-use Rattle.vsw_history.specs.declared.event.Event.{Event}
+use Rattle.vsw_port.specs.declared.event.Event.{Event}
 use Rattle.vsw_history_law.specs.Law.{AreAsked}
 use Rattle.vsw_harbour.specs.Rounds.{AreJournals}
 use Rattle.vsw_harbour.proofs.Dealing.{all_know}
 use Rattle.vsw_pcap.specs.declared.capture.Record.{Record}
 use Rattle.vsw_policy.specs.Sound.{Each, is_listed}
-use Rattle.vsw_ports.specs.Ports.{PortSeen, ports_of}
+use Rattle.vsw_promise.specs.Ports.{PortSeen, ports_of}
 use Rattle.vsw_promise.specs.Jobs.{Setting}
 use Rattle.vsw_promise.specs.Rounds.{AreHistories}
-use Rattle.vsw_rounds.specs.Round.{TellsRound}
-use Rattle.vsw_rounds.specs.Switch.{AllStandAt, AreServed, IsAt, PortNow}
+use Rattle.vsw_switch.specs.Round.{TellsRound}
+use Rattle.vsw_switch.specs.Switch.{AllStandAt, AreServed, IsAt, PortNow}
 use Rattle.vsw_crew.specs.Crew.{AreReady, AreRowsOf, CrewSeen, IsOfSome, port_now, ports_now, seen_by, switch_now}
 use Rattle.vsw_crew.specs.Private.Round.{HasTold}
 use Rattle.vsw_crew.proofs.Taking.{seen_are}

@@ -9,7 +9,7 @@ use Rattle.vsw_harbour.specs.Deal.{AreFew, AreWork, dealt, shared}
 use Rattle.vsw_harbour.specs.Work.{IsWork, job_in}
 use Rattle.vsw_harbour.specs.DealWork.{Work}
 use Rattle.vsw_harbour.specs.Docks.{is_of, pass_in, permits, port_in, takes, tells}
-use Rattle.vsw_harbour.specs.Opening.{rows_in}
+use Rattle.vsw_harbour.specs.HarbourOpening.{rows_in}
 use Rattle.vsw_harbour.specs.Seen.{DockSeen, StationSeen}
 use Rattle.vsw_harbour.specs.Harbour.{HarbourSeen, IsHarbour, callers, ports_in}
 use Rattle.vsw_harbour.specs.Meeting.{AllMeet, AreLanesAt}
@@ -19,9 +19,9 @@ use Rattle.vsw_harbour.specs.Working.{AreWorking, RowWorks, RowsWork}
 use Rattle.vsw_harbour.proofs.Asking.{harbour_own, harbour_takes, rows_at}
 use Rattle.vsw_harbour.proofs.Held.{as_many}
 use Rattle.vsw_harbour.proofs.Standing.{are_fit}
-use Rattle.vsw_history.specs.Calls.{job_doer}
-use Rattle.vsw_history.specs.Order.{counted}
-use Rattle.vsw_history.specs.declared.event.Event.{Event}
+use Rattle.vsw_port.specs.Calls.{job_doer}
+use Rattle.vsw_port.specs.Order.{counted}
+use Rattle.vsw_port.specs.declared.event.Event.{Event}
 use Rattle.vsw_history_law.proofs.Callers.{eqb_is}
 use Rattle.vsw_harbour.specs.ManyActors.{AtWork}
 use Rattle.vsw_harbour.specs.Passes.{AtRest}

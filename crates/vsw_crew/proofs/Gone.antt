@@ -2,12 +2,12 @@
 use Rattle.std.proofs.Common.{◌≡◌, ℕ, zero, suc, List, [], ◌∷◌, length, set, refl, ap, Vec}
 use Rattle.vsw_crew.specs.Private.Rows.{AreGone}
 use Rattle.vsw_harbour.specs.Lane.{Lane}
-use Rattle.vsw_harbour.specs.Opening.{rows_in}
+use Rattle.vsw_harbour.specs.HarbourOpening.{rows_in}
 use Rattle.vsw_harbour.specs.Seen.{StationSeen}
-use Rattle.vsw_merge.specs.Line.{TextLine}
-use Rattle.vsw_merge.specs.Order.{emptied}
+use Rattle.vsw_report.specs.Line.{TextLine}
+use Rattle.vsw_report.specs.Order.{emptied}
 use Rattle.vsw_policy.specs.Sound.{Each}
-use Rattle.vsw_tell.specs.Texts.{all_emptied}
+use Rattle.vsw_crew.specs.Texts.{all_emptied}
 
 emptied_gone : (lines : List (List TextLine)) → AreGone (emptied lines)
 emptied_gone [] place = refl

@@ -2,14 +2,14 @@
 use Rattle.std.proofs.Common.{◌≡◌, ◌≢◌, ◌≤◌, ◌<◌, ℕ, suc, ◌==◌, ◌&&◌, not, List, [], ◌∷◌, map, filter, sym, subst, arith}
 use Rattle.vsw_commandfile.specs.declared.line.Line.{Line}
 use Rattle.vsw_harbour.specs.Turns.{PlacedTurns, placed_before}
-use Rattle.vsw_history.specs.Calls.{Ask, Call, Job, calls_of, doer, job_doer, job_of}
-use Rattle.vsw_history.specs.declared.event.Event.{Event}
+use Rattle.vsw_port.specs.Calls.{Ask, Call, Job, calls_of, doer, job_doer, job_of}
+use Rattle.vsw_port.specs.declared.event.Event.{Event}
 use Rattle.vsw_history_law.proofs.Reports.{doer_job}
 use Rattle.vsw_harbour.proofs.Passes.{each_weaker, none_of}
 use Rattle.vsw_harbour.proofs.Rounds.{each_place}
 use Rattle.vsw_policy.specs.Layers.{place_of}
 use Rattle.vsw_policy.specs.Sound.{Each}
-use Rattle.vsw_ports.specs.Ports.{PortSeen}
+use Rattle.vsw_promise.specs.Ports.{PortSeen}
 use Rattle.vsw_promise.specs.Jobs.{Placed}
 use Rattle.vsw_crew.proofs.Taking.{HasNone}
 

@@ -5,20 +5,20 @@ use Rattle.vsw_commandfile.specs.declared.line.Line.{Line}
 use Rattle.vsw_harbour.specs.Crew.{AreTexts, CrewDid, crew_texts, jobs_beside}
 use Rattle.vsw_harbour.specs.Turns.{PlacedTurns, append_each, placed_before}
 use Rattle.vsw_harbour.proofs.Turns.{journals_end, turns_join}
-use Rattle.vsw_harbour.specs.Opening.{rows_in}
+use Rattle.vsw_harbour.specs.HarbourOpening.{rows_in}
 use Rattle.vsw_harbour.specs.Seen.{DockSeen, StationSeen}
 use Rattle.vsw_harbour.specs.Harbour.{HarbourSeen, IsOfRun, callers, ports_in}
 use Rattle.vsw_harbour.specs.Standing.{RowsStand, no_calls}
 use Rattle.vsw_harbour.proofs.Likes.{calls_like, journals_like, macs_like, numbers_like}
-use Rattle.vsw_history.specs.Calls.{Call}
-use Rattle.vsw_history.specs.Order.{numbered}
-use Rattle.vsw_history.specs.declared.event.Event.{Event}
-use Rattle.vsw_history.proofs.Fronts.{append_end}
+use Rattle.vsw_port.specs.Calls.{Call}
+use Rattle.vsw_port.specs.Order.{numbered}
+use Rattle.vsw_port.specs.declared.event.Event.{Event}
+use Rattle.vsw_port.proofs.Fronts.{append_end}
 use Rattle.vsw_harbour.specs.Phases as many
 use Rattle.vsw_harbour.specs.Rounds.{AreJournals, calls_by_port, other_columns}
-use Rattle.vsw_merge.specs.Line.{TextLine}
+use Rattle.vsw_report.specs.Line.{TextLine}
 use Rattle.vsw_pcap.specs.declared.capture.Record.{Record}
-use Rattle.vsw_ports.specs.Ports.{PortSeen, ports_of}
+use Rattle.vsw_promise.specs.Ports.{PortSeen, ports_of}
 use Rattle.vsw_promise.specs.Jobs.{Placed, Setting, loose_among, macs_of, numbers_of, placed_lines, placed_packets}
 use Rattle.vsw_report.specs.declared.round.Loose.{Loose}
 use Rattle.vsw_crew.specs.Crew.{AreReady}

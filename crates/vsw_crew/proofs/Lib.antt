@@ -1,3 +1,7 @@
+pub mod Once
+pub mod GoneAtPort
+pub mod Steps
+pub mod ToldPorts
 mod Texts
 mod Taking
 mod Idle
@@ -9,5 +13,5 @@ mod Joining
 mod Gone
 mod Told
 mod Between
-pub use Rattle.vsw_rounds.proofs.Totals
-pub use Rattle.vsw_rounds.proofs.Running
+pub use Rattle.vsw_switch.proofs.Totals
+pub use Rattle.vsw_switch.proofs.Running

@@ -3,7 +3,7 @@ use Rattle.std.proofs.Common.{◌≡◌, ◌≤◌, ℕ, zero, suc, List, [], �
 use Rattle.vsw_harbour.specs.Lane.{Lane}
 use Rattle.vsw_harbour.specs.Docks.{pass_in, port_in, tells}
 use Rattle.vsw_harbour.specs.DockMeeting.{AreHeld, LaneMeets, RowMeets, histories_of}
-use Rattle.vsw_harbour.specs.Opening.{rows_in}
+use Rattle.vsw_harbour.specs.HarbourOpening.{rows_in}
 use Rattle.vsw_harbour.specs.Seen.{DockSeen, StationSeen}
 use Rattle.vsw_harbour.specs.Harbour.{HarbourSeen, IsHarbour, asks_of, callers}
 use Rattle.vsw_harbour.specs.Meeting.{AllMeet, AreLanesAt, RowsMeet}
@@ -14,8 +14,8 @@ use Rattle.vsw_harbour.proofs.Asking.{asks_many, rows_at}
 use Rattle.vsw_harbour.proofs.Held.{as_many, rows_may}
 use Rattle.vsw_harbour.proofs.Standing.{works_none}
 use Rattle.vsw_harbour.proofs.Together.{did}
-use Rattle.vsw_history.specs.Calls.{Call, calls_of, entries_naming}
-use Rattle.vsw_history.specs.declared.event.Event.{Event}
+use Rattle.vsw_port.specs.Calls.{Call, calls_of, entries_naming}
+use Rattle.vsw_port.specs.declared.event.Event.{Event}
 use Rattle.vsw_harbour.specs.Core.{IsOf}
 use Rattle.vsw_harbour.specs.LiveMeeting.{HeldSeen}
 use Rattle.vsw_harbour.specs.Ports as live

@@ -9,13 +9,13 @@ use Rattle.vsw_harbour.specs.Harbour.{AreLike, HarbourSeen, IsOfRun, callers}
 use Rattle.vsw_harbour.specs.Standing.{RowsStand, no_calls}
 use Rattle.vsw_harbour.specs.Steps.{Did}
 use Rattle.vsw_harbour.proofs.Likes.{journals_like, rows_like}
-use Rattle.vsw_history.specs.Calls.{Call}
-use Rattle.vsw_history.specs.declared.event.Event.{Event}
-use Rattle.vsw_history.proofs.Fronts.{append_end}
+use Rattle.vsw_port.specs.Calls.{Call}
+use Rattle.vsw_port.specs.declared.event.Event.{Event}
+use Rattle.vsw_port.proofs.Fronts.{append_end}
 use Rattle.vsw_harbour.specs.ManyActors.{AreRows}
 use Rattle.vsw_harbour.specs.Phases as many
 use Rattle.vsw_harbour.specs.Rounds.{AreJournals}
-use Rattle.vsw_ports.specs.Ports.{PortSeen, ports_of}
+use Rattle.vsw_promise.specs.Ports.{PortSeen, ports_of}
 use Rattle.vsw_promise.specs.Jobs.{Placed, Setting}
 use Rattle.vsw_crew.proofs.Taking.{seen_are}
 

@@ -7,8 +7,8 @@ use Rattle.vsw_crew.specs.Told.{told_row, told_rows}
 use Rattle.vsw_harbour.specs.Crew.{lines_for}
 use Rattle.vsw_harbour.specs.Seen.{DockSeen, StationSeen}
 use Rattle.vsw_harbour.specs.Standing.{IsWhole, RowStands, RowsStand, no_calls}
-use Rattle.vsw_history.specs.Calls.{Call, calls_of}
-use Rattle.vsw_history.specs.declared.event.Event.{Event}
+use Rattle.vsw_port.specs.Calls.{Call, calls_of}
+use Rattle.vsw_port.specs.declared.event.Event.{Event}
 use Rattle.vsw_policy.specs.Sound.{Each}
 
 -- ---- one row

@@ -2,15 +2,15 @@
 use Rattle.std.proofs.Common.{◌≡◌, ◌≤◌, ◌<◌, ℕ, zero, suc, ◌+◌, ◌==◌, ◌||◌, Bool, true, false, nat_lt, if◌then◌else◌, List, [], ◌∷◌, ◌++◌, length, map, take, get_or, refl, ap, ap₂, sym, ◌∙◌, arith, eq-eqb}
 use Rattle.std.specs.List.{flat_map}
 use Rattle.vsw_harbour.specs.Crew.{AreTexts, crew_texts, lines_for}
-use Rattle.vsw_history.specs.Calls.{Call, calls_of, controller_at}
-use Rattle.vsw_history.specs.Order.{ascending, counted, put_in}
-use Rattle.vsw_merge.specs.Line.{TextLine}
+use Rattle.vsw_port.specs.Calls.{Call, calls_of, controller_at}
+use Rattle.vsw_port.specs.Order.{ascending, counted, put_in}
+use Rattle.vsw_report.specs.Line.{TextLine}
 use Rattle.vsw_harbour.proofs.Dealing.{place_within}
 use Rattle.vsw_harbour.proofs.Passes.{each_weaker}
 use Rattle.vsw_policy.specs.Layers.{place_of}
 use Rattle.vsw_policy.specs.Sound.{Each, is_listed}
-use Rattle.vsw_ports.specs.Ports.{PortSeen}
-use Rattle.vsw_tell.specs.Texts.{caller_at, controller_lines, row_at, texts_at, texts_by_port}
+use Rattle.vsw_promise.specs.Ports.{PortSeen}
+use Rattle.vsw_crew.specs.Texts.{caller_at, controller_lines, row_at, texts_at, texts_by_port}
 use Rattle.vsw_crew.specs.Told.{told_row, told_rows}
 
 -- ---- lists by places

@@ -4,25 +4,25 @@ use Rattle.vsw_harbour.specs.Lane.{Lane}
 use Rattle.vsw_harbour.specs.Crew.{AreCounted, CrewTells, callers_in, crew_text, is_short_crew}
 use Rattle.vsw_harbour.specs.Turns.{PlacedTurns}
 use Rattle.vsw_harbour.proofs.Crew.{crew_is_told}
-use Rattle.vsw_harbour.specs.Opening.{rows_in}
+use Rattle.vsw_harbour.specs.HarbourOpening.{rows_in}
 use Rattle.vsw_harbour.specs.Seen.{DockSeen, StationSeen}
 use Rattle.vsw_harbour.specs.Harbour.{AreLike, HarbourSeen, IsHarbour, callers}
 use Rattle.vsw_harbour.specs.Standing.{IsWhole, RowsStand, no_calls}
 use Rattle.vsw_harbour.proofs.Likes.{numbers_like}
-use Rattle.vsw_history.specs.Calls.{Call}
-use Rattle.vsw_history.specs.Order.{ascending}
-use Rattle.vsw_history.specs.declared.event.Event.{Event}
-use Rattle.vsw_history.proofs.Fronts.{prefix_length}
+use Rattle.vsw_port.specs.Calls.{Call}
+use Rattle.vsw_port.specs.Order.{ascending}
+use Rattle.vsw_port.specs.declared.event.Event.{Event}
+use Rattle.vsw_port.proofs.Fronts.{prefix_length}
 use Rattle.vsw_history_law.specs.Law.{AreAsked}
 use Rattle.vsw_harbour.specs.Rounds.{AreJournals, calls_by_port}
 use Rattle.vsw_harbour.proofs.Dealing.{all_know}
-use Rattle.vsw_merge.specs.Line.{TextLine}
+use Rattle.vsw_report.specs.Line.{TextLine}
 use Rattle.vsw_pcap.specs.declared.capture.Record.{Record}
 use Rattle.vsw_policy.specs.Sound.{Each, are_distinct}
-use Rattle.vsw_ports.specs.Ports.{PortSeen, ports_of}
+use Rattle.vsw_promise.specs.Ports.{PortSeen, ports_of}
 use Rattle.vsw_promise.specs.Jobs.{Placed, Setting, numbers_of}
 use Rattle.vsw_report.specs.declared.round.Loose.{Loose}
-use Rattle.vsw_tell.specs.Texts.{AreRising, AreSized, texts_by_port}
+use Rattle.vsw_crew.specs.Texts.{AreRising, AreSized, texts_by_port}
 use Rattle.vsw_crew.specs.Private.Round.{HasTold, HasWorked, numbers_in}
 use Rattle.vsw_crew.specs.Private.Telling.{IsCounted, text_of, texts_so}
 use Rattle.vsw_crew.specs.Private.Rows.{cleared, first_counts, lines_of, rested}

@@ -3,13 +3,13 @@ use Rattle.std.specs.Prelude.{◌≡◌, List, [], ◌∷◌, length, map}
 use Rattle.vsw_harbour.specs.Lane.{Lane}
 use Rattle.vsw_harbour.specs.Docks.{port_in}
 use Rattle.vsw_harbour.specs.Seen.{DockSeen, StationSeen}
-use Rattle.vsw_history.specs.Order.{ascending, counted}
-use Rattle.vsw_history.specs.declared.event.Event.{Event}
+use Rattle.vsw_port.specs.Order.{ascending, counted}
+use Rattle.vsw_port.specs.declared.event.Event.{Event}
 use Rattle.vsw_harbour.specs.Rounds.{AreJournals}
 use Rattle.vsw_promise.specs.Jobs.{Setting}
 use Rattle.vsw_promise.specs.Rounds.{opening_of}
-use Rattle.vsw_rounds.specs.Switch.{PortNow, SwitchNow}
-use Rattle.vsw_rounds.specs.Tally.{none}
+use Rattle.vsw_switch.specs.Switch.{PortNow, SwitchNow}
+use Rattle.vsw_switch.specs.Tally.{none}
 use Rattle.vsw_harbour.specs.Harbour.{HarbourSeen, IsOfRun, callers, ports_in}
 use Rattle.vsw_harbour.specs.Standing.{RowsStand, no_calls}
 

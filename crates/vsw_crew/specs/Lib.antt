@@ -1,8 +1,9 @@
+pub mod Texts
+pub mod Private
 pub mod Crew
 pub mod Told
-pub mod Private
-pub use Rattle.vsw_rounds.specs.Round
-pub use Rattle.vsw_rounds.specs.Close
-pub use Rattle.vsw_rounds.specs.Switch
-pub use Rattle.vsw_rounds.specs.Tally
-pub use Rattle.vsw_rounds.specs.SwitchTally
+pub use Rattle.vsw_switch.specs.Round
+pub use Rattle.vsw_switch.specs.Close
+pub use Rattle.vsw_switch.specs.Switch
+pub use Rattle.vsw_switch.specs.Tally
+pub use Rattle.vsw_switch.specs.declared.tally.Tally as SwitchTally

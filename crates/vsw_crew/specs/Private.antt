@@ -1,4 +1,5 @@
--- What contracts of private functions are of. No caller need read it.
+pub mod Port
+pub mod Ports
 pub mod Rows
 pub mod Round
 pub mod Telling

@@ -1,9 +1,9 @@
 -- What callers tell of their calls.
 use Rattle.std.specs.Prelude.{ℕ, List, map}
 use Rattle.vsw_harbour.specs.Crew.{lines_for}
-use Rattle.vsw_history.specs.Calls.{Call, calls_of}
-use Rattle.vsw_history.specs.Order.{counted}
-use Rattle.vsw_merge.specs.Line.{TextLine}
+use Rattle.vsw_port.specs.Calls.{Call, calls_of}
+use Rattle.vsw_port.specs.Order.{counted}
+use Rattle.vsw_report.specs.Line.{TextLine}
 
 -- at each port the lines of those of these calls that are caller k's
 abbrev pub told_row : List ℕ → List (List Call) → ℕ → List (List TextLine)

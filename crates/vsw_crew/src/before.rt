@@ -4,19 +4,19 @@ ghost use Rattle.std.specs.Prelude.{◌≡◌, ◌≤◌, ◌++◌, List, IfOk, 
 ghost use Rattle.vsw_crew.specs.Crew.{AreReady, IsOfSome};
 ghost use Rattle.vsw_crew.specs.Private.Round.{HasAsked, HasBegun};
 ghost use Rattle.vsw_crew.specs.Private.Rows.{cleared, lines_of};
-ghost use Rattle.vsw_harbour.specs.Opening.{rows_in};
+ghost use Rattle.vsw_harbour.specs.HarbourOpening.{rows_in};
 ghost use Rattle.vsw_harbour.specs.Harbour.{IsOfRun, MayAsk};
-ghost use Rattle.vsw_history.specs.declared.event.Event.{Event};
+ghost use Rattle.vsw_port.specs.declared.event.Event.{Event};
 ghost use Rattle.vsw_policy.specs.Sound.{Each};
 ghost use Rattle.vsw_promise.specs.Jobs.{Setting};
 
+use crate::Lines;
 use crate::lines::{are_whole, take_rows};
 use std::alloc::Global;
 use std::sync::Wait;
 use vsw_base::NoMemory;
 use vsw_harbour::{Harbour, Lane, Naming, Station, Watch, ask_before, meet_all};
-use vsw_schedule::Schedule;
-use vsw_tell::Lines;
+use vsw_promise::Schedule;
 
 /// All callers meet the ports, and the commands before the packets of the round that begins with this one are asked.
 fn meet_and_ask<'g, J: Naming, G: Watch, R: Wait>(

@@ -7,11 +7,11 @@ ghost use Rattle.vsw_crew.specs.Private.Rows.{needs_in};
 ghost use Rattle.vsw_harbour.specs.Deal.{AreFew, AreWork, dealt, shared};
 ghost use Rattle.vsw_harbour.specs.Work.{job_in};
 ghost use Rattle.vsw_harbour.specs.Docks.{is_of, pass_in, permits, port_in, takes, tells};
-ghost use Rattle.vsw_harbour.specs.Opening.{rows_in};
+ghost use Rattle.vsw_harbour.specs.HarbourOpening.{rows_in};
 ghost use Rattle.vsw_harbour.specs.Harbour.{asks_of, callers};
 ghost use Rattle.vsw_harbour.specs.Meeting.{AllMeet, AreLanesAt};
 ghost use Rattle.vsw_harbour.specs.Standing.{RowsStand, no_calls};
-ghost use Rattle.vsw_history.specs.declared.event.Event.{Event};
+ghost use Rattle.vsw_port.specs.declared.event.Event.{Event};
 ghost use Rattle.vsw_policy.specs.Sound.{Each};
 ghost use Rattle.vsw_promise.specs.Jobs as jobs;
 

@@ -4,13 +4,13 @@ ghost use Rattle.std.specs.Prelude.{◌≡◌, ◌<◌, ◌+◌, ◌^◌, List, 
 ghost use Rattle.vsw_commandfile.specs.declared.line.Line.{Line};
 ghost use Rattle.vsw_crew.specs.Crew.{AreReady, AreRowsOf, IsOfSome, crew_now, seen_by, switch_now};
 ghost use Rattle.vsw_crew.specs.Private.Round.{HasTold};
-ghost use Rattle.vsw_harbour.specs.Opening.{rows_in};
+ghost use Rattle.vsw_harbour.specs.HarbourOpening.{rows_in};
 ghost use Rattle.vsw_harbour.specs.Harbour.{IsOfRun, MayAsk};
-ghost use Rattle.vsw_history.specs.declared.event.Event.{Event};
+ghost use Rattle.vsw_port.specs.declared.event.Event.{Event};
 ghost use Rattle.vsw_policy.specs.Sound.{Each};
 ghost use Rattle.vsw_promise.specs.Jobs.{Setting};
-ghost use Rattle.vsw_rounds.specs.Round.{TellsRound};
-ghost use Rattle.vsw_rounds.specs.Switch.{AreServed, IsAt};
+ghost use Rattle.vsw_switch.specs.Round.{TellsRound};
+ghost use Rattle.vsw_switch.specs.Switch.{AreServed, IsAt};
 
 use crate::round::work_round;
 use crate::telling::tell;
@@ -21,7 +21,7 @@ use std::thread::Threads;
 use vsw_base::NoMemory;
 use vsw_harbour::{Harbour, Lane, Naming, Station, Watch};
 use vsw_pcap::Batch;
-use vsw_schedule::Schedule;
+use vsw_promise::Schedule;
 use vsw_workers::Gate;
 
 /// The workers and the controllers of a run, each of which has a row of lanes, one a port: first the workers 0 to 15, then the
@@ -36,7 +36,7 @@ pub struct Crew<'g, J: Naming, G> {
 
 impl<'g, J: Naming, G> Model for Crew<'g, J, G> {
     ghost use Rattle.vsw_crew.specs.Crew.{AreRowsOf, CrewSeen, seen_by};
-    ghost use Rattle.vsw_harbour.specs.Opening.{rows_in};
+    ghost use Rattle.vsw_harbour.specs.HarbourOpening.{rows_in};
 
     ghost Value = { CrewSeen };
 

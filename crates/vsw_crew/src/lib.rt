@@ -1,13 +1,19 @@
-//! A crew: the workers and the controllers of a run, each in a thread of its own, round by round.
+//! A crew: the workers and the controllers of a run, each in a thread of its own, round by round, and the text that tells of each round.
 #![tactic(auto)]
 
 mod before;
 mod beside;
+mod caller_lines;
 mod crew;
 mod lines;
+mod port;
+mod ports;
 mod round;
+mod round_text;
 mod telling;
 
+pub use caller_lines::Lines;
 pub use crew::Crew;
+pub use round_text::tell_round;
 pub use vsw_harbour::{Answer, Naming, Watch, Why};
-pub use vsw_rounds::{Switch, Tally, run_round};
+pub use vsw_switch::{Switch, Tally, run_round};

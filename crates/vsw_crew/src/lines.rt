@@ -2,15 +2,15 @@
 
 ghost use Rattle.std.specs.Prelude.{◌≡◌, ◌++◌, ◌∷◌, [], IfOk, IsTrue, OnOk, length, map};
 ghost use Rattle.vsw_crew.specs.Private.Rows.{AreGone, cleared, cleared_lane, counts_of, first_counts, lines_of, rested, rested_lane};
-ghost use Rattle.vsw_harbour.specs.Opening.{rows_in};
+ghost use Rattle.vsw_harbour.specs.HarbourOpening.{rows_in};
 ghost use Rattle.vsw_harbour.specs.Standing.{IsWhole};
 ghost use Rattle.vsw_policy.specs.Sound.{Each};
 
+use crate::Lines;
 use std::alloc::Global;
 use vsw_base::NoMemory;
 use vsw_harbour::{Lane, Station};
-use vsw_merge::Caller;
-use vsw_tell::Lines;
+use vsw_report::Caller;
 
 /// Puts a count at the end. That it has more than 32 bits counts as want of memory.
 fn add_count(count: usize, counts: &mut Vec<u32>) -> Result<(), NoMemory>

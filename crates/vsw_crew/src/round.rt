@@ -4,13 +4,14 @@ ghost use Rattle.std.specs.Prelude.{◌≡◌, ◌<◌, ◌+◌, ◌^◌, ◌++�
 ghost use Rattle.vsw_crew.specs.Crew.{AreReady, IsOfSome};
 ghost use Rattle.vsw_crew.specs.Private.Round.{HasWorked, jobs_here, macs_in};
 ghost use Rattle.vsw_harbour.specs.Deal.{AreFew, AreWork, dealt, shared};
-ghost use Rattle.vsw_harbour.specs.Opening.{rows_in};
+ghost use Rattle.vsw_harbour.specs.HarbourOpening.{rows_in};
 ghost use Rattle.vsw_harbour.specs.Harbour.{IsOfRun, MayAsk};
-ghost use Rattle.vsw_history.specs.Order.{numbered};
-ghost use Rattle.vsw_history.specs.declared.event.Event.{Event};
+ghost use Rattle.vsw_port.specs.Order.{numbered};
+ghost use Rattle.vsw_port.specs.declared.event.Event.{Event};
 ghost use Rattle.vsw_policy.specs.Sound.{Each};
 ghost use Rattle.vsw_promise.specs.Jobs.{Setting, loose_among};
 
+use crate::Lines;
 use crate::before::begin;
 use crate::beside::do_beside;
 use crate::lines::count_first;
@@ -19,9 +20,8 @@ use std::thread::Threads;
 use vsw_base::NoMemory;
 use vsw_harbour::{Harbour, Lane, Naming, Placed, Station, Watch, Work, deal};
 use vsw_pcap::Batch;
+use vsw_promise::Schedule;
 use vsw_report::Loose;
-use vsw_schedule::Schedule;
-use vsw_tell::Lines;
 use vsw_workers::Gate;
 
 /// A round that was done, and is to be told.

@@ -4,20 +4,20 @@ ghost use Rattle.std.specs.Prelude.{◌≡◌, List, IfOk, OnOk, length, map};
 ghost use Rattle.vsw_crew.specs.Private.Round.{HasTold, HasWorked, numbers_in};
 ghost use Rattle.vsw_crew.specs.Private.Telling.{IsCounted, text_of, texts_so};
 ghost use Rattle.vsw_harbour.specs.Crew.{is_short_crew};
-ghost use Rattle.vsw_harbour.specs.Opening.{rows_in};
-ghost use Rattle.vsw_history.specs.declared.event.Event.{Event};
+ghost use Rattle.vsw_harbour.specs.HarbourOpening.{rows_in};
+ghost use Rattle.vsw_port.specs.declared.event.Event.{Event};
 ghost use Rattle.vsw_history_law.specs.Law.{AreAsked};
 ghost use Rattle.vsw_pcap.specs.declared.capture.Record.{Record};
-ghost use Rattle.vsw_ports.specs.Ports.{PortSeen};
+ghost use Rattle.vsw_promise.specs.Ports.{PortSeen};
 ghost use Rattle.vsw_promise.specs.Jobs.{Setting};
-ghost use Rattle.vsw_tell.specs.Texts.{AreRising, AreSized, all_emptied};
+ghost use Rattle.vsw_crew.specs.Texts.{AreRising, AreSized, all_emptied};
 
 use crate::lines::{are_whole, count_first, give_all, take_all};
 use crate::round::Worked;
+use crate::{Lines, tell_round};
 use vsw_base::NoMemory;
 use vsw_harbour::{Harbour, Lane, Naming, Station};
 use vsw_report::Loose;
-use vsw_tell::{Lines, tell_round};
 
 /// Appends the text of a round, out of the lines of all callers and the controllers' of the commands before the packets.
 fn say<'g, J: Naming, G>(

@@ -3,8 +3,8 @@ use Rattle.std.proofs.Common.{◌≡◌, ◌+◌, ◌∷◌, [], ◌++◌, ℕ, 
 use Rattle.vsw_live.specs.Core.{Looking}
 use Rattle.vsw_live.specs.Ports.{AreNewPasses, OpenSeen, passes_of, ports_of}
 use Rattle.vsw_policy.specs.Sound.{Each}
-use Rattle.vsw_ports.specs.declared.port.Port.{Port}
-use Rattle.vsw_ports.specs.Ports.{port_seen}
+use Rattle.vsw_promise.specs.declared.port.Port.{Port}
+use Rattle.vsw_promise.specs.Ports.{port_seen}
 use Rattle.vsw_live.specs.Rows.{Writing}
 use Rattle.vsw_dock.specs.Docks.{port_in}
 use Rattle.vsw_dock.specs.Laws.{AreDocked}

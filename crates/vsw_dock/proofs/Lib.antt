@@ -4,9 +4,9 @@ pub mod Resting
 pub mod Same
 pub mod Working
 pub mod Sharing
-pub use Rattle.vsw_deal.proofs.Steps
-pub use Rattle.vsw_deal.proofs.Doing
-pub use Rattle.vsw_deal.proofs.Actors
-pub use Rattle.vsw_deal.proofs.Dealing
-pub use Rattle.vsw_deal.proofs.Passes
-pub use Rattle.vsw_deal.proofs.Rounds
+pub use Rattle.vsw_actors.proofs.Steps
+pub use Rattle.vsw_actors.proofs.Doing
+pub use Rattle.vsw_actors.proofs.Actors
+pub use Rattle.vsw_actors.proofs.Dealing
+pub use Rattle.vsw_actors.proofs.Passes
+pub use Rattle.vsw_actors.proofs.ManyRounds as Rounds

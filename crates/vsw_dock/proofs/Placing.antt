@@ -1,7 +1,7 @@
 -- Lanes that meet their ports one after another.
 use Rattle.std.proofs.Common.{◌≡◌, ◌<◌, ◌+◌, ℕ, zero, suc, List, [], ◌∷◌, length, slice_set, slice_index_or, refl, sym, ap, subst, arith}
 use Rattle.std.specs.Prelude.{OnOk, Result, Ok, Err}
-use Rattle.vsw_deal.specs.Lane.{Lane}
+use Rattle.vsw_actors.specs.declared.lane.Lane.{Lane}
 use Rattle.vsw_base.specs.declared.fault.NoMemory.{NoMemory}
 use Rattle.vsw_live.specs.Core.{IsOf}
 use Rattle.vsw_live.specs.Meeting.{HeldSeen}

@@ -1,12 +1,12 @@
 -- Rows that met their ports.
 use Rattle.std.proofs.Common.{◌≡◌, ◌≤◌, ◌∷◌, [], ℕ, List, length, sym, ap, ◌∙◌, subst, arith}
-use Rattle.vsw_deal.specs.Lane.{Lane}
-use Rattle.vsw_deal.specs.Lanes.{AreFit, IsFit}
-use Rattle.vsw_history.specs.declared.event.Event.{Event}
-use Rattle.vsw_history.specs.Calls.{entries_naming}
+use Rattle.vsw_actors.specs.declared.lane.Lane.{Lane}
+use Rattle.vsw_actors.specs.Lanes.{AreFit, IsFit}
+use Rattle.vsw_port.specs.declared.event.Event.{Event}
+use Rattle.vsw_port.specs.Calls.{entries_naming}
 use Rattle.vsw_live.specs.Meeting.{HeldSeen}
 use Rattle.vsw_live.specs.Ports as live
-use Rattle.vsw_deal.specs.Passes.{AtRest, Meets}
+use Rattle.vsw_actors.specs.Passes.{AtRest, Meets}
 use Rattle.vsw_promise.specs.Rounds.{opening_of}
 use Rattle.vsw_live.specs.Core.{IsOf}
 use Rattle.vsw_dock.specs.Docks.{is_of, pass_in, permits, port_in}

@@ -1,7 +1,7 @@
 -- Lists that are changed element by element.
 use Rattle.std.proofs.Common.{◌≡◌, ◌++◌, ℕ, suc, List, [], ◌∷◌, length, map, refl, sym, ap, subst, arith}
 use Rattle.std.specs.Prelude.{Vec}
-use Rattle.vsw_deal.specs.Lane.{Lane}
+use Rattle.vsw_actors.specs.declared.lane.Lane.{Lane}
 use Rattle.vsw_live.specs.Meeting.{HeldSeen}
 use Rattle.vsw_live.specs.Rows.{Writing}
 use Rattle.vsw_dock.specs.Meeting.{AreHeld}

@@ -3,16 +3,16 @@ use Rattle.std.proofs.Common.{◌≡◌, ◌≤◌, ◌+◌, ◌++◌, ◌∷◌
 use Rattle.std.proofs.lemmas.List.{length-append, map-append}
 use Rattle.vsw_commandfile.specs.declared.line.Line.{Line}
 use Rattle.vsw_live.specs.Core.{IsOf, Looking}
-use Rattle.vsw_deal.specs.declared.work.Work.{Work}
-use Rattle.vsw_deal.specs.Work.{job_in}
-use Rattle.vsw_history.specs.Calls.{Ask, Call, Deed, entries_of}
-use Rattle.vsw_history.specs.History.{Opening}
+use Rattle.vsw_actors.specs.declared.work.Work.{Work}
+use Rattle.vsw_actors.specs.Work.{job_in}
+use Rattle.vsw_port.specs.Calls.{Ask, Call, Deed, entries_of}
+use Rattle.vsw_port.specs.History.{Opening}
 use Rattle.vsw_live.specs.Calls as live
 use Rattle.vsw_live.specs.Calls.{asked, call_of}
 use Rattle.vsw_live.specs.declared.answer.Told.{Told}
 use Rattle.vsw_lookup.specs.Rules.{one_if}
-use Rattle.vsw_deal.specs.Passes.{Crosses}
-use Rattle.vsw_merge.specs.Line.{TextLine, text_of}
+use Rattle.vsw_actors.specs.Passes.{Crosses}
+use Rattle.vsw_report.specs.Line.{TextLine, text_of}
 use Rattle.vsw_promise.specs.Rounds as promise
 use Rattle.vsw_promise.specs.Told.{line_of}
 use Rattle.vsw_report.specs.declared.told.By.TheVariants as by

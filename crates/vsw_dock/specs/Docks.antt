@@ -1,12 +1,12 @@
 -- Docks and stations as actors take them.
 use Rattle.std.specs.Prelude.{◌≡◌, ℕ, List, true, map}
 use Rattle.vsw_live.specs.Core.{IsOf}
-use Rattle.vsw_deal.specs.declared.work.Work.{Work}
-use Rattle.vsw_deal.specs.Work.{MayDo}
-use Rattle.vsw_history.specs.Calls.{Call}
-use Rattle.vsw_deal.specs.Passes.{PassNow}
-use Rattle.vsw_merge.specs.Line.{text_of}
-use Rattle.vsw_ports.specs.Ports.{PortSeen}
+use Rattle.vsw_actors.specs.declared.work.Work.{Work}
+use Rattle.vsw_actors.specs.Work.{MayDo}
+use Rattle.vsw_port.specs.Calls.{Call}
+use Rattle.vsw_actors.specs.Passes.{PassNow}
+use Rattle.vsw_report.specs.Line.{text_of}
+use Rattle.vsw_promise.specs.Ports.{PortSeen}
 use Rattle.vsw_promise.specs.Told.{line_of}
 use Rattle.vsw_live.specs.Rows.{Writing}
 use Rattle.vsw_dock.specs.Seen.{DockSeen, StationSeen}

@@ -1,14 +1,14 @@
 -- What holds of rows before, between and after rounds.
 use Rattle.std.specs.Prelude.{◌≡◌, ℕ, List, [], map, length}
-use Rattle.vsw_deal.specs.Lane.{Lane}
-use Rattle.vsw_deal.specs.Actors.{Begins}
-use Rattle.vsw_deal.specs.Ends.{AllMet}
-use Rattle.vsw_deal.specs.Lanes.{AreFit}
+use Rattle.vsw_actors.specs.declared.lane.Lane.{Lane}
+use Rattle.vsw_actors.specs.Actors.{Begins}
+use Rattle.vsw_actors.specs.Ends.{AllMet}
+use Rattle.vsw_actors.specs.Lanes.{AreFit}
 use Rattle.vsw_live.specs.Meeting.{HeldSeen}
 use Rattle.vsw_live.specs.Ports.{OpenSeen, passes_of}
-use Rattle.vsw_deal.specs.ManyActors.{AllRest}
-use Rattle.vsw_ports.specs.declared.port.Port.{Port}
-use Rattle.vsw_ports.specs.Ports.{port_seen}
+use Rattle.vsw_actors.specs.ManyActors.{AllRest}
+use Rattle.vsw_promise.specs.declared.port.Port.{Port}
+use Rattle.vsw_promise.specs.Ports.{port_seen}
 use Rattle.vsw_dock.specs.Docks.{is_of, pass_in, permits, port_in, tells}
 use Rattle.vsw_dock.specs.Meeting.{AreHeld, AreLanes, AreOfCaller, HaveNoLines, histories_of, passes_in}
 use Rattle.vsw_dock.specs.Opening.{AreIdle, AreNewRows, rows_from}

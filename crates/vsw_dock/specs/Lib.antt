@@ -7,15 +7,15 @@ pub mod Private
 pub use Rattle.vsw_live.specs.Core
 pub use Rattle.vsw_live.specs.Meeting as LiveMeeting
 pub use Rattle.vsw_live.specs.Ports
-pub use Rattle.vsw_deal.specs.Work
-pub use Rattle.vsw_deal.specs.declared.work.Work as DealWork
-pub use Rattle.vsw_deal.specs.Lanes
-pub use Rattle.vsw_deal.specs.Lane
-pub use Rattle.vsw_deal.specs.ManyActors as Actors
-pub use Rattle.vsw_deal.specs.Passes
-pub use Rattle.vsw_deal.specs.Phases
-pub use Rattle.vsw_deal.specs.Rounds
-pub use Rattle.vsw_deal.specs.Deal
-pub use Rattle.vsw_deal.specs.Actors as ActorsDone
-pub use Rattle.vsw_deal.specs.Rows
-pub use Rattle.vsw_deal.specs.Placed
+pub use Rattle.vsw_actors.specs.Work
+pub use Rattle.vsw_actors.specs.declared.work.Work as DealWork
+pub use Rattle.vsw_actors.specs.Lanes
+pub use Rattle.vsw_actors.specs.declared.lane.Lane
+pub use Rattle.vsw_actors.specs.ManyActors as Actors
+pub use Rattle.vsw_actors.specs.Passes
+pub use Rattle.vsw_actors.specs.Phases
+pub use Rattle.vsw_actors.specs.Rounds
+pub use Rattle.vsw_actors.specs.Deal
+pub use Rattle.vsw_actors.specs.Actors as ActorsDone
+pub use Rattle.vsw_actors.specs.Rows
+pub use Rattle.vsw_actors.specs.declared.actor.Placed

@@ -1,11 +1,11 @@
 -- Ports are opened, and each caller has a station at each.
 use Rattle.std.specs.Prelude.{◌≡◌, ◌≤◌, ℕ, zero, suc, List, [], ◌∷◌, ◌++◌, length, map, drop, true, Vec}
-use Rattle.vsw_deal.specs.Lane.{Lane}
+use Rattle.vsw_actors.specs.declared.lane.Lane.{Lane}
 use Rattle.vsw_live.specs.Ports.{AreNewPasses, IsNewPass, OpenSeen}
 use Rattle.vsw_live.specs.Ports as live
 use Rattle.vsw_policy.specs.Sound.{Each}
 use Rattle.vsw_port.specs.Core.{AreAtMost}
-use Rattle.vsw_ports.specs.declared.port.Port.{Port}
+use Rattle.vsw_promise.specs.declared.port.Port.{Port}
 use Rattle.vsw_live.specs.Rows.{Writing}
 use Rattle.vsw_dock.specs.Seen.{DockSeen, StationSeen}
 

@@ -1,7 +1,7 @@
 -- What contracts see of docks and of stations.
 use Rattle.std.specs.Prelude.{ℕ, Bool, List}
 use Rattle.vsw_live.specs.Ports.{PortSeen}
-use Rattle.vsw_merge.specs.Line.{TextLine}
+use Rattle.vsw_report.specs.Line.{TextLine}
 use Rattle.vsw_live.specs.Rows.{Writing}
 
 -- a port at which actors work: its number and address in the policy, and what threads share of it

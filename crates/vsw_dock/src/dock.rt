@@ -3,8 +3,8 @@
 ghost use Rattle.std.specs.Prelude.{◌≡◌, ◌<◌, Ok};
 ghost use Rattle.vsw_base.specs.Frame.{Parts, frame_of};
 ghost use Rattle.vsw_live.specs.Core.{IsOf};
-ghost use Rattle.vsw_deal.specs.Work.{job_in};
-ghost use Rattle.vsw_deal.specs.declared.work.Work.TheVariants as work;
+ghost use Rattle.vsw_actors.specs.Work.{job_in};
+ghost use Rattle.vsw_actors.specs.declared.work.Work.TheVariants as work;
 ghost use Rattle.vsw_dock.specs.Private.Does.{Does};
 ghost use Rattle.vsw_live.specs.StoryRows.{opening_of};
 
@@ -13,8 +13,8 @@ use crate::watch::Watch;
 use std::alloc::Global;
 use std::marker::Model;
 use std::sync::Wait;
+use vsw_actors::{Packet, Port, RowPort, Work};
 use vsw_base::Mac;
-use vsw_deal::{Packet, Port, RowPort, Work};
 use vsw_frame::read_frame;
 use vsw_live::{LivePort, Naming};
 
@@ -88,7 +88,7 @@ impl<'g, J: Naming, G: Watch> Dock<'g, J, G> {
 }
 
 impl<'w, 'g, J: Naming, G: Watch> Port<Work<'w>> for Dock<'g, J, G> {
-    ghost use Rattle.vsw_deal.specs.Work.{job_in};
+    ghost use Rattle.vsw_actors.specs.Work.{job_in};
     ghost use Rattle.vsw_dock.specs.Docks.{is_of, pass_in, permits, port_in, takes, tells};
 
     type Station = Station;

@@ -1,8 +1,8 @@
 //! What holds of docks and rows before, between and after rounds.
 
 ghost use Rattle.std.specs.Prelude.{◌≡◌, ℕ, List, map};
-ghost use Rattle.vsw_deal.specs.Lane.{Lane};
-ghost use Rattle.vsw_deal.specs.Lanes.{AreFit};
+ghost use Rattle.vsw_actors.specs.declared.lane.Lane.{Lane};
+ghost use Rattle.vsw_actors.specs.Lanes.{AreFit};
 ghost use Rattle.vsw_dock.specs.Docks.{is_of, pass_in, permits};
 ghost use Rattle.vsw_dock.specs.Laws.{AreDocked, MayMeet, NewRests, RowRests};
 ghost use Rattle.vsw_dock.specs.Meeting.{AreHeld, AreOfCaller, RowMeets};
@@ -10,7 +10,7 @@ ghost use Rattle.vsw_dock.specs.Opening.{AreOpened, IsNewRow, docks_of};
 ghost use Rattle.vsw_dock.specs.Seen.{DockSeen, StationSeen};
 ghost use Rattle.vsw_live.specs.Meeting.{HeldSeen};
 ghost use Rattle.vsw_live.specs.Ports.{OpenSeen, ports_of};
-ghost use Rattle.vsw_ports.specs.declared.port.Port.{Port};
+ghost use Rattle.vsw_promise.specs.declared.port.Port.{Port};
 
 /// Rows are opened, do their jobs, meet the ports, and then rest, so that the next round may begin.
 pub fn laws()

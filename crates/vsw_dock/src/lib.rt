@@ -13,6 +13,6 @@ pub use law::laws;
 pub use meeting::{count_of, hold_all, meet_row};
 pub use opening::{OpenDocks, dock_all, open_ports, rows_of};
 pub use station::Station;
-pub use vsw_deal::{Lane, Lineup, Placed, Work, deal, run_rows, step_at};
+pub use vsw_actors::{Lane, Lineup, Placed, Work, deal, run_rows, step_at};
 pub use vsw_live::{Answer, Held, Naming, OpenPort, Why, name_all};
 pub use watch::Watch;

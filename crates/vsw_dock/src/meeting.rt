@@ -9,8 +9,8 @@ use crate::dock::Dock;
 use crate::station::Station;
 use std::alloc::Global;
 use std::sync::Wait;
+use vsw_actors::Lane;
 use vsw_base::NoMemory;
-use vsw_deal::Lane;
 use vsw_live::{Held, Naming};
 
 /// Puts one thing more at the end.

@@ -9,11 +9,11 @@ ghost use Rattle.vsw_policy.specs.Sound.{Each};
 use crate::dock::Dock;
 use crate::station::Station;
 use std::alloc::Global;
+use vsw_actors::Lane;
 use vsw_base::{Items, Mac, NoMemory};
-use vsw_deal::Lane;
 use vsw_live::{LivePort, Naming, OpenPort, PortStory};
 use vsw_lookup::Pass;
-use vsw_ports::{Port, macs};
+use vsw_promise::{Port, macs};
 
 /// The ports of a policy, opened and still without names, with their numbers and addresses.
 #[derive(Drop)]

@@ -5,10 +5,10 @@ ghost use Rattle.vsw_live.specs.Core.{IsOf};
 ghost use Rattle.vsw_dock.specs.Meeting.{StationMeets};
 ghost use Rattle.vsw_dock.specs.Private.Does.{Does, Tells};
 ghost use Rattle.vsw_frame.specs.Frame.{parts};
-ghost use Rattle.vsw_history.specs.Calls.{Ask, Carry, controller_at};
+ghost use Rattle.vsw_port.specs.Calls.{Ask, Carry, controller_at};
 ghost use Rattle.vsw_live.specs.Calls.{FitsRoom};
 ghost use Rattle.vsw_lookup.specs.Rules.{one_if};
-ghost use Rattle.vsw_merge.specs.Line.{text_of};
+ghost use Rattle.vsw_report.specs.Line.{text_of};
 ghost use Rattle.vsw_policy.specs.Obey.{rules_given};
 ghost use Rattle.vsw_policy.specs.Sound.{Each, IsGoodRule, is_listed};
 ghost use Rattle.vsw_promise.specs.Jobs.{crossing_by};
@@ -21,13 +21,13 @@ use std::alloc::Global;
 use std::marker::Model;
 use std::mem::replace;
 use std::sync::Wait;
+use vsw_actors::Packet;
 use vsw_base::{Control, Crossing, Dir, Fate, Moment, NoMemory, Sizes, Stack, Ufid};
 use vsw_commandfile::Line;
-use vsw_deal::Packet;
 use vsw_frame::Frame;
 use vsw_live::{Answer, Desk, Held, LivePort, Naming, PortStory, Room, Told, Unit};
 use vsw_lookup::Pass;
-use vsw_merge::Caller;
+use vsw_report::Caller;
 
 /// The most permits that a pass is ever given.
 const GRANTED_MAX: u32 = 134_217_728;

@@ -8,9 +8,8 @@ use std::sync::Wait;
 use std::thread::Threads;
 use vsw_app::{Open, run_words};
 use vsw_base::{Items, Text};
-use vsw_host::{Host, ReadEnd, RealHost, read_file};
-use vsw_memory_host::{MemoryFile, MemoryHost, are_distinct};
-use vsw_request::Word;
+use vsw_host::{Host, MemoryFile, MemoryHost, ReadEnd, RealHost, are_distinct, read_file};
+use vsw_promise::Word;
 
 /// The files of each run: a folder, with its trace, and in it a policy and commands.
 const RUNS: &[[&str; 3]] = &[

@@ -7,8 +7,6 @@ mod key;
 mod law;
 mod port;
 mod sum;
-#[cfg(test)]
-mod tests;
 
 pub use identity::{same_id, same_key, ufid};
 pub use key::{key_of, mirror};

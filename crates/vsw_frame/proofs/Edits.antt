@@ -9,10 +9,9 @@ use Rattle.vsw_base.specs.Shape.{is_stack, encaps, inner}
 use Rattle.vsw_base.proofs.Stacks.{plain_encaps, stack_cases, encapped}
 use Rattle.vsw_frame.specs.declared.frame.Levels.{Levels}
 use Rattle.vsw_frame.specs.Bytes.{AreLike, answer, levels_changed, outer_total, outgoing, outgoing_size, source_port, total_over}
-use Rattle.vsw_change.specs.Push.{pushed}
+use Rattle.vsw_frame.specs.Push.{pushed, AreEncaps}
 use Rattle.vsw_frame.specs.Layout.{AreLaid}
-use Rattle.vsw_change.specs.Push.{AreEncaps}
-use Rattle.vsw_change.specs.Room.{HasPacket, HasFrame, ports_len}
+use Rattle.vsw_frame.specs.Room.{HasPacket, HasFrame, ports_len}
 use Rattle.vsw_frame.specs.Levels.{Stand, levels_of}
 
 lt_true : (m n : ℕ) → m < n → nat_lt m n ≡ true

@@ -3,13 +3,12 @@ use Rattle.std.proofs.Common.{◌≡◌, ℕ, ◌-◌, ◌^◌, ◌≤◌, ◌<�
 use Rattle.vsw_base.specs.declared.header.Header.{Header}
 use Rattle.vsw_base.specs.declared.header.Header.TheVariants.{Vxlan}
 use Rattle.vsw_base.specs.Shape.{is_plain}
-use Rattle.vsw_base.specs.Frame.{End, ports, within}
+use Rattle.vsw_base.specs.Frame.{End, ports, within, sizes_of}
 use Rattle.vsw_base.specs.Frame as frame
 use Rattle.vsw_frame.specs.declared.frame.Level.{Level}
 use Rattle.vsw_frame.specs.declared.found.Found.{Found}
 use Rattle.vsw_frame.specs.Levels.{level_fields, more_levels}
 use Rattle.vsw_frame.specs.Seen.{IsShort, Finds, is_within, size_of}
-use Rattle.vsw_base.specs.Frame.{sizes_of}
 use Rattle.vsw_frame.proofs.Within.{plain_within, encap_within}
 
 ports_few : (end : End) → length (ports end) ≤ 1

@@ -10,9 +10,9 @@ use Rattle.vsw_base.specs.Udp.{UdpFields, udp_of, udp_length}
 use Rattle.vsw_base.specs.Shape.{encaps, inner}
 use Rattle.vsw_base.specs.Frame as frame
 use Rattle.vsw_base.specs.Frame.{Level, Parts, Opened, End, within, end_of, opened_of, frame_of, frame_in, level_of, plain_parts, encap_parts, payload_in, slack_in, ports}
-use Rattle.vsw_change.specs.Kept.{udp_at}
+use Rattle.vsw_frame.specs.Kept.{udp_at}
 use Rattle.vsw_frame.specs.Layout.{IsAround, AreLaid}
-use Rattle.vsw_change.specs.Room.{HasPacket, HasFrame}
+use Rattle.vsw_frame.specs.Room.{HasPacket, HasFrame}
 use Rattle.vsw_frame.specs.Tiles.{Surrounds, outermost}
 use Rattle.vsw_frame.proofs.Alike.{ip_bounds, tcp_bounds, udp_bounds}
 use Rattle.vsw_frame.proofs.Payloads.{within_long}

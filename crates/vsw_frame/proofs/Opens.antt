@@ -10,7 +10,7 @@ use Rattle.vsw_base.specs.declared.packet.Sizes.{Sizes}
 use Rattle.vsw_base.specs.Shape.{encaps, inner}
 use Rattle.vsw_base.specs.Frame as frame
 use Rattle.vsw_frame.specs.Layout.{IsAround, AreLaid}
-use Rattle.vsw_change.specs.Room.{HasPacket, HasFrame}
+use Rattle.vsw_frame.specs.Room.{HasPacket, HasFrame}
 use Rattle.vsw_frame.specs.Levels.{levels_of, more_levels, IsInOrder}
 use Rattle.vsw_frame.specs.Read.{IsRead}
 use Rattle.vsw_frame.specs.declared.frame.Level.{Level}

@@ -6,11 +6,11 @@ use Rattle.vsw_base.specs.declared.header.Header.TheVariants.{Ether, Ip, Vxlan, 
 use Rattle.vsw_base.specs.Frame.{Level, Parts, frame_of, size_at}
 use Rattle.vsw_base.specs.Ipv4.{ip_header}
 use Rattle.vsw_base.specs.Shape.{encaps, inner}
-use Rattle.vsw_change.specs.Change.{frame_changed, packet_changed, segment_changed}
-use Rattle.vsw_change.specs.Differ.{differ}
-use Rattle.vsw_change.specs.Kept.{udp_at, udp_kept}
-use Rattle.vsw_change.specs.Push.{pushed}
-use Rattle.vsw_change.specs.Room.{HasFrame, HasPacket, ports_len}
+use Rattle.vsw_frame.specs.Change.{frame_changed, packet_changed, segment_changed}
+use Rattle.vsw_frame.specs.Differ.{differ}
+use Rattle.vsw_frame.specs.Kept.{udp_at, udp_kept}
+use Rattle.vsw_frame.specs.Push.{pushed}
+use Rattle.vsw_frame.specs.Room.{HasFrame, HasPacket, ports_len}
 use Rattle.vsw_ipv4.specs.Change as ip
 use Rattle.vsw_ipv4.specs.Change.{ip_changed}
 use Rattle.vsw_l4.specs.Change.{checksum_changed, tcp_changed, udp_changed, udp_checksum_changed}

@@ -5,10 +5,10 @@ use Rattle.vsw_base.specs.declared.header.Header.{Header}
 use Rattle.vsw_base.specs.declared.header.Header.TheVariants.{Ether, Ip, Vxlan, Ports}
 use Rattle.vsw_base.specs.Frame.{Level, Parts, size_at}
 use Rattle.vsw_base.specs.Shape.{encaps, inner, is_stack}
-use Rattle.vsw_change.specs.Change.{frame_changed}
-use Rattle.vsw_change.specs.Differ.{differ}
-use Rattle.vsw_change.specs.Kept.{udp_at, udp_kept}
-use Rattle.vsw_change.specs.Push.{pushed}
+use Rattle.vsw_frame.specs.Change.{frame_changed}
+use Rattle.vsw_frame.specs.Differ.{differ}
+use Rattle.vsw_frame.specs.Kept.{udp_at, udp_kept}
+use Rattle.vsw_frame.specs.Push.{pushed}
 use Rattle.vsw_flowid.specs.Sum.{flow_sum_of}
 
 -- a kept encapsulation around its inner frame: but for the UDP checksum all stays, slack and trailer too

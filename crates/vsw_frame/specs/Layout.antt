@@ -2,8 +2,8 @@
 use Rattle.std.specs.Prelude.{◌≡◌, ◌≤◌, ℕ, ◌+◌, List, [], ◌∷◌, ◌++◌, length, take, drop}
 use Rattle.vsw_base.specs.declared.header.Header.{Header}
 use Rattle.vsw_base.specs.Frame.{Level}
-use Rattle.vsw_change.specs.Kept.{udp_at}
-use Rattle.vsw_change.specs.Room.{HasFrame}
+use Rattle.vsw_frame.specs.Kept.{udp_at}
+use Rattle.vsw_frame.specs.Room.{HasFrame}
 
 -- Ethernet, IPv4, UDP and VXLAN, then the inner bytes, then slack and trailer
 pub record IsAround (l : Level) (inner : List ℕ) : Type 0 where

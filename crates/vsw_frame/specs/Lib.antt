@@ -1,3 +1,9 @@
+pub mod Change
+pub mod Differ
+pub mod Kept
+pub mod Push
+pub mod Room
+pub mod Headers
 pub mod Frame
 pub mod Seen
 pub mod Tiles
@@ -6,3 +12,10 @@ pub mod Layout
 pub mod Levels
 pub mod Read
 pub mod Differs
+pub mod Inner
+pub mod RoundTrip
+pub mod Numbers
+pub mod Sums
+pub mod Rewritten
+pub mod Vectors
+pub mod Ends

@@ -6,8 +6,8 @@ ghost use Rattle.vsw_frame.specs.Levels.{levels_of, Stand};
 
 use crate::frame::Levels;
 use crate::levels::within;
+use crate::{change_frame, change_udp_vxlan, differ, udp_at};
 use vsw_base::Header;
-use vsw_change::{change_frame, change_udp_vxlan, differ, udp_at};
 
 /// Bytes of the UDP and VXLAN headers of an encapsulation.
 const UDP_VXLAN_LEN: usize = 16;

@@ -1,16 +1,32 @@
-//! Whole frames: any bytes are read as a frame, or refused with their first fault.
+//! Whole frames: read, changed in place, written with the bytes that an edited stack gives, and laws of frames that are read again.
 #![tactic(auto)]
 
 mod change;
+mod differing;
+mod examples;
 mod found;
 mod frame;
+mod in_place;
+mod kept;
 mod law;
 mod levels;
+mod numbers;
 mod opened;
+mod push;
 mod read;
+mod rewriting;
+mod round_trip_law;
 mod writing;
 
+pub use differing::differ;
+pub use examples::vectors;
 pub use frame::{Frame, Level};
+pub use in_place::change_frame;
+pub use kept::{change_udp_vxlan, udp_at};
 pub use law::laws;
+pub use numbers::numbers_fit;
+pub use push::{ENCAP_LEN, write_encaps};
 pub use read::read_frame;
+pub use rewriting::rewrite_bytes;
+pub use round_trip_law::round_trip_laws;
 pub use writing::{rewrite, rewrite_to};

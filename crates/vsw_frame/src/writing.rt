@@ -3,7 +3,7 @@
 ghost use Rattle.std.specs.Prelude.{◌≡◌, ◌≤◌, ◌<◌, ◌+◌, ◌*◌, IfOk, IsTrue, OnOk, OnErr, length, take};
 ghost use Rattle.vsw_base.specs.Shape as shape;
 ghost use Rattle.vsw_base.specs.Shape.{encaps, inner, is_stack};
-ghost use Rattle.vsw_change.specs.Push.{pushed, AreEncaps};
+ghost use Rattle.vsw_frame.specs.Push.{pushed, AreEncaps};
 ghost use Rattle.vsw_frame.specs.Bytes as bytes;
 ghost use Rattle.vsw_frame.specs.Bytes.{AreLike, IsEdit, answer, levels_changed, outgoing, outgoing_size, over, total_over};
 ghost use Rattle.vsw_frame.specs.Frame.{parts};
@@ -14,8 +14,8 @@ ghost use Rattle.vsw_transpose.specs.Fits.{fits, kept};
 use crate::change::change_levels;
 use crate::frame::{Frame, Levels};
 use crate::levels::{all_levels, levels_without};
+use crate::{ENCAP_LEN, write_encaps};
 use vsw_base::{Header, Long, Stack};
-use vsw_change::{ENCAP_LEN, write_encaps};
 use vsw_flowid::flow_sum;
 use vsw_transpose::Transposition;
 

@@ -1,5 +1,4 @@
-//! Tests of `vsw_frame` and `vsw_change`, kept apart from them: with tests of their own each would be proved
-//! once more.
+//! Tests of `vsw_frame`, kept apart from it: with tests of its own it would be proved once more.
 #![tactic(auto)]
 
 #[cfg(test)]

@@ -5,8 +5,7 @@ ghost use Rattle.std.specs.Prelude.{◌≡◌, ◌≤◌, ◌<◌, length};
 use crate::frames::{DELIVERED, OLD, QUERY, REPLY, ROOM, SENT, begins, outer};
 use std::process::Abort;
 use vsw_base::{Ip4, Long, Mac};
-use vsw_frame::{read_frame, rewrite};
-use vsw_roundtrip::rewrite_bytes;
+use vsw_frame::{read_frame, rewrite, rewrite_bytes};
 use vsw_transpose::{Act, Change, Transposition};
 
 /// "hello" over TCP from port 1234 of 10.0.0.5 to port 80 of 10.0.0.9.

@@ -2,8 +2,8 @@
 use Rattle.std.proofs.Common.{◌≡◌, ℕ, ◌-◌, ◌≤◌, List, ◌++◌, refl, sym, ◌∙◌, ap, arith, length, take, drop, length-drop, length-take}
 use Rattle.std.proofs.Math.Seq.{drop-append_seam}
 use borrow.Rule.Slice.PartMut.{put_mid}
-use Rattle.vsw_change.specs.Push.{encap_pushed}
-use Rattle.vsw_change.proofs.Places.{put_rest, rest_of}
+use Rattle.vsw_frame.specs.Push.{encap_pushed}
+use Rattle.vsw_frame.proofs.Places.{put_rest, rest_of}
 use Rattle.vsw_generate.specs.Packets.{frame_bytes, answer_bytes, port_of}
 use Rattle.vsw_generate.specs.declared.frame.Ends.{Ends}
 

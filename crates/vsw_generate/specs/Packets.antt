@@ -7,7 +7,7 @@ use Rattle.vsw_base.specs.Shape.{ipv4_kind}
 use Rattle.vsw_flowid.specs.Sum.{flow_sum_of}
 use Rattle.vsw_link.specs.Ether.{ether_bytes}
 use Rattle.vsw_ipv4.specs.Ip.{pushed_ip_bytes}
-use Rattle.vsw_change.specs.Push.{encap_pushed}
+use Rattle.vsw_frame.specs.Push.{encap_pushed}
 use Rattle.vsw_generate.specs.Draws.{flow_of, kind_of, size_of}
 use Rattle.vsw_generate.specs.declared.frame.Ends.{Ends}
 

@@ -4,8 +4,6 @@
 mod draws;
 mod frame;
 mod policy;
-#[cfg(test)]
-mod tests;
 mod workload;
 
 pub use workload::{Made, Workload};

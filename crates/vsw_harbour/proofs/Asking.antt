@@ -3,14 +3,14 @@ use Rattle.std.proofs.Common.{◌≡◌, ◌≤◌, ℕ, zero, suc, List, [], �
 use Rattle.std.proofs.lemmas.List.{length-replicate}
 use Rattle.vsw_dock.specs.Lane.{Lane}
 use Rattle.vsw_dock.specs.Lanes.{AreFit, IsOwn, IsTaken}
-use Rattle.vsw_crew_law.specs.Turns.{append_each}
+use Rattle.vsw_many.specs.Turns.{append_each}
 use Rattle.vsw_dock.specs.Work.{MayDo, job_in}
 use Rattle.vsw_dock.specs.DealWork.{Work}
 use Rattle.vsw_dock.specs.Docks.{is_of, pass_in, permits, port_in, takes}
 use Rattle.vsw_dock.specs.Opening.{rows_in}
 use Rattle.vsw_dock.specs.Seen.{DockSeen, StationSeen}
-use Rattle.vsw_history.specs.Calls.{Call, job_doer, controller_at}
-use Rattle.vsw_history.specs.declared.event.Event.{Event}
+use Rattle.vsw_port.specs.Calls.{Call, job_doer, controller_at}
+use Rattle.vsw_port.specs.declared.event.Event.{Event}
 use Rattle.vsw_dock.specs.Phases.{Track}
 use Rattle.vsw_dock.specs.Rounds.{calls_by_port}
 use Rattle.vsw_policy.specs.Layers.{place_of}

@@ -4,8 +4,8 @@ use Rattle.vsw_dock.specs.Lane.{Lane}
 use Rattle.vsw_dock.specs.Meeting.{AreHeld}
 use Rattle.vsw_dock.specs.Opening.{rows_in}
 use Rattle.vsw_dock.specs.Seen.{DockSeen, StationSeen}
-use Rattle.vsw_history.specs.Calls.{Call}
-use Rattle.vsw_history.specs.declared.event.Event.{Event}
+use Rattle.vsw_port.specs.Calls.{Call}
+use Rattle.vsw_port.specs.declared.event.Event.{Event}
 use Rattle.vsw_policy.specs.Sound.{Each}
 use Rattle.vsw_promise.specs.Jobs.{Placed}
 use Rattle.vsw_harbour.specs.Harbour.{HarbourSeen, IsHarbour, callers}

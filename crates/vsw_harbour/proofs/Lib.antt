@@ -6,10 +6,13 @@ pub mod Likes
 pub mod Rows
 pub mod Asking
 pub mod Turning
+pub mod Fits
+pub mod Mustered
+pub mod NewRows
 pub use Rattle.vsw_dock.proofs.Docked
 pub use Rattle.vsw_dock.proofs.Sharing
-pub use Rattle.vsw_crew_law.proofs.Crew
-pub use Rattle.vsw_crew_law.proofs.Turns
+pub use Rattle.vsw_many.proofs.Crew
+pub use Rattle.vsw_many.proofs.Turns
 pub use Rattle.vsw_dock.proofs.Dealing
 pub use Rattle.vsw_dock.proofs.Passes
 pub use Rattle.vsw_dock.proofs.Rounds

@@ -1,14 +1,14 @@
 -- What was done at docks was done at the ports of the policy that they are like.
 use Rattle.std.proofs.Common.{◌≡◌, ◌<◌, ℕ, suc, List, [], ◌∷◌, map, subst, refl, ap, sym}
 use Rattle.vsw_dock.specs.Seen.{DockSeen}
-use Rattle.vsw_history.specs.Calls.{named}
-use Rattle.vsw_history.specs.History.{AllRight, Opening}
-use Rattle.vsw_history.specs.declared.event.Event.{Event}
+use Rattle.vsw_port.specs.Calls.{named}
+use Rattle.vsw_port.specs.History.{AllRight, Opening}
+use Rattle.vsw_port.specs.declared.event.Event.{Event}
 use Rattle.vsw_dock.specs.Actors.{AreRows, HasWorked}
 use Rattle.vsw_dock.specs.Phases.{IsLane, Lane, calls_in}
 use Rattle.vsw_dock.specs.Rounds.{AreJournals, calls_by_port, column, other_columns}
 use Rattle.vsw_policy.specs.Sound.{Each}
-use Rattle.vsw_ports.specs.Ports.{PortSeen}
+use Rattle.vsw_promise.specs.Ports.{PortSeen}
 use Rattle.vsw_promise.specs.Jobs.{Placed, deal}
 use Rattle.vsw_harbour.specs.Harbour.{AreLike, ports_in}
 

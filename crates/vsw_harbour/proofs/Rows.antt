@@ -3,8 +3,8 @@ use Rattle.std.proofs.Common.{◌≡◌, ◌≢◌, ◌<◌, ℕ, suc, List, [],
 use Rattle.vsw_dock.specs.Lane.{Lane}
 use Rattle.vsw_dock.specs.Opening.{rows_in}
 use Rattle.vsw_dock.specs.Seen.{DockSeen, StationSeen}
-use Rattle.vsw_history.specs.Calls.{Call, Job, job_doer}
-use Rattle.vsw_history.specs.declared.event.Event.{Event}
+use Rattle.vsw_port.specs.Calls.{Call, Job, job_doer}
+use Rattle.vsw_port.specs.declared.event.Event.{Event}
 use Rattle.vsw_promise.specs.Jobs.{deal}
 use Rattle.vsw_harbour.specs.Standing.{RowStands, RowsStand}
 use Rattle.vsw_harbour.specs.Working.{RowWorks, RowsWork}

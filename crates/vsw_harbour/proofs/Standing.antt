@@ -8,10 +8,10 @@ use Rattle.vsw_dock.specs.DealWork.{Work}
 use Rattle.vsw_dock.specs.Docks.{is_of, pass_in, permits, port_in, tells}
 use Rattle.vsw_dock.specs.Meeting.{passes_in}
 use Rattle.vsw_dock.specs.Seen.{DockSeen, StationSeen}
-use Rattle.vsw_history.specs.Calls.{Call, Job, calls_of, job_doer}
-use Rattle.vsw_history.specs.History.{Opening}
-use Rattle.vsw_history.specs.declared.event.Event.{Event}
-use Rattle.vsw_history.proofs.Fronts.{append_end}
+use Rattle.vsw_port.specs.Calls.{Call, Job, calls_of, job_doer}
+use Rattle.vsw_port.specs.History.{Opening}
+use Rattle.vsw_port.specs.declared.event.Event.{Event}
+use Rattle.vsw_port.proofs.Fronts.{append_end}
 use Rattle.vsw_dock.specs.Actors.{AllRest, Does, Moves, begun}
 use Rattle.vsw_dock.specs.Passes.{Crosses, PassNow}
 use Rattle.vsw_dock.specs.Phases.{Track}

@@ -6,10 +6,10 @@ use Rattle.vsw_dock.specs.Core.{IsOf}
 use Rattle.vsw_dock.specs.Docks.{pass_in, port_in, tells}
 use Rattle.vsw_dock.specs.Meeting.{AreHeld, RowMeets, histories_of, passes_in}
 use Rattle.vsw_dock.specs.Seen.{DockSeen, StationSeen}
-use Rattle.vsw_history.specs.Calls.{Call, calls_of, doer, named}
-use Rattle.vsw_history.specs.History.{AllRight}
-use Rattle.vsw_history.specs.declared.event.Event.{Event}
-use Rattle.vsw_history.proofs.Fronts.{prefix_trans}
+use Rattle.vsw_port.specs.Calls.{Call, calls_of, doer, named}
+use Rattle.vsw_port.specs.History.{AllRight}
+use Rattle.vsw_port.specs.declared.event.Event.{Event}
+use Rattle.vsw_port.proofs.Fronts.{prefix_trans}
 use Rattle.vsw_dock.specs.LiveMeeting.{HeldSeen}
 use Rattle.vsw_dock.specs.Ports as live
 use Rattle.vsw_dock.specs.Actors.{AllMeet, AllRest, AreRows, HasWorked, lanes_of}
@@ -21,8 +21,8 @@ use Rattle.vsw_dock.proofs.Actors.{actor_ends, filter_append}
 use Rattle.vsw_policy.specs.Sound.{Each}
 use Rattle.vsw_promise.specs.Jobs.{Placed, deal}
 use Rattle.vsw_promise.specs.Rounds.{opening_of}
-use Rattle.vsw_crew_law.proofs.Turns.{rows_are_own}
-use Rattle.vsw_crew_law.specs.Turns.{AreOwn, append_each}
+use Rattle.vsw_many.proofs.Turns.{rows_are_own}
+use Rattle.vsw_many.specs.Turns.{AreOwn, append_each}
 use Rattle.vsw_harbour.specs.Harbour.{HarbourSeen, callers, ports_in}
 use Rattle.vsw_harbour.specs.Meeting.{RowsMeet}
 use Rattle.vsw_harbour.specs.Standing.{RowStands, RowsStand}

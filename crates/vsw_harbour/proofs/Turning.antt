@@ -3,21 +3,21 @@ use Rattle.std.proofs.Common.{◌≡◌, ◌<◌, ◌+◌, ◌++◌, ◌==◌, �
 use Rattle.std.proofs.lemmas.Option.{slice_get_within}
 use Rattle.vsw_dock.specs.Lane.{Lane}
 use Rattle.vsw_commandfile.specs.declared.line.Line.{Line}
-use Rattle.vsw_crew_law.specs.Turns.{append_each, placed_before}
-use Rattle.vsw_crew_law.proofs.Turns.{journals_end, journals_join, one_caller_turns, turns_begin, turns_join}
+use Rattle.vsw_many.specs.Turns.{append_each, placed_before}
+use Rattle.vsw_many.proofs.Turns.{journals_end, journals_join, one_caller_turns, turns_begin, turns_join}
 use Rattle.vsw_dock.proofs.Steps.{place_within}
 use Rattle.vsw_dock.specs.Docks.{port_in}
 use Rattle.vsw_dock.specs.Seen.{DockSeen, StationSeen}
-use Rattle.vsw_history.specs.Calls.{Ask, Call, calls_of, controller_at, job_doer}
-use Rattle.vsw_history.specs.declared.event.Event.{Event}
-use Rattle.vsw_history.proofs.Fronts.{append_end}
+use Rattle.vsw_port.specs.Calls.{Ask, Call, calls_of, controller_at, job_doer}
+use Rattle.vsw_port.specs.declared.event.Event.{Event}
+use Rattle.vsw_port.proofs.Fronts.{append_end}
 use Rattle.vsw_dock.specs.Actors.{AreRows}
 use Rattle.vsw_dock.specs.Rounds.{AreJournals, calls_by_port}
 use Rattle.vsw_policy.specs.Sound.{Each}
-use Rattle.vsw_ports.specs.Ports.{PortSeen, ports_of}
+use Rattle.vsw_promise.specs.Ports.{PortSeen, ports_of}
 use Rattle.vsw_policy.specs.Layers.{place_of}
 use Rattle.vsw_promise.specs.Jobs.{Placed, Setting, numbers_of}
-use Rattle.vsw_schedule.specs.Schedule.{commands_at}
+use Rattle.vsw_promise.specs.Schedule.{commands_at}
 use Rattle.vsw_harbour.specs.Harbour.{AreLike, HarbourSeen, IsOfRun, MayAsk, callers}
 use Rattle.vsw_harbour.specs.Standing.{RowStands, RowsStand, Stands}
 use Rattle.vsw_harbour.specs.Steps.{AreAt, Did, Turned, asks_before, placed_ask}

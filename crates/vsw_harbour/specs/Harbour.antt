@@ -3,10 +3,10 @@ use Rattle.std.specs.Prelude.{◌≡◌, ◌<◌, ◌≤◌, ◌+◌, ℕ, List,
 use Rattle.vsw_commandfile.specs.declared.line.Line.{Line}
 use Rattle.vsw_dock.specs.Docks.{port_in}
 use Rattle.vsw_dock.specs.Seen.{DockSeen}
-use Rattle.vsw_history.specs.Order.{ascending}
+use Rattle.vsw_port.specs.Order.{ascending}
 use Rattle.vsw_policy.specs.Obey.{rules_given}
 use Rattle.vsw_policy.specs.Sound.{Each, IsGoodRule, are_distinct, is_listed}
-use Rattle.vsw_ports.specs.Ports.{PortSeen, ports_of}
+use Rattle.vsw_promise.specs.Ports.{PortSeen, ports_of}
 use Rattle.vsw_promise.specs.Jobs.{Setting}
 use Rattle.vsw_promise.specs.Rounds.{opening_of}
 

@@ -4,8 +4,8 @@ use Rattle.vsw_dock.specs.Lane.{Lane}
 use Rattle.vsw_dock.specs.Core.{IsOf}
 use Rattle.vsw_dock.specs.Docks.{pass_in, port_in, tells}
 use Rattle.vsw_dock.specs.Seen.{DockSeen, StationSeen}
-use Rattle.vsw_history.specs.Calls.{Call, calls_of}
-use Rattle.vsw_history.specs.declared.event.Event.{Event}
+use Rattle.vsw_port.specs.Calls.{Call, calls_of}
+use Rattle.vsw_port.specs.declared.event.Event.{Event}
 use Rattle.vsw_dock.specs.Passes.{AtRest}
 use Rattle.vsw_policy.specs.Sound.{Each}
 use Rattle.vsw_promise.specs.Rounds.{opening_of}

@@ -4,15 +4,15 @@ use Rattle.std.specs.List.{slice_get}
 use Rattle.vsw_dock.specs.Lane.{Lane}
 use Rattle.vsw_commandfile.specs.declared.line.Line.{Line}
 use Rattle.vsw_dock.specs.Seen.{DockSeen, StationSeen}
-use Rattle.vsw_history.specs.declared.event.Event.{Event}
-use Rattle.vsw_history.specs.Calls.{Ask, Call}
+use Rattle.vsw_port.specs.declared.event.Event.{Event}
+use Rattle.vsw_port.specs.Calls.{Ask, Call}
 use Rattle.vsw_dock.specs.Actors.{AreRows}
 use Rattle.vsw_dock.specs.Phases as many
 use Rattle.vsw_dock.specs.Rounds.{AreJournals, calls_by_port}
 use Rattle.vsw_policy.specs.Layers.{place_of}
-use Rattle.vsw_ports.specs.Ports.{ports_of}
+use Rattle.vsw_promise.specs.Ports.{ports_of}
 use Rattle.vsw_promise.specs.Jobs.{Placed, Setting}
-use Rattle.vsw_crew_law.specs.Turns.{PlacedTurns, append_each}
+use Rattle.vsw_many.specs.Turns.{PlacedTurns, append_each}
 use Rattle.vsw_harbour.specs.Harbour.{HarbourSeen, callers, ports_in}
 use Rattle.vsw_harbour.specs.Standing.{RowsMay, RowsStand}
 

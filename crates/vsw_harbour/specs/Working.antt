@@ -4,8 +4,8 @@ use Rattle.vsw_dock.specs.Lane.{Lane}
 use Rattle.vsw_dock.specs.Core.{IsOf}
 use Rattle.vsw_dock.specs.Docks.{pass_in, port_in, tells}
 use Rattle.vsw_dock.specs.Seen.{DockSeen, StationSeen}
-use Rattle.vsw_history.specs.Calls.{Call, calls_of}
-use Rattle.vsw_history.specs.declared.event.Event.{Event}
+use Rattle.vsw_port.specs.Calls.{Call, calls_of}
+use Rattle.vsw_port.specs.declared.event.Event.{Event}
 use Rattle.vsw_dock.specs.Actors.{AtWork}
 use Rattle.vsw_dock.specs.Phases.{Track}
 use Rattle.vsw_promise.specs.Jobs.{Placed, deal}

@@ -3,7 +3,7 @@
 ghost use Rattle.std.specs.Prelude.{◌≡◌, ◌≤◌, ◌+◌, ◌∷◌, [], ℕ, List, OnOk, length};
 ghost use Rattle.vsw_dock.specs.Lanes.{IsOwn, IsTaken};
 ghost use Rattle.vsw_commandfile.specs.declared.line.Line.{Line};
-ghost use Rattle.vsw_crew_law.specs.Turns.{placed_before};
+ghost use Rattle.vsw_many.specs.Turns.{placed_before};
 ghost use Rattle.vsw_dock.specs.Work.{job_in};
 ghost use Rattle.vsw_dock.specs.Docks.{port_in, takes};
 ghost use Rattle.vsw_dock.specs.Opening.{rows_in};
@@ -12,11 +12,11 @@ ghost use Rattle.vsw_harbour.specs.Harbour.{IsOfRun, MayAsk, asks_of, callers};
 ghost use Rattle.vsw_harbour.specs.Standing.{RowsStand};
 ghost use Rattle.vsw_harbour.specs.Steps.{AreAt, Did, MayGo, Turned, asks_before, placed_ask};
 ghost use Rattle.vsw_harbour.specs.Working.{RowsWork};
-ghost use Rattle.vsw_history.specs.Calls.{Call, job_doer};
-ghost use Rattle.vsw_history.specs.declared.event.Event.{Event};
+ghost use Rattle.vsw_port.specs.Calls.{Call, job_doer};
+ghost use Rattle.vsw_port.specs.declared.event.Event.{Event};
 ghost use Rattle.vsw_dock.specs.Rounds.{AreJournals};
 ghost use Rattle.vsw_policy.specs.Sound.{Each};
-ghost use Rattle.vsw_ports.specs.Ports.{ports_of};
+ghost use Rattle.vsw_promise.specs.Ports.{ports_of};
 ghost use Rattle.vsw_promise.specs.Jobs.{Setting, numbers_of};
 
 use crate::harbour::Harbour;
@@ -28,7 +28,7 @@ use std::sync::Wait;
 use vsw_base::NoMemory;
 use vsw_commandfile::Line;
 use vsw_dock::{Dock, Lane, Naming, Station, Watch, Work};
-use vsw_schedule::Schedule;
+use vsw_promise::Schedule;
 
 /// Of these rows, the first of which is caller `at`'s, that of a caller does a job.
 fn step_row<'w, 'g, J: Naming, G: Watch, R: Wait>(

@@ -1,15 +1,18 @@
-//! What does not change in a run of many workers, and the first half of their round: all callers meet the ports, and the commands before the packets are asked in turn.
+//! The ports of a run and the rows of all its callers: opened before the first round, met between rounds, and asked the commands before the packets.
 #![tactic(auto)]
 
 mod before;
 mod harbour;
+mod lists;
 mod meeting;
+mod opening;
 mod place;
 mod row;
 
 pub use before::{ask_before, ask_each};
 pub use harbour::Harbour;
 pub use meeting::{meet_again, meet_all};
+pub use opening::OpenHarbour;
 pub use place::place_of;
 pub use row::step;
 pub use vsw_dock::{

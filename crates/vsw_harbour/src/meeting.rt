@@ -8,8 +8,8 @@ ghost use Rattle.vsw_harbour.specs.Meeting.{AllMeet, AreLanesAt, RowsMeet};
 ghost use Rattle.vsw_harbour.specs.Standing.{RowsMay, RowsStand};
 ghost use Rattle.vsw_harbour.specs.Steps.{Did};
 ghost use Rattle.vsw_harbour.specs.Working.{RowsWork};
-ghost use Rattle.vsw_history.specs.Calls.{Call};
-ghost use Rattle.vsw_history.specs.declared.event.Event.{Event};
+ghost use Rattle.vsw_port.specs.Calls.{Call};
+ghost use Rattle.vsw_port.specs.declared.event.Event.{Event};
 ghost use Rattle.vsw_policy.specs.Sound.{Each};
 ghost use Rattle.vsw_promise.specs.Jobs.{Placed};
 

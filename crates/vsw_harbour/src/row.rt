@@ -6,8 +6,8 @@ ghost use Rattle.vsw_dock.specs.Work.{job_in};
 ghost use Rattle.vsw_dock.specs.Docks.{is_of, pass_in, permits, port_in, takes};
 ghost use Rattle.vsw_harbour.specs.Standing.{RowStands};
 ghost use Rattle.vsw_harbour.specs.Working.{RowWorks};
-ghost use Rattle.vsw_history.specs.Calls.{Call};
-ghost use Rattle.vsw_history.specs.declared.event.Event.{Event};
+ghost use Rattle.vsw_port.specs.Calls.{Call};
+ghost use Rattle.vsw_port.specs.declared.event.Event.{Event};
 
 use std::alloc::Global;
 use std::sync::Wait;

@@ -4,10 +4,10 @@ use Rattle.std.proofs.lemmas.Grind.{common_steps}
 use native.Mathlib.Decide.{ℕ_discrete}
 use Rattle.vsw_policy.specs.Layers.{place_of}
 use Rattle.vsw_policy.specs.Sound.{Each, is_listed}
-use Rattle.vsw_history.specs.Calls.{controller_at}
-use Rattle.vsw_history.specs.Order.{put_in, ascending, counted, StandsOnce}
+use Rattle.vsw_port.specs.Calls.{controller_at}
+use Rattle.vsw_port.specs.Order.{put_in, ascending, counted, StandsOnce}
 use Rattle.vsw_promise.specs.Told.{callers}
-use Rattle.vsw_history.proofs.Calls.{each_append}
+use Rattle.vsw_port.proofs.Calls.{each_append}
 
 once_front : (k : ℕ) (xs ys : List ℕ) → StandsOnce k xs → Each (λ j. j ≢ k) ys → StandsOnce k (xs ++ ys)
 once_front k xs ys s e = record { front = s.front; back = s.back ++ ys; is = ap (λ w. w ++ ys) s.is ∙ append_assoc s.front (k ∷ s.back) ys; not_front = s.not_front; not_back = each_append (λ j. j ≢ k) s.back ys s.not_back e }

@@ -7,11 +7,11 @@ use native.Mathlib.Decide.{ℕ_discrete}
 use Rattle.vsw_commandfile.specs.declared.line.Line.{Line}
 use Rattle.vsw_pcap.specs.declared.capture.Record.{Record}
 use Rattle.vsw_policy.specs.Sound.{Each}
-use Rattle.vsw_history.specs.Order.{put_in, ascending, counted, numbered, StandsOnce}
+use Rattle.vsw_port.specs.Order.{put_in, ascending, counted, numbered, StandsOnce}
 use Rattle.vsw_promise.specs.Jobs.{cuts, cuts_within, multiples_below, packets_between}
 use Rattle.vsw_promise.specs.Rounds.{end_before}
 use Rattle.vsw_history_law.specs.Cover.{stretches, AreCovered, PacketsAreCovered, CommandsAreCovered, RoundsAreSmall}
-use Rattle.vsw_history.proofs.Fronts.{append_end}
+use Rattle.vsw_port.proofs.Fronts.{append_end}
 use Rattle.vsw_promise.proofs.PortRounds.{take_whole}
 
 -- ---- ascending numbers

@@ -4,19 +4,19 @@ use Rattle.std.proofs.lemmas.List.{length-take-le}
 use Rattle.std.specs.List.{slice_get, flat_map}
 use native.Mathlib.Decide.{ℕ_discrete}
 use Rattle.vsw_policy.specs.Sound.{Each}
-use Rattle.vsw_history.specs.declared.event.Event.{Event}
-use Rattle.vsw_history.specs.Calls.{Call, Deed, event_of, doer, calls_of, named, entries_naming, entries_of, next_count, InOrder, IsCall, Entry, Read, Short, IsEntry, IsShare, AreShares}
-use Rattle.vsw_history.specs.History.{Opening}
-use Rattle.vsw_history.proofs.Fronts.{append_end}
-use Rattle.vsw_history.proofs.Calls.{order_lower, each_of_all}
-use Rattle.vsw_history.proofs.Next.{count_next, named_doer, naming_append}
+use Rattle.vsw_port.specs.declared.event.Event.{Event}
+use Rattle.vsw_port.specs.Calls.{Call, Deed, event_of, doer, calls_of, named, entries_naming, entries_of, next_count, InOrder, IsCall, Entry, Read, Short, IsEntry, IsShare, AreShares}
+use Rattle.vsw_port.specs.History.{Opening}
+use Rattle.vsw_port.proofs.Fronts.{append_end}
+use Rattle.vsw_port.proofs.Calls.{order_lower, each_of_all}
+use Rattle.vsw_port.proofs.Next.{count_next, named_doer, naming_append}
 use Rattle.vsw_history_law.specs.Law.{EachEntryIsTold, HasLine, entry_lines}
 use Rattle.vsw_history_law.proofs.Callers.{eqb_is}
 use Rattle.vsw_history_law.proofs.Telling.{entry_test, drops, keeps, elsewhere, none_below, order_high}
 use Rattle.vsw_promise.specs.Jobs.{Jobs}
 use Rattle.vsw_promise.specs.Rounds.{IsPortRound, opening_of}
 use Rattle.vsw_promise.specs.Told.{line_of, callers, entry_at, reads_at, reads_by_caller, in_told_order, lines_of}
-use Rattle.vsw_ports.specs.Ports.{PortSeen}
+use Rattle.vsw_promise.specs.Ports.{PortSeen}
 use Rattle.vsw_report.specs.declared.round.PortRound.{PortRound}
 use Rattle.vsw_report.specs.declared.told.ToldLine.{ToldLine}
 

@@ -8,9 +8,9 @@ use Rattle.vsw_base.specs.declared.packet.Dir.TheVariants.{Out, In}
 use Rattle.vsw_commit.specs.Cross.{cross_of, done, all_done, made_by}
 use Rattle.vsw_walk.specs.declared.scratch.Wanted.{Wanted}
 use Rattle.vsw_walk.specs.declared.scratch.Wanted.TheVariants.{Make, Touch, Leave}
-use Rattle.vsw_layer.specs.declared.layer.LayerSpec.{LayerSpec}
-use Rattle.vsw_layer.specs.Groups.{changed, removed}
-use Rattle.vsw_layer.specs.Layer.{LayerSeen, defaulting, with_pair, with_touched, without_pair}
+use Rattle.vsw_policy.specs.declared.layer.LayerSpec.{LayerSpec}
+use Rattle.vsw_policy.specs.Groups.{changed, removed}
+use Rattle.vsw_policy.specs.Layer.{LayerSeen, defaulting, with_pair, with_touched, without_pair}
 use Rattle.vsw_policy.specs.declared.command.Command.{Command}
 use Rattle.vsw_policy.specs.declared.command.Command.TheVariants.{AddLayer, RemoveLayer, AddGroup, RemoveGroup, PutRules, AddRule, RemoveRule, SetDefault, Sweep}
 use Rattle.vsw_policy.specs.declared.refusal.Refusal.{Refusal}
@@ -22,9 +22,9 @@ use Rattle.vsw_policy.specs.Own.{of_own}
 use Rattle.vsw_policy.specs.Sound.{Each, AreInOrder}
 use Rattle.vsw_policy.proofs.Alone.{others-stay, obeys-alone}
 use Rattle.vsw_policy.proofs.Keeps.{each-as, order-placed, KeepsName, before-left, before-right}
-use Rattle.vsw_history.specs.declared.event.Event.{Event}
-use Rattle.vsw_history.specs.declared.event.Event.TheVariants as event
-use Rattle.vsw_history.specs.History.{reply_in, left_by, AreRight}
+use Rattle.vsw_port.specs.declared.event.Event.{Event}
+use Rattle.vsw_port.specs.declared.event.Event.TheVariants as event
+use Rattle.vsw_port.specs.History.{reply_in, left_by, AreRight}
 use Rattle.vsw_history_law.specs.Law.{bare, own_bare, orders_of, answers_alone, RepliesAlone, OthersApart}
 
 -- ---- what asks for no pairs

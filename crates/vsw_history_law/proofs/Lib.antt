@@ -1,3 +1,5 @@
+pub mod MergingCallers
+pub mod MergedTexts
 pub mod Callers
 pub mod Covers
 pub mod Endings
@@ -10,3 +12,9 @@ pub mod Runs
 pub mod Telling
 pub mod Values
 pub mod Wants
+pub mod Agrees
+pub mod Plain
+pub mod PlainRounds
+pub mod PlainRuns
+pub mod Plenty
+pub mod Same

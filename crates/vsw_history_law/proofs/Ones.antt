@@ -5,18 +5,18 @@ use Rattle.vsw_base.specs.declared.fate.Fate.{Fate}
 use Rattle.vsw_base.specs.declared.fate.Fate.TheVariants.{Pass, Drop}
 use Rattle.vsw_base.specs.declared.flow.Crossing.{Crossing}
 use Rattle.vsw_base.specs.Frame.{Parts}
-use Rattle.vsw_layer.specs.Layer.{LayerSeen}
+use Rattle.vsw_policy.specs.Layer.{LayerSeen}
 use Rattle.vsw_policy.specs.Sound.{Each}
-use Rattle.vsw_history.specs.declared.event.Event.{Event}
+use Rattle.vsw_port.specs.declared.event.Event.{Event}
 use Rattle.vsw_report.specs.declared.told.What.TheVariants as what
-use Rattle.vsw_history.specs.History.{Opening, after, after_all, replay, IsRight, AreRight, AllRight}
-use Rattle.vsw_history.specs.Calls.{Deed, Carried, Asked, Call, job_of, entries_of, event_of, next_count, Reads, Wants, Shows, ShowsAt, HasBytes, IsCall, Entry, Read, Short, InOrder}
-use Rattle.vsw_history.specs.Next.{IsDone, Enters, Reading, Wanting, IsNext}
+use Rattle.vsw_port.specs.History.{Opening, after, after_all, replay, IsRight, AreRight, AllRight}
+use Rattle.vsw_port.specs.Calls.{Deed, Carried, Asked, Call, job_of, entries_of, event_of, next_count, Reads, Wants, Shows, ShowsAt, HasBytes, IsCall, Entry, Read, Short, InOrder}
+use Rattle.vsw_port.specs.Next.{IsDone, Enters, Reading, Wanting, IsNext}
 use Rattle.vsw_promise.specs.Told.{what_of}
 use Rattle.vsw_report.specs.Short.{tells_short}
 use Rattle.vsw_promise.specs.Alone.{shown, deed_at, enters_at, call_at, calls_from}
-use Rattle.vsw_history.proofs.Calls.{entries_append}
-use Rattle.vsw_history.proofs.Next.{take_front}
+use Rattle.vsw_port.proofs.Calls.{entries_append}
+use Rattle.vsw_port.proofs.Next.{take_front}
 
 -- calls one after the other, from a history on
 abbrev pub Runs : Opening → List Event → List Call → Type 0

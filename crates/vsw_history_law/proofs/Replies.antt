@@ -7,22 +7,22 @@ use Rattle.vsw_base.specs.declared.flow.Place.{Place}
 use Rattle.vsw_base.specs.Frame.{Parts}
 use Rattle.vsw_commandfile.specs.declared.line.Line.{Line}
 use Rattle.vsw_flowid.specs.Sum.{flow_sum_of}
-use Rattle.vsw_layer.specs.Layer.{LayerSeen}
+use Rattle.vsw_policy.specs.Layer.{LayerSeen}
 use Rattle.vsw_pcap.specs.declared.capture.Record.{Record}
 use Rattle.vsw_policy.specs.declared.command.Command.{Command}
 use Rattle.vsw_policy.specs.declared.refusal.Refusal.TheVariants as refusal
 use Rattle.vsw_policy.specs.declared.refusal.Reply.{Reply}
 use Rattle.vsw_policy.specs.Layers.{place_of}
 use Rattle.vsw_policy.specs.Sound.{Each, AreInOrder, is_listed}
-use Rattle.vsw_policyfile.specs.declared.file.PortFile.{PortFile}
-use Rattle.vsw_ports.specs.Ports.{PortSeen, in_order, port_of, ports_of, whole}
-use Rattle.vsw_ports.proofs.Placing.{stand-in-order}
+use Rattle.vsw_config.specs.declared.file.PortFile.{PortFile}
+use Rattle.vsw_promise.specs.Ports.{PortSeen, in_order, port_of, ports_of, whole}
+use Rattle.vsw_promise.proofs.Placing.{stand-in-order}
 use Rattle.vsw_report.specs.declared.round.LooseCause.{LooseCause}
-use Rattle.vsw_history.specs.declared.event.Event.{Event}
-use Rattle.vsw_history.specs.declared.event.Event.TheVariants as event
-use Rattle.vsw_history.specs.Calls.{Job, Carry, Ask, Deed, Carried, Asked, Call, job_of, job_doer, jobs_by, doer, controller_at, calls_of, named, entries_naming, entries_of, event_of, Reads, Wants, IsCall, Entry, Read, Short}
-use Rattle.vsw_history.specs.History.{Opening, replay, AllRight}
-use Rattle.vsw_history.specs.Order.{StandsOnce}
+use Rattle.vsw_port.specs.declared.event.Event.{Event}
+use Rattle.vsw_port.specs.declared.event.Event.TheVariants as event
+use Rattle.vsw_port.specs.Calls.{Job, Carry, Ask, Deed, Carried, Asked, Call, job_of, job_doer, jobs_by, doer, controller_at, calls_of, named, entries_naming, entries_of, event_of, Reads, Wants, IsCall, Entry, Read, Short}
+use Rattle.vsw_port.specs.History.{Opening, replay, AllRight}
+use Rattle.vsw_port.specs.Order.{StandsOnce}
 use Rattle.vsw_report.specs.declared.round.PortRound.{PortRound}
 use Rattle.vsw_report.specs.declared.round.Round.{Round}
 use Rattle.vsw_report.specs.declared.told.By.{By}
@@ -34,8 +34,8 @@ use Rattle.vsw_promise.specs.Jobs.{aim_of, Setting, jobs_of, aimed_at, packet_jo
 use Rattle.vsw_promise.specs.Rounds.{opening_of, end_before, AreHistories}
 use Rattle.vsw_promise.specs.Told.{callers, line_of, line_doer, what_of}
 use Rattle.vsw_report.specs.Short.{tells_short, is_short_port, is_short_round, are_short}
-use Rattle.vsw_history.proofs.Calls.{each_append}
-use Rattle.vsw_history.proofs.Fronts.{append_end}
+use Rattle.vsw_port.proofs.Calls.{each_append}
+use Rattle.vsw_port.proofs.Fronts.{append_end}
 use Rattle.vsw_history_law.specs.Law.{AreServed, RunsRepliesAlone, all_jobs, asked_by, answers_alone, is_told, lines_by, orders_of, replies_told, reply_among, reply_by}
 use Rattle.vsw_history_law.proofs.Callers.{controller_once, eqb_is, place_one}
 use Rattle.vsw_history_law.proofs.Isolated.{replies_alone}

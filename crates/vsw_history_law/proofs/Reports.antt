@@ -4,21 +4,21 @@ use Rattle.std.specs.List.{flat_map, list_any}
 use Rattle.std.specs.Prelude.{option_to_list}
 use Rattle.vsw_pcap.specs.declared.capture.Record.{Record}
 use Rattle.vsw_policy.specs.Sound.{Each}
-use Rattle.vsw_ports.specs.Ports.{PortSeen, ports_of}
-use Rattle.vsw_history.specs.declared.event.Event.{Event}
+use Rattle.vsw_promise.specs.Ports.{PortSeen, ports_of}
+use Rattle.vsw_port.specs.declared.event.Event.{Event}
 use Rattle.vsw_report.specs.declared.round.PortRound.{PortRound}
 use Rattle.vsw_report.specs.declared.round.Round.{Round}
 use Rattle.vsw_report.specs.declared.told.ToldLine.{ToldLine}
 use Rattle.vsw_promise.specs.Agree.{lines_at}
-use Rattle.vsw_history.specs.Order.{StandsOnce}
-use Rattle.vsw_history.specs.Calls.{Deed, Carried, Asked, Job, Call, job_of, job_item, job_doer, jobs_by, doer, calls_of, InOrder, AreShares, HasBytes, entries_naming}
-use Rattle.vsw_history.specs.History.{Opening, AllRight}
+use Rattle.vsw_port.specs.Order.{StandsOnce}
+use Rattle.vsw_port.specs.Calls.{Deed, Carried, Asked, Job, Call, job_of, job_item, job_doer, jobs_by, doer, calls_of, InOrder, AreShares, HasBytes, entries_naming}
+use Rattle.vsw_port.specs.History.{Opening, AllRight}
 use Rattle.vsw_promise.specs.Jobs.{Setting, Jobs, jobs_of}
 use Rattle.vsw_promise.specs.Rounds.{opening_of, IsPortRound, ArePortRounds, AreRoundsAt, AreChained, AreHistories, end_before}
 use Rattle.vsw_promise.specs.Told.{callers, line_of, line_doer, reads_at, entry_at, reads_by_caller, in_told_order}
 use Rattle.vsw_history_law.specs.Law.{lines_by, LinesAreCalls, OneLineEach, NoOtherLines, all_jobs, RunsLegally}
-use Rattle.vsw_history.proofs.Fronts.{append_end, prefix_self}
-use Rattle.vsw_history.proofs.Calls.{calls_append, each_append, shares_join, legal_of}
+use Rattle.vsw_port.proofs.Fronts.{append_end, prefix_self}
+use Rattle.vsw_port.proofs.Calls.{calls_append, each_append, shares_join, legal_of}
 use Rattle.vsw_promise.proofs.PortRounds.{take_length, take_whole}
 use Rattle.vsw_history_law.proofs.Telling.{read_off}
 

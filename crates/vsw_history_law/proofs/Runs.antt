@@ -3,16 +3,16 @@ use Rattle.std.proofs.Common.{◌≡◌, ◌≢◌, ℕ, zero, suc, true, false,
 use Rattle.vsw_commandfile.specs.declared.fault.CommandsFault.{CommandsFault}
 use Rattle.vsw_commandfile.specs.Commands.{commands_file_of}
 use Rattle.vsw_commandfile.specs.declared.line.Line.{Line}
-use Rattle.vsw_commandfile_law.proofs.Lines.{each_is_good}
-use Rattle.vsw_commandfile_law.specs.Good.{CanAsk}
+use Rattle.vsw_commandfile.proofs.LinesRead.{each_is_good}
+use Rattle.vsw_commandfile.specs.Good.{CanAsk}
 use Rattle.vsw_host.specs.Outside.{Inputs, Opened, Outside, Grows}
 use Rattle.vsw_host.specs.Told.{TellsHeld}
 use Rattle.vsw_pcap.specs.declared.capture.Record.{Record}
 use Rattle.vsw_pcap.specs.declared.fault.BadTrace.TheVariants.{NotPcap, Version, LinkType, Cut, Huge}
 use Rattle.vsw_policy.specs.Sound.{Each, is_listed}
-use Rattle.vsw_policyfile.specs.declared.file.PolicyFile.{PolicyFile}
-use Rattle.vsw_policyfile.specs.declared.file.ConfigFault.{ConfigFault}
-use Rattle.vsw_policyfile.specs.Policy.{policy_file_of}
+use Rattle.vsw_config.specs.declared.file.PolicyFile.{PolicyFile}
+use Rattle.vsw_config.specs.declared.file.ConfigFault.{ConfigFault}
+use Rattle.vsw_config.specs.Policy.{policy_file_of}
 use Rattle.vsw_promise.specs.declared.ending.Ending.{Ending}
 use Rattle.vsw_promise.specs.declared.ending.Ending.TheVariants as ending
 use Rattle.vsw_promise.specs.declared.ending.Status.{Status}
@@ -29,7 +29,7 @@ use Rattle.vsw_promise.specs.Jobs.{Setting, cuts, cuts_within}
 use Rattle.vsw_report.specs.Print.{report_text}
 use Rattle.vsw_promise.specs.Rounds.{AreRounds}
 use Rattle.vsw_promise.specs.Trace.{All as Whole, Trace, Tells}
-use Rattle.vsw_request.specs.Words.{Request, Asked, Forward, Generate, asked_in}
+use Rattle.vsw_promise.specs.Words.{Request, Asked, Forward, Generate, asked_in}
 use Rattle.vsw_history_law.specs.Law.{AreAsked, AreAlike, HasNoFault, OneStatus, OneRun, TellsWant}
 use Rattle.vsw_history_law.proofs.Endings.{Says, one_ending, IsOfFile, header_longer, says_cut, says_huge, says_more}
 use Rattle.vsw_history_law.proofs.Values.{one_value}

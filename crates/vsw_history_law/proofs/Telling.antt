@@ -3,12 +3,12 @@ use Rattle.std.proofs.Common.{◌≡◌, ◌≢◌, ℕ, zero, suc, ◌+◌, ◌
 use Rattle.std.specs.List.{flat_map}
 use native.Mathlib.Decide.{ℕ_discrete}
 use Rattle.vsw_policy.specs.Sound.{Each}
-use Rattle.vsw_history.specs.Calls.{Call, Deed, Carried, Asked, controller_at, doer, calls_of, next_count, InOrder}
-use Rattle.vsw_history.specs.Order.{ascending, counted, StandsOnce}
+use Rattle.vsw_port.specs.Calls.{Call, Deed, Carried, Asked, controller_at, doer, calls_of, next_count, InOrder}
+use Rattle.vsw_port.specs.Order.{ascending, counted, StandsOnce}
 use Rattle.vsw_promise.specs.Told.{line_of, line_doer, callers, reads_at, entry_at, reads_by_caller, in_told_order, lines_of}
-use Rattle.vsw_history.proofs.Fronts.{append_end}
-use Rattle.vsw_history.proofs.Calls.{calls_append, order_lower, each_append}
-use Rattle.vsw_history.proofs.Next.{count_next}
+use Rattle.vsw_port.proofs.Fronts.{append_end}
+use Rattle.vsw_port.proofs.Calls.{calls_append, order_lower, each_append}
+use Rattle.vsw_port.proofs.Next.{count_next}
 
 -- the calls at each count from one on, first the reads and then the entry, whoever made them
 abbrev pub ordered : List Call → ℕ → ℕ → List Call

@@ -9,17 +9,17 @@ use Rattle.vsw_commandfile.specs.declared.line.Line.{Line}
 use Rattle.vsw_flowid.specs.Sum.{flow_sum_of}
 use Rattle.vsw_pcap.specs.declared.capture.Record.{Record}
 use Rattle.vsw_policy.specs.Sound.{Each, is_listed}
-use Rattle.vsw_policyfile.specs.declared.file.PortFile.{PortFile}
-use Rattle.vsw_ports.specs.Ports.{PortSeen, port_of, ports_of}
+use Rattle.vsw_config.specs.declared.file.PortFile.{PortFile}
+use Rattle.vsw_promise.specs.Ports.{PortSeen, port_of, ports_of}
 use Rattle.vsw_report.specs.declared.round.LooseCause.{LooseCause}
-use Rattle.vsw_history.specs.declared.event.Event.{Event}
+use Rattle.vsw_port.specs.declared.event.Event.{Event}
 use Rattle.vsw_report.specs.declared.round.PortRound.{PortRound}
 use Rattle.vsw_report.specs.declared.round.Round.{Round}
-use Rattle.vsw_history.specs.Calls.{Job, Carry, Ask, Call, job_of, job_doer, doer, calls_of, InOrder, IsCall, HasBytes, ShowsAt, entries_of, IsOneOrder}
-use Rattle.vsw_history.specs.History.{Opening, replay, after, AreRight, AllRight}
-use Rattle.vsw_layer.specs.Layer.{LayerSeen}
+use Rattle.vsw_port.specs.Calls.{Job, Carry, Ask, Call, job_of, job_doer, doer, calls_of, InOrder, IsCall, HasBytes, ShowsAt, entries_of, IsOneOrder}
+use Rattle.vsw_port.specs.History.{Opening, replay, after, AreRight, AllRight}
+use Rattle.vsw_policy.specs.Layer.{LayerSeen}
 use Rattle.vsw_promise.specs.Jobs.{aim_of, Setting, Jobs, cuts, jobs_of, aimed_at, packet_jobs, worker_of, loose_among, macs_of, packets_between, crossing_by}
-use Rattle.vsw_history.specs.Order.{StandsOnce}
+use Rattle.vsw_port.specs.Order.{StandsOnce}
 use Rattle.vsw_pcap.proofs.Unique.{captures_are_unique}
 use Rattle.vsw_report.specs.Print.{report_text}
 use Rattle.vsw_promise.specs.Rounds.{opening_of, IsPortRound, ArePortRounds, AreRoundsAt, AreChained, AreHistories, end_before}
@@ -27,10 +27,10 @@ use Rattle.vsw_promise.specs.Told.{callers, line_of, what_of, in_told_order, lin
 use Rattle.vsw_report.specs.Short.{tells_short, is_short_port, is_short_round}
 use Rattle.vsw_promise.specs.Alone.{calls_from, history_from, port_round_from, all_of, port_rounds_from, histories_from, rounds_from, rounds_alone}
 use Rattle.vsw_history_law.specs.Law.{AreServed, OneValue, OneText}
-use Rattle.vsw_history.proofs.Fronts.{prefix_take, take_prefix}
-use Rattle.vsw_history.proofs.Calls.{each_append, each_of_all}
+use Rattle.vsw_port.proofs.Fronts.{prefix_take, take_prefix}
+use Rattle.vsw_port.proofs.Calls.{each_append, each_of_all}
 use Rattle.vsw_history_law.proofs.Callers.{worker_once, controller_once}
-use Rattle.vsw_history.proofs.Next.{count_within}
+use Rattle.vsw_port.proofs.Next.{count_within}
 use Rattle.vsw_history_law.proofs.Telling.{told_calls}
 use Rattle.vsw_history_law.proofs.Reports.{doer_job, each_filter, map_each, each_map, round_jobs}
 use Rattle.vsw_history_law.proofs.Ones.{Runs, runs_of, calls_are}

@@ -6,13 +6,12 @@ use Rattle.vsw_base.specs.declared.fate.Cause.TheVariants as cause
 use Rattle.vsw_base.specs.declared.fate.Fate.TheVariants.{Pass, Drop}
 use Rattle.vsw_policy.specs.declared.refusal.Refusal.TheVariants as refusal
 use Rattle.vsw_policy.specs.declared.refusal.Reply.TheVariants as reply
-use Rattle.vsw_report.specs.Print.{head_line, mark_text, loose_text, port_line}
+use Rattle.vsw_report.specs.Print.{head_line, mark_text, loose_text, port_line, by_text, what_text, line_text, port_text, round_text, report_text}
 use Rattle.vsw_report.specs.declared.round.PortRound.{PortRound}
 use Rattle.vsw_report.specs.declared.round.Round.{Round}
 use Rattle.vsw_report.specs.declared.told.ToldLine.{ToldLine}
 use Rattle.vsw_report.specs.declared.told.What.{What}
 use Rattle.vsw_report.specs.declared.told.What.TheVariants as what
-use Rattle.vsw_report.specs.Print.{by_text, what_text, line_text, port_text, round_text, report_text}
 use Rattle.vsw_report.specs.Short.{tells_short, is_short_port, is_short_round, are_short}
 use Rattle.vsw_history_law.specs.Law.{TellsWant}
 

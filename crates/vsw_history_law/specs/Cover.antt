@@ -4,7 +4,7 @@ use Rattle.std.specs.List.{flat_map}
 use Rattle.vsw_commandfile.specs.declared.line.Line.{Line}
 use Rattle.vsw_pcap.specs.declared.capture.Record.{Record}
 use Rattle.vsw_policy.specs.Sound.{Each}
-use Rattle.vsw_history.specs.Order.{numbered, StandsOnce}
+use Rattle.vsw_port.specs.Order.{numbered, StandsOnce}
 use Rattle.vsw_promise.specs.Jobs.{cuts, cuts_within, packets_between}
 use Rattle.vsw_promise.specs.Rounds.{end_before}
 

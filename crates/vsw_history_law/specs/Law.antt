@@ -4,16 +4,16 @@ use Rattle.std.specs.List.{slice_get, list_any, flat_map}
 use Rattle.vsw_promise.specs.declared.ending.Status.{Status}
 use Rattle.vsw_promise.specs.declared.ending.Status.TheVariants as status
 use Rattle.vsw_host.specs.Outside.{Inputs, Outside, Rose}
-use Rattle.vsw_layer.specs.Layer.{LayerSeen}
+use Rattle.vsw_policy.specs.Layer.{LayerSeen}
 use Rattle.vsw_pcap.specs.declared.capture.Record.{Record}
 use Rattle.vsw_policy.specs.declared.command.Command.{Command}
 use Rattle.vsw_policy.specs.declared.refusal.Reply.{Reply}
 use Rattle.vsw_policy.specs.Layers.{is_of}
 use Rattle.vsw_policy.specs.Obey.{obey}
 use Rattle.vsw_policy.specs.Sound.{Each, AreInOrder, is_listed}
-use Rattle.vsw_ports.specs.Ports.{PortSeen, ports_of}
-use Rattle.vsw_history.specs.declared.event.Event.{Event}
-use Rattle.vsw_history.specs.declared.event.Event.TheVariants as event
+use Rattle.vsw_promise.specs.Ports.{PortSeen, ports_of}
+use Rattle.vsw_port.specs.declared.event.Event.{Event}
+use Rattle.vsw_port.specs.declared.event.Event.TheVariants as event
 use Rattle.vsw_report.specs.declared.round.PortRound.{PortRound}
 use Rattle.vsw_report.specs.declared.round.Round.{Round}
 use Rattle.vsw_report.specs.declared.told.By.{By}
@@ -21,18 +21,18 @@ use Rattle.vsw_report.specs.declared.told.By.TheVariants.{Worker, Controller}
 use Rattle.vsw_report.specs.declared.told.ToldLine.{ToldLine}
 use Rattle.vsw_report.specs.declared.told.What.{What}
 use Rattle.vsw_report.specs.declared.told.What.TheVariants as what
-use Rattle.vsw_history.specs.Calls.{Job, Carry, Ask, Call, event_of, job_of, job_item, job_doer, jobs_by, calls_of, Legal, HasBytes}
+use Rattle.vsw_port.specs.Calls.{Job, Carry, Ask, Call, event_of, job_of, job_item, job_doer, jobs_by, calls_of, Legal, HasBytes}
 use Rattle.vsw_promise.specs.IsRun.{IsRun}
-use Rattle.vsw_request.specs.Words.{Request, Forward, asked_in}
+use Rattle.vsw_promise.specs.Words.{Request, Forward, asked_in}
 use Rattle.vsw_promise.specs.Agree.{lines_at}
 use Rattle.vsw_promise.specs.Alone.{rounds_alone}
 use Rattle.vsw_promise.specs.Trace.{Trace, TellsAll}
 use Rattle.vsw_report.specs.Short.{are_short}
 use Rattle.vsw_promise.specs.Jobs.{Setting, Jobs, jobs_of}
-use Rattle.vsw_history.specs.Order.{StandsOnce}
+use Rattle.vsw_port.specs.Order.{StandsOnce}
 use Rattle.vsw_promise.specs.Rounds.{opening_of, IsPortRound, AreRounds, end_before}
 use Rattle.vsw_promise.specs.Told.{callers, line_doer, line_of}
-use Rattle.vsw_history.specs.History.{Opening, after, reply_in, left_by, AllRight}
+use Rattle.vsw_port.specs.History.{Opening, after, reply_in, left_by, AllRight}
 
 -- ---- calls and lines
 

@@ -1,2 +1,5 @@
+pub mod MergingLaw
 pub mod Cover
 pub mod Law
+pub mod AgreementLaw
+pub mod Plain

@@ -1,6 +1,10 @@
-//! What holds of every report: laws over the definitions of vsw_history and vsw_promise.
+//! What holds of every report: laws over histories, merged lines, runs, and runs of any number of workers.
 #![tactic(auto)]
 
+mod agreement_law;
 mod law;
+mod merging_law;
 
+pub use agreement_law::agreement_laws;
 pub use law::{controller_laws, cover_laws, report_laws, value_laws};
+pub use merging_law::{beside_laws, merging_laws};

@@ -3,3 +3,5 @@ pub mod Ends
 pub mod Written
 pub mod CallerLemmas
 pub mod Pieces
+pub mod Held
+pub mod MemoryCalls

@@ -3,3 +3,6 @@ pub mod Reading
 pub mod Real
 pub mod Told
 pub mod Source
+pub mod Memory
+pub mod Files
+pub mod MemoryInside

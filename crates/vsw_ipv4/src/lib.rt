@@ -5,8 +5,6 @@ mod change;
 mod examples;
 mod ip;
 mod law;
-#[cfg(test)]
-mod tests;
 
 pub use change::change_ip;
 pub use examples::vectors;

@@ -5,8 +5,6 @@ mod change;
 mod examples;
 mod law;
 mod tcp;
-#[cfg(test)]
-mod tests;
 mod udp;
 mod vxlan;
 

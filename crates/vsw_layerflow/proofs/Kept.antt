@@ -6,9 +6,8 @@ use Rattle.vsw_layerflow.specs.declared.pair.Probe.{Probe}
 use Rattle.vsw_layerflow.specs.declared.pair.Pair.{Pair}
 use Rattle.vsw_layerflow.specs.Pairs.{front, back, same_probe, holds, holder, numbered, without, number_of, AllApart}
 use Rattle.vsw_layerflow.specs.Index.{IsIndex}
-use Rattle.vsw_layerflow.proofs.Order.{rising-filter, few-filter}
+use Rattle.vsw_layerflow.proofs.Order.{rising-filter, few-filter, other_number, other_number-rest}
 use Rattle.vsw_layerflow.proofs.Lists.{head_is, tail_is, at_number, at_holder, same_is}
-use Rattle.vsw_layerflow.proofs.Order.{other_number, other_number-rest}
 use Rattle.vsw_layerflow.proofs.Moved.{some_is}
 
 -- who holds a probe leaves it free in the rest

@@ -6,9 +6,8 @@ use Rattle.vsw_layerflow.specs.declared.pair.Pair.{Pair}
 use Rattle.vsw_base.specs.declared.flow.Track.{Track}
 use Rattle.vsw_layerflow.specs.Pairs.{front, back, holds, holder, numbered, with_use, touch_if, touched, number_of, AllApart}
 use Rattle.vsw_layerflow.specs.Index.{IsIndex}
-use Rattle.vsw_layerflow.proofs.Order.{rising-touched, length-touched}
+use Rattle.vsw_layerflow.proofs.Order.{rising-touched, length-touched, other_number, other_number-rest}
 use Rattle.vsw_layerflow.proofs.Lists.{head_is, tail_is, at_number}
-use Rattle.vsw_layerflow.proofs.Order.{other_number, other_number-rest}
 
 touched-holder : (n : ℕ) (t : Track) (m : ℕ) (k : Probe) (ps : List Pair) → holder k (touched n t m ps) ≡ option_map (touch_if n t m) (holder k ps)
 touched-holder n t m k [] = refl

@@ -14,7 +14,7 @@ use Rattle.vsw_walk.specs.declared.scratch.Looked.{Looked}
 use Rattle.vsw_walk.specs.declared.scratch.Wanted.{Wanted}
 use Rattle.vsw_walk.specs.Walk.{Walk, along, by_visit, crossed, due_of, leaving, look_of, placed, sooner, wanting}
 use Rattle.vsw_flowid.specs.Key.{key_from}
-use Rattle.vsw_layer.specs.Layer.{LayerSeen}
+use Rattle.vsw_policy.specs.Layer.{LayerSeen}
 use Rattle.vsw_layerflow.specs.Life.{later}
 use Rattle.vsw_layerflow.specs.Pairs.{number_of, pair_of}
 use Rattle.vsw_lean.proofs.Courses.{Course, course, same_course, wants_pair}
@@ -23,11 +23,11 @@ use Rattle.vsw_lean.proofs.Stays.{Stays, due_gist, number_gist}
 use Rattle.vsw_lean.specs.Shaken.{IsRight, found_in}
 use Rattle.vsw_policy.specs.Sound.{Each}
 use Rattle.vsw_rule.specs.declared.rule.Action.{Action}
-use Rattle.vsw_visit.specs.declared.outcome.Visit.{Visit}
-use Rattle.vsw_visit.specs.declared.outcome.Visit.TheVariants.{Stops, Goes}
-use Rattle.vsw_visit.specs.declared.outcome.Want.{Want}
-use Rattle.vsw_visit.specs.declared.outcome.Want.TheVariants.{Make, Touch}
-use Rattle.vsw_visit.specs.Visit.{visit_of}
+use Rattle.vsw_walk.specs.declared.outcome.Visit.{Visit}
+use Rattle.vsw_walk.specs.declared.outcome.Visit.TheVariants.{Stops, Goes}
+use Rattle.vsw_walk.specs.declared.outcome.Want.{Want}
+use Rattle.vsw_walk.specs.declared.outcome.Want.TheVariants.{Make, Touch}
+use Rattle.vsw_walk.specs.Visit.{visit_of}
 
 -- a layer as it is among these, at its place
 abbrev pub or_else : Option LayerSeen → LayerSeen → LayerSeen

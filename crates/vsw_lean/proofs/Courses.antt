@@ -8,11 +8,11 @@ use Rattle.vsw_base.specs.declared.flow.Track.TheVariants.{Plain, Opening, Open,
 use Rattle.vsw_base.specs.declared.header.Header.{Header}
 use Rattle.vsw_base.specs.declared.packet.Control.TheVariants as control
 use Rattle.vsw_base.specs.declared.packet.Dir.{Dir}
-use Rattle.vsw_choice.specs.Choice.{Chosen, choose}
+use Rattle.vsw_rule.specs.Choice.{Chosen, choose}
 use Rattle.vsw_walk.specs.Walk.{look_of}
 use Rattle.vsw_flowid.specs.Key.{key_from}
-use Rattle.vsw_layer.specs.declared.layer.LayerSpec.{LayerSpec}
-use Rattle.vsw_layer.specs.Layer.{LayerSeen}
+use Rattle.vsw_policy.specs.declared.layer.LayerSpec.{LayerSpec}
+use Rattle.vsw_policy.specs.Layer.{LayerSeen}
 use Rattle.vsw_layerflow.specs.declared.pair.Pair.{Pair}
 use Rattle.vsw_layerflow.specs.Life.{due}
 use Rattle.vsw_layerflow.specs.Pairs.{pair_of}
@@ -21,12 +21,12 @@ use Rattle.vsw_rule.specs.declared.rule.Action.{Action}
 use Rattle.vsw_rule.specs.declared.rule.Action.TheVariants.{Allow, Drop, Edit}
 use Rattle.vsw_rule.specs.declared.rule.Rule as rule
 use Rattle.vsw_tcp.specs.Track.{StaysUncontrolled}
-use Rattle.vsw_visit.specs.declared.outcome.Visit.{Visit}
-use Rattle.vsw_visit.specs.declared.outcome.Visit.TheVariants.{Stops, Goes}
-use Rattle.vsw_visit.specs.declared.outcome.Want.{Want}
-use Rattle.vsw_visit.specs.declared.outcome.Want.TheVariants.{Make, Touch}
-use Rattle.vsw_visit.specs.Known.{same_state, set_towards, touch}
-use Rattle.vsw_visit.specs.Visit.{asked, by_action, by_choice, by_pair, by_state, visit_of, wanted}
+use Rattle.vsw_walk.specs.declared.outcome.Visit.{Visit}
+use Rattle.vsw_walk.specs.declared.outcome.Visit.TheVariants.{Stops, Goes}
+use Rattle.vsw_walk.specs.declared.outcome.Want.{Want}
+use Rattle.vsw_walk.specs.declared.outcome.Want.TheVariants.{Make, Touch}
+use Rattle.vsw_walk.specs.Known.{same_state, set_towards, touch}
+use Rattle.vsw_walk.specs.Visit.{asked, by_action, by_choice, by_pair, by_state, visit_of, wanted}
 
 -- the action with which a packet goes on and whether a pair is wanted, or the verdict that stops it
 abbrev pub Course : Type 0

@@ -2,7 +2,7 @@
 use Rattle.std.proofs.Common.{◌≡◌, ◌||◌, Bool, true, false, List, [], ◌∷◌, ◌++◌, refl, sym, ap, ◌∙◌, true≢false}
 use Rattle.vsw_walk.specs.declared.scratch.Looked.{Looked}
 use Rattle.vsw_walk.specs.declared.scratch.Wanted.{Wanted}
-use Rattle.vsw_layer.specs.Layer.{LayerSeen}
+use Rattle.vsw_policy.specs.Layer.{LayerSeen}
 use Rattle.vsw_lean.specs.Good.{all_looks, shaken}
 use Rattle.vsw_lean.specs.Law.{LooksJoin, OneListServes}
 use Rattle.vsw_lean.specs.Shaken.{shake, shakes, shakes_one}

@@ -5,8 +5,8 @@ use Rattle.std.proofs.lemmas.Option.{slice_get-map, slice_get_read}
 use Rattle.vsw_base.specs.declared.flow.Track.{Track}
 use Rattle.vsw_walk.specs.declared.scratch.Looked.{Looked}
 use Rattle.vsw_walk.specs.declared.scratch.Wanted.TheVariants.{Make, Touch, Leave}
-use Rattle.vsw_layer.specs.declared.layer.Layer.{Layer}
-use Rattle.vsw_layer.specs.Layer.{LayerSeen, seen}
+use Rattle.vsw_policy.specs.declared.layer.Layer.{Layer}
+use Rattle.vsw_policy.specs.Layer.{LayerSeen, seen}
 use Rattle.vsw_layerflow.specs.declared.pair.Pair.{Pair}
 use Rattle.vsw_layerflow.specs.declared.pair.Probe.{Probe}
 use Rattle.vsw_layerflow.specs.Pairs.{back, front, number_of, numbered, probe, same_probe}

@@ -8,7 +8,7 @@ use Rattle.vsw_base.specs.Shape.{encaps}
 use Rattle.vsw_commit.specs.Cross.{all_done, made_by}
 use Rattle.vsw_walk.specs.Walk.{Walk, along, crossed, placed, until_after, until_of, walk_of}
 use Rattle.vsw_walk.specs.declared.scratch.Looked.{Looked}
-use Rattle.vsw_layer.specs.Layer.{LayerSeen}
+use Rattle.vsw_policy.specs.Layer.{LayerSeen}
 use Rattle.vsw_lean.specs.Good.{Good, Row}
 use Rattle.vsw_lean.specs.Law.{CrossingStays, LooksRight, MomentUnseen, RowsStay, WalkMakes, WayStays}
 use Rattle.vsw_lean.specs.Shaken.{shake}

@@ -9,7 +9,7 @@ use Rattle.vsw_commit.specs.Cross.{makes}
 use Rattle.vsw_walk.specs.declared.scratch.Looked.{Looked}
 use Rattle.vsw_walk.specs.declared.scratch.Wanted.{Wanted}
 use Rattle.vsw_walk.specs.Walk.{until_of, walk_of}
-use Rattle.vsw_layer.specs.Layer.{LayerSeen}
+use Rattle.vsw_policy.specs.Layer.{LayerSeen}
 use Rattle.vsw_lean.specs.Shaken.{shake}
 use Rattle.vsw_lean.specs.Way.{looks, way_of}
 use Rattle.vsw_transpose.specs.declared.act.Act.{Act}

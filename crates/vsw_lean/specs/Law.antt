@@ -1,7 +1,7 @@
 -- What holds of ways, of looks and of rows.
 use Rattle.std.specs.Prelude.{◌≡◌, ◌<◌, ◌≤◌, ◌||◌, ℕ, List, [], ◌++◌, Bool, true, false, nat_le, option_map, Option, Some, None, if◌then◌else◌, Ok}
-use Rattle.vsw_commit.specs.Stop.{Stop}
-use Rattle.vsw_commit.specs.Stop.TheVariants.{Long}
+use Rattle.vsw_commit.specs.declared.stop.Stop.{Stop}
+use Rattle.vsw_commit.specs.declared.stop.Stop.TheVariants.{Long}
 use Rattle.vsw_commit.specs.Admit.{on_pass}
 use Rattle.vsw_commit.specs.Long.{is_long}
 use Rattle.vsw_base.specs.declared.fate.Verdict.TheVariants.{Pass}
@@ -13,7 +13,7 @@ use Rattle.vsw_commit.specs.Cross.{Crossed, Passing, all_done, cross_of, fate_af
 use Rattle.vsw_walk.specs.declared.scratch.Looked.{Looked}
 use Rattle.vsw_walk.specs.declared.scratch.Wanted.{Wanted}
 use Rattle.vsw_walk.specs.Walk.{Walk, greatest, until_of, walk_of}
-use Rattle.vsw_layer.specs.Layer.{LayerSeen}
+use Rattle.vsw_policy.specs.Layer.{LayerSeen}
 use Rattle.vsw_layerflow.specs.Pairs.{AllApart, number_of, numbered, pair_of}
 use Rattle.vsw_lean.specs.Good.{Good, IsGoodLeaning, IsRowOf, LeaningRow, MayAnswer, Row, all_looks, shaken}
 use Rattle.vsw_lean.specs.Shaken.{IsRight, is_found, moves_found, moves_in, shake}

@@ -1,7 +1,7 @@
 -- How spots are kept, and what a change does at one.
 use Rattle.std.specs.Prelude.{ℕ, Bool, false, Option, Some, None, if◌then◌else◌}
 use Rattle.vsw_base.specs.declared.flow.Track.{Track}
-use Rattle.vsw_layer.specs.Layer.{LayerSeen}
+use Rattle.vsw_policy.specs.Layer.{LayerSeen}
 use Rattle.vsw_layerflow.specs.declared.pair.Probe.{Probe}
 use Rattle.vsw_layerflow.specs.Pairs.{AllApart, holder}
 use Rattle.vsw_lean.specs.declared.spot.Spot.{Spot}

@@ -8,7 +8,7 @@ use Rattle.vsw_base.specs.declared.packet.Control.TheVariants.{None}
 use Rattle.vsw_commit.specs.Cross.{makes}
 use Rattle.vsw_walk.specs.declared.scratch.Looked.{Looked}
 use Rattle.vsw_walk.specs.Walk.{until_of, walk_of}
-use Rattle.vsw_layer.specs.Layer.{LayerSeen}
+use Rattle.vsw_policy.specs.Layer.{LayerSeen}
 
 -- a packet of this identity that has no control. Nothing else of it shows in its way
 abbrev pub plain : Ufid → Crossing

@@ -3,7 +3,7 @@
 ghost use Rattle.std.specs.Prelude.{◌≡◌, ◌≤◌, ◌+◌, ◌++◌, List, [], ◌∷◌, OnOk, IsOk, is_some, length, map};
 ghost use Rattle.std.specs.List.{slice_get};
 ghost use Rattle.vsw_walk.specs.declared.scratch.Looked.{Looked};
-ghost use Rattle.vsw_layer.specs.Layer.{seen};
+ghost use Rattle.vsw_policy.specs.Layer.{seen};
 ghost use Rattle.vsw_lean.specs.declared.spot.Spot.TheVariants.{Missed, Found};
 ghost use Rattle.vsw_lean.specs.Leant.{StandsFor, spot_in};
 ghost use Rattle.vsw_lean.specs.Shaken.{IsRight, shake, shakes_one};
@@ -16,8 +16,8 @@ use indexmap::IndexMap;
 use std::alloc::Global;
 use std::marker::Model;
 use vsw_base::{Moment, NoMemory, Track};
-use vsw_layer::Layer;
 use vsw_layerflow::Probe;
+use vsw_policy::Layer;
 use vsw_walk::{Looked, Wanted};
 
 /// What all current rows of a port lean on: directions and keys that were missed, and pairs that were found.

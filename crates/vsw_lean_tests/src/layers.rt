@@ -6,8 +6,7 @@ use crate::given::give;
 use crate::packets::{FIRST, OWN, PUBLIC};
 use std::alloc::Global;
 use vsw_base::{Dir, Ip4, Items, Set};
-use vsw_layer::LayerSpec;
-use vsw_policy::{Command, Policy};
+use vsw_policy::{Command, LayerSpec, Policy};
 use vsw_rule::{Action, Cond, Field, Item, Rule};
 
 const UNSET: Set = Set {

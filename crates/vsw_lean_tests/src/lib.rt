@@ -1,10 +1,16 @@
-//! Tests of `vsw_lean`, kept apart from it: with tests of its own it would be proved once more.
+//! Tests of `vsw_words` and `vsw_lean`, kept apart from them: with tests of its own, a crate is proved once more.
 #![tactic(auto)]
 
 #[cfg(test)]
 mod arm_tests;
 #[cfg(test)]
+mod body_tests;
+#[cfg(test)]
 mod given;
+#[cfg(test)]
+mod identity_tests;
+#[cfg(test)]
+mod key_tests;
 #[cfg(test)]
 mod layers;
 #[cfg(test)]
@@ -13,5 +19,7 @@ mod packets;
 mod random_tests;
 #[cfg(test)]
 mod rows;
+#[cfg(test)]
+mod samples;
 #[cfg(test)]
 mod trial;

@@ -1,7 +1,7 @@
 //! Packets that cross the layers of a policy.
 
 ghost use Rattle.std.specs.Prelude.{◌≡◌, ◌<◌, ◌-◌, ◌^◌, IsTrue, map};
-ghost use Rattle.vsw_layer.specs.Layer.{seen};
+ghost use Rattle.vsw_policy.specs.Layer.{seen};
 ghost use Rattle.vsw_policy.specs.Sound.{Each};
 
 use crate::packets::packet;
@@ -9,9 +9,8 @@ use crate::rows::Rows;
 use std::alloc::Global;
 use vsw_base::{Control, Crossing, Stack, Ufid, Verdict};
 use vsw_commit::commit;
-use vsw_layer::Layer;
 use vsw_lean::shake;
-use vsw_policy::Policy;
+use vsw_policy::{Layer, Policy};
 use vsw_walk::{Looked, Scratch, Walked, Wanted, walk};
 
 /// Whether each layer has a number for one more pair.

@@ -3,9 +3,9 @@ use Rattle.std.proofs.Common.{◌≡◌, ℕ, List, Some, sym, subst}
 use Rattle.vsw_base.specs.declared.fate.Fate.{Fate}
 use Rattle.vsw_base.specs.declared.flow.Crossing.{Crossing}
 use Rattle.vsw_base.specs.declared.header.Header.{Header}
-use Rattle.vsw_history.specs.Calls.{Shows}
-use Rattle.vsw_history.specs.History.{Opening}
-use Rattle.vsw_layer.specs.Layer.{LayerSeen}
+use Rattle.vsw_port.specs.Calls.{Shows}
+use Rattle.vsw_port.specs.History.{Opening}
+use Rattle.vsw_policy.specs.Layer.{LayerSeen}
 use Rattle.vsw_live.specs.declared.why.Why.{Why}
 use Rattle.vsw_live.specs.Calls.{Crosses, call_of}
 use Rattle.vsw_live.specs.Private.Locked.{CrossesSo, IsFateAt, layers_met}
@@ -13,7 +13,7 @@ use Rattle.vsw_live.specs.Seen.{AnswerSeen, UnitSeen}
 use Rattle.vsw_port.specs.declared.crossing.Outcome.{Outcome}
 use Rattle.vsw_port.specs.Crossed.{EditsPass}
 use Rattle.vsw_rows.specs.Rows.{Writing}
-use Rattle.vsw_transit.specs.Transit.{bytes_in}
+use Rattle.vsw_sole.specs.Transit.{bytes_in}
 
 pub met_fate : (ls : List LayerSeen) (x y : Crossing) (fate : Fate) → x ≡ y → IsFateAt ls x fate → IsFateAt ls y fate
 met_fate ls x y fate same at = subst (λ z. IsFateAt ls z fate) same at

@@ -1,13 +1,13 @@
 -- Calls at the end of a history.
 use Rattle.std.proofs.Common.{◌≡◌, ◌<◌, ◌+◌, ◌-◌, ℕ, List, [], ◌∷◌, ◌++◌, Bool, true, false, length, take, refl, sym, ◌∙◌, ap, subst, arith, length-append}
 use mathlib.Core.List.{IsPrefix}
-use Rattle.vsw_transit.specs.Calls.{called}
-use Rattle.vsw_history.specs.declared.event.Event.{Event}
-use Rattle.vsw_history.specs.Calls.{Call, Deed, HasBytes, IsCall, ShowsAt, entries_of, event_of, next_count}
-use Rattle.vsw_history.specs.History.{AllRight, Opening, replay}
-use Rattle.vsw_history.specs.Next.{IsDone, IsNext}
-use Rattle.vsw_history.proofs.Fronts.{prefix_length, prefix_trans}
-use Rattle.vsw_history.proofs.Next.{goes_none, goes_on, take_front}
+use Rattle.vsw_sole.specs.Calls.{called}
+use Rattle.vsw_port.specs.declared.event.Event.{Event}
+use Rattle.vsw_port.specs.Calls.{Call, Deed, HasBytes, IsCall, ShowsAt, entries_of, event_of, next_count}
+use Rattle.vsw_port.specs.History.{AllRight, Opening, replay}
+use Rattle.vsw_port.specs.Next.{IsDone, IsNext}
+use Rattle.vsw_port.proofs.Fronts.{prefix_length, prefix_trans}
+use Rattle.vsw_port.proofs.Next.{goes_none, goes_on, take_front}
 use Rattle.vsw_live.specs.Calls.{Crosses}
 use Rattle.vsw_lookup.specs.Rules.{one_if}
 use Rattle.vsw_port.specs.Core.{entered}

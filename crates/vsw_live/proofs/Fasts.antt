@@ -1,16 +1,16 @@
 -- A packet that a row answers, and one that looked in vain.
 use Rattle.std.proofs.Common.{◌≡◌, ◌≤◌, inl, ℕ, List, [], ◌∷◌, ◌++◌, Bool, false, None, length, take, refl, sym, ◌∙◌, ap, subst, arith}
 use mathlib.Core.List.{IsPrefix}
-use Rattle.vsw_transit.specs.Answers.{Answers, HitsInTime}
+use Rattle.vsw_sole.specs.Answers.{Answers, HitsInTime}
 use Rattle.vsw_base.specs.declared.fate.Fate.{Fate}
 use Rattle.vsw_base.specs.declared.flow.Crossing.{Crossing}
 use Rattle.vsw_base.specs.declared.header.Header.{Header}
-use Rattle.vsw_transit.specs.Core.{Looking}
-use Rattle.vsw_history.specs.declared.event.Event.{Event}
-use Rattle.vsw_history.specs.Calls.{Call, Carried, IsRead, Reads, Shows, entries_of}
-use Rattle.vsw_history.specs.Calls.IsCall.{Read}
-use Rattle.vsw_history.specs.History.{Opening, replay}
-use Rattle.vsw_history.proofs.Fronts.{append_end, prefix_length, prefix_trans}
+use Rattle.vsw_sole.specs.Core.{Looking}
+use Rattle.vsw_port.specs.declared.event.Event.{Event}
+use Rattle.vsw_port.specs.Calls.{Call, Carried, IsRead, Reads, Shows, entries_of}
+use Rattle.vsw_port.specs.Calls.IsCall.{Read}
+use Rattle.vsw_port.specs.History.{Opening, replay}
+use Rattle.vsw_port.proofs.Fronts.{append_end, prefix_length, prefix_trans}
 use Rattle.vsw_live.specs.declared.answer.Fast.TheVariants.{Done}
 use Rattle.vsw_live.specs.declared.why.Why.{Why}
 use Rattle.vsw_live.specs.declared.why.Why.TheVariants.{Control, Miss, Late}
@@ -20,8 +20,8 @@ use Rattle.vsw_live.specs.Seen.{AnswerSeen, UnitSeen}
 use Rattle.vsw_lookup.specs.Rules as lookup
 use Rattle.vsw_port.specs.declared.crossing.Outcome.{Outcome}
 use Rattle.vsw_rows.specs.Rows.{Writing}
-use Rattle.vsw_story.specs.Rows.{opening_of}
-use Rattle.vsw_transit.specs.Transit.{bytes_in}
+use Rattle.vsw_rows.specs.GoodRows.{opening_of}
+use Rattle.vsw_sole.specs.Transit.{bytes_in}
 
 take_whole : {A : Type 0} (xs : List A) → take (length xs) xs ≡ xs
 take_whole [] = refl

@@ -2,7 +2,7 @@
 use Rattle.std.proofs.Common.{◌≡◌, ◌+◌, ℕ, zero, suc, List, [], ◌∷◌, ◌++◌, length, refl, sym, ◌∙◌, ap, subst, arith, length-append}
 use Rattle.std.specs.Prelude.{OnOk, Ok, Err, Result, replicate, slice_index_or}
 use Rattle.vsw_base.specs.declared.fault.NoMemory.{NoMemory}
-use Rattle.vsw_transit.specs.Core.{Begins, Looking, total}
+use Rattle.vsw_sole.specs.Core.{Begins, Looking, total}
 use Rattle.vsw_live.specs.Ports.{AreNewPasses, IsNewPass}
 use Rattle.vsw_live.specs.Private.Opening.{HasPasses}
 use Rattle.vsw_lookup.specs.Rules.{newcomer, one_more}

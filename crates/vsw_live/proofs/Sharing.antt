@@ -8,7 +8,7 @@ use Rattle.vsw_core.proofs.rooms.Former.TheSendSync as former
 use Rattle.vsw_core.proofs.rooms.Rooms.TheSendSync as rooms
 use Rattle.vsw_core.specs.contracts.owner.Core as Core
 use Rattle.vsw_core.specs.contracts.owner.Core.TheInside as core
-use Rattle.vsw_history.proofs.event.Event.TheSendSync as event
+use Rattle.vsw_port.proofs.event.Event.TheSendSync as event
 use Rattle.vsw_live.specs.contracts.live.LivePort as LivePort
 use Rattle.vsw_live.specs.contracts.live.LivePort.TheInside as live
 use Rattle.vsw_live.specs.contracts.locked.Locked as Locked

@@ -6,19 +6,19 @@ use Rattle.vsw_base.specs.declared.flow.Crossing.{Crossing}
 use Rattle.vsw_base.specs.Frame.{Parts}
 use Rattle.std.specs.Prelude.{OnOk, Result, Ok, Err}
 use Rattle.vsw_base.specs.declared.fault.NoMemory.{NoMemory}
-use Rattle.vsw_transit.specs.Core.{CoreSeen, IsOf, Looking}
-use Rattle.vsw_history.specs.declared.event.Event.{Event}
-use Rattle.vsw_history.specs.Calls.{Carried, entries_naming, named}
-use Rattle.vsw_history.specs.History.{AllRight, Opening, replay}
-use Rattle.vsw_history.specs.Next.{IsDone}
-use Rattle.vsw_history.specs.Next.IsDone.{Enters, Reading, Wanting}
+use Rattle.vsw_sole.specs.Core.{CoreSeen, IsOf, Looking}
+use Rattle.vsw_port.specs.declared.event.Event.{Event}
+use Rattle.vsw_port.specs.Calls.{Carried, entries_naming, named}
+use Rattle.vsw_port.specs.History.{AllRight, Opening, replay}
+use Rattle.vsw_port.specs.Next.{IsDone}
+use Rattle.vsw_port.specs.Next.IsDone.{Enters, Reading, Wanting}
 use Rattle.vsw_live.specs.Meeting.{Meets}
 use Rattle.vsw_live.specs.Ports.{PortSeen, StandsAt}
 use Rattle.vsw_live.specs.Private.Locked.{HasLookup, IsFateAt, IsLocked, Stays}
 use Rattle.vsw_lookup.specs.Rules as lookup
 use Rattle.vsw_policy.specs.Sound.{Each}
 use Rattle.vsw_rows.specs.Rows.{Writing}
-use Rattle.vsw_story.specs.Rows.{opening_of}
+use Rattle.vsw_rows.specs.GoodRows.{opening_of}
 
 -- a packet that was done has the fate of its crossing, or memory was wanting
 pub fate_is : (o : Opening) (h : List Event) (x : Crossing) (p : Parts) (fate : Fate) (bytes : List ℕ) (entry : Bool) → IsDone o h (Carried x p fate bytes) entry → IsFateAt (replay o h) x fate

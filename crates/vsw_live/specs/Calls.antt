@@ -1,15 +1,15 @@
 -- What a caller's call on a shared port gives it.
 use Rattle.std.specs.Prelude.{◌≡◌, ◌≢◌, ◌≤◌, ◌+◌, ◌++◌, ℕ, List, [], ◌∷◌, false, length, Option, Some, None}
 use mathlib.Core.List.{IsPrefix}
-use Rattle.vsw_transit.specs.Answers.{HitsInTime, HitsLate, Misses, Pass}
+use Rattle.vsw_sole.specs.Answers.{HitsInTime, HitsLate, Misses, Pass}
 use Rattle.vsw_base.specs.declared.fate.Fate.{Fate}
 use Rattle.vsw_base.specs.declared.flow.Crossing.{Crossing}
 use Rattle.vsw_base.specs.declared.packet.Control.TheVariants as control
 use Rattle.vsw_commandfile.specs.declared.line.Line.{Line}
-use Rattle.vsw_transit.specs.Core.{Looking}
-use Rattle.vsw_history.specs.declared.event.Event.{Event}
-use Rattle.vsw_history.specs.Calls.{Asked, Call, Carried, HasBytes, IsCall, IsRead, entries_of, next_count}
-use Rattle.vsw_history.specs.History.{Opening}
+use Rattle.vsw_sole.specs.Core.{Looking}
+use Rattle.vsw_port.specs.declared.event.Event.{Event}
+use Rattle.vsw_port.specs.Calls.{Asked, Call, Carried, HasBytes, IsCall, IsRead, entries_of, next_count}
+use Rattle.vsw_port.specs.History.{Opening}
 use Rattle.vsw_live.specs.declared.answer.Fast.{Fast}
 use Rattle.vsw_live.specs.declared.answer.Fast.TheVariants.{Done, Slow}
 use Rattle.vsw_live.specs.declared.answer.Told.{Told}
@@ -19,8 +19,8 @@ use Rattle.vsw_live.specs.Seen.{AnswerSeen, UnitSeen}
 use Rattle.vsw_lookup.specs.Rules as lookup
 use Rattle.vsw_lookup.specs.Rules.{one_if}
 use Rattle.vsw_rows.specs.Rows.{Writing}
-use Rattle.vsw_story.specs.Rows.{opening_of}
-use Rattle.vsw_transit.specs.Transit.{bytes_in, len_of}
+use Rattle.vsw_rows.specs.GoodRows.{opening_of}
+use Rattle.vsw_sole.specs.Transit.{bytes_in, len_of}
 
 -- the call of a packet that was answered so, with its bytes at the front of a room
 abbrev pub call_of : UnitSeen → AnswerSeen → List ℕ → Call

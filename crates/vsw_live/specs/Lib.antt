@@ -3,7 +3,7 @@ pub mod Seen
 pub mod Ports
 pub mod Meeting
 pub mod Private
-pub use Rattle.vsw_transit.specs.Transit
-pub use Rattle.vsw_transit.specs.Core
+pub use Rattle.vsw_sole.specs.Transit
+pub use Rattle.vsw_sole.specs.Core
 pub use Rattle.vsw_rows.specs.Rows
-pub use Rattle.vsw_story.specs.Rows as StoryRows
+pub use Rattle.vsw_rows.specs.GoodRows as StoryRows

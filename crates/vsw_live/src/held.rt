@@ -1,7 +1,7 @@
 //! A port whose lock is held.
 
 ghost use Rattle.std.specs.Prelude.{◌≡◌, ◌≤◌, ◌+◌, length, IsOk, OnErr, OnOk};
-ghost use Rattle.vsw_transit.specs.Core.{IsOf};
+ghost use Rattle.vsw_sole.specs.Core.{IsOf};
 ghost use Rattle.vsw_live.specs.Meeting.{AllMeet, AreOf, IsRightAt, Meets};
 ghost use Rattle.vsw_live.specs.Calls.{KeepsLook};
 
@@ -10,9 +10,9 @@ use crate::naming::Naming;
 use std::marker::Model;
 use std::sync::MutexGuard;
 use vsw_base::NoMemory;
-use vsw_history::Event;
 use vsw_lookup::{Lookup, Pass};
-use vsw_story::PortStory;
+use vsw_port::Event;
+use vsw_rows::PortStory;
 
 /// A port whose lock is held. Its history stands still while this is kept: packets that rows answer go on, and all other callers
 /// wait.

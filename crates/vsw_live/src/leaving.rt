@@ -1,17 +1,17 @@
 //! A frame leaves as its packet was answered.
 
 ghost use Rattle.std.specs.Prelude.{◌≡◌, List};
-ghost use Rattle.vsw_history.specs.Calls.{Shows};
-ghost use Rattle.vsw_layer.specs.Layer.{LayerSeen};
+ghost use Rattle.vsw_port.specs.Calls.{Shows};
+ghost use Rattle.vsw_policy.specs.Layer.{LayerSeen};
 ghost use Rattle.vsw_live.specs.Calls.{FitsRoom};
 ghost use Rattle.vsw_live.specs.Private.Locked.{IsFateAt};
 ghost use Rattle.vsw_port.specs.Crossed.{EditsPass};
-ghost use Rattle.vsw_transit.specs.Transit.{bytes_in};
+ghost use Rattle.vsw_sole.specs.Transit.{bytes_in};
 
 use crate::unit::Unit;
 use vsw_base::Stack;
 use vsw_port::Outcome;
-use vsw_transit::Room;
+use vsw_sole::Room;
 
 /// Writes the bytes with which the packet's frame leaves, if it passes, to the front of the room.
 pub(crate) fn leave(unit: &Unit<'_>, edited: &Stack, outcome: Outcome, room: &mut Room)
@@ -21,5 +21,5 @@ pub(crate) fn leave(unit: &Unit<'_>, edited: &Stack, outcome: Outcome, room: &mu
 {
     // It tells the proof that the packet's headers are those of a stack.
     let _ = unit.crossing().id.stack.headers();
-    vsw_transit::leave(unit.frame(), edited, outcome, room);
+    vsw_sole::leave(unit.frame(), edited, outcome, room);
 }

@@ -17,6 +17,6 @@ pub use live::LivePort;
 pub use naming::Naming;
 pub use opening::{OpenPort, name_all};
 pub use unit::Unit;
-pub use vsw_story::PortStory;
-pub use vsw_transit::{Desk, Room};
+pub use vsw_rows::PortStory;
+pub use vsw_sole::{Desk, Room};
 pub use why::Why;

@@ -3,9 +3,9 @@
 ghost use Rattle.std.specs.Prelude.{◌≡◌, ◌<◌, ◌≤◌, ◌+◌, ℕ, List, length, Some, true, OnErr, OnOk};
 ghost use mathlib.Core.List.{IsPrefix};
 ghost use Rattle.vsw_commandfile.specs.declared.line.Line.{Line};
-ghost use Rattle.vsw_transit.specs.Core.{IsOf};
-ghost use Rattle.vsw_history.specs.declared.event.Event.{Event};
-ghost use Rattle.vsw_history.specs.Calls.{controller_at};
+ghost use Rattle.vsw_sole.specs.Core.{IsOf};
+ghost use Rattle.vsw_port.specs.declared.event.Event.{Event};
+ghost use Rattle.vsw_port.specs.Calls.{controller_at};
 ghost use Rattle.vsw_live.specs.Calls.{Crosses, DoneFits, FitsRoom, IsFast, KeepsLook, Looks, TellsWhy, asked, call_of};
 ghost use Rattle.vsw_live.specs.Meeting.{AllMeet, AreOf, IsRightAt, Meets};
 ghost use Rattle.vsw_live.specs.Ports.{StandsAt};
@@ -13,7 +13,7 @@ ghost use Rattle.vsw_live.specs.Private.Locked.{CrossesSo, IsFateAt, layers_met}
 ghost use Rattle.vsw_policy.specs.Obey.{rules_given};
 ghost use Rattle.vsw_policy.specs.Sound.{Each, IsGoodRule, is_listed};
 ghost use Rattle.vsw_port.specs.Crossed.{EditsPass};
-ghost use Rattle.vsw_story.specs.Rows.{opening_of};
+ghost use Rattle.vsw_rows.specs.GoodRows.{opening_of};
 
 use crate::answer::{Answer, Fast, Ticket, Told};
 use crate::held::Held;
@@ -28,8 +28,8 @@ use vsw_base::{Crossing, NoMemory};
 use vsw_lookup::{Lookup, Note, Pass};
 use vsw_policy::Command;
 use vsw_port::Outcome;
-use vsw_story::PortStory;
-use vsw_transit::{Desk, Room, RowAnswer, answer_by_row};
+use vsw_rows::PortStory;
+use vsw_sole::{Desk, Room, RowAnswer, answer_by_row};
 
 /// A port that threads share, each with passes of its own. Any thread may call it. A row that is current answers a packet without
 /// the lock, at the load of the generation word that ends the look; all else is done under the lock, and is seen by rows' readers

@@ -3,9 +3,9 @@
 ghost use Rattle.std.specs.Prelude.{◌≡◌, ◌<◌, ◌≤◌, ◌+◌, ℕ, List, length, not, true, IsOk, OnErr, OnOk};
 ghost use mathlib.Core.List.{IsPrefix};
 ghost use Rattle.vsw_commandfile.specs.declared.line.Line.{Line};
-ghost use Rattle.vsw_transit.specs.Core.{IsOf};
-ghost use Rattle.vsw_history.specs.Calls.{controller_at};
-ghost use Rattle.vsw_history.specs.History.{AllRight};
+ghost use Rattle.vsw_sole.specs.Core.{IsOf};
+ghost use Rattle.vsw_port.specs.Calls.{controller_at};
+ghost use Rattle.vsw_port.specs.History.{AllRight};
 ghost use Rattle.vsw_live.specs.Calls.{Crosses, KeepsLook, asked};
 ghost use Rattle.vsw_live.specs.Meeting.{Meets};
 ghost use Rattle.vsw_live.specs.Ports.{StandsAt};
@@ -14,18 +14,17 @@ ghost use Rattle.vsw_policy.specs.Obey.{is_memory, rules_given};
 ghost use Rattle.vsw_policy.specs.Refusals.{reply_of};
 ghost use Rattle.vsw_policy.specs.Sound.{Each, IsGoodRule, is_listed};
 ghost use Rattle.vsw_port.specs.Crossed.{EditsPass};
-ghost use Rattle.vsw_story.specs.Rows.{opening_of};
+ghost use Rattle.vsw_rows.specs.GoodRows.{opening_of};
 
 use crate::answer::Told;
 use crate::naming::Naming;
 use std::marker::{Model, PhantomData};
 use vsw_base::{Crossing, NoMemory};
-use vsw_history::Event;
 use vsw_lookup::{Lookup, Pass};
 use vsw_policy::{Command, Refusal, Reply};
-use vsw_port::Outcome;
-use vsw_story::PortStory;
-use vsw_transit::{Core, Desk};
+use vsw_port::{Event, Outcome};
+use vsw_rows::PortStory;
+use vsw_sole::{Core, Desk};
 
 /// The core of the port at a place. Nothing is known of it once the lock is taken but what its type keeps, and that is told by the
 /// place alone: so who takes the lock compares the place.
@@ -38,7 +37,7 @@ pub(crate) struct Locked<J: Naming> {
 
 impl<J: Naming> Model for Locked<J> {
     ghost use Rattle.std.specs.Prelude.{ℕ};
-    ghost use Rattle.vsw_transit.specs.Core.{CoreSeen};
+    ghost use Rattle.vsw_sole.specs.Core.{CoreSeen};
     ghost use Rattle.vsw_live.specs.Private.Locked.{IsLocked};
 
     ghost Value = { ℕ × CoreSeen };

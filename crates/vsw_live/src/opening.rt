@@ -14,8 +14,8 @@ use std::marker::Model;
 use vsw_base::NoMemory;
 use vsw_lookup::{Lookup, Opened, Pass, Writer};
 use vsw_policy::Policy;
-use vsw_story::PortStory;
-use vsw_transit::Core;
+use vsw_rows::PortStory;
+use vsw_sole::Core;
 
 /// A port without a name, which no thread shares yet.
 #[derive(Drop)]

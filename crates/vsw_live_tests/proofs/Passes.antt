@@ -1,8 +1,8 @@
 -- Passes that are new, and that make calls.
 use Rattle.std.proofs.Common.{◌≡◌, ◌<◌, ◌≤◌, ◌+◌, ◌∙◌, ℕ, zero, suc, List, [], ◌∷◌, ◌++◌, length, take, drop, slice_index_or, true, false, Bool, refl, sym, ap, subst, arith}
 use Rattle.vsw_live.specs.Core.{IsOf, Looking}
-use Rattle.vsw_history.specs.Calls.{Call}
-use Rattle.vsw_history.specs.History.{Opening}
+use Rattle.vsw_port.specs.Calls.{Call}
+use Rattle.vsw_port.specs.History.{Opening}
 use Rattle.vsw_live.specs.Calls.{Crosses}
 use Rattle.vsw_live.specs.Meeting.{HeldSeen, Meets}
 use Rattle.vsw_live.specs.Ports.{AreNewPasses, IsNewPass}

@@ -18,8 +18,8 @@ use vsw_frame::read_frame;
 use vsw_live::{Answer, Desk, Fast, LivePort, Naming, Room, Told, Unit, Why};
 use vsw_lookup::Pass;
 use vsw_policy::Command;
+use vsw_rows::PortStory;
 use vsw_rule::Action;
-use vsw_story::PortStory;
 
 /// What a packet was told: its fate, its count, whether it is an entry, and why no row answered.
 #[derive(Clone, Copy, Debug, PartialEq, Eq)]

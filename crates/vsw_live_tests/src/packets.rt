@@ -7,8 +7,7 @@ ghost use Rattle.vsw_live.specs.Transit.{IsOfFrame};
 use std::alloc::{AllocError, Global};
 use vsw_base::{Control, Crossing, Dir, Items, Moment, Ufid};
 use vsw_frame::Frame;
-use vsw_layer::LayerSpec;
-use vsw_policy::Command;
+use vsw_policy::{Command, LayerSpec};
 use vsw_rule::{Action, Rule};
 
 /// UDP from 10.0.0.5:1234 to 10.0.0.9:53, 44 bytes.

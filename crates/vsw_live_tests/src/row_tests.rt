@@ -13,8 +13,8 @@ use std::sync::Wait;
 use vsw_base::{Cause, Control, Dir, Fate};
 use vsw_live::{LivePort, Naming, OpenPort, Told, Why};
 use vsw_lookup::Pass;
+use vsw_rows::PortStory;
 use vsw_rule::Action;
-use vsw_story::PortStory;
 
 const PASS: Fate = Fate::Pass { len: 44 };
 

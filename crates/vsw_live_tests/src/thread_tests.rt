@@ -16,8 +16,8 @@ use vsw_base::{Control, Dir, Fate};
 use vsw_live::{LivePort, Naming, OpenPort, Told};
 use vsw_lookup::Pass;
 use vsw_policy::Command;
+use vsw_rows::PortStory;
 use vsw_rule::Action;
-use vsw_story::PortStory;
 
 /// What a thread does.
 #[derive(Drop)]

@@ -15,7 +15,7 @@ use std::sync::Wait;
 use vsw_live::{LivePort, Naming, Told};
 use vsw_lookup::Pass;
 use vsw_policy::Command;
-use vsw_story::PortStory;
+use vsw_rows::PortStory;
 
 /// Controller 1 with its pass. Contracts see how many entries it may make.
 #[derive(Drop)]

@@ -13,7 +13,7 @@ use std::thread::Threads;
 use vsw_live::{LivePort, Naming};
 use vsw_lookup::Pass;
 use vsw_policy::Command;
-use vsw_story::PortStory;
+use vsw_rows::PortStory;
 
 /// How often the controller gives a command and reconciles all rows.
 pub const TURNS: u32 = 400;

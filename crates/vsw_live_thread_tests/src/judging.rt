@@ -5,8 +5,8 @@ use crate::replay::Replay;
 use crate::worker::Note;
 use std::alloc::Global;
 use vsw_base::{Crossing, Fate};
-use vsw_history::Event;
 use vsw_live::Told;
+use vsw_port::Event;
 
 /// How many answers were judged, and of what kinds.
 #[derive(Clone, Copy, Debug, PartialEq, Eq)]

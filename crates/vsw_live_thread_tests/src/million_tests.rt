@@ -11,10 +11,10 @@ use std::marker::Brand;
 use std::process::Abort;
 use std::sync::Wait;
 use std::thread::Threads;
-use vsw_history::Event;
 use vsw_live::{LivePort, Naming, OpenPort};
 use vsw_lookup::Pass;
-use vsw_story::PortStory;
+use vsw_port::Event;
+use vsw_rows::PortStory;
 
 /// Whether all answers of a worker were judged and right, rows among them.
 fn is_right(tally: Tally) -> bool {

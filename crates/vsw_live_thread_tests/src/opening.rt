@@ -9,7 +9,7 @@ use std::sync::Wait;
 use vsw_live::{LivePort, Naming, OpenPort};
 use vsw_lookup::Pass;
 use vsw_policy::Policy;
-use vsw_story::PortStory;
+use vsw_rows::PortStory;
 
 /// How many entries each pass may make.
 pub const PERMITS: u32 = 10_000;

@@ -1,17 +1,15 @@
 //! A policy to which the entries of a port are done once more: packets by a walk that is carried out, commands by its own call.
 
 ghost use Rattle.std.specs.Prelude.{◌≡◌, ◌<◌, ◌-◌, ◌^◌, IsTrue, map};
-ghost use Rattle.vsw_layer.specs.Layer.{seen};
+ghost use Rattle.vsw_policy.specs.Layer.{seen};
 ghost use Rattle.vsw_policy.specs.Sound.{Each, is_listed};
 
 use crate::given::is_good;
 use std::alloc::Global;
-use vsw_admit::{is_long, outgoing_size};
 use vsw_base::{Cause, Crossing, Fate, Stack, Verdict};
-use vsw_commit::commit;
-use vsw_history::Event;
-use vsw_layer::Layer;
-use vsw_policy::{Command, Policy, Reply};
+use vsw_commit::{commit, is_long, outgoing_size};
+use vsw_policy::{Command, Layer, Policy, Reply};
+use vsw_port::Event;
 use vsw_walk::{Scratch, Walked, walk};
 
 /// Whether each layer has a number for one more pair.

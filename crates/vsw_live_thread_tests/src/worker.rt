@@ -14,7 +14,7 @@ use vsw_base::Fate;
 use vsw_frame::read_frame;
 use vsw_live::{Answer, Desk, LivePort, Naming, Room, Unit};
 use vsw_lookup::Pass;
-use vsw_story::PortStory;
+use vsw_rows::PortStory;
 
 /// What a packet was told, and whether a row answered it.
 #[derive(Clone, Copy, Debug, PartialEq, Eq)]

@@ -1,1 +1,2 @@
+pub mod MachineWhole
 pub mod Whole

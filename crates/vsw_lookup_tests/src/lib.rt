@@ -1,4 +1,4 @@
-//! Tests of `vsw_lookup`, kept apart from it: with tests of its own, a crate is proved once more.
+//! Tests of `vsw_machine` and `vsw_lookup`, kept apart from them: with tests of its own, a crate is proved once more.
 #![tactic(auto)]
 
 mod callers;
@@ -6,7 +6,17 @@ mod counted;
 #[cfg(test)]
 mod ends;
 #[cfg(test)]
+mod judge;
+#[cfg(test)]
+mod machine_counted;
+#[cfg(test)]
+mod machine_row_tests;
+#[cfg(test)]
+mod refused_tests;
+#[cfg(test)]
 mod row_tests;
+#[cfg(test)]
+mod run_tests;
 #[cfg(test)]
 mod thread_tests;
 

@@ -1,13 +1,14 @@
-//! Rows that are read without a lock, as plain data: any number of actors load and store in turn,
-//! one word a step. specs/Machine.antt says each step, specs/Sound.antt what every list of steps keeps.
+//! Lookups without a lock as a pure machine of steps, and what holds of every list of steps.
 #![tactic(auto)]
 
+mod law;
 mod machine;
 mod scan;
 mod step;
 mod store;
 mod story;
 
+pub use law::laws;
 pub use machine::Machine;
 pub use step::{Load, Loaded, NotNow, Step};
 pub use story::{Story, TestStory};

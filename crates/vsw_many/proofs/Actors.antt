@@ -2,14 +2,14 @@
 use Rattle.std.proofs.Common.{◌≡◌, ◌≢◌, ℕ, suc, ◌==◌, Bool, true, false, if◌then◌else◌, List, [], ◌∷◌, ◌++◌, map, filter, refl, ap, sym, ◌∙◌, subst, ne_eqb, eq-eqb}
 use native.Mathlib.Decide.{ℕ_discrete}
 use Rattle.vsw_policy.specs.Sound.{Each}
-use Rattle.vsw_history.specs.declared.event.Event.{Event}
-use Rattle.vsw_history.specs.Calls.{Job, job_of, job_doer, doer}
-use Rattle.vsw_history.specs.History.{Opening}
-use Rattle.vsw_history.proofs.Calls.{each_append}
-use Rattle.vsw_history.proofs.Fronts.{append_end}
+use Rattle.vsw_port.specs.declared.event.Event.{Event}
+use Rattle.vsw_port.specs.Calls.{Job, job_of, job_doer, doer}
+use Rattle.vsw_port.specs.History.{Opening}
+use Rattle.vsw_port.proofs.Calls.{each_append}
+use Rattle.vsw_port.proofs.Fronts.{append_end}
 use Rattle.vsw_promise.specs.Jobs.{Placed, at_place}
 use Rattle.vsw_promise.specs.Rounds.{opening_of}
-use Rattle.vsw_agreement_law.proofs.Reports.{doer_job, map_append}
+use Rattle.vsw_history_law.proofs.Reports.{doer_job, map_append}
 use Rattle.vsw_many.specs.Law.{ActorBegins, ActorGoesOn, ActorEnds}
 use Rattle.vsw_many.specs.Passes.{AtRest, Works}
 use Rattle.vsw_many.specs.Phases.{Track, IsTrack}

@@ -9,15 +9,15 @@ use Rattle.vsw_flowid.specs.Sum.{flow_sum_of}
 use Rattle.vsw_pcap.specs.declared.capture.Record.{Record}
 use Rattle.vsw_policy.specs.Layers.{place_of}
 use Rattle.vsw_policy.specs.Sound.{Each, are_distinct, is_listed}
-use Rattle.vsw_policyfile.specs.declared.file.PortFile.{PortFile}
-use Rattle.vsw_ports.specs.Ports.{PortSeen, port_of, ports_of}
+use Rattle.vsw_config.specs.declared.file.PortFile.{PortFile}
+use Rattle.vsw_promise.specs.Ports.{PortSeen, port_of, ports_of}
 use Rattle.vsw_report.specs.declared.round.LooseCause.{LooseCause}
-use Rattle.vsw_history.specs.Calls.{Ask, controller_at, job_doer, jobs_by}
-use Rattle.vsw_history.proofs.Calls.{each_append}
-use Rattle.vsw_history.proofs.Fronts.{append_end}
+use Rattle.vsw_port.specs.Calls.{Ask, controller_at, job_doer, jobs_by}
+use Rattle.vsw_port.proofs.Calls.{each_append}
+use Rattle.vsw_port.proofs.Fronts.{append_end}
 use Rattle.vsw_promise.specs.Jobs.{Setting, Placed, jobs_of, aim_of, aimed_at, at_place, deal, packet_jobs, during_jobs, macs_of, packets_between, numbers_of, placed_jobs, placed_lines, placed_packet, placed_packets, worker_of}
-use Rattle.vsw_agreement_law.specs.HistoryLaws.{AreServed}
-use Rattle.vsw_agreement_law.proofs.Callers.{place_one}
+use Rattle.vsw_history_law.specs.Law.{AreServed}
+use Rattle.vsw_history_law.proofs.Callers.{place_one}
 use Rattle.vsw_many.specs.Law.{DealIsPlaced, AllIsDealt}
 use Rattle.vsw_many.proofs.Actors.{filter_append, place_append}
 use Rattle.vsw_many.proofs.Passes.{each_weaker}

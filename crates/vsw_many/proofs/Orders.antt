@@ -4,16 +4,16 @@ use Rattle.std.specs.List.{flat_map}
 use native.Mathlib.Decide.{ℕ_discrete}
 use mathlib.Core.List.{IsPrefix}
 use Rattle.vsw_policy.specs.Sound.{Each}
-use Rattle.vsw_history.specs.declared.event.Event.{Event}
-use Rattle.vsw_history.specs.Calls.{Job, Call, job_of, job_doer, jobs_by, doer, named, calls_of, event_of, next_count, entries_of, IsCall, Entry, Read, Short, InOrder, IsShare, AreShares, IsOneOrder}
-use Rattle.vsw_history.specs.History.{Opening}
-use Rattle.vsw_history.proofs.Calls.{calls_append, each_of_all}
-use Rattle.vsw_history.proofs.Next.{each_of, named_doer}
+use Rattle.vsw_port.specs.declared.event.Event.{Event}
+use Rattle.vsw_port.specs.Calls.{Job, Call, job_of, job_doer, jobs_by, doer, named, calls_of, event_of, next_count, entries_of, IsCall, Entry, Read, Short, InOrder, IsShare, AreShares, IsOneOrder}
+use Rattle.vsw_port.specs.History.{Opening}
+use Rattle.vsw_port.proofs.Calls.{calls_append, each_of_all}
+use Rattle.vsw_port.proofs.Next.{each_of, named_doer}
 use Rattle.vsw_promise.specs.Told.{line_of, callers, reads_at, entry_at, reads_by_caller, in_told_order}
 use Rattle.vsw_promise.proofs.PortRounds.{drop_front}
-use Rattle.vsw_agreement_law.proofs.Callers.{eqb_is}
-use Rattle.vsw_agreement_law.proofs.Ones.{room}
-use Rattle.vsw_agreement_law.proofs.Same.{added_length}
+use Rattle.vsw_history_law.proofs.Callers.{eqb_is}
+use Rattle.vsw_history_law.proofs.Ones.{room}
+use Rattle.vsw_history_law.proofs.Same.{added_length}
 use Rattle.vsw_many.specs.Law.{OrderIsFree}
 use Rattle.vsw_many.specs.Phases.{SameByCaller}
 

@@ -2,12 +2,12 @@
 use Rattle.std.proofs.Common.{◌≡◌, ◌≢◌, ◌≤◌, ℕ, zero, suc, ◌+◌, ◌==◌, true, false, List, [], ◌∷◌, ◌++◌, length, Some, slice_get, refl, ap, sym, ◌∙◌, subst, arith, append_assoc, ne_eqb, eq-eqb}
 use mathlib.Core.List.{IsPrefix}
 use Rattle.vsw_policy.specs.Sound.{Each}
-use Rattle.vsw_history.specs.declared.event.Event.{Event}
-use Rattle.vsw_history.specs.Calls.{Call, doer, calls_of, event_of, next_count, entries_of, entries_naming, IsCall, Entry, Read, Short, InOrder, HasBytes, IsShare}
-use Rattle.vsw_history.specs.History.{Opening}
-use Rattle.vsw_history.proofs.Fronts.{prefix_self, prefix_trans, prefix_length, append_end}
-use Rattle.vsw_history.proofs.Calls.{calls_later, each_append, entries_append}
-use Rattle.vsw_history.proofs.Next.{bytes_later, order_more, goes_none, goes_on, naming_append, naming_calls}
+use Rattle.vsw_port.specs.declared.event.Event.{Event}
+use Rattle.vsw_port.specs.Calls.{Call, doer, calls_of, event_of, next_count, entries_of, entries_naming, IsCall, Entry, Read, Short, InOrder, HasBytes, IsShare}
+use Rattle.vsw_port.specs.History.{Opening}
+use Rattle.vsw_port.proofs.Fronts.{prefix_self, prefix_trans, prefix_length, append_end}
+use Rattle.vsw_port.proofs.Calls.{calls_later, each_append, entries_append}
+use Rattle.vsw_port.proofs.Next.{bytes_later, order_more, goes_none, goes_on, naming_append, naming_calls}
 use Rattle.vsw_many.specs.Law.{WorksBegin, WorksGoOn, WorksStay, WorksSettle, TurnGoesOn, LockedCallsCross, LockedMeets}
 use Rattle.vsw_many.specs.Passes.{PassNow, AtRest, Works, Meets}
 

@@ -4,13 +4,13 @@ use Rattle.std.proofs.lemmas.Grind.{common_steps}
 use native.Mathlib.Decide.{ℕ_discrete}
 use mathlib.Core.List.{IsPrefix}
 use Rattle.vsw_policy.specs.Sound.{Each}
-use Rattle.vsw_ports.specs.Ports.{PortSeen}
-use Rattle.vsw_history.specs.declared.event.Event.{Event}
-use Rattle.vsw_history.specs.Calls.{Job, Call, job_of, doer, named, calls_of, entries_of, entries_naming, IsCall, HasBytes, IsShare, AreShares, IsOneOrder}
-use Rattle.vsw_history.specs.History.{Opening}
-use Rattle.vsw_history.proofs.Fronts.{prefix_trans, prefix_length, append_end}
-use Rattle.vsw_history.proofs.Calls.{each_append, each_of_all, calls_append, shares_join, order_join}
-use Rattle.vsw_history.proofs.Next.{take_front, bytes_later}
+use Rattle.vsw_promise.specs.Ports.{PortSeen}
+use Rattle.vsw_port.specs.declared.event.Event.{Event}
+use Rattle.vsw_port.specs.Calls.{Job, Call, job_of, doer, named, calls_of, entries_of, entries_naming, IsCall, HasBytes, IsShare, AreShares, IsOneOrder}
+use Rattle.vsw_port.specs.History.{Opening}
+use Rattle.vsw_port.proofs.Fronts.{prefix_trans, prefix_length, append_end}
+use Rattle.vsw_port.proofs.Calls.{each_append, each_of_all, calls_append, shares_join, order_join}
+use Rattle.vsw_port.proofs.Next.{take_front, bytes_later}
 use Rattle.vsw_promise.specs.Jobs.{Jobs}
 use Rattle.vsw_promise.specs.Rounds.{opening_of, IsPortRound}
 use Rattle.vsw_promise.proofs.PortRounds.{each_low, take_whole}

@@ -3,17 +3,17 @@ use Rattle.std.proofs.Common.{◌≡◌, ◌≢◌, ◌≤◌, ◌<◌, ℕ, suc
 use mathlib.Core.List.{IsPrefix}
 use Rattle.vsw_pcap.specs.declared.capture.Record.{Record}
 use Rattle.vsw_policy.specs.Sound.{Each}
-use Rattle.vsw_ports.specs.Ports.{PortSeen, ports_of}
+use Rattle.vsw_promise.specs.Ports.{PortSeen, ports_of}
 use Rattle.vsw_report.specs.declared.round.PortRound.{PortRound}
 use Rattle.vsw_report.specs.declared.round.Round.{Round}
-use Rattle.vsw_history.specs.declared.event.Event.{Event}
-use Rattle.vsw_history.specs.Calls.{Job, Call, job_of, job_doer, jobs_by, doer, named, calls_of}
-use Rattle.vsw_history.specs.History.{Opening, AllRight}
-use Rattle.vsw_history.proofs.Fronts.{prefix_trans}
+use Rattle.vsw_port.specs.declared.event.Event.{Event}
+use Rattle.vsw_port.specs.Calls.{Job, Call, job_of, job_doer, jobs_by, doer, named, calls_of}
+use Rattle.vsw_port.specs.History.{Opening, AllRight}
+use Rattle.vsw_port.proofs.Fronts.{prefix_trans}
 use Rattle.vsw_promise.specs.Jobs.{Setting, Placed, Jobs, jobs_of, at_place, deal, placed_jobs, numbers_of}
 use Rattle.vsw_promise.specs.Rounds.{opening_of, ArePortRounds, AreRoundsAt, AreChained, AllBegin, AreHistories, end_before}
 use Rattle.vsw_promise.proofs.Exists.{begin_self, begin_trans, ports_later, none_yet, no_counts}
-use Rattle.vsw_agreement_law.proofs.Reports.{jobs_of_calls}
+use Rattle.vsw_history_law.proofs.Reports.{jobs_of_calls}
 use Rattle.vsw_many.specs.Law.{RunIsTold}
 use Rattle.vsw_many.specs.Phases.{Lane, AreLanes, calls_in, DoneBeside, PortDone}
 use Rattle.vsw_many.specs.Actors.{AreRows}

@@ -1,9 +1,9 @@
 -- What an actor does in a round over all ports: a worker with its packets, or a controller with its commands.
 use Rattle.std.specs.Prelude.{◌≡◌, ◌≢◌, ℕ, suc, List, [], ◌∷◌, ◌++◌, map}
-use Rattle.vsw_ports.specs.Ports.{PortSeen}
-use Rattle.vsw_history.specs.declared.event.Event.{Event}
-use Rattle.vsw_history.specs.Calls.{Job, Call, job_of}
-use Rattle.vsw_history.specs.History.{Opening}
+use Rattle.vsw_promise.specs.Ports.{PortSeen}
+use Rattle.vsw_port.specs.declared.event.Event.{Event}
+use Rattle.vsw_port.specs.Calls.{Job, Call, job_of}
+use Rattle.vsw_port.specs.History.{Opening}
 use Rattle.vsw_promise.specs.Jobs.{Placed, at_place, deal}
 use Rattle.vsw_promise.specs.Rounds.{opening_of}
 use Rattle.vsw_many.specs.Passes.{PassNow, AtRest, Crosses, Meets}

@@ -4,13 +4,13 @@ use mathlib.Core.List.{IsPrefix}
 use Rattle.vsw_pcap.specs.declared.capture.Record.{Record}
 use Rattle.vsw_policy.specs.Layers.{place_of}
 use Rattle.vsw_policy.specs.Sound.{Each, are_distinct, is_listed}
-use Rattle.vsw_ports.specs.Ports.{PortSeen, ports_of}
+use Rattle.vsw_promise.specs.Ports.{PortSeen, ports_of}
 use Rattle.vsw_report.specs.declared.round.Round.{Round}
-use Rattle.vsw_history.specs.declared.event.Event.{Event}
-use Rattle.vsw_history.specs.Calls.{Job, Call, job_of, job_doer, jobs_by, doer, entries_of, entries_naming, InOrder, IsShare, AreShares, HasBytes}
-use Rattle.vsw_history.specs.History.{Opening, AllRight}
-use Rattle.vsw_history.specs.Next.{IsNext}
-use Rattle.vsw_agreement_law.specs.HistoryLaws.{AreServed}
+use Rattle.vsw_port.specs.declared.event.Event.{Event}
+use Rattle.vsw_port.specs.Calls.{Job, Call, job_of, job_doer, jobs_by, doer, entries_of, entries_naming, InOrder, IsShare, AreShares, HasBytes}
+use Rattle.vsw_port.specs.History.{Opening, AllRight}
+use Rattle.vsw_port.specs.Next.{IsNext}
+use Rattle.vsw_history_law.specs.Law.{AreServed}
 use Rattle.vsw_promise.specs.Jobs.{Setting, Jobs, Placed, jobs_of, at_place, deal, placed_jobs, placed_packets, placed_lines, numbers_of, macs_of, packets_between}
 use Rattle.vsw_promise.specs.Rounds.{IsPortRound, AreRounds, AreHistories}
 use Rattle.vsw_promise.specs.Told.{lines_of}

@@ -3,11 +3,11 @@ use Rattle.std.specs.Prelude.{◌≡◌, ◌<◌, ◌-◌, ℕ, suc, List, [], �
 use Rattle.std.specs.List.{flat_map}
 use mathlib.Core.List.{IsPrefix}
 use Rattle.vsw_policy.specs.Sound.{Each}
-use Rattle.vsw_ports.specs.Ports.{PortSeen}
+use Rattle.vsw_promise.specs.Ports.{PortSeen}
 use Rattle.vsw_report.specs.declared.round.PortRound.{PortRound}
-use Rattle.vsw_history.specs.declared.event.Event.{Event}
-use Rattle.vsw_history.specs.Calls.{Job, Call, job_of, jobs_by, doer, named, calls_of, InOrder}
-use Rattle.vsw_history.specs.History.{Opening, AllRight}
+use Rattle.vsw_port.specs.declared.event.Event.{Event}
+use Rattle.vsw_port.specs.Calls.{Job, Call, job_of, jobs_by, doer, named, calls_of, InOrder}
+use Rattle.vsw_port.specs.History.{Opening, AllRight}
 use Rattle.vsw_promise.specs.Jobs.{Jobs}
 use Rattle.vsw_promise.specs.Rounds.{opening_of}
 use Rattle.vsw_promise.specs.Told.{lines_of}

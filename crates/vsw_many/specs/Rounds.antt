@@ -4,12 +4,12 @@ use Rattle.std.specs.List.{flat_map}
 use mathlib.Core.List.{IsPrefix}
 use Rattle.vsw_pcap.specs.declared.capture.Record.{Record}
 use Rattle.vsw_policy.specs.Sound.{Each}
-use Rattle.vsw_ports.specs.Ports.{PortSeen, ports_of}
+use Rattle.vsw_promise.specs.Ports.{PortSeen, ports_of}
 use Rattle.vsw_report.specs.declared.round.PortRound.{PortRound}
 use Rattle.vsw_report.specs.declared.round.Round.{Round}
-use Rattle.vsw_history.specs.declared.event.Event.{Event}
-use Rattle.vsw_history.specs.Calls.{Job, Call, named}
-use Rattle.vsw_history.specs.History.{AllRight}
+use Rattle.vsw_port.specs.declared.event.Event.{Event}
+use Rattle.vsw_port.specs.Calls.{Job, Call, named}
+use Rattle.vsw_port.specs.History.{AllRight}
 use Rattle.vsw_promise.specs.Jobs.{Setting, Jobs, jobs_of, placed_jobs, loose_among, macs_of, packets_between}
 use Rattle.vsw_promise.specs.Rounds.{opening_of, end_before}
 use Rattle.vsw_many.specs.Phases.{Lane, calls_in, IsPhase, DoneInTurn, port_told}

@@ -4,9 +4,9 @@ use Rattle.std.specs.List.{find, list_any}
 use Rattle.std.proofs.lemmas.Bool.Decides.{nat_tests}
 use Rattle.vsw_base.proofs.Truths.{both}
 use Rattle.vsw_rule.proofs.Same.{rule_tells, rule_knows}
-use Rattle.vsw_layer.specs.Groups.{changed, removed}
-use Rattle.vsw_layer.specs.Layer.{LayerSeen}
-use Rattle.vsw_layer.specs.Staying.{same_rule}
+use Rattle.vsw_policy.specs.Groups.{changed, removed}
+use Rattle.vsw_policy.specs.Layer.{LayerSeen}
+use Rattle.vsw_policy.specs.Staying.{same_rule}
 use Rattle.vsw_policy.specs.declared.command.Command.{Command}
 use Rattle.vsw_policy.specs.declared.command.Command.TheVariants.{AddLayer, RemoveLayer, AddGroup, RemoveGroup, PutRules, AddRule, RemoveRule, SetDefault, Sweep}
 use Rattle.vsw_policy.specs.declared.refusal.Refusal.{Refusal}

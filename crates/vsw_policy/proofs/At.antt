@@ -5,8 +5,8 @@ use Rattle.vsw_base.specs.declared.flow.Track.{Track}
 use Rattle.vsw_layerflow.specs.declared.pair.Pair.{Pair}
 use Rattle.vsw_layerflow.specs.Pairs.{touched, AllBelow}
 use Rattle.vsw_layerflow.proofs.Order.{below_filter, below_push}
-use Rattle.vsw_layer.specs.declared.layer.Layer.{Layer}
-use Rattle.vsw_layer.specs.Layer.{LayerSeen, seen, room, with_pair, with_touched, without_pair, CanTake}
+use Rattle.vsw_policy.specs.declared.layer.Layer.{Layer}
+use Rattle.vsw_policy.specs.Layer.{LayerSeen, seen, room, with_pair, with_touched, without_pair, CanTake}
 use Rattle.vsw_policy.specs.Layers.{At, changed_at, is_of, is_before}
 use Rattle.vsw_policy.specs.Sound.{Each, AreApart, AreInOrder, AreGood, IsGoodLayer, IsSound, same_layer}
 use Rattle.vsw_policy.proofs.Keeps.{KeepsName, each-as, before-left, before-right}

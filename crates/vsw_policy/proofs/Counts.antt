@@ -2,8 +2,8 @@
 use Rattle.std.proofs.Common.{◌≡◌, ◌≤◌, ◌+◌, ◌*◌, ℕ, ◌==◌, Bool, true, false, not, List, [], ◌∷◌, length, filter, map, refl, arith}
 use Rattle.std.proofs.lemmas.Bool.Decides.{nat_tests}
 use Rattle.std.proofs.lemmas.List.{length-map}
-use Rattle.vsw_layer.specs.declared.layer.Layer.{Layer}
-use Rattle.vsw_layer.specs.Layer.{LayerSeen, seen}
+use Rattle.vsw_policy.specs.declared.layer.Layer.{Layer}
+use Rattle.vsw_policy.specs.Layer.{LayerSeen, seen}
 use Rattle.vsw_policy.specs.Layers.{is_of}
 use Rattle.vsw_policy.specs.Sound.{Each, IsGoodLayer, IsSound, is_listed}
 

@@ -6,10 +6,10 @@ use Rattle.std.proofs.lemmas.Bool.Decides.{nat_tests}
 use Rattle.std.proofs.lemmas.List.{map-set, get_or-map, length-map, map-append, take-map, drop-map}
 use Rattle.std.proofs.lemmas.List.Sums.{prefix_len-le-length}
 use Rattle.std.proofs.lemmas.List.Quantifiers.{position-Some}
-use Rattle.vsw_layer.specs.declared.layer.Layer.{Layer}
-use Rattle.vsw_layer.specs.Groups.{changed, removed}
-use Rattle.vsw_layer.specs.Layer.{LayerSeen, seen}
-use Rattle.vsw_layer.proofs.Firsts.{find-some, changed-none, changed-at, removed-at}
+use Rattle.vsw_policy.specs.declared.layer.Layer.{Layer}
+use Rattle.vsw_policy.specs.Groups.{changed, removed}
+use Rattle.vsw_policy.specs.Layer.{LayerSeen, seen}
+use Rattle.vsw_policy.proofs.LayerFirsts.{find-some, changed-none, changed-at, removed-at}
 use Rattle.vsw_policy.specs.Layers.{is_before}
 use Rattle.vsw_policy.specs.Obey.{placed}
 

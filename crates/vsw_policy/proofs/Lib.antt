@@ -1,3 +1,5 @@
+pub mod LayerSharing
+pub mod Stays
 pub mod Firsts
 pub mod Orders
 pub mod Keeps
@@ -6,3 +8,4 @@ pub mod Alone
 pub mod At
 pub mod Ascending
 pub mod Sharing
+pub use Rattle.vsw_classify.proofs.Firsts as LayerFirsts

@@ -3,7 +3,7 @@ use denote.Param.Send.{IsSend, sendable, view_send}
 use denote.Param.SendFields.{FieldsHave, declared_send}
 use Rattle.std.proofs.Crossing.{crosses, send}
 use Rattle.vsw_base.proofs.list.Items.TheSendSync as items
-use Rattle.vsw_layer.proofs.Sharing.{layer_send}
+use Rattle.vsw_policy.proofs.LayerSharing.{layer_send}
 use Rattle.vsw_policy.specs.contracts.policy.Policy as Policy
 use Rattle.vsw_policy.specs.contracts.policy.Policy.TheInside as policy
 

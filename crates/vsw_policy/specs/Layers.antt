@@ -1,6 +1,6 @@
 -- The layers of a port, what names one, and the order in which they stand.
 use Rattle.std.specs.Prelude.{ℕ, zero, suc, ◌==◌, ◌&&◌, ◌||◌, List, [], ◌∷◌, Bool, nat_lt, get_or, if◌then◌else◌}
-use Rattle.vsw_layer.specs.Layer.{LayerSeen}
+use Rattle.vsw_policy.specs.Layer.{LayerSeen}
 
 -- the controllers of a port, its layers, and for how many more pairs each of these has room
 pub record PolicySeen : Type 0 where

@@ -1,6 +1,10 @@
+pub mod Layer
+pub mod Staying
+pub mod Numbers
 pub mod Obey
 pub mod Layers
 pub mod Sound
 pub mod Own
 pub mod Refusals
 pub mod Law
+pub use Rattle.vsw_classify.specs.Groups

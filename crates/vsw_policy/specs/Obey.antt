@@ -5,10 +5,10 @@ use Rattle.vsw_layerflow.specs.Pairs.{of_rule}
 use Rattle.vsw_layerflow.specs.Life.{is_over}
 use Rattle.vsw_rule.specs.declared.rule.Group.{Group}
 use Rattle.vsw_rule.specs.declared.rule.Rule.{Rule}
-use Rattle.vsw_layer.specs.declared.layer.LayerSpec.{LayerSpec}
-use Rattle.vsw_layer.specs.Groups.{is_group, is_rule, changed, removed, rules_in, has_twice, with_rules, with_rule, without_rule}
-use Rattle.vsw_layer.specs.Layer.{LayerSeen, with_spec, with_parts, defaulting}
-use Rattle.vsw_layer.specs.Staying.{staying}
+use Rattle.vsw_policy.specs.declared.layer.LayerSpec.{LayerSpec}
+use Rattle.vsw_policy.specs.Groups.{is_group, is_rule, changed, removed, rules_in, has_twice, with_rules, with_rule, without_rule}
+use Rattle.vsw_policy.specs.Layer.{LayerSeen, with_spec, with_parts, defaulting}
+use Rattle.vsw_policy.specs.Staying.{staying}
 use Rattle.vsw_policy.specs.declared.command.Command.{Command}
 use Rattle.vsw_policy.specs.declared.command.Command.TheVariants.{AddLayer, RemoveLayer, AddGroup, RemoveGroup, PutRules, AddRule, RemoveRule, SetDefault, Sweep}
 use Rattle.vsw_policy.specs.declared.refusal.Refusal.{Refusal}

@@ -1,8 +1,8 @@
 -- Controllers apart: what a command finds and leaves of the layers of its own controller and of others.
 use Rattle.std.specs.Prelude.{◌≡◌, ◌↔◌, ℕ, ◌==◌, List, true, false, filter, Result, Ok, Err}
 use Rattle.vsw_rule.specs.declared.rule.Rule.{Rule}
-use Rattle.vsw_layer.specs.Layer.{LayerSeen}
-use Rattle.vsw_layer.specs.Staying.{same_rule}
+use Rattle.vsw_policy.specs.Layer.{LayerSeen}
+use Rattle.vsw_policy.specs.Staying.{same_rule}
 use Rattle.vsw_policy.specs.declared.command.Command.{Command}
 use Rattle.vsw_policy.specs.declared.refusal.Refusal.{Refusal}
 use Rattle.vsw_policy.specs.Layers.{is_of}

@@ -5,8 +5,8 @@ use Rattle.vsw_rule.specs.declared.rule.Group.{Group}
 use Rattle.vsw_rule.specs.declared.rule.Rule.{Rule}
 use Rattle.vsw_rule.specs.Check.{bad_rule_of}
 use Rattle.vsw_layerflow.specs.Pairs.{AllBelow}
-use Rattle.vsw_layer.specs.Groups.{is_group, is_rule}
-use Rattle.vsw_layer.specs.Layer.{LayerSeen}
+use Rattle.vsw_policy.specs.Groups.{is_group, is_rule}
+use Rattle.vsw_policy.specs.Layer.{LayerSeen}
 use Rattle.vsw_policy.specs.Layers.{PolicySeen, is_of, is_layer, is_before}
 
 -- P holds of each element

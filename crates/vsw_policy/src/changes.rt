@@ -1,17 +1,17 @@
 //! What a command changes among the layers.
 
 ghost use Rattle.std.specs.Prelude.{◌≡◌, OnOk, OnErr, map};
-ghost use Rattle.vsw_layer.specs.Groups.{changed, removed};
-ghost use Rattle.vsw_layer.specs.Layer.{seen};
+ghost use Rattle.vsw_policy.specs.Groups.{changed, removed};
+ghost use Rattle.vsw_policy.specs.Layer.{seen};
 ghost use Rattle.vsw_policy.specs.Layers.{is_layer};
 ghost use Rattle.vsw_policy.specs.Obey as obey;
 ghost use Rattle.vsw_policy.specs.Obey.{after};
 
 use crate::command::Command;
 use crate::places::{layer_place, place_for};
+use crate::{Groups, Layer, LayerSpec};
 use std::alloc::Global;
 use vsw_base::NoMemory;
-use vsw_layer::{Groups, Layer, LayerSpec};
 use vsw_layerflow::Flows;
 
 /// A layer without groups and pairs.

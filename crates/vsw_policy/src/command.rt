@@ -1,7 +1,7 @@
 //! What a controller may ask of its layers.
 
+use crate::LayerSpec;
 use vsw_base::{Dir, Items, Moment};
-use vsw_layer::LayerSpec;
 use vsw_rule::{Cond, Rule};
 
 /// What a controller asks of its own layers, which are told by their numbers.

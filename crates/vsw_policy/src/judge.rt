@@ -3,16 +3,16 @@
 ghost use Rattle.std.specs.Prelude.{◌≡◌, List, IfOk, map};
 ghost use Rattle.vsw_base.specs.declared.packet.Dir.{Dir};
 ghost use Rattle.vsw_rule.specs.declared.rule.Cond.{Cond};
-ghost use Rattle.vsw_layer.specs.Layer.{seen};
+ghost use Rattle.vsw_policy.specs.Layer.{seen};
 ghost use Rattle.vsw_policy.specs.declared.command.Command.TheVariants as command;
 ghost use Rattle.vsw_policy.specs.Obey.{tests, first_refusal};
 
 use crate::command::Command;
 use crate::places::{count_layers, groups_in, has_layer};
 use crate::refusal::Refusal;
+use crate::{Layer, LayerSpec, has_group, has_rule, has_twice, rules_in};
 use std::alloc::Global;
 use vsw_base::NoMemory;
-use vsw_layer::{Layer, LayerSpec, has_group, has_rule, has_twice, rules_in};
 use vsw_rule::Rule;
 
 /// The most layers of a controller, groups of a layer, and rules of a group.

@@ -1,10 +1,12 @@
-//! The layers of a port's controllers, and the commands that change them.
+//! A port's layers and their pairs, a policy of layers, and what commands do to it.
 #![tactic(auto)]
 
 mod changes;
 mod command;
+mod gone;
 mod judge;
 mod law;
+mod layer;
 mod pairs;
 mod places;
 mod policy;
@@ -13,5 +15,9 @@ mod refusal;
 pub use changes::change;
 pub use command::Command;
 pub use law::laws;
+pub use layer::{Layer, LayerSpec};
 pub use policy::Policy;
 pub use refusal::{Refusal, Reply};
+pub use vsw_classify::{
+    Groups, copy_conditions, copy_rule, copy_rules, has_group, has_rule, has_twice, rules_in,
+};

@@ -1,11 +1,11 @@
 //! What is changed of the pairs of the layer at a place.
 
 ghost use Rattle.std.specs.Prelude.{◌≡◌, ◌≢◌, ◌≤◌, ◌<◌, ◌+◌, ℕ, OnOk, length, map, get_or};
-ghost use Rattle.vsw_layer.specs.Layer.{seen, room, with_pair, with_touched, without_pair, CanTake};
+ghost use Rattle.vsw_policy.specs.Layer.{seen, room, with_pair, with_touched, without_pair, CanTake};
 ghost use Rattle.vsw_policy.specs.Layers.{At, changed_at};
 
+use crate::Layer;
 use vsw_base::{Moment, NoMemory, Track};
-use vsw_layer::Layer;
 use vsw_layerflow::Pair;
 
 pub fn reserve_at(layers: &mut Vec<Layer>, place: usize) -> Result<(), NoMemory>

@@ -2,11 +2,11 @@
 
 ghost use Rattle.std.specs.Prelude.{◌≡◌, ◌≤◌, map, filter, length};
 ghost use Rattle.std.specs.List.{list_any, position, position_or_len};
-ghost use Rattle.vsw_layer.specs.Layer.{seen};
+ghost use Rattle.vsw_policy.specs.Layer.{seen};
 ghost use Rattle.vsw_policy.specs.Layers as spec;
 ghost use Rattle.vsw_policy.specs.Obey as obey;
 
-use vsw_layer::{Layer, LayerSpec};
+use crate::{Layer, LayerSpec};
 use vsw_rule::Group;
 
 fn is_layer(controller: u16, number: u16, layer: &Layer) -> bool

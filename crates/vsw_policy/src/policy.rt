@@ -1,12 +1,13 @@
 //! The policy of a port.
 
 ghost use Rattle.std.specs.Prelude.{◌≡◌, ◌≢◌, ◌≤◌, ◌<◌, ◌+◌, ℕ, [], false, true, IsTrue, length, map, IfOk, OnOk, OnErr};
-ghost use Rattle.vsw_layer.specs.Layer.{seen, with_pair, with_touched, without_pair, CanTake};
+ghost use Rattle.vsw_policy.specs.Layer.{seen, with_pair, with_touched, without_pair, CanTake};
 ghost use Rattle.vsw_policy.specs.Layers.{PolicySeen, room_at, At, changed_at};
 ghost use Rattle.vsw_policy.specs.Obey.{obey, told, is_memory, rules_given};
 ghost use Rattle.vsw_policy.specs.Own.{OthersStay};
 ghost use Rattle.vsw_policy.specs.Sound.{Each, IsGoodRule, IsSound, is_listed, are_distinct};
 
+use crate::Layer;
 use crate::changes::change;
 use crate::command::Command;
 use crate::judge::judge;
@@ -15,7 +16,6 @@ use crate::refusal::Refusal;
 use std::alloc::Global;
 use std::marker::Model;
 use vsw_base::{Items, Moment, NoMemory, Track};
-use vsw_layer::Layer;
 use vsw_layerflow::Pair;
 
 /// The layers of a port, and the controllers that they belong to.
@@ -28,7 +28,7 @@ pub struct Policy {
 
 impl Model for Policy {
     ghost use Rattle.std.specs.Prelude.{map};
-    ghost use Rattle.vsw_layer.specs.Layer.{seen, room};
+    ghost use Rattle.vsw_policy.specs.Layer.{seen, room};
     ghost use Rattle.vsw_policy.specs.Layers.{PolicySeen};
     ghost use Rattle.vsw_policy.specs.Sound.{IsSound};
 

@@ -2,8 +2,7 @@
 
 use std::alloc::{AllocError, Global};
 use vsw_base::{Dir, Items, Moment};
-use vsw_layer::LayerSpec;
-use vsw_policy::Command;
+use vsw_policy::{Command, LayerSpec};
 use vsw_rule::{Action, Cond, Field, Item, Rule};
 
 /// Allows 16 pairs, which live for 240 or, closed, 10 seconds.

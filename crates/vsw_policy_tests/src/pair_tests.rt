@@ -7,9 +7,8 @@ use crate::commands::{put_two, remove_group, remove_rule, rule, spec};
 use crate::told::told_rules;
 use std::alloc::Global;
 use vsw_base::{Dir, Ip4, Items, LayerKey, Moment, Set, Track};
-use vsw_layer::{Groups, Layer};
 use vsw_layerflow::{Flows, Pair};
-use vsw_policy::{Command, change};
+use vsw_policy::{Command, Groups, Layer, change};
 use vsw_rule::Group;
 
 const UNSET: Set = Set {

@@ -2,16 +2,15 @@
 
 ghost use Rattle.std.specs.Prelude.{◌<◌, IsTrue, length};
 ghost use Rattle.vsw_layerflow.specs.Pairs.{AllBelow};
-ghost use Rattle.vsw_layer.specs.Layer.{seen, CanTake};
+ghost use Rattle.vsw_policy.specs.Layer.{seen, CanTake};
 ghost use Rattle.vsw_policy.specs.Layers.{At};
 
 use crate::commands::add_layer;
 use crate::pair_tests::{left, pair, there};
 use crate::trial::Trial;
 use vsw_base::{Dir, Moment, Track};
-use vsw_layer::Layer;
 use vsw_layerflow::Pair;
-use vsw_policy::Policy;
+use vsw_policy::{Layer, Policy};
 
 /// Whether a layer can take up a pair.
 fn can_take(layer: &Layer, pair: &Pair) -> bool

@@ -1,7 +1,7 @@
 //! What is seen of layers.
 
 use vsw_base::Dir;
-use vsw_layer::Layer;
+use vsw_policy::Layer;
 use vsw_rule::{Field, Group};
 
 /// Whether the layers stand as told, by controller and number.

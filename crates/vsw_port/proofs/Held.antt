@@ -2,16 +2,16 @@
 use Rattle.std.proofs.Common.{◌≡◌, ◌+◌, ℕ, Bool, true, false, not, true≢false, List, [], ◌∷◌, ◌++◌, length, Result, Ok, Err, refl, sym, ap, subst, ◌∙◌, arith, length-append, append-nil, OnErr}
 use Rattle.vsw_base.specs.declared.fate.Fate.{Fate}
 use Rattle.vsw_base.specs.Frame.{Parts}
-use Rattle.vsw_history.specs.Cross.{cross_of}
-use Rattle.vsw_history.specs.Fate.{fate_at}
+use Rattle.vsw_port.specs.Cross.{cross_of}
+use Rattle.vsw_port.specs.Fate.{fate_at}
 use Rattle.vsw_base.specs.declared.flow.Crossing.{Crossing}
-use Rattle.vsw_history.specs.declared.event.Event.{Event}
-use Rattle.vsw_history.specs.declared.event.Event.TheVariants as event
-use Rattle.vsw_history.specs.History.{Opening, IsRight, after, after_all, left_by, replay, reply_in}
-use Rattle.vsw_history.specs.Calls.{Carried}
-use Rattle.vsw_history.specs.Next.{IsDone, Enters, Reading, Wanting}
-use Rattle.vsw_history.proofs.Next.{right_more, still}
-use Rattle.vsw_layer.specs.Layer.{LayerSeen}
+use Rattle.vsw_port.specs.declared.event.Event.{Event}
+use Rattle.vsw_port.specs.declared.event.Event.TheVariants as event
+use Rattle.vsw_port.specs.History.{Opening, IsRight, after, after_all, left_by, replay, reply_in}
+use Rattle.vsw_port.specs.Calls.{Carried}
+use Rattle.vsw_port.specs.Next.{IsDone, Enters, Reading, Wanting}
+use Rattle.vsw_port.proofs.Next.{right_more, still}
+use Rattle.vsw_policy.specs.Layer.{LayerSeen}
 use Rattle.vsw_policy.specs.declared.command.Command.{Command}
 use Rattle.vsw_policy.specs.declared.refusal.Refusal.{Refusal}
 use Rattle.vsw_policy.specs.declared.refusal.Refusal.TheVariants as refusal

@@ -3,24 +3,23 @@ use Rattle.std.proofs.Common.{◌≡◌, ◌≤◌, ◌+◌, ◌==◌, ◌⊎◌
 use Rattle.vsw_base.specs.declared.fate.Verdict.{Verdict}
 use Rattle.vsw_base.specs.declared.fate.Verdict.TheVariants.{Pass, Rule, Default}
 use Rattle.vsw_base.specs.declared.flow.Crossing.{Crossing}
-use Rattle.vsw_history.specs.Stop.{Stop}
-use Rattle.vsw_history.specs.Admit.{stop_of}
-use Rattle.vsw_history.specs.Can.{AreApart, NotMade}
-use Rattle.vsw_history.specs.Cross.{all_done, cross_of, made_after, made_by}
-use Rattle.vsw_history.proofs.Makes.{walk_apart}
+use Rattle.vsw_port.specs.Stop.{Stop}
+use Rattle.vsw_port.specs.Admit.{stop_of}
+use Rattle.vsw_port.specs.Can.{AreApart, NotMade}
+use Rattle.vsw_port.specs.Cross.{all_done, cross_of, made_after, made_by}
+use Rattle.vsw_port.proofs.Makes.{walk_apart}
 use Rattle.vsw_walk.specs.declared.scratch.Wanted.{Wanted}
 use Rattle.vsw_walk.specs.declared.scratch.Wanted.TheVariants.{Make, Touch, Leave}
 use Rattle.vsw_walk.specs.Walk.{walk_of}
-use Rattle.vsw_layer.specs.Layer.{LayerSeen, with_pair, with_touched, without_pair}
-use Rattle.vsw_policy.specs.Layers.{changed_at}
+use Rattle.vsw_policy.specs.Layer.{LayerSeen, with_pair, with_touched, without_pair}
+use Rattle.vsw_policy.specs.Layers.{changed_at, is_before, is_layer}
 use Rattle.vsw_policy.specs.Sound.{Each}
 use Rattle.std.specs.Prelude.{if◌then◌else◌}
-use Rattle.vsw_history.specs.History.{left_by}
-use Rattle.vsw_layer.specs.Groups.{changed, removed}
+use Rattle.vsw_port.specs.History.{left_by}
+use Rattle.vsw_policy.specs.Groups.{changed, removed}
 use Rattle.vsw_policy.specs.declared.command.Command.{Command}
 use Rattle.vsw_policy.specs.declared.command.Command.TheVariants.{AddLayer, RemoveLayer, AddGroup, RemoveGroup, PutRules, AddRule, RemoveRule, SetDefault, Sweep}
 use Rattle.vsw_policy.specs.declared.refusal.Refusal.{Refusal}
-use Rattle.vsw_policy.specs.Layers.{is_before, is_layer}
 use Rattle.vsw_policy.specs.Obey.{after, answered, empty_layer, first_refusal, obey, placed, tests, within}
 use Rattle.vsw_port.specs.Core.{AreAtMost}
 

@@ -5,10 +5,10 @@ use Rattle.vsw_base.specs.declared.fate.Fate.{Fate}
 use Rattle.vsw_base.specs.declared.fate.Fate.TheVariants.{Pass, Drop}
 use Rattle.vsw_base.specs.declared.flow.Crossing.{Crossing}
 use Rattle.vsw_base.specs.declared.header.Header.{Header}
-use Rattle.vsw_history.specs.Cross.{cross_of, made_by, makes}
-use Rattle.vsw_history.specs.Fate.{fate_at}
+use Rattle.vsw_port.specs.Cross.{cross_of, made_by, makes}
+use Rattle.vsw_port.specs.Fate.{fate_at}
 use Rattle.vsw_walk.specs.Walk.{walk_of}
-use Rattle.vsw_layer.specs.Layer.{LayerSeen}
+use Rattle.vsw_policy.specs.Layer.{LayerSeen}
 
 -- what became of a packet and of the layers, and whether it is an entry of the history, since it changed them
 pub record Crossed : Type 0 where

@@ -1,8 +1,8 @@
 -- A port's layers, and the history that leaves them so.
 use Rattle.std.specs.Prelude.{ℕ, List}
-use Rattle.vsw_history.specs.declared.event.Event.{Event}
-use Rattle.vsw_history.specs.History.{Opening, replay}
-use Rattle.vsw_layer.specs.Layer.{LayerSeen}
+use Rattle.vsw_port.specs.declared.event.Event.{Event}
+use Rattle.vsw_port.specs.History.{Opening, replay}
+use Rattle.vsw_policy.specs.Layer.{LayerSeen}
 
 -- what a port began with, its history since, and for how many more entries its journal has room
 pub record LedgerSeen : Type 0 where

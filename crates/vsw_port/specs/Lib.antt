@@ -1,3 +1,15 @@
+pub mod Calls
+pub mod History
+pub mod Next
+pub mod Order
+pub mod Sample
+pub mod Share
 pub mod Core
 pub mod Crossed
 pub mod Ledger
+pub use Rattle.vsw_commit.specs.Cross
+pub use Rattle.vsw_commit.specs.Fate
+pub use Rattle.vsw_commit.specs.Can
+pub use Rattle.vsw_commit.specs.Admit
+pub use Rattle.vsw_commit.specs.Walked
+pub use Rattle.vsw_commit.specs.declared.stop.Stop

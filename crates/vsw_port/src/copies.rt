@@ -4,8 +4,7 @@ ghost use Rattle.std.specs.Prelude.{◌≡◌, IfOk};
 
 use std::alloc::Global;
 use vsw_base::NoMemory;
-use vsw_layer::{copy_conditions, copy_rule, copy_rules};
-use vsw_policy::Command;
+use vsw_policy::{Command, copy_conditions, copy_rule, copy_rules};
 
 /// The same command, with lists of its own.
 pub fn copy_command(alloc: Global, command: &Command) -> Result<Command, NoMemory>

@@ -1,14 +1,14 @@
 //! A packet's walk is settled at its port.
 
 ghost use Rattle.std.specs.Prelude.{◌≡◌, ◌-◌, ◌<◌, ◌^◌, false};
-ghost use Rattle.vsw_history.specs.Walked.{IsWalk};
+ghost use Rattle.vsw_port.specs.Walked.{IsWalk};
 ghost use Rattle.vsw_base.specs.declared.fate.Fate.TheVariants.{Drop};
 ghost use Rattle.vsw_base.specs.declared.fate.Verdict.TheVariants as verdict;
 ghost use Rattle.vsw_policy.specs.Sound.{Each};
 ghost use Rattle.vsw_port.specs.Crossed.{EditsPass, MayBeShort, crossed, is_short};
 
+use crate::{commit, outgoing_size};
 use vsw_base::{Cause, Crossing, Fate, Verdict};
-use vsw_history::{commit, outgoing_size};
 use vsw_policy::Policy;
 use vsw_walk::{Scratch, Walked};
 

@@ -1,12 +1,12 @@
 //! A port's layers, and the history that leaves them so.
 
 ghost use Rattle.std.specs.Prelude.{◌≡◌, ◌≤◌, ◌<◌, ◌+◌, ◌-◌, ◌^◌, ◌++◌, [], ℕ, List, not, true, length, vec_capacity, OnOk, OnErr};
-ghost use Rattle.vsw_history.specs.Walked.{IsWalk};
+ghost use Rattle.vsw_port.specs.Walked.{IsWalk};
 ghost use Rattle.vsw_base.specs.Frame.{Parts};
 ghost use Rattle.vsw_commandfile.specs.declared.line.Line.{Line};
-ghost use Rattle.vsw_history.specs.declared.event.Event.TheVariants as event;
-ghost use Rattle.vsw_history.specs.Calls.{Asked, Carried};
-ghost use Rattle.vsw_history.specs.Next.{IsDone};
+ghost use Rattle.vsw_port.specs.declared.event.Event.TheVariants as event;
+ghost use Rattle.vsw_port.specs.Calls.{Asked, Carried};
+ghost use Rattle.vsw_port.specs.Next.{IsDone};
 ghost use Rattle.vsw_policy.specs.Obey.{is_memory, rules_given};
 ghost use Rattle.vsw_policy.specs.Refusals.{reply_of};
 ghost use Rattle.vsw_policy.specs.Sound.{Each, IsGoodRule, is_listed};
@@ -14,13 +14,13 @@ ghost use Rattle.vsw_port.specs.Core.{AreAtMost, IsHeld, entered, opening_of};
 ghost use Rattle.vsw_port.specs.Crossed.{EditsPass, MayBeShort, crossed, is_short};
 ghost use Rattle.vsw_port.specs.Ledger.{layers_in};
 
+use crate::Event;
 use crate::copies::copy_command;
 use crate::crossing::{Outcome, settle};
 use std::alloc::Global;
 use std::marker::Model;
 use std::snapshot::Snapshot;
 use vsw_base::{Crossing, NoMemory, Ufid};
-use vsw_history::Event;
 use vsw_policy::{Command, Policy, Refusal, Reply};
 use vsw_walk::{Scratch, Walked};
 

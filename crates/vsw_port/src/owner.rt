@@ -3,21 +3,21 @@
 ghost use Rattle.std.specs.Prelude.{◌≡◌, ◌≤◌, ◌<◌, ◌+◌, ◌-◌, ◌^◌, ◌++◌, [], ℕ, List, not, true, length, IfOk, OnOk, OnErr};
 ghost use Rattle.vsw_base.specs.Frame.{Parts};
 ghost use Rattle.vsw_commandfile.specs.declared.line.Line.{Line};
-ghost use Rattle.vsw_history.specs.declared.event.Event.TheVariants as event;
-ghost use Rattle.vsw_history.specs.Calls.{Asked, Carried};
-ghost use Rattle.vsw_history.specs.Next.{IsDone};
+ghost use Rattle.vsw_port.specs.declared.event.Event.TheVariants as event;
+ghost use Rattle.vsw_port.specs.Calls.{Asked, Carried};
+ghost use Rattle.vsw_port.specs.Next.{IsDone};
 ghost use Rattle.vsw_policy.specs.Obey.{is_memory, rules_given};
 ghost use Rattle.vsw_policy.specs.Refusals.{reply_of};
 ghost use Rattle.vsw_policy.specs.Sound.{Each, IsGoodRule, is_listed};
 ghost use Rattle.vsw_port.specs.Core.{AreAtMost, IsHeld, entered, layers_of, opening_of};
 ghost use Rattle.vsw_port.specs.Crossed.{EditsPass, MayBeShort, crossed, is_short};
 
+use crate::Event;
 use crate::crossing::Outcome;
 use crate::ledger::Ledger;
 use std::alloc::Global;
 use std::marker::Model;
 use vsw_base::{Crossing, NoMemory, Stack};
-use vsw_history::Event;
 use vsw_policy::{Command, Policy, Refusal};
 use vsw_walk::{Scratch, walk};
 

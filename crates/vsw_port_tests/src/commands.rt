@@ -2,8 +2,7 @@
 
 use std::alloc::{AllocError, Global};
 use vsw_base::{Dir, Items, NoMemory};
-use vsw_layer::LayerSpec;
-use vsw_policy::Command;
+use vsw_policy::{Command, LayerSpec};
 use vsw_rule::{Action, Rule};
 
 /// A layer that drops by default, whose pairs live for 100 or, closed, 10 seconds.

@@ -6,9 +6,8 @@ ghost use Rattle.vsw_policy.specs.Sound.{Each, IsGoodRule, is_listed};
 
 use std::alloc::Global;
 use vsw_base::{Crossing, Fate};
-use vsw_history::Event;
 use vsw_policy::{Command, Policy, Reply};
-use vsw_port::Core;
+use vsw_port::{Core, Event};
 use vsw_rule::Rule;
 
 fn are_good(rules: &[Rule]) -> bool

@@ -5,25 +5,25 @@ use Rattle.vsw_base.specs.declared.fate.Fate.{Fate}
 use Rattle.vsw_base.specs.declared.fate.Fate.TheVariants.{Pass, Drop}
 use Rattle.vsw_base.specs.declared.flow.Crossing.{Crossing}
 use Rattle.vsw_base.specs.Frame.{Parts}
-use Rattle.vsw_history.specs.Cross.{cross_of}
-use Rattle.vsw_layer.specs.Layer.{LayerSeen}
+use Rattle.vsw_port.specs.Cross.{cross_of}
+use Rattle.vsw_policy.specs.Layer.{LayerSeen}
 use Rattle.vsw_pcap.specs.declared.capture.Record.{Record}
-use Rattle.vsw_ports.specs.Ports.{PortSeen, ports_of}
-use Rattle.vsw_history.specs.declared.event.Event.{Event}
+use Rattle.vsw_promise.specs.Ports.{PortSeen, ports_of}
+use Rattle.vsw_port.specs.declared.event.Event.{Event}
 use Rattle.vsw_report.specs.declared.round.PortRound.{PortRound}
-use Rattle.vsw_history.specs.Calls.{Job, Carry, Ask, Call, job_of, entries_of, Shows, ShowsAt}
-use Rattle.vsw_history.specs.History.{Opening, replay, AllRight}
-use Rattle.vsw_history.specs.Fate.{fate_at}
+use Rattle.vsw_port.specs.Calls.{Job, Carry, Ask, Call, job_of, entries_of, Shows, ShowsAt}
+use Rattle.vsw_port.specs.History.{Opening, replay, AllRight}
+use Rattle.vsw_port.specs.Fate.{fate_at}
 use Rattle.vsw_promise.specs.Jobs.{Setting, Jobs, jobs_of, cuts}
-use Rattle.vsw_history.specs.Next.{IsDone, Enters, Reading, IsNext, Goes}
+use Rattle.vsw_port.specs.Next.{IsDone, Enters, Reading, IsNext, Goes}
 use Rattle.vsw_report.specs.Print.{report_text}
 use Rattle.vsw_promise.specs.Rounds.{opening_of, IsPortRound, ArePortRounds, AreRoundsAt, AreChained, AreHistories, AllBegin, end_before}
 use Rattle.vsw_promise.specs.Told.{lines_of}
 use Rattle.vsw_promise.specs.Alone.{shown, deed_at, enters_at, call_at, next_history, calls_from, history_from, port_round_from, all_of, port_rounds_from, histories_from, rounds_from, rounds_alone}
 use Rattle.vsw_promise.specs.Exist.{AlwaysRounds}
-use Rattle.vsw_history.proofs.Fronts.{prefix_self, prefix_trans, append_end}
-use Rattle.vsw_history.proofs.Calls.{entries_append}
-use Rattle.vsw_history.proofs.Next.{goes_none, goes_on}
+use Rattle.vsw_port.proofs.Fronts.{prefix_self, prefix_trans, append_end}
+use Rattle.vsw_port.proofs.Calls.{entries_append}
+use Rattle.vsw_port.proofs.Next.{goes_none, goes_on}
 use Rattle.vsw_promise.proofs.PortRounds.{round_of_goes, port_round_later}
 
 shows_shown : (ls : List LayerSeen) (x : Crossing) (p : Parts) (fate : Fate) → Shows ls x p fate (shown ls x p fate)

@@ -2,17 +2,17 @@
 use Rattle.std.proofs.Common.{◌≡◌, ◌≤◌, ℕ, zero, suc, ◌+◌, ◌-◌, Bool, true, false, List, [], ◌∷◌, ◌++◌, length, map, take, drop, refl, ap, sym, ◌∙◌, subst, arith, append_assoc, length-append}
 use mathlib.Core.List.{IsPrefix}
 use Rattle.vsw_policy.specs.Sound.{Each}
-use Rattle.vsw_ports.specs.Ports.{PortSeen}
-use Rattle.vsw_history.specs.declared.event.Event.{Event}
+use Rattle.vsw_promise.specs.Ports.{PortSeen}
+use Rattle.vsw_port.specs.declared.event.Event.{Event}
 use Rattle.vsw_report.specs.declared.round.PortRound.{PortRound}
-use Rattle.vsw_history.specs.Calls.{Call, Job, job_of, doer, next_count, IsCall, InOrder, AreShares, IsOneOrder, entries_of}
+use Rattle.vsw_port.specs.Calls.{Call, Job, job_of, doer, next_count, IsCall, InOrder, AreShares, IsOneOrder, entries_of}
 use Rattle.vsw_promise.specs.Jobs.{Jobs}
-use Rattle.vsw_history.specs.Next.{Goes}
+use Rattle.vsw_port.specs.Next.{Goes}
 use Rattle.vsw_promise.specs.Rounds.{opening_of, IsPortRound}
 use Rattle.vsw_promise.specs.Told.{line_of, lines_of}
-use Rattle.vsw_history.proofs.Fronts.{prefix_length, prefix_take, take_prefix}
-use Rattle.vsw_history.proofs.Calls.{each_of_all, calls_later, entries_append, order_lower}
-use Rattle.vsw_history.proofs.Next.{shares_of, bytes_later, take_front, count_next}
+use Rattle.vsw_port.proofs.Fronts.{prefix_length, prefix_take, take_prefix}
+use Rattle.vsw_port.proofs.Calls.{each_of_all, calls_later, entries_append, order_lower}
+use Rattle.vsw_port.proofs.Next.{shares_of, bytes_later, take_front, count_next}
 
 pub each_low : (low high : ℕ) (cs : List Call) → InOrder low cs high → Each (λ c. low ≤ c.count) cs
 each_low low high [] p = tt

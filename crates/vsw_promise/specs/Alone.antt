@@ -4,19 +4,19 @@ use Rattle.vsw_base.specs.declared.fate.Fate.{Fate}
 use Rattle.vsw_base.specs.declared.fate.Fate.TheVariants.{Pass, Drop}
 use Rattle.vsw_base.specs.declared.flow.Crossing.{Crossing}
 use Rattle.vsw_base.specs.Frame.{Parts}
-use Rattle.vsw_history.specs.Cross.{cross_of}
+use Rattle.vsw_port.specs.Cross.{cross_of}
 use Rattle.vsw_walk.specs.Walk.{walk_of}
 use Rattle.vsw_frame.specs.Bytes.{outgoing}
-use Rattle.vsw_layer.specs.Layer.{LayerSeen}
+use Rattle.vsw_policy.specs.Layer.{LayerSeen}
 use Rattle.vsw_pcap.specs.declared.capture.Record.{Record}
 use Rattle.vsw_policy.specs.Obey.{obey}
-use Rattle.vsw_ports.specs.Ports.{PortSeen, ports_of}
-use Rattle.vsw_history.specs.declared.event.Event.{Event}
+use Rattle.vsw_promise.specs.Ports.{PortSeen, ports_of}
+use Rattle.vsw_port.specs.declared.event.Event.{Event}
 use Rattle.vsw_report.specs.declared.round.PortRound.{PortRound}
 use Rattle.vsw_report.specs.declared.round.Round.{Round}
-use Rattle.vsw_history.specs.Calls.{Job, Carry, Ask, Deed, Carried, Asked, Call, entries_of}
-use Rattle.vsw_history.specs.History.{Opening, replay, reply_in}
-use Rattle.vsw_history.specs.Fate.{fate_at}
+use Rattle.vsw_port.specs.Calls.{Job, Carry, Ask, Deed, Carried, Asked, Call, entries_of}
+use Rattle.vsw_port.specs.History.{Opening, replay, reply_in}
+use Rattle.vsw_port.specs.Fate.{fate_at}
 use Rattle.vsw_promise.specs.Jobs.{Setting, Jobs, jobs_of, loose_among, macs_of, packets_between}
 use Rattle.vsw_promise.specs.Rounds.{opening_of, end_before}
 use Rattle.vsw_promise.specs.Told.{lines_of}

@@ -2,15 +2,15 @@
 use Rattle.std.specs.Prelude.{◌⊎◌, ℕ, List, [], ◌++◌, take, codes, decimal}
 use Rattle.vsw_commandfile.specs.declared.fault.CommandsFault.{CommandsFault}
 use Rattle.vsw_commandfile.specs.declared.fault.CommandsFault.TheVariants as commands
-use Rattle.vsw_jsonfile.specs.declared.fault.Kind.{Kind}
-use Rattle.vsw_jsonfile.specs.declared.fault.Step.{Step}
-use Rattle.vsw_jsonfile.specs.Path.{path_text, kind_name}
+use Rattle.vsw_config.specs.declared.fault.Kind.{Kind}
+use Rattle.vsw_config.specs.declared.fault.Step.{Step}
+use Rattle.vsw_config.specs.Path.{path_text, kind_name}
 use Rattle.vsw_host.specs.Outside.{Outside, Grows, Rose}
 use Rattle.vsw_pcap.specs.Fault.{trace_name}
 use Rattle.vsw_pcap.specs.declared.fault.BadTrace.{BadTrace}
 use Rattle.vsw_pcap.specs.declared.fault.BadTrace.TheVariants.{NotPcap, Version, LinkType, Cut, Huge}
-use Rattle.vsw_policyfile.specs.declared.file.ConfigFault.{ConfigFault}
-use Rattle.vsw_policyfile.specs.declared.file.ConfigFault.TheVariants as policy
+use Rattle.vsw_config.specs.declared.file.ConfigFault.{ConfigFault}
+use Rattle.vsw_config.specs.declared.file.ConfigFault.TheVariants as policy
 use Rattle.vsw_promise.specs.declared.ending.Ending.{Ending}
 use Rattle.vsw_promise.specs.declared.ending.Ending.TheVariants as ending
 use Rattle.vsw_promise.specs.declared.ending.Status.{Status}

@@ -9,7 +9,7 @@ use Rattle.vsw_promise.specs.Files.{IsWhole}
 use Rattle.vsw_promise.specs.IsRun.{Runs}
 use Rattle.vsw_promise.specs.Jobs.{Setting}
 use Rattle.vsw_promise.specs.Rounds.{AreRounds}
-use Rattle.vsw_request.specs.Words.{Request}
+use Rattle.vsw_promise.specs.Words.{Request}
 
 -- the rounds that are worked out for one worker are rounds for any number of workers: no trace, policy and commands are without a report
 abbrev pub AlwaysRounds : Type 0

@@ -8,12 +8,12 @@ use Rattle.vsw_host.specs.Outside.{Opened, Outside, Rose}
 use Rattle.vsw_host.specs.Reading.{piece}
 use Rattle.vsw_host.specs.Told.{TellsHeld, TellsSince}
 use Rattle.vsw_policy.specs.Sound.{Each}
-use Rattle.vsw_policyfile.specs.declared.file.PolicyFile.{PolicyFile}
-use Rattle.vsw_policyfile.specs.declared.file.ConfigFault.{ConfigFault}
-use Rattle.vsw_policyfile.specs.declared.file.ConfigFault.TheVariants as policy_fault
-use Rattle.vsw_policyfile.specs.Policy.{policy_file_of}
+use Rattle.vsw_config.specs.declared.file.PolicyFile.{PolicyFile}
+use Rattle.vsw_config.specs.declared.file.ConfigFault.{ConfigFault}
+use Rattle.vsw_config.specs.declared.file.ConfigFault.TheVariants as policy_fault
+use Rattle.vsw_config.specs.Policy.{policy_file_of}
 use Rattle.vsw_promise.specs.Jobs.{Setting}
-use Rattle.vsw_request.specs.Words.{Request}
+use Rattle.vsw_promise.specs.Words.{Request}
 use Rattle.vsw_promise.specs.Trace.{Reach, All, Fault, Stopped, Trace}
 
 -- the most bytes of a policy file and of a commands file

@@ -3,8 +3,8 @@ use Rattle.std.specs.Prelude.{◌≡◌, ℕ, List, [], length, map, Bool, Ok}
 use Rattle.vsw_generate.specs.Policy.{policy_text}
 use Rattle.vsw_generate.specs.Workload.{workload_of}
 use Rattle.vsw_pcap.specs.declared.capture.Record.{Record}
-use Rattle.vsw_policyfile.specs.declared.file.PolicyFile.{PolicyFile}
-use Rattle.vsw_policyfile.specs.Policy.{policy_file_of}
+use Rattle.vsw_config.specs.declared.file.PolicyFile.{PolicyFile}
+use Rattle.vsw_config.specs.Policy.{policy_file_of}
 use Rattle.vsw_report.specs.declared.round.Round.{Round}
 use Rattle.vsw_report.specs.Short.{are_short}
 use Rattle.vsw_promise.specs.Jobs.{Setting, cuts}

@@ -5,7 +5,7 @@ use Rattle.vsw_host.specs.Told.{TellsSince}
 use Rattle.vsw_commandfile.specs.Commands.{commands_file_of}
 use Rattle.vsw_pcap.specs.Capture.{IsCapture}
 use Rattle.vsw_pcap.specs.declared.capture.Record.{Record}
-use Rattle.vsw_policyfile.specs.Policy.{policy_file_of}
+use Rattle.vsw_config.specs.Policy.{policy_file_of}
 use Rattle.vsw_promise.specs.Complaint.{status_of, complaint, Complains}
 use Rattle.vsw_promise.specs.declared.ending.Ending.{Ending}
 use Rattle.vsw_promise.specs.declared.ending.Ending.TheVariants as ending
@@ -15,7 +15,7 @@ use Rattle.vsw_promise.specs.Files.{Opens, HasBadPolicy, HasBadCommands, LacksTr
 use Rattle.vsw_promise.specs.Generated.{Summarizes}
 use Rattle.vsw_promise.specs.Jobs.{Setting}
 use Rattle.vsw_promise.specs.Trace.{Trace, Tells, MayTell, most_records}
-use Rattle.vsw_request.specs.Words.{Request, Asked, Forward, Generate, asked_in}
+use Rattle.vsw_promise.specs.Words.{Request, Asked, Forward, Generate, asked_in}
 
 -- a text was put, or a front of it, or nothing
 abbrev pub Puts : Outside → Outside → List ℕ → Type 0

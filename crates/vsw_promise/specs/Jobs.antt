@@ -8,14 +8,14 @@ use Rattle.vsw_commandfile.specs.declared.line.Line.{Line}
 use Rattle.vsw_flowid.specs.Port.{choose}
 use Rattle.vsw_flowid.specs.Sum.{flow_sum_of}
 use Rattle.vsw_pcap.specs.declared.capture.Record.{Record}
-use Rattle.vsw_policyfile.specs.declared.file.PolicyFile.{PolicyFile}
-use Rattle.vsw_ports.specs.Ports.{ports_of}
+use Rattle.vsw_config.specs.declared.file.PolicyFile.{PolicyFile}
+use Rattle.vsw_promise.specs.Ports.{ports_of}
 use Rattle.vsw_report.specs.declared.round.Loose.{Loose}
 use Rattle.vsw_report.specs.declared.round.LooseCause.{LooseCause}
 use Rattle.vsw_report.specs.declared.round.LooseCause.TheVariants.{Snapped, Malformed, NoPort}
 use Rattle.vsw_policy.specs.Layers.{place_of}
-use Rattle.vsw_history.specs.Calls.{Job, Carry, Ask, job_doer}
-use Rattle.vsw_history.specs.Order.{ascending, counted, numbered}
+use Rattle.vsw_port.specs.Calls.{Job, Carry, Ask, job_doer}
+use Rattle.vsw_port.specs.Order.{ascending, counted, numbered}
 
 -- what a run is given beside its trace: the number of workers, the policy, and the commands
 pub record Setting : Type 0 where

@@ -1,3 +1,12 @@
+pub mod Grammar
+pub mod GrammarLaw
+pub mod Plain
+pub mod Seen
+pub mod Words
+pub mod Ports
+pub mod Order
+pub mod File
+pub mod Groups
 pub mod IsRun
 pub mod Trace
 pub mod Generated
@@ -12,3 +21,5 @@ pub mod Alone
 pub mod Exist
 pub mod Sample
 pub mod ToldSample
+pub mod Schedule
+pub mod Index

@@ -3,12 +3,12 @@ use Rattle.std.specs.Prelude.{◌≡◌, ◌≤◌, ◌+◌, ◌-◌, ℕ, suc, 
 use mathlib.Core.List.{IsPrefix}
 use Rattle.vsw_pcap.specs.declared.capture.Record.{Record}
 use Rattle.vsw_policy.specs.Sound.{Each}
-use Rattle.vsw_ports.specs.Ports.{PortSeen, ports_of}
-use Rattle.vsw_history.specs.declared.event.Event.{Event}
+use Rattle.vsw_promise.specs.Ports.{PortSeen, ports_of}
+use Rattle.vsw_port.specs.declared.event.Event.{Event}
 use Rattle.vsw_report.specs.declared.round.PortRound.{PortRound}
 use Rattle.vsw_report.specs.declared.round.Round.{Round}
-use Rattle.vsw_history.specs.Calls.{Call, job_of, AreShares, IsOneOrder, HasBytes, entries_of}
-use Rattle.vsw_history.specs.History.{Opening, AllRight}
+use Rattle.vsw_port.specs.Calls.{Call, job_of, AreShares, IsOneOrder, HasBytes, entries_of}
+use Rattle.vsw_port.specs.History.{Opening, AllRight}
 use Rattle.vsw_promise.specs.Jobs.{Setting, Jobs, jobs_of, loose_among, macs_of, packets_between}
 use Rattle.vsw_promise.specs.Told.{lines_of}
 

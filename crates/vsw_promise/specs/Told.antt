@@ -6,8 +6,8 @@ use Rattle.vsw_report.specs.declared.told.By.TheVariants.{Worker, Controller}
 use Rattle.vsw_report.specs.declared.told.What.{What}
 use Rattle.vsw_report.specs.declared.told.What.TheVariants as what
 use Rattle.vsw_report.specs.declared.told.ToldLine.{ToldLine}
-use Rattle.vsw_history.specs.Calls.{Deed, Carried, Asked, Call, controller_at, calls_of}
-use Rattle.vsw_history.specs.Order.{ascending, counted}
+use Rattle.vsw_port.specs.Calls.{Deed, Carried, Asked, Call, controller_at, calls_of}
+use Rattle.vsw_port.specs.Order.{ascending, counted}
 
 -- who brought it
 abbrev pub by_of : Deed → By

@@ -13,7 +13,7 @@ use Rattle.vsw_policy.specs.declared.command.Command.TheVariants.{RemoveLayer}
 use Rattle.vsw_policy.specs.declared.refusal.Refusal.TheVariants as refusal
 use Rattle.vsw_policy.specs.declared.refusal.Reply.{Reply}
 use Rattle.vsw_policy.specs.declared.refusal.Reply.TheVariants as reply
-use Rattle.vsw_history.specs.Calls.{Call, Carried, Asked}
+use Rattle.vsw_port.specs.Calls.{Call, Carried, Asked}
 use Rattle.vsw_report.specs.Print.{line_text}
 use Rattle.vsw_promise.specs.Told.{lines_of}
 

@@ -1,8 +1,8 @@
 //! How a run ends.
 
 use vsw_commandfile::CommandsFault;
+use vsw_config::ConfigFault;
 use vsw_pcap::BadTrace;
-use vsw_policyfile::ConfigFault;
 
 /// How a run ended, with what the complaint names.
 #[derive(Drop)]

@@ -5,9 +5,9 @@ use Rattle.vsw_commandfile.specs.declared.line.Line.{Line}
 use Rattle.vsw_pcap.specs.declared.capture.Record.{Record}
 use Rattle.vsw_policy.specs.declared.command.Command.{Command}
 use Rattle.vsw_policy.specs.declared.command.Command.TheVariants.{AddLayer, AddRule, PutRules, SetDefault}
-use Rattle.vsw_layer.specs.declared.layer.LayerSpec.{LayerSpec}
+use Rattle.vsw_policy.specs.declared.layer.LayerSpec.{LayerSpec}
 use Rattle.vsw_rule.specs.declared.rule.Action.TheVariants.{Allow}
-use Rattle.vsw_history.specs.Order.{counted}
+use Rattle.vsw_port.specs.Order.{counted}
 use Rattle.vsw_report.specs.declared.round.Round.{Round}
 use Rattle.vsw_promise.specs.Jobs.{Setting, cuts_within}
 use Rattle.vsw_report.specs.Print.{report_text}

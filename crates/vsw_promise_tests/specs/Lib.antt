@@ -2,3 +2,4 @@ pub mod Commands
 pub mod Life
 pub mod OnePacket
 pub mod Replies
+pub mod Statuses

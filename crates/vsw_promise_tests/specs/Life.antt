@@ -5,7 +5,7 @@ use Rattle.vsw_base.specs.Hexadecimal.{spelled}
 use Rattle.vsw_commandfile.specs.declared.line.Line.{Line}
 use Rattle.vsw_pcap.specs.declared.capture.Record.{Record}
 use Rattle.vsw_policy.specs.declared.command.Command.TheVariants.{Sweep}
-use Rattle.vsw_policyfile.specs.declared.file.PolicyFile.{PolicyFile}
+use Rattle.vsw_config.specs.declared.file.PolicyFile.{PolicyFile}
 use Rattle.vsw_rule.specs.declared.rule.Action.TheVariants.{Allow}
 use Rattle.vsw_promise.specs.Sample.{IsReport}
 

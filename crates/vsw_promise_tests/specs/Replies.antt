@@ -6,9 +6,9 @@ use Rattle.vsw_base.specs.declared.flow.Set.{Set}
 use Rattle.vsw_base.specs.declared.packet.Dir.TheVariants.{Out, In}
 use Rattle.vsw_base.specs.Hexadecimal.{spelled}
 use Rattle.vsw_base.specs.Vectors.{plain_frame}
-use Rattle.vsw_policyfile.specs.declared.file.LayerFile.{LayerFile}
+use Rattle.vsw_config.specs.declared.file.LayerFile.{LayerFile}
 use Rattle.vsw_pcap.specs.declared.capture.Record.{Record}
-use Rattle.vsw_policyfile.specs.declared.file.PolicyFile.{PolicyFile}
+use Rattle.vsw_config.specs.declared.file.PolicyFile.{PolicyFile}
 use Rattle.vsw_rule.specs.declared.field.Field.TheVariants.{DstIp, SrcIp, Vni}
 use Rattle.vsw_rule.specs.declared.rule.Action.{Action}
 use Rattle.vsw_rule.specs.declared.rule.Action.TheVariants.{Allow, Edit}

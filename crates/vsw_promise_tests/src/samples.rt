@@ -4,6 +4,7 @@ ghost use Rattle.vsw_promise_tests.specs.Commands.{EndsEarly, PastTheEnd, Refuse
 ghost use Rattle.vsw_promise_tests.specs.Life.{LifeOfAPair};
 ghost use Rattle.vsw_promise_tests.specs.OnePacket.{NoPacket, OnePacket};
 ghost use Rattle.vsw_promise_tests.specs.Replies.{Replies};
+ghost use Rattle.vsw_promise_tests.specs.Statuses.{StatusNumbers};
 
 /// One packet, and none.
 pub fn packets()
@@ -26,4 +27,9 @@ pub fn commands()
     ensures refused { RefusedCommands }
     ensures late { PastTheEnd }
     ensures early { EndsEarly }
+{}
+
+/// The number with which each status ends the process.
+pub fn statuses()
+    ensures numbers { StatusNumbers }
 {}

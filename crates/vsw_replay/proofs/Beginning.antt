@@ -15,7 +15,7 @@ use Rattle.vsw_pcap.specs.Reader.{Waits}
 use Rattle.vsw_pcap.specs.declared.capture.Record.{Record}
 use Rattle.vsw_pcap.specs.declared.fault.BadTrace.{BadTrace}
 use Rattle.vsw_pcap.specs.declared.fault.BadTrace.TheVariants.{NotPcap, Version, LinkType, Cut, Huge}
-use Rattle.vsw_ports.specs.Ports.{ports_of}
+use Rattle.vsw_promise.specs.Ports.{ports_of}
 use Rattle.vsw_promise.specs.Jobs.{Setting, cuts_within}
 use Rattle.vsw_promise.specs.Trace.{most_records, Trace, All, Fault, Stopped}
 use Rattle.vsw_promise.specs.declared.ending.Ending.TheVariants as ending

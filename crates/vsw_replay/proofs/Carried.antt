@@ -1,9 +1,9 @@
 -- Rounds of a trace are rounds of a longer one, and on longer histories.
 use Rattle.std.proofs.Common.{◌≡◌, ◌<◌, ◌≤◌, ◌+◌, ◌-◌, inl, inr, ℕ, zero, suc, Bool, List, [], ◌∷◌, ◌++◌, length, map, take, drop, refl, ap, sym, ◌∙◌, subst, arith, length-take}
 use Rattle.vsw_pcap.specs.declared.capture.Record.{Record}
-use Rattle.vsw_ports.specs.Ports.{PortSeen, ports_of}
-use Rattle.vsw_history.specs.declared.event.Event.{Event}
-use Rattle.vsw_history.specs.Order.{numbered}
+use Rattle.vsw_promise.specs.Ports.{PortSeen, ports_of}
+use Rattle.vsw_port.specs.declared.event.Event.{Event}
+use Rattle.vsw_port.specs.Order.{numbered}
 use Rattle.vsw_promise.specs.Alone.{rounds_from}
 use Rattle.vsw_promise.specs.Jobs.{Setting, macs_of, loose_among, packets_between, packet_jobs, before_jobs, during_jobs}
 use Rattle.vsw_promise.specs.Rounds.{IsRound, IsPortRound, ArePortRounds, AreRoundsAt, AreRounds, AreChained, AllBegin, end_before}

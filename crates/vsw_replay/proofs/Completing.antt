@@ -3,7 +3,7 @@ use Rattle.std.proofs.Common.{◌≡◌, ◌<◌, ◌≤◌, ◌⊎◌, inl, inr
 use Rattle.std.specs.List.{flat_map}
 use Rattle.std.proofs.lemmas.Grind.{common_steps}
 use Rattle.std.proofs.lemmas.List.{drop-append-le}
-use Rattle.vsw_history.specs.declared.event.Event.{Event}
+use Rattle.vsw_port.specs.declared.event.Event.{Event}
 use Rattle.vsw_pcap.specs.Capture.{header_of, front_of, Splits, IsCapture}
 use Rattle.vsw_pcap.specs.declared.capture.Form.{Form}
 use Rattle.vsw_pcap.specs.declared.capture.Front.{Front}
@@ -12,7 +12,7 @@ use Rattle.vsw_pcap.specs.declared.capture.Record.{Record}
 use Rattle.vsw_pcap.specs.declared.fault.BadTrace.{BadTrace}
 use Rattle.vsw_pcap.specs.declared.fault.BadTrace.TheVariants.{NotPcap, Version, LinkType, Cut, Huge}
 use Rattle.vsw_pcap.proofs.Format.{header_of-append, not_cut, not_huge, accepted_long, Splits-append}
-use Rattle.vsw_ports.specs.Ports.{ports_of}
+use Rattle.vsw_promise.specs.Ports.{ports_of}
 use Rattle.vsw_promise.specs.Jobs.{Setting, cuts, cuts_within}
 use Rattle.vsw_promise.specs.Trace.{most_records, Trace, Reach, All, Stopped, TellsAll, TellsWithin, MayTell}
 use Rattle.vsw_promise.specs.declared.ending.Ending.TheVariants as ending

@@ -4,9 +4,9 @@ use Rattle.std.specs.List.{list_any, slice_get}
 use Rattle.std.proofs.lemmas.Grind.{common_steps}
 use native.Mathlib.Decide.{ℕ_discrete}
 use Rattle.vsw_commandfile.specs.declared.line.Line.{Line}
-use Rattle.vsw_history.specs.Order.{ascending, counted}
+use Rattle.vsw_port.specs.Order.{ascending, counted}
 use Rattle.vsw_promise.specs.Jobs.{cuts, cuts_within, multiples_below}
-use Rattle.vsw_schedule.specs.Schedule.{commands_at, head_of, next_at}
+use Rattle.vsw_promise.specs.Schedule.{commands_at, head_of, next_at}
 use Rattle.vsw_replay.specs.Private.Cut.{is_named_by, IsCut, IsNextCut, cuts_until, AreBehind}
 use Rattle.vsw_replay.proofs.Ordered.{Has, Ascends, has_from, one_list, eq_is, lt_is, lt_not, ascending_ascends, has_ascending, ascending_has, has_filter, filter_has, ascends_filter, has_append, append_has, ascends_append}
 

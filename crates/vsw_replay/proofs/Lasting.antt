@@ -6,7 +6,7 @@ use Rattle.vsw_promise.specs.Jobs.{Setting}
 use Rattle.vsw_promise.specs.Trace.{All}
 use Rattle.vsw_promise.specs.declared.ending.Ending.TheVariants as ending
 use Rattle.vsw_report.specs.Print.{report_text}
-use Rattle.vsw_schedule.specs.Schedule.{next_at}
+use Rattle.vsw_promise.specs.Schedule.{next_at}
 use Rattle.vsw_crew.specs.Switch.{SwitchNow}
 use Rattle.vsw_replay.specs.declared.ending.TraceEnd.TheVariants as end
 use Rattle.vsw_replay.specs.Private.Going.{IsPast, clean_of}

@@ -12,4 +12,7 @@ pub mod Putting
 pub mod Lasting
 pub mod Filling
 pub mod Beginning
+pub mod Drawing
+pub mod WorkloadRounds
+pub mod Summing
 pub use Rattle.vsw_crew.proofs.Totals

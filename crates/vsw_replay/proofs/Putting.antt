@@ -1,7 +1,7 @@
 -- A round was put, or the run ended in it.
 use Rattle.std.proofs.Common.{◌≡◌, ◌<◌, ◌≤◌, inl, inr, ◌+◌, ◌||◌, ℕ, Bool, true, false, Some, None, Result, Ok, Err, List, [], ◌∷◌, ◌++◌, length, take, refl, sym, ◌∙◌, ap, subst, arith, length-append}
 use Rattle.std.specs.Bool.{⊤}
-use Rattle.vsw_history.specs.declared.event.Event.{Event}
+use Rattle.vsw_port.specs.declared.event.Event.{Event}
 use Rattle.vsw_host.specs.Outside.{Outside, Grows, SameInputs, DoesPut}
 use Rattle.vsw_host.specs.Source.{IsReading}
 use Rattle.vsw_host.specs.declared.host.Failed.{Failed}
@@ -15,7 +15,7 @@ use Rattle.vsw_promise.specs.declared.ending.Ending.TheVariants as ending
 use Rattle.vsw_report.specs.Print.{round_text, report_text}
 use Rattle.vsw_report.specs.Short.{are_short, is_short_round}
 use Rattle.vsw_report.specs.declared.round.Round.{Round}
-use Rattle.vsw_schedule.specs.Schedule.{next_at}
+use Rattle.vsw_promise.specs.Schedule.{next_at}
 use Rattle.vsw_crew.specs.Switch.{SwitchNow, IsAt}
 use Rattle.vsw_replay.specs.declared.ending.TraceEnd.{TraceEnd}
 use Rattle.vsw_replay.specs.declared.ending.TraceEnd.TheVariants as end

@@ -2,15 +2,15 @@
 use Rattle.std.proofs.Common.{◌≡◌, ◌<◌, ◌≤◌, ◌⊎◌, inl, inr, ◌+◌, ◌-◌, ◌==◌, ◌&&◌, ◌||◌, not, ℕ, zero, suc, Bool, true, false, nat_lt, Some, List, [], ◌∷◌, ◌++◌, length, take, take_all, drop, refl, sym, ◌∙◌, ap, subst, arith, append-nil, length-append}
 use Rattle.std.proofs.lemmas.Grind.{common_steps}
 use Rattle.vsw_commandfile.specs.declared.line.Line.{Line}
-use Rattle.vsw_history.specs.declared.event.Event.{Event}
-use Rattle.vsw_history.specs.Order.{numbered}
+use Rattle.vsw_port.specs.declared.event.Event.{Event}
+use Rattle.vsw_port.specs.Order.{numbered}
 use Rattle.vsw_pcap.specs.declared.capture.Record.{Record}
 use Rattle.vsw_promise.specs.Jobs.{Setting, cuts_within, packets_between}
 use Rattle.vsw_report.specs.Print.{round_text, report_text}
 use Rattle.vsw_report.specs.Short.{are_short, is_short_round}
 use Rattle.vsw_report.specs.declared.round.Round.{Round}
 use Rattle.vsw_crew.specs.Round.{TellsRound}
-use Rattle.vsw_schedule.specs.Schedule.{next_at}
+use Rattle.vsw_promise.specs.Schedule.{next_at}
 use Rattle.vsw_crew.specs.Switch.{SwitchNow}
 use Rattle.vsw_replay.specs.declared.reading.Stop.{Stop}
 use Rattle.vsw_replay.specs.declared.reading.Stop.TheVariants as stop

@@ -1,5 +1,8 @@
 pub mod Runs
 pub mod Private
+pub mod Draws
+pub mod Going
+pub mod WorkloadRuns
 pub use Rattle.vsw_crew.specs.Round
 pub use Rattle.vsw_crew.specs.Close
 pub use Rattle.vsw_crew.specs.Switch

@@ -3,7 +3,7 @@
 ghost use Rattle.std.specs.Prelude.{◌≡◌, ◌≤◌};
 ghost use Rattle.vsw_replay.specs.Private.Cut.{is_named_by, IsNextCut};
 
-use vsw_schedule::Schedule;
+use vsw_promise::Schedule;
 
 /// The most packets of a round.
 const ROUND_MOST: u32 = 1_024;

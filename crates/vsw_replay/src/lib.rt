@@ -1,13 +1,17 @@
-//! A trace run round by round, while it is read in pieces.
+//! A trace or a generated workload, run through the switch round by round.
 #![tactic(auto)]
 
 mod cut;
+mod draw;
 mod ending;
 mod reading;
+mod run;
 mod runner;
+mod summary;
 mod trace;
 
 pub use ending::TraceEnd;
+pub use run::{WorkloadEnd, run_workload};
 pub use runner::Runner;
 pub use trace::run_trace;
 pub use vsw_crew::{Answer, Crew, Naming, Switch, Tally, Watch, Why, run_round};

@@ -3,7 +3,7 @@
 ghost use Rattle.std.specs.Prelude.{◌≡◌, ◌<◌, ◌+◌, ◌^◌, List, length, IfOk};
 ghost use Rattle.vsw_commandfile.specs.declared.line.Line.{Line};
 ghost use Rattle.vsw_crew.specs.Crew.{crew_now};
-ghost use Rattle.vsw_history.specs.declared.event.Event.{Event};
+ghost use Rattle.vsw_port.specs.declared.event.Event.{Event};
 ghost use Rattle.vsw_promise.specs.Jobs.{Setting};
 ghost use Rattle.vsw_crew.specs.Round.{TellsRound};
 ghost use Rattle.vsw_crew.specs.Switch.{AreServed, IsAt};
@@ -14,7 +14,7 @@ use std::thread::Threads;
 use vsw_base::NoMemory;
 use vsw_crew::{Crew, Naming, Switch, Watch, run_round};
 use vsw_pcap::Batch;
-use vsw_schedule::Schedule;
+use vsw_promise::Schedule;
 use vsw_workers::Gate;
 
 /// Who does the work of a round.

@@ -2,10 +2,10 @@
 
 ghost use Rattle.std.specs.Prelude.{◌≡◌, ◌≤◌, ◌<◌, ◌+◌, ◌^◌, ℕ, [], List, map, length, IfOk, IfSome, OnOk};
 ghost use Rattle.vsw_commandfile.specs.declared.line.Line.{Line};
-ghost use Rattle.vsw_history.specs.declared.event.Event.{Event};
+ghost use Rattle.vsw_port.specs.declared.event.Event.{Event};
 ghost use Rattle.vsw_host.specs.Outside.{Outside, SameInputs};
 ghost use Rattle.vsw_promise.specs.Jobs.{Setting};
-ghost use Rattle.vsw_ports.specs.Ports.{ports_of};
+ghost use Rattle.vsw_promise.specs.Ports.{ports_of};
 ghost use Rattle.vsw_replay.specs.Private.Going.{IsFilled, IsBetween, IsPast, IsOpened, IsFirst, IsNear, IsTurn, PutsRound, PutsStretch, PutsNext, GoesOn, is_run_of, unheaded_of, clean_of};
 ghost use Rattle.vsw_replay.specs.Private.Reads.{IsOpen};
 ghost use Rattle.vsw_replay.specs.Runs.{RunsTrace};
@@ -22,8 +22,8 @@ use vsw_base::NoMemory;
 use vsw_crew::{Naming, Watch};
 use vsw_host::{Host, Source, Unopened};
 use vsw_pcap::BadTrace;
+use vsw_promise::Schedule;
 use vsw_report::HEAD_LINE;
-use vsw_schedule::Schedule;
 use vsw_workers::Gate;
 
 /// The most records of a trace.

@@ -8,8 +8,8 @@ ghost use Rattle.vsw_report.specs.Print.{cause_text, fate_text, line_text, reply
 ghost use Rattle.vsw_report.specs.declared.told.What.TheVariants as what;
 
 use crate::piece::{Front, answer_before, drop_before, pass_front_before};
+use crate::write_hex;
 use vsw_base::{Cause, Fate};
-use vsw_hex::write_hex;
 use vsw_policy::Reply;
 
 /// Bytes of a line at most, but for a packet's bytes. It has 69, and is copied with what stands behind it.

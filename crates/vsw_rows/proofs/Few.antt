@@ -9,11 +9,11 @@ use Rattle.vsw_base.specs.declared.packet.Dir.{Dir}
 use Rattle.vsw_base.specs.declared.packet.Dir.TheVariants.{Out, In}
 use Rattle.vsw_base.specs.Shape.{encaps}
 use Rattle.vsw_compose.specs.Edit.{edited, kept_after}
-use Rattle.vsw_layer.specs.Layer.{LayerSeen}
+use Rattle.vsw_policy.specs.Layer.{LayerSeen}
 use Rattle.vsw_lean.specs.Way.{looks}
-use Rattle.vsw_visit.specs.declared.outcome.Visit.{Visit}
-use Rattle.vsw_visit.specs.declared.outcome.Visit.TheVariants.{Stops, Goes}
-use Rattle.vsw_visit.specs.Visit.{visit_of}
+use Rattle.vsw_walk.specs.declared.outcome.Visit.{Visit}
+use Rattle.vsw_walk.specs.declared.outcome.Visit.TheVariants.{Stops, Goes}
+use Rattle.vsw_walk.specs.Visit.{visit_of}
 use Rattle.vsw_walk.specs.Walk.{along, by_visit, crossed, placed, walk_of}
 
 few_along : (d : Dir) (c : Control) (m : ℕ) (es : List (ℕ × LayerSeen)) (hs : List Header) (kept : ℕ) → length (along d c m es hs kept).looked ≤ length es

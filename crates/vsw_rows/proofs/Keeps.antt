@@ -4,18 +4,18 @@ use Rattle.std.specs.Prelude.{Some}
 use Rattle.std.proofs.lemmas.Nat.{mul-le}
 use native.Mathlib.Decide.{ℕ_discrete}
 use mathlib.Core.Logic.{dite}
-use Rattle.vsw_history.specs.declared.event.Event.{Event}
-use Rattle.vsw_history.specs.History as history
-use Rattle.vsw_history.specs.History.{after, after_all}
-use Rattle.vsw_layer.specs.Layer.{LayerSeen}
+use Rattle.vsw_port.specs.declared.event.Event.{Event}
+use Rattle.vsw_port.specs.History as history
+use Rattle.vsw_port.specs.History.{after, after_all}
+use Rattle.vsw_policy.specs.Layer.{LayerSeen}
 use Rattle.vsw_lean.specs.Good.{IsGoodLeaning, LeaningRow, Row, all_looks, shaken}
 use Rattle.vsw_lean.specs.Leant.{Leant, StandsFor}
 use Rattle.vsw_lean.specs.Shaken.{IsRight, shake}
 use Rattle.vsw_lean.specs.Way.{looks}
 use Rattle.vsw_lean.proofs.Joined.{looks_join, one_list_serves}
 use Rattle.vsw_lean.proofs.Ways.{right_looks}
-use Rattle.vsw_lean_law.specs.Entries.{ShakesNone, entry_shakes}
-use Rattle.vsw_lean_law.proofs.Leaves.{entry_leaves}
+use Rattle.vsw_lean.specs.Entries.{ShakesNone, entry_shakes}
+use Rattle.vsw_lean.proofs.Leaves.{entry_leaves}
 use Rattle.vsw_lookup.specs.Rules.{after_entry, row_at, stamp_at}
 use Rattle.vsw_policy.specs.Layers.{PolicySeen}
 use Rattle.vsw_policy.specs.Sound.{Each}
@@ -23,8 +23,8 @@ use Rattle.vsw_rows.specs.Rows.{HasRoom, IsCurrent, IsFormed, IsFresh, IsShaking
 use Rattle.vsw_rows.proofs.Counts.{none_counted, one_counted, one_left}
 use Rattle.vsw_rows.proofs.Few.{looks_few}
 use Rattle.vsw_rows.specs.Standing.{AreStanding, Has, IsStanding, Standing, StandsIn, count, kept_of}
-use Rattle.vsw_story.specs.Rows.{IsGoodRow, opening_of}
-use Rattle.vsw_story.proofs.Answers.{fronts, key_length, words_are}
+use Rattle.vsw_rows.specs.GoodRows.{IsGoodRow, opening_of}
+use Rattle.vsw_rows.proofs.Answers.{fronts, key_length, words_are}
 use Rattle.vsw_walk.specs.declared.scratch.Looked.{Looked}
 use Rattle.vsw_walk.specs.declared.scratch.Wanted.{Wanted}
 use Rattle.vsw_words.specs.Key.{key_words}

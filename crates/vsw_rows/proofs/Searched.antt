@@ -14,7 +14,7 @@ use Rattle.vsw_rows.specs.Places.{Adds, Hit, Other, First, Later}
 use Rattle.vsw_rows.specs.Rows.{HasKey, IsCurrent, IsFormed, IsFound, IsProbed, Writing, layers_after}
 use Rattle.vsw_rows.specs.Standing.{AreStanding}
 use Rattle.vsw_rows.proofs.Keeps.{found, good_row}
-use Rattle.vsw_story.specs.Rows.{IsGoodRow, opening_of}
+use Rattle.vsw_rows.specs.GoodRows.{IsGoodRow, opening_of}
 use Rattle.vsw_words.specs.Slot.{slot}
 
 -- the place is one of the first n

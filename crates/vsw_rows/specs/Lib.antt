@@ -1,6 +1,7 @@
+pub mod GoodRows
+pub mod Zeros
+pub mod Law
 pub mod Rows
 pub mod Places
 pub mod Standing
-pub use Rattle.vsw_lean_law.specs.Entries
-pub use Rattle.vsw_story.specs.Rows as StoryRows
-pub use Rattle.vsw_story.specs.Law
+pub use Rattle.vsw_lean.specs.Entries

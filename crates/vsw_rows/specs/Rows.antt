@@ -1,18 +1,18 @@
 -- The rows of a port, as its writer sees them: which are current, what they say, and which of them is shaken.
 use Rattle.std.specs.Prelude.{◌≡◌, ◌⊎◌, ◌<◌, ◌≤◌, ◌+◌, ◌*◌, ◌%◌, ℕ, List, Bool, true, false, length, slice_index_or, take}
-use Rattle.vsw_history.specs.declared.event.Event.{Event}
-use Rattle.vsw_history.specs.History.{after, replay}
-use Rattle.vsw_layer.specs.Layer.{LayerSeen}
+use Rattle.vsw_port.specs.declared.event.Event.{Event}
+use Rattle.vsw_port.specs.History.{after, replay}
+use Rattle.vsw_policy.specs.Layer.{LayerSeen}
 use Rattle.vsw_lean.specs.Good.{IsGoodLeaning, LeaningRow, Row}
 use Rattle.vsw_lean.specs.Leant.{Leant}
 use Rattle.vsw_lean.specs.Shaken.{shake}
 use Rattle.vsw_lean.specs.Way.{looks}
-use Rattle.vsw_lean_law.specs.Entries.{entry_shakes}
+use Rattle.vsw_lean.specs.Entries.{entry_shakes}
 use Rattle.vsw_lookup.specs.Rules.{Held, row_at, stamp_at}
 use Rattle.vsw_policy.specs.Layers.{PolicySeen}
 use Rattle.vsw_rows.specs.declared.rows.Found.{Found}
 use Rattle.vsw_rows.specs.declared.rows.Found.TheVariants.{Own, Stale, Full}
-use Rattle.vsw_story.specs.Rows.{opening_of, words_of}
+use Rattle.vsw_rows.specs.GoodRows.{opening_of, words_of}
 use Rattle.vsw_walk.specs.declared.scratch.Looked.{Looked}
 use Rattle.vsw_walk.specs.declared.scratch.Wanted.{Wanted}
 use Rattle.vsw_words.specs.Law.{IsId}

@@ -5,9 +5,9 @@ ghost use Rattle.vsw_lookup.specs.Rules.{row_at, stamp_at};
 ghost use Rattle.vsw_rows.specs.Places.{Adds};
 ghost use Rattle.vsw_rows.specs.Rows.{HasKey, IsFound};
 
+use crate::PortStory;
 use crate::rows::Found;
 use vsw_lookup::{Lookup, Writer};
-use vsw_story::PortStory;
 use vsw_words::slot_of;
 
 /// Reads the words of a row.

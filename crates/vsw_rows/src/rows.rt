@@ -2,24 +2,24 @@
 
 ghost use Rattle.std.specs.Prelude.{◌≡◌, ◌≤◌, ◌<◌, ◌+◌, ◌*◌, ◌++◌, ◌==◌, [], ◌∷◌, ℕ, Some, false, true, length, map, slice_set, IfOk, OnOk};
 ghost use mathlib.Core.List.{IsPrefix};
-ghost use Rattle.vsw_history.specs.Calls.{named};
-ghost use Rattle.vsw_history.specs.History.{IsRight};
-ghost use Rattle.vsw_layer.specs.Layer.{seen};
+ghost use Rattle.vsw_port.specs.Calls.{named};
+ghost use Rattle.vsw_port.specs.History.{IsRight};
+ghost use Rattle.vsw_policy.specs.Layer.{seen};
 ghost use Rattle.vsw_lookup.specs.Rules.{Meets, after_entry, passed, permits_of, row_at, stamp_at};
 ghost use Rattle.vsw_policy.specs.Layers.{PolicySeen};
 ghost use Rattle.vsw_rows.specs.Rows.{HasRoom, IsFormed, IsFound, IsFresh, IsShaking, Spares, layers_after, layers_then};
 ghost use Rattle.vsw_rows.specs.declared.rows.Found.TheVariants.{Own};
-ghost use Rattle.vsw_story.specs.Rows.{IsGoodRow, opening_of};
+ghost use Rattle.vsw_rows.specs.GoodRows.{IsGoodRow, opening_of};
 
+use crate::PortStory;
 use crate::places::{read_words, search};
 use std::alloc::Global;
 use std::marker::Model;
 use vsw_base::NoMemory;
-use vsw_history::Event;
-use vsw_layer::Layer;
 use vsw_lean::Leaning;
 use vsw_lookup::{Lookup, Pass, Writer};
-use vsw_story::PortStory;
+use vsw_policy::Layer;
+use vsw_port::Event;
 use vsw_walk::{Looked, Wanted};
 
 /// What stands at the eight places at which a row with some key words may stand.

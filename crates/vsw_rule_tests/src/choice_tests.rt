@@ -4,8 +4,7 @@ use crate::samples::{condition, plain, prefix, range};
 use std::alloc::{AllocError, Global};
 use std::test::Fail;
 use vsw_base::{Dir, Items};
-use vsw_choice::choose;
-use vsw_rule::{Action, Cond, Field, Group, Rule};
+use vsw_rule::{Action, Cond, Field, Group, Rule, choose};
 
 /// A rule that packets to 10.0.0.0/24 meet.
 fn near(alloc: Global, number: u16, priority: u16, last: bool) -> Result<Rule, AllocError> {

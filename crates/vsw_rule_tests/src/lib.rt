@@ -1,12 +1,17 @@
-//! Tests of `vsw_rule` and `vsw_choice`, kept apart from them: with tests of their own each would be
-//! proved once more.
+//! Tests of rules, and of actions as transpositions, kept apart from `vsw_rule` and `vsw_compose`: with tests of its own, a crate is proved once more.
 #![tactic(auto)]
 
 #[cfg(test)]
 mod choice_tests;
+#[cfg(test)]
+mod compose_samples;
+#[cfg(test)]
+mod composition_tests;
 #[cfg(test)]
 mod field_tests;
 #[cfg(test)]
 mod rule_tests;
 #[cfg(test)]
 mod samples;
+#[cfg(test)]
+mod transposition_tests;

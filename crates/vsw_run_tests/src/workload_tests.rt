@@ -5,9 +5,8 @@ use std::sync::Wait;
 use std::test::Fail;
 use std::thread::Threads;
 use vsw_app::{Open, run_words};
-use vsw_memory_host::MemoryHost;
-use vsw_promise::Status;
-use vsw_request::Word;
+use vsw_host::MemoryHost;
+use vsw_promise::{Status, Word};
 
 fn words(alloc: Global, start: &str, packets: &str) -> Result<Vec<Word>, AllocError> {
     let mut words = Vec::new(alloc);

@@ -1,20 +1,20 @@
 -- A row's answer, at what its caller had seen.
 use Rattle.std.proofs.Common.{◌≡◌, ◌≤◌, ℕ, false, List, length, sym, subst, ◌∙◌, ap, arith}
 use mathlib.Core.List.{IsPrefix}
-use Rattle.vsw_answer.specs.Answers.{Answers, Pass}
+use Rattle.vsw_sole.specs.Answers.{Answers, Pass}
 use Rattle.vsw_base.specs.declared.flow.Crossing.{Crossing}
 use Rattle.vsw_base.specs.declared.header.Header.{Header}
 use Rattle.vsw_base.specs.Frame.{Parts}
-use Rattle.vsw_answer.specs.Core.{Looking}
-use Rattle.vsw_history.specs.declared.event.Event.{Event}
-use Rattle.vsw_history.specs.Calls.{Carried, Reads}
-use Rattle.vsw_history.specs.History.{replay}
-use Rattle.vsw_history.specs.Next.{IsDone, Reading}
+use Rattle.vsw_sole.specs.Core.{Looking}
+use Rattle.vsw_port.specs.declared.event.Event.{Event}
+use Rattle.vsw_port.specs.Calls.{Carried, Reads}
+use Rattle.vsw_port.specs.History.{replay}
+use Rattle.vsw_port.specs.Next.{IsDone, Reading}
 use Rattle.vsw_lookup.proofs.Fronts.{prefix_whole}
 use Rattle.vsw_port.specs.declared.crossing.Outcome.{Outcome}
 use Rattle.vsw_port.specs.Crossed.{EditsPass}
 use Rattle.vsw_sole.specs.Answered.{AnsweredAt}
-use Rattle.vsw_answer.specs.Rows.{opening_of}
+use Rattle.vsw_sole.specs.Rows.{opening_of}
 
 -- an answer after as many entries as the caller had seen is one after these entries
 pub answered_at : (l : Looking) (x : Crossing) (h : List Event) (q : Pass) (edited : List Header) (outcome : Outcome) (count : ℕ) → IsPrefix h q.front → count ≡ length h → Answers l x q edited outcome count

@@ -1,8 +1,8 @@
 -- What a call at the history's end tells of a packet.
 use Rattle.std.proofs.Common.{◌≡◌, ℕ, Bool, true, false, not, true≢false, List, [], ◌∷◌, ◌++◌, Option, None, Some, Result, Ok, Err, refl, sym, ap, subst, ◌∙◌, append-nil}
-use Rattle.vsw_admit.specs.declared.stop.Stop.{Stop}
-use Rattle.vsw_admit.specs.declared.stop.Stop.TheVariants.{Long, Full, Taken, Memory}
-use Rattle.vsw_admit.specs.Admit.{stop_of}
+use Rattle.vsw_commit.specs.declared.stop.Stop.{Stop}
+use Rattle.vsw_commit.specs.declared.stop.Stop.TheVariants.{Long, Full, Taken, Memory}
+use Rattle.vsw_commit.specs.Admit.{stop_of}
 use Rattle.vsw_base.specs.declared.fate.Fate.{Fate}
 use Rattle.vsw_base.specs.declared.fate.Verdict.{Verdict}
 use Rattle.vsw_base.specs.declared.fate.Verdict.TheVariants.{Pass, Rule, Default}
@@ -13,13 +13,13 @@ use Rattle.vsw_base.specs.Frame.{Parts}
 use Rattle.vsw_commit.specs.Cross.{cross_of, fate_after, is_memory}
 use Rattle.vsw_commit.specs.Fate.{fate_at, fate_by}
 use Rattle.vsw_commit.proofs.Makes.{judged_other}
-use Rattle.vsw_history.specs.declared.event.Event.{Event}
-use Rattle.vsw_history.specs.declared.event.Event.TheVariants as event
-use Rattle.vsw_history.specs.Calls.{Carried}
-use Rattle.vsw_history.specs.History.{Opening, after, after_all, replay}
-use Rattle.vsw_history.specs.Next.{IsDone, Enters, Reading, Wanting}
-use Rattle.vsw_history.proofs.Next.{still}
-use Rattle.vsw_layer.specs.Layer.{LayerSeen}
+use Rattle.vsw_port.specs.declared.event.Event.{Event}
+use Rattle.vsw_port.specs.declared.event.Event.TheVariants as event
+use Rattle.vsw_port.specs.Calls.{Carried}
+use Rattle.vsw_port.specs.History.{Opening, after, after_all, replay}
+use Rattle.vsw_port.specs.Next.{IsDone, Enters, Reading, Wanting}
+use Rattle.vsw_port.proofs.Next.{still}
+use Rattle.vsw_policy.specs.Layer.{LayerSeen}
 use Rattle.vsw_port.specs.Core.{entered}
 use Rattle.vsw_port.specs.Crossed.{Crossed, MayBeShort, crossed, is_short}
 use Rattle.vsw_walk.specs.Walk.{walk_of}

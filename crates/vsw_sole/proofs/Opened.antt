@@ -1,11 +1,11 @@
 -- A port before its first call.
 use Rattle.std.proofs.Common.{◌≡◌, ◌≤◌, ◌+◌, ◌++◌, ℕ, zero, suc, List, [], ◌∷◌, length, replicate, slice_index_or, Some, refl, sym, ap, subst, ◌∙◌, arith}
 use mathlib.Core.List.{IsPrefix}
-use Rattle.vsw_answer.specs.Core.{Begins, Looking, total}
-use Rattle.vsw_history.specs.declared.event.Event.{Event}
+use Rattle.vsw_sole.specs.Core.{Begins, Looking, total}
+use Rattle.vsw_port.specs.declared.event.Event.{Event}
 use Rattle.vsw_lookup.specs.Rules.{first_view, newcomer, one_more, row_at, stamp_at}
 use Rattle.vsw_policy.specs.Layers.{PolicySeen}
-use Rattle.vsw_answer.specs.WrittenRows.{IsEmpty, Writing}
+use Rattle.vsw_sole.specs.WrittenRows.{IsEmpty, Writing}
 use Rattle.vsw_sole.specs.declared.caller.Caller.{Caller}
 use Rattle.vsw_sole.specs.Callers.{IsCaller, Numbered}
 

@@ -3,13 +3,13 @@ use Rattle.std.specs.Prelude.{◌≡◌, ℕ, List, false}
 use Rattle.vsw_base.specs.declared.flow.Crossing.{Crossing}
 use Rattle.vsw_base.specs.declared.header.Header.{Header}
 use Rattle.vsw_base.specs.Frame.{Parts}
-use Rattle.vsw_answer.specs.Core.{Looking}
-use Rattle.vsw_history.specs.declared.event.Event.{Event}
-use Rattle.vsw_history.specs.Calls.{Carried, Reads}
-use Rattle.vsw_history.specs.History.{replay}
+use Rattle.vsw_sole.specs.Core.{Looking}
+use Rattle.vsw_port.specs.declared.event.Event.{Event}
+use Rattle.vsw_port.specs.Calls.{Carried, Reads}
+use Rattle.vsw_port.specs.History.{replay}
 use Rattle.vsw_port.specs.declared.crossing.Outcome.{Outcome}
 use Rattle.vsw_port.specs.Crossed.{EditsPass}
-use Rattle.vsw_answer.specs.Rows.{opening_of}
+use Rattle.vsw_sole.specs.Rows.{opening_of}
 
 -- the outcome is that of the layers after this history, where the packet changes nothing
 pub record AnsweredAt (l : Looking) (x : Crossing) (h : List Event) (edited : List Header) (outcome : Outcome) : Type 0 where

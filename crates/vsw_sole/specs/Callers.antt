@@ -2,10 +2,10 @@
 use Rattle.std.specs.Prelude.{◌≡◌, ◌≤◌, ◌+◌, ◌-◌, ℕ, suc, Bool, true, false, List, [], ◌∷◌, length}
 use mathlib.Core.List.{IsPrefix}
 use Rattle.vsw_base.specs.declared.header.Header.{Header}
-use Rattle.vsw_answer.specs.Core.{IsOf, Looking}
-use Rattle.vsw_history.specs.declared.event.Event.{Event}
+use Rattle.vsw_sole.specs.Core.{IsOf, Looking}
+use Rattle.vsw_port.specs.declared.event.Event.{Event}
 use Rattle.vsw_lookup.specs.Rules.{one_if}
-use Rattle.vsw_answer.specs.WrittenRows.{Writing}
+use Rattle.vsw_sole.specs.WrittenRows.{Writing}
 use Rattle.vsw_sole.specs.declared.caller.Caller.{Caller}
 
 -- what is kept of a caller's pass is so

@@ -1,6 +1,11 @@
+pub mod Answers
+pub mod Private
 pub mod Sole
 pub mod Answered
 pub mod Callers
-pub use Rattle.vsw_answer.specs.Answers
-pub use Rattle.vsw_answer.specs.Calls
-pub use Rattle.vsw_answer.specs.Core
+pub mod Transit
+pub mod Fate
+pub use Rattle.vsw_core.specs.Rows
+pub use Rattle.vsw_core.specs.Core
+pub use Rattle.vsw_core.specs.WrittenRows
+pub use Rattle.vsw_core.specs.Calls

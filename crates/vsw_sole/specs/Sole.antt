@@ -1,9 +1,9 @@
 -- A port as one thread has it.
 use Rattle.std.specs.Prelude.{ℕ, List}
 use Rattle.vsw_base.specs.declared.header.Header.{Header}
-use Rattle.vsw_history.specs.declared.event.Event.{Event}
-use Rattle.vsw_history.specs.History.{Opening, replay}
-use Rattle.vsw_layer.specs.Layer.{LayerSeen}
+use Rattle.vsw_port.specs.declared.event.Event.{Event}
+use Rattle.vsw_port.specs.History.{Opening, replay}
+use Rattle.vsw_policy.specs.Layer.{LayerSeen}
 
 -- what a port began with, its history since, how many more entries each of its callers may make, the headers with which the walk of the
 -- last packet ended, and how many workers bring packets

@@ -4,11 +4,11 @@ ghost use Rattle.std.specs.Prelude.{◌≡◌, ◌≤◌, ◌<◌, ◌+◌, ◌-
 ghost use mathlib.Core.List.{IsPrefix};
 ghost use Rattle.vsw_base.specs.Frame.{Parts};
 ghost use Rattle.vsw_commandfile.specs.declared.line.Line.{Line};
-ghost use Rattle.vsw_answer.specs.Core.{IsOf, layers_of};
-ghost use Rattle.vsw_history.specs.declared.event.Event.TheVariants as event;
-ghost use Rattle.vsw_history.specs.Calls.{Asked, Carried, Reads, controller_at};
-ghost use Rattle.vsw_history.specs.History.{replay};
-ghost use Rattle.vsw_history.specs.Next.{IsDone};
+ghost use Rattle.vsw_sole.specs.Core.{IsOf, layers_of};
+ghost use Rattle.vsw_port.specs.declared.event.Event.TheVariants as event;
+ghost use Rattle.vsw_port.specs.Calls.{Asked, Carried, Reads, controller_at};
+ghost use Rattle.vsw_port.specs.History.{replay};
+ghost use Rattle.vsw_port.specs.Next.{IsDone};
 ghost use Rattle.vsw_lookup.specs.Rules.{IsRead, one_if};
 ghost use Rattle.vsw_policy.specs.Obey.{is_memory, rules_given};
 ghost use Rattle.vsw_policy.specs.Refusals.{reply_of};
@@ -17,9 +17,9 @@ ghost use Rattle.vsw_port.specs.Core.{entered};
 ghost use Rattle.vsw_port.specs.Crossed.{EditsPass};
 ghost use Rattle.vsw_sole.specs.Answered.{AnsweredAt};
 ghost use Rattle.vsw_sole.specs.Callers.{HasCalled, IsTold, Refills, edited_by};
-ghost use Rattle.vsw_answer.specs.Rows.{opening_of};
+ghost use Rattle.vsw_sole.specs.Rows.{opening_of};
 
-use vsw_answer::{Core, Desk, PortStory, RowAnswer, answer_by_row};
+use crate::{Core, Desk, PortStory, RowAnswer, answer_by_row};
 use vsw_base::{Crossing, NoMemory};
 use vsw_lookup::{Lookup, Pass};
 use vsw_policy::{Command, Refusal};

@@ -1,9 +1,20 @@
-//! A port as one thread has it: a packet is answered by a row where one may answer it, and crosses the layers else.
+//! Packets answered by rows without the lock, a port as one thread has it, and one frame's way through its port.
 #![tactic(auto)]
 
+mod answer;
 mod caller;
+mod desk;
+mod law;
 mod open;
+mod outcome;
+mod passing;
 mod port;
+mod room;
 
+pub use answer::{RowAnswer, answer_by_row};
+pub use desk::Desk;
+pub use law::laws;
+pub use passing::{leave, transit};
 pub use port::SolePort;
-pub use vsw_answer::{Core, Desk, RowAnswer, answer_by_row};
+pub use room::Room;
+pub use vsw_core::{Core, PortStory};

@@ -1,12 +1,12 @@
 //! A port is opened: its passes.
 
 ghost use Rattle.std.specs.Prelude.{◌≡◌, ◌≤◌, ◌++◌, ◌∷◌, [], length, IfOk, OnOk};
-ghost use Rattle.vsw_answer.specs.Core.{Begins};
+ghost use Rattle.vsw_sole.specs.Core.{Begins};
 ghost use Rattle.vsw_sole.specs.Callers.{IsCaller, Numbered};
 
+use crate::PortStory;
 use crate::caller::Caller;
 use std::alloc::Global;
-use vsw_answer::PortStory;
 use vsw_base::NoMemory;
 use vsw_lookup::{Lookup, Writer};
 

@@ -3,10 +3,10 @@
 ghost use Rattle.std.specs.Prelude.{◌≡◌, ◌≤◌, ◌<◌, ◌+◌, ◌-◌, ◌^◌, ◌++◌, [], ℕ, List, not, true, length, IfOk, OnOk, OnErr};
 ghost use Rattle.vsw_base.specs.Frame.{Parts};
 ghost use Rattle.vsw_commandfile.specs.declared.line.Line.{Line};
-ghost use Rattle.vsw_answer.specs.Core.{IsOf};
-ghost use Rattle.vsw_history.specs.declared.event.Event.TheVariants as event;
-ghost use Rattle.vsw_history.specs.Calls.{Asked, Carried};
-ghost use Rattle.vsw_history.specs.Next.{IsDone};
+ghost use Rattle.vsw_sole.specs.Core.{IsOf};
+ghost use Rattle.vsw_port.specs.declared.event.Event.TheVariants as event;
+ghost use Rattle.vsw_port.specs.Calls.{Asked, Carried};
+ghost use Rattle.vsw_port.specs.Next.{IsDone};
 ghost use Rattle.vsw_lookup.specs.Rules.{one_if};
 ghost use Rattle.vsw_policy.specs.Layers as layers;
 ghost use Rattle.vsw_policy.specs.Obey.{is_memory, rules_given};
@@ -19,14 +19,13 @@ ghost use Rattle.vsw_sole.specs.Sole.{layers_of};
 
 use crate::caller::{Caller, ask, carry, refill};
 use crate::open::{callers, copied};
+use crate::{Core, Desk, PortStory};
 use std::alloc::Global;
 use std::marker::Model;
-use vsw_answer::{Core, Desk, PortStory};
 use vsw_base::{Crossing, NoMemory, Stack};
-use vsw_history::Event;
 use vsw_lookup::{Lookup, Opened};
 use vsw_policy::{Command, Policy, Refusal};
-use vsw_port::Outcome;
+use vsw_port::{Event, Outcome};
 
 /// For how many entries each caller gets room at once, at least.
 const BATCH: u32 = 64;

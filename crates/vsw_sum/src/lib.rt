@@ -4,8 +4,6 @@
 mod change;
 mod law;
 mod sum;
-#[cfg(test)]
-mod tests;
 
 pub use change::update;
 pub use law::laws;

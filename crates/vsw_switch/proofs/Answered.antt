@@ -6,16 +6,16 @@ use Rattle.vsw_base.specs.declared.fault.NoMemory.{NoMemory}
 use Rattle.vsw_base.specs.declared.flow.Crossing.{Crossing}
 use Rattle.vsw_base.specs.Frame.{Parts}
 use Rattle.vsw_commandfile.specs.declared.line.Line.{Line}
-use Rattle.vsw_history.specs.Calls.{Call, Deed, Carry, Ask, Carried, Asked, entries_of, event_of}
-use Rattle.vsw_history.specs.Next.{IsDone, IsNext}
-use Rattle.vsw_history.specs.Order.{ascending}
-use Rattle.vsw_merge.specs.Line.{TextLine, text_of}
+use Rattle.vsw_port.specs.Calls.{Call, Deed, Carry, Ask, Carried, Asked, entries_of, event_of}
+use Rattle.vsw_port.specs.Next.{IsDone, IsNext}
+use Rattle.vsw_port.specs.Order.{ascending}
+use Rattle.vsw_report.specs.Line.{TextLine, text_of}
 use Rattle.vsw_policy.specs.declared.refusal.Reply.{Reply}
 use Rattle.vsw_policy.specs.Layers.{place_of}
 use Rattle.vsw_policy.specs.Sound.{is_listed}
 use Rattle.vsw_port.specs.Core.{entered}
 use Rattle.vsw_report.specs.declared.told.By.TheVariants as by
-use Rattle.vsw_transit.specs.Sole.{SoleSeen}
+use Rattle.vsw_sole.specs.Sole.{SoleSeen}
 use Rattle.vsw_report.specs.declared.told.What.TheVariants as what
 use Rattle.vsw_switch.specs.Does.{Does, told_at}
 use Rattle.vsw_switch.specs.Switch.{PortNow}

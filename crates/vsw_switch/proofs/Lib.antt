@@ -3,3 +3,11 @@ pub mod Answered
 pub mod Closed
 pub mod Staying
 pub mod Opened
+pub mod Steps
+pub mod Asking
+pub mod Tellings
+pub mod Totals
+pub mod Calling
+pub mod Dealing
+pub mod Closing
+pub mod Running

@@ -4,18 +4,18 @@ use Rattle.std.specs.Prelude.{All}
 use Rattle.std.specs.List.{AllPairs}
 use Rattle.std.proofs.lemmas.List.{length-map}
 use Rattle.vsw_commandfile.specs.declared.line.Line.{Line}
-use Rattle.vsw_history.specs.Order.{counted}
+use Rattle.vsw_port.specs.Order.{counted}
 use Rattle.vsw_policy.proofs.Keeps.{each-placed}
 use Rattle.vsw_policy.specs.Obey.{rules_given}
 use Rattle.vsw_policy.specs.Sound.{Each, IsGoodRule, are_distinct, is_listed}
-use Rattle.vsw_policyfile.specs.Good.{AreGoodPorts, IsGoodPolicy}
-use Rattle.vsw_policyfile.specs.declared.file.LayerFile.{LayerFile}
-use Rattle.vsw_policyfile.specs.declared.file.PolicyFile.{PolicyFile}
-use Rattle.vsw_policyfile.specs.declared.file.PortFile.{PortFile}
+use Rattle.vsw_config.specs.Good.{AreGoodPorts, IsGoodPolicy}
+use Rattle.vsw_config.specs.declared.file.LayerFile.{LayerFile}
+use Rattle.vsw_config.specs.declared.file.PolicyFile.{PolicyFile}
+use Rattle.vsw_config.specs.declared.file.PortFile.{PortFile}
 use Rattle.vsw_port.specs.Core.{AreAtMost}
-use Rattle.vsw_ports.specs.declared.port.Port.{Port}
-use Rattle.vsw_ports.specs.Ports.{PortSeen, in_order, port_of, port_seen, ports_of, whole}
-use Rattle.vsw_merge.specs.Line.{TextLine}
+use Rattle.vsw_promise.specs.declared.port.Port.{Port}
+use Rattle.vsw_promise.specs.Ports.{PortSeen, in_order, port_of, port_seen, ports_of, whole}
+use Rattle.vsw_report.specs.Line.{TextLine}
 use Rattle.vsw_switch.specs.Stay.{ArePorts, CanOpen, port_at_first}
 use Rattle.vsw_switch.specs.Switch.{AllStandAt, AreServed, PortNow, SwitchNow}
 

@@ -4,9 +4,9 @@ use Rattle.std.specs.Prelude.{⊤}
 use Rattle.std.specs.List.{slice_set}
 use native.Mathlib.Decide.{ℕ_discrete}
 use Rattle.vsw_base.specs.declared.fault.NoMemory.{NoMemory}
-use Rattle.vsw_history.specs.Calls.{Job}
-use Rattle.vsw_history.specs.Order.{ascending, put_in}
-use Rattle.vsw_merge.specs.Line.{TextLine}
+use Rattle.vsw_port.specs.Calls.{Job}
+use Rattle.vsw_port.specs.Order.{ascending, put_in}
+use Rattle.vsw_report.specs.Line.{TextLine}
 use Rattle.vsw_policy.specs.Layers.{place_of}
 use Rattle.vsw_policy.specs.Sound.{Each, is_listed}
 use Rattle.vsw_switch.specs.Does.{Does, DoesAt, told_at}

@@ -1,8 +1,8 @@
 -- The end of a round at each port, and the text of the round.
 use Rattle.std.specs.Prelude.{ℕ, ◌-◌, List, [], ◌++◌, length, map, Bool, codes, decimal}
 use Rattle.std.specs.List.{flat_map, list_any}
-use Rattle.vsw_merge.specs.Line.{TextLine}
-use Rattle.vsw_merge.specs.Order.{AllInCounts, emptied, in_order}
+use Rattle.vsw_report.specs.Line.{TextLine}
+use Rattle.vsw_report.specs.Order.{AllInCounts, emptied, in_order}
 use Rattle.vsw_policy.specs.Sound.{Each}
 use Rattle.vsw_report.specs.Print.{loose_text, port_line}
 use Rattle.vsw_promise.specs.Summary.{total}

@@ -1,10 +1,10 @@
 -- What the ports of a switch do: jobs, one after the other. Each is the next call on its port's history.
 use Rattle.std.specs.Prelude.{◌≡◌, ◌<◌, ℕ, zero, suc, List, [], ◌∷◌, ◌++◌, length, map, true}
 use Rattle.vsw_commandfile.specs.declared.line.Line.{Line}
-use Rattle.vsw_history.specs.Calls.{Call, Job, Carry, Ask, job_of, entries_of}
-use Rattle.vsw_history.specs.Next.{IsNext}
-use Rattle.vsw_history.specs.Order.{ascending}
-use Rattle.vsw_merge.specs.Line.{TextLine, text_of}
+use Rattle.vsw_port.specs.Calls.{Call, Job, Carry, Ask, job_of, entries_of}
+use Rattle.vsw_port.specs.Next.{IsNext}
+use Rattle.vsw_port.specs.Order.{ascending}
+use Rattle.vsw_report.specs.Line.{TextLine, text_of}
 use Rattle.vsw_pcap.specs.declared.capture.Record.{Record}
 use Rattle.vsw_policy.specs.Layers.{place_of}
 use Rattle.vsw_policy.specs.Sound.{is_listed}

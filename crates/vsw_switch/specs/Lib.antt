@@ -3,3 +3,5 @@ pub mod Switch
 pub mod Does
 pub mod Close
 pub mod Stay
+pub mod Round
+pub mod Steps

@@ -1,12 +1,12 @@
 -- What no call of a switch changes, and what is known of each switch.
 use Rattle.std.specs.Prelude.{◌≡◌, ◌≤◌, ◌<◌, ◌^◌, ℕ, List, [], length, map, Option, Some, None, Result, Ok, Err, true}
-use Rattle.vsw_history.specs.History.{Opening}
-use Rattle.vsw_history.specs.Order.{ascending, counted}
-use Rattle.vsw_merge.specs.Line.{TextLine}
+use Rattle.vsw_port.specs.History.{Opening}
+use Rattle.vsw_port.specs.Order.{ascending, counted}
+use Rattle.vsw_report.specs.Line.{TextLine}
 use Rattle.vsw_pcap.specs.declared.capture.Record.{Record}
 use Rattle.vsw_policy.specs.Sound.{Each, are_distinct}
 use Rattle.vsw_port.specs.Core.{AreAtMost}
-use Rattle.vsw_ports.specs.Ports.{PortSeen}
+use Rattle.vsw_promise.specs.Ports.{PortSeen}
 use Rattle.vsw_promise.specs.Jobs.{aim_of, placed_packet}
 use Rattle.vsw_promise.specs.Rounds.{opening_of}
 use Rattle.vsw_report.specs.declared.round.LooseCause.{LooseCause}

@@ -1,13 +1,13 @@
 -- The ports of a run: how they stand between two rounds, and in the midst of one.
 use Rattle.std.specs.Prelude.{◌≡◌, ◌≤◌, ◌<◌, ℕ, List, [], ◌∷◌, length, map, true}
 use Rattle.vsw_commandfile.specs.declared.line.Line.{Line}
-use Rattle.vsw_history.specs.declared.event.Event.{Event}
-use Rattle.vsw_history.specs.History.{Opening, AllRight}
-use Rattle.vsw_history.specs.Order.{ascending, counted}
-use Rattle.vsw_merge.specs.Line.{TextLine}
+use Rattle.vsw_port.specs.declared.event.Event.{Event}
+use Rattle.vsw_port.specs.History.{Opening, AllRight}
+use Rattle.vsw_port.specs.Order.{ascending, counted}
+use Rattle.vsw_report.specs.Line.{TextLine}
 use Rattle.vsw_policy.specs.Obey.{rules_given}
 use Rattle.vsw_policy.specs.Sound.{Each, IsGoodRule, is_listed}
-use Rattle.vsw_ports.specs.Ports.{PortSeen, ports_of}
+use Rattle.vsw_promise.specs.Ports.{PortSeen, ports_of}
 use Rattle.vsw_promise.specs.Jobs.{Setting}
 use Rattle.vsw_promise.specs.Rounds.{opening_of}
 use Rattle.vsw_report.specs.declared.round.Loose.{Loose}

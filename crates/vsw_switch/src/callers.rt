@@ -2,21 +2,21 @@
 
 ghost use Rattle.std.specs.Prelude.{◌≡◌, ◌≤◌, ◌<◌, [], IfOk, OnOk, length, not, replicate};
 ghost use Rattle.vsw_commandfile.specs.declared.line.Line.{Line};
-ghost use Rattle.vsw_merge.specs.Line.{text_of};
+ghost use Rattle.vsw_report.specs.Line.{text_of};
 ghost use Rattle.vsw_policy.specs.Obey.{is_memory};
 ghost use Rattle.vsw_policy.specs.Refusals.{reply_of};
 ghost use Rattle.vsw_report.specs.declared.told.By.TheVariants as by;
 ghost use Rattle.vsw_report.specs.declared.told.What.TheVariants as what;
 ghost use Rattle.vsw_switch.specs.Does.{told_at};
-ghost use Rattle.vsw_transit.specs.Transit.{bytes_in, len_of};
+ghost use Rattle.vsw_sole.specs.Transit.{bytes_in, len_of};
 
 use std::alloc::Global;
 use vsw_base::{Crossing, Fate, NoMemory};
 use vsw_commandfile::Line;
-use vsw_merge::Caller;
 use vsw_policy::{Refusal, Reply};
 use vsw_port::Outcome;
-use vsw_transit::Room;
+use vsw_report::Caller;
+use vsw_sole::Room;
 
 /// So many callers with no lines.
 pub(crate) fn callers(alloc: Global, count: usize) -> Result<Vec<Caller>, NoMemory>

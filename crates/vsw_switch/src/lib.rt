@@ -1,12 +1,14 @@
-//! The ports of a run: what each makes of the packets and commands that come to it, and what is told of them.
+//! A switch of one thread: its ports, its packets, and its rounds.
 #![tactic(auto)]
 
 mod callers;
 mod live;
 mod numbers;
+mod round;
 mod switch;
 mod tally;
 mod worker;
 
+pub use round::run_round;
 pub use switch::Switch;
 pub use tally::Tally;

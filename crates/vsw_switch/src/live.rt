@@ -2,14 +2,14 @@
 
 ghost use Rattle.std.specs.Prelude.{◌≡◌, ◌≤◌, ◌<◌, ◌-◌, ◌^◌, ◌++◌, IfOk, OnOk, length, true};
 ghost use Rattle.vsw_frame.specs.Frame.{parts};
-ghost use Rattle.vsw_history.specs.Calls.{Ask, Carry};
+ghost use Rattle.vsw_port.specs.Calls.{Ask, Carry};
 ghost use Rattle.vsw_policy.specs.Obey.{rules_given};
 ghost use Rattle.vsw_policy.specs.Sound.{Each, IsGoodRule, is_listed};
-ghost use Rattle.vsw_ports.specs.Ports.{port_seen};
+ghost use Rattle.vsw_promise.specs.Ports.{port_seen};
 ghost use Rattle.vsw_switch.specs.Close.{IsCounted, begun, is_short_now, text_now};
 ghost use Rattle.vsw_switch.specs.Does.{Does};
 ghost use Rattle.vsw_switch.specs.Stay.{CanOpen, port_at_first, standing};
-ghost use Rattle.vsw_transit.specs.Transit.{IsOfFrame};
+ghost use Rattle.vsw_sole.specs.Transit.{IsOfFrame};
 
 use crate::callers::{callers, tell_packet, tell_reply};
 use crate::numbers::{ascending, place_of};
@@ -19,10 +19,9 @@ use std::marker::Model;
 use vsw_base::{Crossing, Mac, NoMemory};
 use vsw_commandfile::Line;
 use vsw_frame::Frame;
-use vsw_merge::{Caller, merge};
-use vsw_ports::Port;
-use vsw_report::port_line;
-use vsw_transit::{Room, SolePort, transit};
+use vsw_promise::Port;
+use vsw_report::{Caller, merge, port_line};
+use vsw_sole::{Room, SolePort, transit};
 
 /// The most rows of a port that are reconciled at the end of a round.
 const RECONCILED: u32 = 256;

@@ -4,11 +4,11 @@ ghost use Rattle.std.specs.Prelude.{◌≡◌, ◌≤◌, ◌<◌, ◌^◌, ◌+
 ghost use Rattle.std.specs.List.{flat_map, list_any};
 ghost use Rattle.vsw_commandfile.specs.declared.line.Line.{Line};
 ghost use Rattle.vsw_frame.specs.Frame.{parts};
-ghost use Rattle.vsw_history.specs.Calls.{Ask, Carry};
+ghost use Rattle.vsw_port.specs.Calls.{Ask, Carry};
 ghost use Rattle.vsw_policy.specs.Obey.{rules_given};
 ghost use Rattle.vsw_policy.specs.Sound.{Each, IsGoodRule, are_distinct, is_listed};
-ghost use Rattle.vsw_policyfile.specs.Good.{IsGoodPolicy};
-ghost use Rattle.vsw_ports.specs.Ports.{port_seen, ports_of};
+ghost use Rattle.vsw_config.specs.Good.{IsGoodPolicy};
+ghost use Rattle.vsw_promise.specs.Ports.{port_seen, ports_of};
 ghost use Rattle.vsw_promise.specs.Jobs.{crossing_by, worker_of};
 ghost use Rattle.vsw_switch.specs.Close.{AreCounted, IsCounted, begun, entries_in, is_short_now, last_of, next_round, round_now, text_now};
 ghost use Rattle.vsw_switch.specs.Does.{Asks, DoesAt, Forwards, numbers_in};
@@ -23,11 +23,11 @@ use std::alloc::Global;
 use std::marker::Model;
 use vsw_base::{Items, Mac, NoMemory, Place};
 use vsw_commandfile::Line;
+use vsw_config::PolicyFile;
 use vsw_flowid::choose_port;
 use vsw_frame::{Frame, read_frame};
 use vsw_pcap::Captured;
-use vsw_policyfile::PolicyFile;
-use vsw_ports::{Port, macs, ports_of};
+use vsw_promise::{Port, macs, ports_of};
 use vsw_report::{Loose, LooseCause, loose_part, round_line};
 
 /// The ports of a switch in the midst of a run, and the round so far.

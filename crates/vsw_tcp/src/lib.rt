@@ -3,8 +3,6 @@
 
 mod law;
 mod state;
-#[cfg(test)]
-mod tests;
 
 pub use law::laws;
 pub use state::{Tracked, opening, track};

@@ -8,8 +8,8 @@ use Rattle.vsw_compose.specs.Edit.{edited, kept_after}
 use Rattle.vsw_rule.specs.declared.rule.Action.{Action}
 use Rattle.vsw_rule.specs.declared.rule.Action.TheVariants.{Edit}
 use Rattle.vsw_rule.specs.Match.{can_do}
-use Rattle.vsw_visit.specs.Wanted.{nothing}
-use Rattle.vsw_visit.proofs.Turned.{stack_stays}
+use Rattle.vsw_walk.specs.Wanted.{nothing}
+use Rattle.vsw_walk.proofs.Turned.{stack_stays}
 use Rattle.vsw_walk.specs.Going.{GoesOn}
 use Rattle.vsw_walk.specs.Made.{Leads}
 use Rattle.vsw_walk.specs.Walk.{Told}

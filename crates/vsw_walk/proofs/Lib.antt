@@ -1,7 +1,9 @@
+pub mod Chosen
+pub mod Turned
+pub mod Dropped
 pub mod Places
 pub mod Going
 pub mod Held
 pub mod Made
 pub mod Goes
 pub mod Composed
-pub use Rattle.vsw_visit.proofs.Chosen

@@ -1,8 +1,8 @@
 -- Of layers with their places.
 use Rattle.std.proofs.Common.{◌≡◌, ◌∙◌, ℕ, suc, ◌+◌, List, [], ◌∷◌, ◌++◌, length, map, reverse, ap, arith}
 use Rattle.std.proofs.lemmas.List.{reverse-append, map-append, length-map}
-use Rattle.vsw_layer.specs.declared.layer.Layer.{Layer}
-use Rattle.vsw_layer.specs.Layer.{LayerSeen, seen}
+use Rattle.vsw_policy.specs.declared.layer.Layer.{Layer}
+use Rattle.vsw_policy.specs.Layer.{LayerSeen, seen}
 use Rattle.vsw_walk.specs.Walk.{placed}
 
 placed_last : (n k : ℕ) (ls : List LayerSeen) (l : LayerSeen) → k ≡ n + length ls → placed n (ls ++ l ∷ []) ≡ placed n ls ++ (k, l) ∷ []

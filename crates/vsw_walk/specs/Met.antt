@@ -3,8 +3,8 @@ use Rattle.std.specs.Prelude.{ℕ, List, Bool, true, false, Option, Some, None}
 use Rattle.vsw_base.specs.declared.fate.Verdict.{Verdict}
 use Rattle.vsw_base.specs.declared.flow.Crossing.{Crossing}
 use Rattle.vsw_base.specs.declared.header.Header.{Header}
-use Rattle.vsw_layer.specs.Layer.{LayerSeen}
-use Rattle.vsw_visit.specs.Visit.{visit_of}
+use Rattle.vsw_policy.specs.Layer.{LayerSeen}
+use Rattle.vsw_walk.specs.Visit.{visit_of}
 use Rattle.vsw_walk.specs.Walk.{Told, Walk, after, along, by_visit, looking_in}
 
 -- a packet meets a layer at its place, and this is the walk from there

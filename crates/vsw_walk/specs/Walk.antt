@@ -10,17 +10,17 @@ use Rattle.vsw_base.specs.declared.packet.Dir.TheVariants.{Out, In}
 use Rattle.vsw_base.specs.Shape.{encaps}
 use Rattle.vsw_compose.specs.Edit.{edited, kept_after}
 use Rattle.vsw_flowid.specs.Key.{key_from}
-use Rattle.vsw_layer.specs.declared.layer.LayerSpec.{LayerSpec}
-use Rattle.vsw_layer.specs.Layer.{LayerSeen}
+use Rattle.vsw_policy.specs.declared.layer.LayerSpec.{LayerSpec}
+use Rattle.vsw_policy.specs.Layer.{LayerSeen}
 use Rattle.vsw_layerflow.specs.declared.pair.Pair.{Pair}
 use Rattle.vsw_layerflow.specs.Life.{due}
 use Rattle.vsw_layerflow.specs.Pairs.{number_of, pair_of}
 use Rattle.vsw_rule.specs.declared.rule.Action.{Action}
-use Rattle.vsw_visit.specs.declared.outcome.Visit.{Visit}
-use Rattle.vsw_visit.specs.declared.outcome.Visit.TheVariants.{Stops, Goes}
-use Rattle.vsw_visit.specs.declared.outcome.Want.{Want}
-use Rattle.vsw_visit.specs.declared.outcome.Want.TheVariants as want
-use Rattle.vsw_visit.specs.Visit.{visit_of}
+use Rattle.vsw_walk.specs.declared.outcome.Visit.{Visit}
+use Rattle.vsw_walk.specs.declared.outcome.Visit.TheVariants.{Stops, Goes}
+use Rattle.vsw_walk.specs.declared.outcome.Want.{Want}
+use Rattle.vsw_walk.specs.declared.outcome.Want.TheVariants as want
+use Rattle.vsw_walk.specs.Visit.{visit_of}
 use Rattle.vsw_walk.specs.declared.scratch.Looked.{Looked}
 use Rattle.vsw_walk.specs.declared.scratch.Wanted.{Wanted}
 use Rattle.vsw_walk.specs.declared.scratch.Wanted.TheVariants.{Make, Touch, Leave}

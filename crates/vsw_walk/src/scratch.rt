@@ -5,24 +5,24 @@ ghost use Rattle.vsw_base.specs.declared.flow.Outer.{Outer};
 ghost use Rattle.vsw_base.specs.declared.flow.Set.{Set};
 ghost use Rattle.vsw_compose.specs.Edit.{kept_after};
 ghost use Rattle.vsw_flowid.specs.Key.{key_from};
-ghost use Rattle.vsw_layer.specs.Layer.{seen};
+ghost use Rattle.vsw_policy.specs.Layer.{seen};
 ghost use Rattle.vsw_layerflow.specs.Pairs.{number_of, pair_of};
 ghost use Rattle.vsw_rule.specs.declared.rule.Action.TheVariants.{Edit};
 ghost use Rattle.vsw_rule.specs.Match.{can_do};
-ghost use Rattle.vsw_visit.specs.Wanted.{nothing, wanted_pair};
+ghost use Rattle.vsw_walk.specs.Wanted.{nothing, wanted_pair};
 ghost use Rattle.vsw_walk.specs.Going.{GoesOn, Looks};
 ghost use Rattle.vsw_walk.specs.Walk as spec;
 ghost use Rattle.vsw_walk.specs.Walk.{due_of, leaving};
 ghost use Rattle.vsw_walk.specs.declared.scratch.Wanted.TheVariants.{Make, Touch};
 
 use crate::turns::Turns;
+use crate::{reverse_set, set_of, wanted_pair};
 use std::alloc::Global;
 use std::marker::Model;
 use vsw_base::{Control, Dir, LayerKey, Mac, Moment, NoMemory, Outer, Set, Stack, Track};
-use vsw_layer::{Layer, LayerSpec};
 use vsw_layerflow::{Pair, due};
+use vsw_policy::{Layer, LayerSpec};
 use vsw_rule::{Action, Rule};
-use vsw_visit::{reverse_set, set_of, wanted_pair};
 
 /// The most changes that a walk can want: two of each of 128 layers.
 const ROOM: usize = 256;

@@ -7,20 +7,19 @@ ghost use Rattle.vsw_walk.specs.Met.{ended_with, from, met, stepped, stopped};
 ghost use Rattle.vsw_walk.specs.Walk.{Walk, after, crossed, leaving, placed, until_after, until_of, walk_of, wanting};
 ghost use Rattle.vsw_walk.specs.Going.{GoesOn};
 ghost use Rattle.vsw_walk.specs.Made.{Leads};
-ghost use Rattle.vsw_layer.specs.Layer.{seen};
+ghost use Rattle.vsw_policy.specs.Layer.{seen};
 ghost use Rattle.vsw_layerflow.specs.Pairs.{number_of};
 ghost use Rattle.vsw_rule.specs.declared.rule.Action.TheVariants.{Edit};
 ghost use Rattle.vsw_rule.specs.Match.{can_do};
-ghost use Rattle.vsw_visit.specs.Known as known;
-ghost use Rattle.vsw_visit.specs.Visit as visit;
+ghost use Rattle.vsw_walk.specs.Known as known;
+ghost use Rattle.vsw_walk.specs.Visit as visit;
 
 use crate::scratch::Scratch;
+use crate::{Decision, decide, last_use, set_towards};
 use vsw_base::{Crossing, Dir, Moment, Track, Verdict};
-use vsw_layer::Layer;
 use vsw_layerflow::Pair;
-use vsw_policy::Policy;
+use vsw_policy::{Layer, Policy};
 use vsw_rule::Rule;
-use vsw_visit::{Decision, decide, last_use, set_towards};
 
 /// What a walk comes to. The stack with which a packet passes is in the scratch.
 #[derive(Clone, Copy, Debug, PartialEq, Eq)]

@@ -8,8 +8,7 @@ ghost use Rattle.std.specs.Prelude.{◌<◌, ◌^◌};
 use crate::given::give;
 use std::alloc::Global;
 use vsw_base::{Dir, Ip4, Items, Mac, Outer, Prefix, Set};
-use vsw_layer::LayerSpec;
-use vsw_policy::{Command, Policy};
+use vsw_policy::{Command, LayerSpec, Policy};
 use vsw_rule::{Action, Cond, Field, Item, Rule};
 
 /// The address that stands for those of 10.0.0.0/24.

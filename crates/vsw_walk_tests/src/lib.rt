@@ -1,6 +1,8 @@
-//! Tests of `vsw_walk`, kept apart from it: with tests of its own it would be proved once more.
+//! Tests of pairs, of visits and of walks, kept apart from `vsw_layerflow`, `vsw_tcp` and `vsw_walk`: with tests of its own, a crate is proved once more.
 #![tactic(auto)]
 
+#[cfg(test)]
+mod flow_tests;
 #[cfg(test)]
 mod given;
 #[cfg(test)]
@@ -9,5 +11,11 @@ mod layers;
 mod look_tests;
 #[cfg(test)]
 mod packets;
+#[cfg(test)]
+mod samples;
+#[cfg(test)]
+mod tcp_tests;
+#[cfg(test)]
+mod visit_tests;
 #[cfg(test)]
 mod walk_tests;

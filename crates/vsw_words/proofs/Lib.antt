@@ -7,3 +7,4 @@ pub mod Acts
 pub mod Passes
 pub mod Used
 pub mod Formed
+pub mod Loosely

@@ -6,3 +6,4 @@ pub mod Reading
 pub mod Slot
 pub mod Stage
 pub mod Law
+pub mod Loose

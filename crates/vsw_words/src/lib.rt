@@ -1,7 +1,9 @@
-//! Rows of the table of unified flows as 64-bit words: sixteen of a flow's identity, then 57 of what is done with its packets.
+//! Row words: keys, bodies and identities as 64-bit words, and read back from them.
 #![tactic(auto)]
 
 mod act;
+mod head;
+mod identity_reading;
 mod key;
 mod law;
 mod reading;
@@ -9,6 +11,7 @@ mod row;
 mod slots;
 mod stage;
 
+pub use identity_reading::identity_to;
 pub use key::key_words;
 pub use law::laws;
 pub use reading::{body_from, body_of, body_to};

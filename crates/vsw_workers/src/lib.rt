@@ -3,8 +3,6 @@
 
 mod actor;
 mod round;
-#[cfg(test)]
-mod tests;
 
 pub use actor::{Forwarder, Gate};
 pub use round::run_round;

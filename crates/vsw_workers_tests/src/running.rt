@@ -9,9 +9,8 @@ use std::test::Fail;
 use std::thread::Threads;
 use vsw_app::{Watch, run_words};
 use vsw_base::{Items, Text};
-use vsw_memory_host::{MemoryFile, MemoryHost, are_distinct};
-use vsw_promise::Status;
-use vsw_request::Word;
+use vsw_host::{MemoryFile, MemoryHost, are_distinct};
+use vsw_promise::{Status, Word};
 use vsw_workers::Gate;
 
 /// A capture's header: little-endian, microseconds, version 2.4, Ethernet (libpcap file format 2.4).

@@ -1,7 +1,7 @@
 -- Actors of a round between its beginning and its end.
 use Rattle.std.specs.Prelude.{ℕ, suc, List, [], ◌∷◌, length, Vec}
-use Rattle.vsw_ports.specs.Ports.{PortSeen}
-use Rattle.vsw_history.specs.Calls.{Job, Call}
+use Rattle.vsw_promise.specs.Ports.{PortSeen}
+use Rattle.vsw_port.specs.Calls.{Job, Call}
 use Rattle.vsw_many.specs.Passes.{PassNow}
 use Rattle.vsw_actors.specs.declared.actor.Begun.{Begun}
 use Rattle.vsw_actors.specs.declared.actor.Placed.{Placed}

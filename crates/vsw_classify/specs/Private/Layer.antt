@@ -3,8 +3,8 @@ use Rattle.std.specs.Prelude.{ℕ, List, Bool, Option, Some, None, if◌then◌e
 use Rattle.std.specs.List.{list_any}
 use Rattle.vsw_base.specs.declared.header.Header.{Header}
 use Rattle.vsw_base.specs.declared.packet.Dir.{Dir}
-use Rattle.vsw_choice.specs.Choice.{Chosen, applies, of_group, pick}
-use Rattle.vsw_choice.specs.Private.FromEnd.{after}
+use Rattle.vsw_rule.specs.Choice.{Chosen, applies, of_group, pick}
+use Rattle.vsw_rule.specs.Private.FromEnd.{after}
 use Rattle.vsw_rule.specs.declared.rule.Rule.{Rule}
 use Rattle.vsw_rule.specs.declared.rule.Group.{Group}
 

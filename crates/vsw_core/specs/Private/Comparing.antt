@@ -5,7 +5,7 @@ use Rattle.vsw_base.specs.declared.flow.Crossing.{Crossing}
 use Rattle.vsw_base.specs.declared.header.Header.{Header}
 use Rattle.vsw_commit.specs.Cross.{makes}
 use Rattle.vsw_core.specs.Walks.{IsWholeWalk}
-use Rattle.vsw_layer.specs.Layer.{LayerSeen}
+use Rattle.vsw_policy.specs.Layer.{LayerSeen}
 use Rattle.vsw_lean.specs.Good.{Row}
 use Rattle.vsw_lean.specs.Way.{plain}
 use Rattle.vsw_rows.specs.Rows.{Says}

@@ -7,8 +7,8 @@ use Rattle.vsw_base.specs.declared.flow.Crossing.{Crossing}
 use Rattle.vsw_base.specs.declared.packet.Control.TheVariants as control
 use Rattle.vsw_core.specs.Calls.{Raises, called, grown}
 use Rattle.vsw_core.specs.Publishing.{HasPlace, IsSettled, StandsUntil, WritesOne}
-use Rattle.vsw_history.specs.declared.event.Event.{Event}
-use Rattle.vsw_layer.specs.Layer.{LayerSeen}
+use Rattle.vsw_port.specs.declared.event.Event.{Event}
+use Rattle.vsw_policy.specs.Layer.{LayerSeen}
 use Rattle.vsw_lean.specs.Law.{wants_none}
 use Rattle.vsw_lookup.specs.declared.view.View.{View}
 use Rattle.vsw_lookup.specs.Rules.{after_entry, passed}

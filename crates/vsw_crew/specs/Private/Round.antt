@@ -5,13 +5,13 @@ use Rattle.vsw_commandfile.specs.declared.line.Line.{Line}
 use Rattle.vsw_harbour.specs.Crew.{CrewDid, CrewTells, crew_text, is_short_crew}
 use Rattle.vsw_harbour.specs.Turns.{PlacedTurns, placed_before}
 use Rattle.vsw_harbour.specs.Seen.{StationSeen}
-use Rattle.vsw_history.specs.Calls.{Call}
-use Rattle.vsw_history.specs.Order.{numbered}
-use Rattle.vsw_history.specs.declared.event.Event.{Event}
+use Rattle.vsw_port.specs.Calls.{Call}
+use Rattle.vsw_port.specs.Order.{numbered}
+use Rattle.vsw_port.specs.declared.event.Event.{Event}
 use Rattle.vsw_harbour.specs.Rounds.{AreJournals, calls_by_port}
-use Rattle.vsw_merge.specs.Line.{TextLine}
+use Rattle.vsw_report.specs.Line.{TextLine}
 use Rattle.vsw_pcap.specs.declared.capture.Record.{Record}
-use Rattle.vsw_ports.specs.Ports.{ports_of}
+use Rattle.vsw_promise.specs.Ports.{ports_of}
 use Rattle.vsw_promise.specs.Jobs.{Placed, Setting, loose_among, macs_of, numbers_of, placed_lines, placed_packets}
 use Rattle.vsw_report.specs.declared.round.Loose.{Loose}
 use Rattle.vsw_harbour.specs.Harbour.{HarbourSeen, IsOfRun, callers, ports_in}

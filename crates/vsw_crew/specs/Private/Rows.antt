@@ -4,7 +4,7 @@ use Rattle.vsw_harbour.specs.Placed.{Placed}
 use Rattle.vsw_harbour.specs.Lane.{Lane}
 use Rattle.vsw_harbour.specs.DealWork.{Work}
 use Rattle.vsw_harbour.specs.Seen.{StationSeen}
-use Rattle.vsw_merge.specs.Line.{TextLine}
+use Rattle.vsw_report.specs.Line.{TextLine}
 
 -- what a row tells, a list a port
 abbrev pub lines_of : List (Lane StationSeen) → List (List TextLine)

@@ -1,12 +1,12 @@
 -- The text of a crew's round, out of the rows of its lines.
 use Rattle.std.specs.Prelude.{◌≡◌, ◌++◌, ℕ, List, length, map}
 use Rattle.vsw_harbour.specs.Crew.{AreCounted, crew_text}
-use Rattle.vsw_history.specs.Order.{ascending}
-use Rattle.vsw_history.specs.declared.event.Event.{Event}
-use Rattle.vsw_merge.specs.Line.{TextLine}
-use Rattle.vsw_ports.specs.Ports.{PortSeen}
+use Rattle.vsw_port.specs.Order.{ascending}
+use Rattle.vsw_port.specs.declared.event.Event.{Event}
+use Rattle.vsw_report.specs.Line.{TextLine}
+use Rattle.vsw_promise.specs.Ports.{PortSeen}
 use Rattle.vsw_report.specs.declared.round.Loose.{Loose}
-use Rattle.vsw_tell.specs.Texts.{texts_by_port}
+use Rattle.vsw_crew.specs.Texts.{texts_by_port}
 use Rattle.vsw_harbour.specs.Harbour.{HarbourSeen}
 use Rattle.vsw_crew.specs.Private.Round.{numbers_in}
 

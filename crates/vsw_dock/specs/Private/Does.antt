@@ -1,9 +1,9 @@
 -- What a job leaves of a station.
 use Rattle.std.specs.Prelude.{◌≡◌, ◌+◌, ◌++◌, ◌∷◌, [], ℕ, List, Bool, true, length}
-use Rattle.vsw_history.specs.Calls.{Call, Job, job_of}
-use Rattle.vsw_history.specs.History.{Opening}
+use Rattle.vsw_port.specs.Calls.{Call, Job, job_of}
+use Rattle.vsw_port.specs.History.{Opening}
 use Rattle.vsw_live.specs.Calls.{Crosses}
-use Rattle.vsw_merge.specs.Line.{TextLine, text_of}
+use Rattle.vsw_report.specs.Line.{TextLine, text_of}
 use Rattle.vsw_promise.specs.Told.{line_of}
 use Rattle.vsw_live.specs.Rows.{Writing}
 use Rattle.vsw_dock.specs.Seen.{StationSeen}

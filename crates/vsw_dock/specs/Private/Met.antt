@@ -1,6 +1,6 @@
 -- Lanes that meet their ports one after another.
 use Rattle.std.specs.Prelude.{◌≡◌, ℕ, zero, suc, List, ◌∷◌}
-use Rattle.vsw_deal.specs.Lane.{Lane}
+use Rattle.vsw_actors.specs.declared.lane.Lane.{Lane}
 use Rattle.vsw_live.specs.Meeting.{HeldSeen}
 use Rattle.vsw_dock.specs.Meeting.{LaneMeets}
 use Rattle.vsw_dock.specs.Seen.{StationSeen}

@@ -1,21 +1,21 @@
 -- What lies under a port's lock, and what its calls tell.
 use Rattle.std.specs.Prelude.{◌≡◌, ◌⊎◌, ℕ, List, take}
-use Rattle.vsw_transit.specs.Answers.{Pass}
+use Rattle.vsw_sole.specs.Answers.{Pass}
 use Rattle.vsw_base.specs.declared.fate.Cause.TheVariants.{Memory}
 use Rattle.vsw_base.specs.declared.fate.Fate.{Fate}
 use Rattle.vsw_base.specs.declared.fate.Fate.TheVariants.{Drop}
 use Rattle.vsw_base.specs.declared.flow.Crossing.{Crossing}
 use Rattle.vsw_base.specs.Frame.{Parts}
 use Rattle.vsw_commit.specs.Fate.{fate_at}
-use Rattle.vsw_transit.specs.Core.{IsOf, Looking}
-use Rattle.vsw_history.specs.Calls.{Call, Carried, HasBytes}
-use Rattle.vsw_history.specs.History.{AllRight, Opening, replay}
-use Rattle.vsw_layer.specs.Layer.{LayerSeen}
+use Rattle.vsw_sole.specs.Core.{IsOf, Looking}
+use Rattle.vsw_port.specs.Calls.{Call, Carried, HasBytes}
+use Rattle.vsw_port.specs.History.{AllRight, Opening, replay}
+use Rattle.vsw_policy.specs.Layer.{LayerSeen}
 use Rattle.vsw_live.specs.Calls.{Crosses}
 use Rattle.vsw_live.specs.Ports.{PortSeen, StandsAt}
 use Rattle.vsw_port.specs.declared.crossing.Outcome.{Outcome}
 use Rattle.vsw_rows.specs.Rows.{Writing}
-use Rattle.vsw_story.specs.Rows.{opening_of}
+use Rattle.vsw_rows.specs.GoodRows.{opening_of}
 
 -- the writer is that of the port at this place, counts its passes, and has a right history
 pub record IsLocked (ports : List PortSeen) (place : ℕ) (v : Writing) : Type 0 where

@@ -1,6 +1,6 @@
 -- A port that is being opened.
 use Rattle.std.specs.Prelude.{◌≡◌, ℕ, List, [], length, replicate}
-use Rattle.vsw_transit.specs.Core.{IsOf, Looking, total}
+use Rattle.vsw_sole.specs.Core.{IsOf, Looking, total}
 use Rattle.vsw_live.specs.Ports.{AreNewPasses}
 use Rattle.vsw_rows.specs.Rows.{Writing}
 

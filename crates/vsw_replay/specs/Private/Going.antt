@@ -1,7 +1,7 @@
 -- A run in the midst of its rounds.
 use Rattle.std.specs.Prelude.{◌≡◌, ◌<◌, ◌≤◌, ◌+◌, ◌||◌, ◌&&◌, ◌==◌, not, ℕ, Bool, true, false, List, [], ◌++◌, length, map, nat_lt, if◌then◌else◌, Option, Some, None, Result, Ok, Err, ⊤}
 use Rattle.vsw_commandfile.specs.declared.line.Line.{Line}
-use Rattle.vsw_history.specs.declared.event.Event.{Event}
+use Rattle.vsw_port.specs.declared.event.Event.{Event}
 use Rattle.vsw_host.specs.Outside.{Outside, Grows, Rose, DoesPut}
 use Rattle.vsw_host.specs.Source.{IsReading}
 use Rattle.vsw_host.specs.Told.{ReadsAll}
@@ -10,7 +10,7 @@ use Rattle.vsw_pcap.specs.Capture.{IsCapture}
 use Rattle.vsw_pcap.specs.declared.capture.Record.{Record}
 use Rattle.vsw_pcap.specs.declared.fault.BadTrace.{BadTrace}
 use Rattle.vsw_pcap.specs.declared.fault.BadTrace.TheVariants.{NotPcap, Version, LinkType, Cut, Huge}
-use Rattle.vsw_ports.specs.Ports.{ports_of}
+use Rattle.vsw_promise.specs.Ports.{ports_of}
 use Rattle.vsw_promise.specs.Jobs.{Setting, cuts_within}
 use Rattle.vsw_promise.specs.Trace.{most_records}
 use Rattle.vsw_report.specs.Print.{report_text}

@@ -1,8 +1,8 @@
 -- The rounds of a run so far.
 use Rattle.std.specs.Prelude.{ℕ, List, length, map}
-use Rattle.vsw_history.specs.declared.event.Event.{Event}
+use Rattle.vsw_port.specs.declared.event.Event.{Event}
 use Rattle.vsw_pcap.specs.declared.capture.Record.{Record}
-use Rattle.vsw_ports.specs.Ports.{ports_of}
+use Rattle.vsw_promise.specs.Ports.{ports_of}
 use Rattle.vsw_promise.specs.Jobs.{Setting}
 use Rattle.vsw_promise.specs.Rounds.{AreRoundsAt, AreChained, AreHistories}
 use Rattle.vsw_report.specs.declared.round.Round.{Round}

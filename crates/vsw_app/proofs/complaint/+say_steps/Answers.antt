@@ -1,5 +1,5 @@
 use Rattle.std.proofs.Common.{ap, sym}
-use Rattle.vsw_jsonfile.specs.Path.{step_text, steps_text}
+use Rattle.vsw_config.specs.Path.{step_text, steps_text}
 use Rattle.vsw_app.proofs.Speaking.{speaks_then, speaks_part, speaks_is}
 use Rattle.vsw_app.proofs.complaint.+say_steps.Goals as goal
 

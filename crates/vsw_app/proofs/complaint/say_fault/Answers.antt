@@ -1,6 +1,6 @@
 use Rattle.std.proofs.Common.{◌++◌, ◌∙◌}
 use Rattle.std.specs.Prelude.{codes}
-use Rattle.vsw_jsonfile.specs.Path.{path_text, kind_name}
+use Rattle.vsw_config.specs.Path.{path_text, kind_name}
 use Rattle.vsw_app.proofs.Speaking.{speaks_then, speaks_part, speaks_is, four}
 use Rattle.vsw_app.proofs.complaint.say_fault.Goals as goal
 

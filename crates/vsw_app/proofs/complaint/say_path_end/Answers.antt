@@ -1,5 +1,5 @@
 use Rattle.std.specs.Prelude.{codes}
-use Rattle.vsw_jsonfile.specs.Path.{path_text}
+use Rattle.vsw_config.specs.Path.{path_text}
 use Rattle.vsw_app.proofs.Speaking.{speaks_then, speaks_part}
 use Rattle.vsw_app.proofs.complaint.say_path_end.Goals as goal
 

@@ -1,7 +1,7 @@
 use Rattle.std.proofs.Common.{sym, ap, ◌∙◌}
 use Rattle.vsw_promise.specs.Complaint.{policy_text}
-use Rattle.vsw_policyfile.specs.declared.file.ConfigFault.{ConfigFault}
-use Rattle.vsw_policyfile.specs.declared.file.ConfigFault.TheVariants as variant
+use Rattle.vsw_config.specs.declared.file.ConfigFault.{ConfigFault}
+use Rattle.vsw_config.specs.declared.file.ConfigFault.TheVariants as variant
 use Rattle.vsw_app.proofs.Speaking.{speaks_of}
 use Rattle.vsw_app.proofs.complaint.say_policy.Goals as goal
 

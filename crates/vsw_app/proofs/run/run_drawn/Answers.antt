@@ -1,5 +1,5 @@
 use Rattle.std.proofs.Common.{[]}
-use Rattle.vsw_workload.proofs.Ending.{nothing_put}
+use Rattle.vsw_replay.proofs.Summing.{nothing_put}
 use Rattle.vsw_app.proofs.run.run_drawn.Goals as goal
 
 pub returns-in_default : goal.returns-in_default

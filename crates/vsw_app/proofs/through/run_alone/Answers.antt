@@ -1,7 +1,7 @@
 use Rattle.std.proofs.Common.{◌≡◌, [], List, map, refl, subst, sym}
-use Rattle.vsw_ports.specs.Ports.{ports_of}
+use Rattle.vsw_promise.specs.Ports.{ports_of}
 use Rattle.vsw_promise.specs.Jobs.{Setting}
-use Rattle.vsw_workload.specs.Switch.{AreServed, IsAt, SwitchNow}
+use Rattle.vsw_replay.specs.Switch.{AreServed, IsAt, SwitchNow}
 use Rattle.vsw_app.proofs.Running.{all_listed, all_ports, all_rules, unstarted}
 use Rattle.vsw_app.proofs.through.run_alone.Goals as goal
 

@@ -1,4 +1,4 @@
-use Rattle.vsw_muster.specs.Ports.{ports_of}
+use Rattle.vsw_harbour.specs.Ports.{ports_of}
 use Rattle.vsw_app.proofs.through.run_beside.Given as goal
 
 abbrev pub ghosts-run_named : goal.ghosts-run_named

@@ -1,8 +1,8 @@
 use Rattle.std.proofs.Common.{◌≡◌, [], List, map, refl, subst, sym}
-use Rattle.vsw_muster.specs.Mustered.{no_entries}
-use Rattle.vsw_ports.specs.Ports.{ports_of}
+use Rattle.vsw_harbour.specs.Mustered.{no_entries}
+use Rattle.vsw_promise.specs.Ports.{ports_of}
 use Rattle.vsw_promise.specs.Jobs.{Setting}
-use Rattle.vsw_workload.specs.Switch.{AreServed, IsAt, SwitchNow}
+use Rattle.vsw_replay.specs.Switch.{AreServed, IsAt, SwitchNow}
 use Rattle.vsw_app.proofs.Mustering.{crew_first, first_at, first_served, of_some, ready}
 use Rattle.vsw_app.proofs.Running.{unstarted}
 use Rattle.vsw_app.proofs.through.run_named.Goals as goal

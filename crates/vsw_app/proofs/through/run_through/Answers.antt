@@ -1,6 +1,6 @@
 use Rattle.std.proofs.Common.{All, subst, sym}
-use Rattle.vsw_commandfile_law.specs.Good.{CanAsk}
-use Rattle.vsw_workload.specs.ReplayRuns.{RunsTrace}
+use Rattle.vsw_commandfile.specs.Good.{CanAsk}
+use Rattle.vsw_replay.specs.Runs.{RunsTrace}
 use Rattle.vsw_app.proofs.Running.{unstarted}
 use Rattle.vsw_app.proofs.through.run_through.Goals as goal
 

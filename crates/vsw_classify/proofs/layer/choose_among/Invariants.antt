@@ -1,5 +1,5 @@
 use Rattle.std.proofs.Common.{◌≡◌, ◌≤◌, length, drop, option_copied, option_map}
-use Rattle.vsw_choice.specs.Private.FromEnd.{from_end}
+use Rattle.vsw_rule.specs.Private.FromEnd.{from_end}
 use Rattle.vsw_rule.specs.declared.rule.Rule.{Rule}
 use Rattle.vsw_classify.proofs.layer.choose_among.Given as goal
 

@@ -1,5 +1,5 @@
 use Rattle.std.proofs.Common.{◌∙◌, sym}
-use Rattle.vsw_choice.proofs.FromEnd.{choose_is, none_asked}
+use Rattle.vsw_rule.proofs.FromEnd.{choose_is, none_asked}
 use Rattle.vsw_classify.proofs.layer.pick_layer.Goals as goal
 
 pub returns-then-count-eq0 : goal.returns-then-count-eq0

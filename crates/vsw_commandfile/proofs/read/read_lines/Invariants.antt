@@ -1,5 +1,5 @@
 use Rattle.std.proofs.Common.{◌≡◌, ◌≤◌, ◌+◌, ◌++◌, suc, length, Ok}
-use Rattle.vsw_jsonfile.specs.Fault.{◌>>=◌}
+use Rattle.vsw_config.specs.Fault.{◌>>=◌}
 use Rattle.vsw_commandfile.specs.Lines.{lines_of}
 use Rattle.vsw_commandfile.specs.Commands.{lines_from}
 use Rattle.vsw_commandfile.proofs.read.read_lines.Given as goal

@@ -1,6 +1,6 @@
 use Rattle.std.proofs.Common.{◌∙◌, sym}
 use Rattle.vsw_commit.proofs.Makes.{can, judged_other, not_refused, walk_apart, walk_within}
-use Rattle.vsw_admit.specs.Walk.{walk_of}
+use Rattle.vsw_commit.specs.Walk.{walk_of}
 use Rattle.vsw_commit.proofs.committing.commit.Goals as goal
 
 pub returns-in-Some-clause-memory : goal.returns-in-Some-clause-memory

@@ -2,9 +2,9 @@ use Rattle.std.proofs.Common.{◌≡◌, ◌∙◌, ◌-◌, ◌∷◌, [], ◌+
 use Rattle.vsw_core.proofs.Commands.{entered_one, entry_right, grown_one, line_of, right_behind, room_behind}
 use Rattle.vsw_core.proofs.Permits.{has_permit, owned_grown}
 use Rattle.vsw_core.specs.Adding.{HasLooks}
-use Rattle.vsw_history.specs.declared.event.Event.{Event}
-use Rattle.vsw_history.specs.declared.event.Event.TheVariants as event
-use Rattle.vsw_history.specs.History.{IsRight}
+use Rattle.vsw_port.specs.declared.event.Event.{Event}
+use Rattle.vsw_port.specs.declared.event.Event.TheVariants as event
+use Rattle.vsw_port.specs.History.{IsRight}
 use Rattle.vsw_policy.specs.Obey.{is_memory}
 use Rattle.vsw_port.specs.Ledger.{layers_in}
 use Rattle.vsw_policy.specs.Refusals.{reply_of}

@@ -1,5 +1,5 @@
 use Rattle.vsw_core.proofs.Published.{Crossed, crossed_owned, crossed_rows, crossed_stands}
-use Rattle.vsw_history.specs.declared.event.Event.TheVariants as event
+use Rattle.vsw_port.specs.declared.event.Event.TheVariants as event
 use Rattle.vsw_port.specs.Core.{entered}
 use Rattle.vsw_core.proofs.crossing.cross.Goals as goal
 

@@ -1,10 +1,10 @@
 use Rattle.std.proofs.Common.{subst}
 use Rattle.vsw_core.proofs.Entered.{Called, Settled, few_entries, settled_made, settled_shaking, settled_spares, spent_entries, steps}
 use Rattle.vsw_core.proofs.Permits.{has_permit, owned_grown}
-use Rattle.vsw_history.specs.declared.event.Event.{Event}
-use Rattle.vsw_history.specs.declared.event.Event.TheVariants as event
-use Rattle.vsw_history.specs.Calls.{Carried}
-use Rattle.vsw_history.specs.Next.{IsDone}
+use Rattle.vsw_port.specs.declared.event.Event.{Event}
+use Rattle.vsw_port.specs.declared.event.Event.TheVariants as event
+use Rattle.vsw_port.specs.Calls.{Carried}
+use Rattle.vsw_port.specs.Next.{IsDone}
 use Rattle.vsw_port.specs.Core.{entered}
 use Rattle.vsw_core.proofs.crossing.enter.Goals as goal
 

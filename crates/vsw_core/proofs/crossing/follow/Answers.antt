@@ -1,11 +1,11 @@
 use Rattle.std.proofs.Common.{◌≡◌, ◌∙◌, [], ◌∷◌, ◌++◌, length, ap, subst, sym}
 use Rattle.vsw_core.proofs.Entered.{crossing_room, entry_right, entry_there, is_entry, some_there}
-use Rattle.vsw_history.specs.declared.event.Event.{Event}
-use Rattle.vsw_history.specs.declared.event.Event.TheVariants as event
-use Rattle.vsw_history.specs.Calls.{named}
-use Rattle.vsw_history.specs.History.{IsRight}
+use Rattle.vsw_port.specs.declared.event.Event.{Event}
+use Rattle.vsw_port.specs.declared.event.Event.TheVariants as event
+use Rattle.vsw_port.specs.Calls.{named}
+use Rattle.vsw_port.specs.History.{IsRight}
 use Rattle.vsw_rows.specs.Rows.{HasRoom, Spares, layers_after, layers_then}
-use Rattle.vsw_rows.specs.StoryRows.{opening_of}
+use Rattle.vsw_rows.specs.GoodRows.{opening_of}
 use Rattle.vsw_core.proofs.crossing.follow.Goals as goal
 
 pub last_of-requires : goal.last_of-requires

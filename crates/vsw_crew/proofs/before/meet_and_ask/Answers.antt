@@ -1,5 +1,5 @@
 use Rattle.std.proofs.Common.{◌∙◌}
-use Rattle.vsw_harbour.specs.Opening.{rows_in}
+use Rattle.vsw_harbour.specs.HarbourOpening.{rows_in}
 use Rattle.vsw_harbour.specs.Harbour.{HarbourSeen}
 use Rattle.vsw_harbour.specs.Standing.{no_calls}
 use Rattle.vsw_harbour.proofs.Gathering.{docks_are, harbour_is}

@@ -1,5 +1,5 @@
 use Rattle.std.proofs.Common.{◌∙◌, ap, length}
-use Rattle.vsw_harbour.specs.Opening.{rows_in}
+use Rattle.vsw_harbour.specs.HarbourOpening.{rows_in}
 use Rattle.vsw_harbour.specs.Harbour.{HarbourSeen, asks_of}
 use Rattle.vsw_harbour.proofs.Gathering.{harbour_is}
 use Rattle.vsw_crew.proofs.Doing.{did_beside, may_meet, may_work, met_for, shares_many}

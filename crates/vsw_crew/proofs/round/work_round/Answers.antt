@@ -1,4 +1,4 @@
-use Rattle.vsw_harbour.specs.Opening.{rows_in}
+use Rattle.vsw_harbour.specs.HarbourOpening.{rows_in}
 use Rattle.vsw_harbour.specs.Harbour.{HarbourSeen}
 use Rattle.vsw_crew.specs.Private.Round.{jobs_here}
 use Rattle.vsw_crew.proofs.Joining.{counts_back, has_worked, is_with, run_with, told_back}

@@ -2,10 +2,10 @@ use Rattle.std.proofs.Common.{◌∙◌, ℕ, List, ◌∷◌, ◌++◌, ◌+◌
 use Rattle.vsw_base.specs.declared.header.Header.{Header}
 use Rattle.vsw_base.specs.Frame.{Level}
 use Rattle.vsw_frame.specs.Bytes.{levels_changed}
-use Rattle.vsw_change.specs.Kept.{udp_at, udp_kept}
+use Rattle.vsw_frame.specs.Kept.{udp_at, udp_kept}
 use Rattle.vsw_frame.specs.Layout.{IsAround}
 use Rattle.vsw_frame.specs.Levels.{level_fields, more_levels}
-use Rattle.vsw_frame.proofs.Kept.{inside_kept, kept_written}
+use Rattle.vsw_frame.proofs.KeptHeaders.{inside_kept, kept_written}
 use Rattle.vsw_frame.proofs.change.+change_levels.Goals as goal
 
 pub change_levels-requires : goal.change_levels-requires

@@ -1,4 +1,4 @@
-use Rattle.vsw_frame.proofs.Differing.{differ_tells}
+use Rattle.vsw_frame.proofs.DifferingHeaders.{differ_tells}
 use Rattle.vsw_frame.proofs.law.laws.Goals as goal
 
 pub returns : goal.returns

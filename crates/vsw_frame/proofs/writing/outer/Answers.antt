@@ -1,7 +1,7 @@
 use Rattle.std.proofs.Common.{◌*◌, ◌≤◌, ◌∙◌, ℕ, List, take, ap, sym, subst, arith}
 use Rattle.vsw_base.specs.declared.header.Header.{Header}
 use Rattle.vsw_base.specs.Shape.{encaps}
-use Rattle.vsw_change.specs.Push.{AreEncaps}
+use Rattle.vsw_frame.specs.Push.{AreEncaps}
 use Rattle.vsw_frame.proofs.Edits.{outer_are, AreOuter}
 use Rattle.vsw_frame.proofs.writing.outer.Goals as goal
 

@@ -2,7 +2,7 @@ use Rattle.std.proofs.Common.{◌≡◌, ◌+◌}
 use Rattle.vsw_dock.specs.DealWork.TheVariants as work
 use Rattle.vsw_dock.specs.Opening.{rows_in}
 use Rattle.vsw_harbour.specs.Harbour.{HarbourSeen, asks_of}
-use Rattle.vsw_history.specs.Calls.{controller_at}
+use Rattle.vsw_port.specs.Calls.{controller_at}
 use Rattle.vsw_harbour.proofs.Asking.{caller_is, harbour_own, harbour_takes, may_ask, rows_few}
 use Rattle.vsw_harbour.proofs.Gathering.{docks_are, harbour_is}
 use Rattle.vsw_harbour.proofs.before.do_ask.Goals as goal

@@ -1,7 +1,7 @@
 use Rattle.std.proofs.Common.{◌≡◌, ap, sym, ◌∙◌, subst, true}
 use Rattle.vsw_base.specs.Shape.{is_stack}
 use Rattle.vsw_base.specs.declared.flow.Crossing.{Crossing}
-use Rattle.vsw_transit.specs.Transit.{CanLeave, Leaves}
+use Rattle.vsw_sole.specs.Transit.{CanLeave, Leaves}
 use Rattle.vsw_live.proofs.Passing.{leave_can, leave_fits, leave_shows}
 use Rattle.vsw_live.proofs.leaving.leave.Goals as goal
 

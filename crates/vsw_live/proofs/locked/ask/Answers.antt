@@ -1,12 +1,12 @@
 use Rattle.std.proofs.Common.{◌≡◌, ap, sym, subst, not}
-use Rattle.vsw_history.specs.declared.event.Event.TheVariants as event
-use Rattle.vsw_history.specs.Calls.{Asked}
+use Rattle.vsw_port.specs.declared.event.Event.TheVariants as event
+use Rattle.vsw_port.specs.Calls.{Asked}
 use Rattle.vsw_live.specs.Calls.{Crosses, asked}
 use Rattle.vsw_live.proofs.Ends.{crosses_met}
 use Rattle.vsw_policy.specs.Obey.{is_memory}
 use Rattle.vsw_policy.specs.Refusals.{reply_of}
 use Rattle.vsw_rows.specs.Rows.{Writing}
-use Rattle.vsw_story.specs.Rows.{opening_of}
+use Rattle.vsw_rows.specs.GoodRows.{opening_of}
 use Rattle.vsw_live.proofs.locked.ask.Goals as goal
 
 pub returns-clause-crosses : goal.returns-clause-crosses

@@ -1,7 +1,7 @@
 use Rattle.std.proofs.Common.{[], ap, sym, refl, subst}
-use Rattle.vsw_history.specs.declared.event.Event.TheVariants as event
-use Rattle.vsw_history.specs.Calls.{Carried}
-use Rattle.vsw_history.specs.History.{replay}
+use Rattle.vsw_port.specs.declared.event.Event.TheVariants as event
+use Rattle.vsw_port.specs.Calls.{Carried}
+use Rattle.vsw_port.specs.History.{replay}
 use Rattle.vsw_base.specs.Frame.{Parts}
 use Rattle.vsw_base.specs.declared.packet.Control.TheVariants as control
 use Rattle.vsw_live.specs.Private.Locked.{IsFateAt}
@@ -9,7 +9,7 @@ use Rattle.vsw_live.proofs.Ends.{crosses_met, met_front}
 use Rattle.vsw_live.proofs.Under.{fate_is}
 use Rattle.vsw_port.specs.Core.{entered}
 use Rattle.vsw_rows.specs.Rows.{Writing}
-use Rattle.vsw_story.specs.Rows.{opening_of}
+use Rattle.vsw_rows.specs.GoodRows.{opening_of}
 use Rattle.vsw_live.proofs.locked.cross.Goals as goal
 
 pub returns-clause-crosses : goal.returns-clause-crosses

@@ -3,12 +3,12 @@ use denote.Param.Send.{IsSend, sendable, view_send}
 use denote.Param.SendFields.{FieldsHave, VariantsHave, declared_send, variants_send}
 use denote.RattleType.{RattleType}
 use denote.Ref.{NamedLft}
-use Rattle.vsw_answer.proofs.desk.Desk.TheSendSync as desk
-use Rattle.vsw_history.proofs.event.Event.TheSendSync as event
+use Rattle.vsw_sole.proofs.desk.Desk.TheSendSync as desk
+use Rattle.vsw_port.proofs.event.Event.TheSendSync as event
 use Rattle.vsw_live.specs.declared.naming.Naming as Naming
 use Rattle.vsw_lookup.proofs.lookup.Pass.TheSendSync as pass
 use Rattle.vsw_live.proofs.Sharing.{port_sync}
-use Rattle.vsw_transit.proofs.room.Room.TheSendSync as room
+use Rattle.vsw_sole.proofs.room.Room.TheSendSync as room
 use Rattle.vsw_live_tests.specs.contracts.callers.Controller as Controller
 use Rattle.vsw_live_tests.specs.contracts.callers.Controller.TheInside as controller
 use Rattle.vsw_live_tests.specs.contracts.callers.Worker as Worker

@@ -2,7 +2,7 @@ use Rattle.std.proofs.Common.{refl, true}
 use Rattle.vsw_commandfile.specs.declared.line.Line.{Line}
 use Rattle.vsw_live.specs.Calls.{asked}
 use Rattle.vsw_live_thread_tests.proofs.Passes.{calls_once}
-use Rattle.vsw_story.specs.Rows.{opening_of}
+use Rattle.vsw_rows.specs.GoodRows.{opening_of}
 use Rattle.vsw_live_thread_tests.proofs.controller.command_by.Goals as goal
 
 pub returns : goal.returns

@@ -1,9 +1,9 @@
 use Rattle.std.proofs.Common.{◌∙◌, ap}
 use Rattle.std.proofs.Math.Seq.{map-set_same}
-use Rattle.vsw_layer.specs.Layer.{seen}
+use Rattle.vsw_policy.specs.Layer.{seen}
 use Rattle.vsw_policy.specs.Layers.{is_layer}
 use Rattle.vsw_policy.specs.Obey.{within}
-use Rattle.vsw_layer.proofs.Firsts.{on_ok, on_err}
+use Rattle.vsw_policy.proofs.LayerFirsts.{on_ok, on_err}
 use Rattle.vsw_policy.proofs.Firsts.{none-seen, some-seen}
 use Rattle.vsw_policy.proofs.changes.change_named.Goals as goal
 

@@ -1,8 +1,8 @@
 use Rattle.std.proofs.Common.{◌∙◌, sym, ap, map}
 use Rattle.std.specs.List.{position}
-use Rattle.vsw_layer.specs.Layer.{seen}
+use Rattle.vsw_policy.specs.Layer.{seen}
 use Rattle.vsw_policy.specs.Layers.{is_layer}
-use Rattle.vsw_layer.proofs.Firsts.{removed-none}
+use Rattle.vsw_policy.proofs.LayerFirsts.{removed-none}
 use Rattle.vsw_policy.proofs.Firsts.{removed-seen}
 use Rattle.vsw_policy.proofs.changes.remove_layer.Goals as goal
 

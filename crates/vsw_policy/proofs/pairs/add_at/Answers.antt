@@ -1,5 +1,5 @@
 use Rattle.std.proofs.Common.{rules}
-use Rattle.vsw_layer.specs.Layer.{with_pair, CanTake}
+use Rattle.vsw_policy.specs.Layer.{with_pair, CanTake}
 use Rattle.vsw_policy.proofs.At.{at-is, at-within, set-seen, room-is, room-set, rooms-beside}
 use Rattle.vsw_policy.proofs.pairs.add_at.Goals as goal
 

@@ -1,4 +1,4 @@
-use Rattle.vsw_layer.specs.Layer.{without_pair}
+use Rattle.vsw_policy.specs.Layer.{without_pair}
 use Rattle.vsw_policy.proofs.At.{set-seen, rooms-kept}
 use Rattle.vsw_policy.proofs.pairs.remove_at.Goals as goal
 

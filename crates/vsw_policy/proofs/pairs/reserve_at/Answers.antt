@@ -1,7 +1,7 @@
 use Rattle.std.proofs.Common.{◌∙◌, ◌≤◌, ap, sym, subst}
 use Rattle.std.proofs.Math.Seq.{map-set_same}
-use Rattle.vsw_layer.specs.Layer.{seen}
-use Rattle.vsw_layer.proofs.Firsts.{on_ok}
+use Rattle.vsw_policy.specs.Layer.{seen}
+use Rattle.vsw_policy.proofs.LayerFirsts.{on_ok}
 use Rattle.vsw_policy.proofs.At.{room-set, rooms-kept}
 use Rattle.vsw_policy.proofs.pairs.reserve_at.Goals as goal
 

@@ -1,4 +1,4 @@
-use Rattle.vsw_layer.specs.Layer.{with_touched}
+use Rattle.vsw_policy.specs.Layer.{with_touched}
 use Rattle.vsw_policy.proofs.At.{set-seen, rooms-kept}
 use Rattle.vsw_policy.proofs.pairs.touch_at.Goals as goal
 

@@ -1,6 +1,6 @@
 use Rattle.std.proofs.Common.{◌∙◌, ap, map, sym}
-use Rattle.vsw_layer.specs.Layer.{seen}
-use Rattle.vsw_layer.proofs.Firsts.{find-none}
+use Rattle.vsw_policy.specs.Layer.{seen}
+use Rattle.vsw_policy.proofs.LayerFirsts.{find-none}
 use Rattle.vsw_policy.specs.Layers.{is_layer}
 use Rattle.vsw_policy.specs.Obey.{groups_of}
 use Rattle.vsw_policy.proofs.Firsts.{found-seen}

@@ -1,7 +1,7 @@
 use Rattle.std.proofs.Common.{◌∙◌, ap, map}
 use Rattle.std.specs.Option.{is_some}
-use Rattle.vsw_layer.specs.Layer.{seen}
-use Rattle.vsw_layer.proofs.Firsts.{some-any}
+use Rattle.vsw_policy.specs.Layer.{seen}
+use Rattle.vsw_policy.proofs.LayerFirsts.{some-any}
 use Rattle.vsw_policy.specs.Layers.{is_layer}
 use Rattle.vsw_policy.proofs.places.has_layer.Goals as goal
 

@@ -1,7 +1,7 @@
 use Rattle.std.proofs.Common.{rules, tests, ◌∙◌}
 use Rattle.std.proofs.lemmas.Iterator.{YieldsList-from_slice}
 use Rattle.std.proofs.lemmas.Iterator.Search.{position_from_yields_List}
-use Rattle.vsw_layer.specs.Layer.{seen}
+use Rattle.vsw_policy.specs.Layer.{seen}
 use Rattle.vsw_policy.specs.Layers.{is_layer}
 use Rattle.vsw_policy.proofs.Firsts.{position-map}
 use Rattle.vsw_policy.proofs.places.layer_place.Goals as goal

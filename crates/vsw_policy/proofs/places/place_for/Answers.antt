@@ -1,6 +1,6 @@
 use Rattle.std.proofs.Common.{◌∙◌, map, sym}
 use Rattle.std.proofs.lemmas.List.{length-map}
-use Rattle.vsw_layer.specs.Layer.{seen}
+use Rattle.vsw_policy.specs.Layer.{seen}
 use Rattle.vsw_policy.specs.Layers.{is_before}
 use Rattle.vsw_policy.specs.Obey.{empty_layer}
 use Rattle.vsw_policy.proofs.Firsts.{place-some, place-none}

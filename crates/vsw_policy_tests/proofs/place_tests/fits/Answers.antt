@@ -1,5 +1,5 @@
 use Rattle.std.proofs.Common.{rules, tests, ◌<◌, length, subst}
-use Rattle.vsw_layer.specs.Layer.{CanTake}
+use Rattle.vsw_policy.specs.Layer.{CanTake}
 use Rattle.vsw_policy.specs.Layers.{At}
 use Rattle.vsw_policy.specs.Sound.{IsGoodLayer}
 use Rattle.vsw_policy.proofs.At.{each-is, is-at}

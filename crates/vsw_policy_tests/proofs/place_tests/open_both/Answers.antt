@@ -1,5 +1,5 @@
 use Rattle.std.proofs.Common.{rules, tests, arith, sym, subst, ◌∙◌}
-use Rattle.vsw_layer.specs.Layer.{with_pair, CanTake}
+use Rattle.vsw_policy.specs.Layer.{with_pair, CanTake}
 use Rattle.vsw_policy.specs.Layers.{At}
 use Rattle.vsw_policy.proofs.At.{at-beside}
 use Rattle.vsw_policy_tests.proofs.place_tests.open_both.Goals as goal

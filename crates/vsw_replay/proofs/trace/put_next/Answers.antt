@@ -1,5 +1,5 @@
 use Rattle.std.proofs.Common.{◌+◌, sym, ◌∙◌, ap, rules}
-use Rattle.vsw_schedule.specs.Schedule.{next_at}
+use Rattle.vsw_promise.specs.Schedule.{next_at}
 use Rattle.vsw_replay.proofs.Lasting.{past_ends, past_rises}
 use Rattle.vsw_replay.proofs.Putting.{next_put, next_unput}
 use Rattle.vsw_replay.proofs.trace.put_next.Goals as goal

@@ -1,7 +1,7 @@
 use Rattle.std.proofs.Common.{subst}
-use Rattle.vsw_history.specs.Calls.{Carried}
-use Rattle.vsw_history.specs.Next.{IsDone}
-use Rattle.vsw_answer.specs.Rows.{opening_of}
+use Rattle.vsw_port.specs.Calls.{Carried}
+use Rattle.vsw_port.specs.Next.{IsDone}
+use Rattle.vsw_sole.specs.Rows.{opening_of}
 use Rattle.vsw_sole.proofs.Answered.{answered_done}
 use Rattle.vsw_sole.proofs.caller.carry.Goals as goal
 

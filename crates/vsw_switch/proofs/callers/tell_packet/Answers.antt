@@ -1,5 +1,5 @@
 use Rattle.std.proofs.Common.{◌≡◌, ◌∷◌, ◌++◌, [], ℕ, List, OnOk, subst}
-use Rattle.vsw_merge.specs.Line.{text_of}
+use Rattle.vsw_report.specs.Line.{text_of}
 use Rattle.vsw_report.specs.declared.told.By.TheVariants as by
 use Rattle.vsw_report.specs.declared.told.What.TheVariants as what
 use Rattle.vsw_switch.proofs.Places.{told_ok}

@@ -1,5 +1,5 @@
 use Rattle.std.proofs.Common.{◌≡◌, ◌∷◌, ◌++◌, [], Bool, OnOk, subst}
-use Rattle.vsw_merge.specs.Line.{text_of}
+use Rattle.vsw_report.specs.Line.{text_of}
 use Rattle.vsw_policy.specs.declared.refusal.Reply.{Reply}
 use Rattle.vsw_policy.specs.Refusals.{reply_of}
 use Rattle.vsw_report.specs.declared.told.By.TheVariants as by

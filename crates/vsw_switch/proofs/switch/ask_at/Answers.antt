@@ -1,4 +1,4 @@
-use Rattle.vsw_history.specs.Calls.{Ask}
+use Rattle.vsw_port.specs.Calls.{Ask}
 use Rattle.vsw_switch.specs.Stay.{standing}
 use Rattle.vsw_switch.proofs.Places.{does_ok, set_same}
 use Rattle.vsw_switch.proofs.switch.ask_at.Goals as goal

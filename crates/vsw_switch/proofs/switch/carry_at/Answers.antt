@@ -1,7 +1,7 @@
 use Rattle.std.proofs.Common.{OnOk, subst}
 use Rattle.vsw_base.specs.declared.flow.Crossing.{Crossing}
 use Rattle.vsw_frame.specs.Frame.{parts}
-use Rattle.vsw_history.specs.Calls.{Carry}
+use Rattle.vsw_port.specs.Calls.{Carry}
 use Rattle.vsw_promise.specs.Jobs.{crossing_by, worker_of}
 use Rattle.vsw_switch.specs.Does.{Does}
 use Rattle.vsw_switch.specs.Stay.{standing}

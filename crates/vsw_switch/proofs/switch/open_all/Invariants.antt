@@ -1,6 +1,6 @@
 use Rattle.std.proofs.Common.{◌≡◌, map}
 use Rattle.vsw_policy.specs.Sound.{Each}
-use Rattle.vsw_ports.specs.Ports.{port_seen}
+use Rattle.vsw_promise.specs.Ports.{port_seen}
 use Rattle.vsw_switch.specs.Stay.{CanOpen, port_at_first}
 use Rattle.vsw_switch.proofs.switch.open_all.Given as goal
 

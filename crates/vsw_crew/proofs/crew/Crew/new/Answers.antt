@@ -1,4 +1,4 @@
-use Rattle.vsw_harbour.specs.Opening.{rows_in}
+use Rattle.vsw_harbour.specs.HarbourOpening.{rows_in}
 use Rattle.vsw_crew.proofs.Between.{crew_is, rows_ready}
 use Rattle.vsw_crew.proofs.crew.Crew.new.Goals as goal
 

@@ -1,5 +1,5 @@
 use Rattle.std.proofs.Common.{◌∙◌, ap, sym, is_some, map}
-use Rattle.vsw_layer.specs.Layer.{seen}
+use Rattle.vsw_policy.specs.Layer.{seen}
 use Rattle.vsw_layerflow.specs.Pairs.{back, front}
 use Rattle.vsw_lean.specs.declared.spot.Spot.TheVariants.{Missed}
 use Rattle.vsw_lean.specs.Leant.{is_missed, spot_in}

@@ -1,6 +1,6 @@
 use Rattle.vsw_live.specs.Private.Locked.{layers_met}
 use Rattle.vsw_live.proofs.Answered.{answered, met_edits, met_fate}
-use Rattle.vsw_story.specs.Rows.{opening_of}
+use Rattle.vsw_rows.specs.GoodRows.{opening_of}
 use Rattle.vsw_live.proofs.live.LivePort.answer.Goals as goal
 
 pub leave-requires : goal.leave-requires

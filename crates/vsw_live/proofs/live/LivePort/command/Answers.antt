@@ -2,7 +2,7 @@ use Rattle.std.proofs.Common.{◌≡◌, rules, subst}
 use Rattle.vsw_commandfile.specs.declared.line.Line.{Line}
 use Rattle.vsw_live.specs.Calls.{Crosses, asked}
 use Rattle.vsw_live.specs.Ports.{PortSeen}
-use Rattle.vsw_story.specs.Rows.{opening_of}
+use Rattle.vsw_rows.specs.GoodRows.{opening_of}
 use Rattle.vsw_live.proofs.live.LivePort.command.Goals as goal
 
 pub command-requires-clause-port : goal.command-requires-clause-port

@@ -1,7 +1,7 @@
 use Rattle.std.proofs.Common.{rules, subst}
 use Rattle.vsw_live.specs.Ports.{PortSeen}
 use Rattle.vsw_live.specs.Private.Locked.{CrossesSo, IsFateAt, layers_met}
-use Rattle.vsw_story.specs.Rows.{opening_of}
+use Rattle.vsw_rows.specs.GoodRows.{opening_of}
 use Rattle.vsw_live.proofs.live.LivePort.cross.Goals as goal
 
 pub cross-requires-clause-port : goal.cross-requires-clause-port

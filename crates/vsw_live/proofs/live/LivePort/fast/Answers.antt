@@ -1,11 +1,11 @@
 use Rattle.std.proofs.Common.{subst}
-use Rattle.vsw_history.specs.History.{replay}
+use Rattle.vsw_port.specs.History.{replay}
 use Rattle.vsw_live.specs.declared.answer.Fast.TheVariants.{Done}
 use Rattle.vsw_live.specs.Calls.{IsFast}
 use Rattle.vsw_live.specs.Ports.{PortSeen}
 use Rattle.vsw_live.proofs.Answered.{met_edits, met_fate}
 use Rattle.vsw_live.proofs.Fasts.{done_fast, fate_read}
-use Rattle.vsw_story.specs.Rows.{opening_of}
+use Rattle.vsw_rows.specs.GoodRows.{opening_of}
 use Rattle.vsw_live.proofs.live.LivePort.fast.Goals as goal
 
 pub leave-requires : goal.leave-requires

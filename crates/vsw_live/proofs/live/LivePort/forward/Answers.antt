@@ -1,7 +1,7 @@
 use Rattle.std.proofs.Common.{sym, subst}
 use Rattle.vsw_live.specs.Calls.{Crosses, TellsWhy, call_of}
 use Rattle.vsw_live.proofs.Fasts.{cause_of, look_first}
-use Rattle.vsw_story.specs.Rows.{opening_of}
+use Rattle.vsw_rows.specs.GoodRows.{opening_of}
 use Rattle.vsw_live.proofs.live.LivePort.forward.Goals as goal
 
 pub returns-in-Slow-clause-crosses : goal.returns-in-Slow-clause-crosses

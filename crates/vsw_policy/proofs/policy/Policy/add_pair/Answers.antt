@@ -1,5 +1,5 @@
 use Rattle.std.proofs.Common.{map, refl, ap}
-use Rattle.vsw_layer.specs.Layer.{seen, with_pair}
+use Rattle.vsw_policy.specs.Layer.{seen, with_pair}
 use Rattle.vsw_policy.proofs.At.{sound-at, good-added}
 use Rattle.vsw_policy.proofs.policy.Policy.add_pair.Goals as goal
 

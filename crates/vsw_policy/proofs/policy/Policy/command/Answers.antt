@@ -1,6 +1,6 @@
 use Rattle.std.proofs.Common.{◌∙◌, ap, sym, map}
 use Rattle.std.specs.Prelude.{filter}
-use Rattle.vsw_layer.specs.Layer.{seen}
+use Rattle.vsw_policy.specs.Layer.{seen}
 use Rattle.vsw_policy.specs.Layers.{is_of}
 use Rattle.vsw_policy.proofs.Alone.{others-stay}
 use Rattle.vsw_policy.proofs.Keeps.{sound-after, sound-still}

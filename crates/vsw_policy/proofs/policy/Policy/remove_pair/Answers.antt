@@ -1,5 +1,5 @@
 use Rattle.std.proofs.Common.{map, refl}
-use Rattle.vsw_layer.specs.Layer.{seen, without_pair}
+use Rattle.vsw_policy.specs.Layer.{seen, without_pair}
 use Rattle.vsw_policy.proofs.At.{sound-at, good-gone}
 use Rattle.vsw_policy.proofs.policy.Policy.remove_pair.Goals as goal
 

@@ -1,5 +1,5 @@
 use Rattle.std.proofs.Common.{map, refl}
-use Rattle.vsw_layer.specs.Layer.{seen, with_touched}
+use Rattle.vsw_policy.specs.Layer.{seen, with_touched}
 use Rattle.vsw_policy.proofs.At.{sound-at, good-touched}
 use Rattle.vsw_policy.proofs.policy.Policy.touch_pair.Goals as goal
 

@@ -3,7 +3,7 @@ use Rattle.vsw_lookup.specs.Rules.{row_at}
 use Rattle.vsw_rows.specs.declared.rows.Found.TheVariants.{Own}
 use Rattle.vsw_rows.specs.Rows.{RowsSeen}
 use Rattle.vsw_rows.proofs.Searched.{found_good, stamps_low}
-use Rattle.vsw_story.specs.Rows.{IsGoodRow, opening_of}
+use Rattle.vsw_rows.specs.GoodRows.{IsGoodRow, opening_of}
 use Rattle.vsw_rows.proofs.rows.Rows.find.Goals as goal
 
 pub search-requires-clause-low : goal.search-requires-clause-low

@@ -1,5 +1,5 @@
 use Rattle.std.proofs.Common.{◌≡◌, map, subst, Some}
-use Rattle.vsw_layer.specs.Layer.{seen}
+use Rattle.vsw_policy.specs.Layer.{seen}
 use Rattle.vsw_policy.specs.Layers.{PolicySeen}
 use Rattle.vsw_rows.specs.Rows.{IsShaking, RowsSeen, layers_after}
 use Rattle.vsw_rows.proofs.Keeps.{shaking}

@@ -1,5 +1,5 @@
 use Rattle.std.proofs.Common.{◌≡◌, ◌<◌, length, true, ap, sym, ◌∙◌, subst, refl, not, arith}
-use Rattle.vsw_history.specs.Order.{ascending}
+use Rattle.vsw_port.specs.Order.{ascending}
 use Rattle.vsw_policy.specs.Layers.{place_of}
 use Rattle.vsw_policy.specs.Obey.{is_memory}
 use Rattle.vsw_policy.specs.Refusals.{reply_of}

@@ -1,6 +1,6 @@
 use Rattle.std.proofs.Common.{◌≡◌, [], ℕ, List, ap, ◌∙◌, map}
-use Rattle.vsw_history.specs.Order.{ascending}
-use Rattle.vsw_merge.specs.Line.{TextLine}
+use Rattle.vsw_port.specs.Order.{ascending}
+use Rattle.vsw_report.specs.Line.{TextLine}
 use Rattle.vsw_switch.proofs.Opened.{no_lines, no_workers}
 use Rattle.vsw_switch.proofs.live.Live.open.Goals as goal
 

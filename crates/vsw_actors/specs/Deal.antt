@@ -1,0 +1,25 @@
+-- What each caller is dealt in a round.
+use Rattle.std.specs.Prelude.{◌<◌, ◌+◌, ◌^◌, ℕ, List, map, length, Vec}
+use Rattle.vsw_actors.specs.Actors.{placed_of}
+use Rattle.vsw_actors.specs.declared.actor.Placed.{Placed}
+use Rattle.vsw_port.specs.Order.{counted}
+use Rattle.vsw_policy.specs.Sound.{Each}
+use Rattle.vsw_promise.specs.Jobs as jobs
+use Rattle.vsw_actors.specs.Work.{IsWork, job_in}
+use Rattle.vsw_actors.specs.declared.work.Work.{Work}
+
+-- shares, as definitions know them: each is a list of jobs with their places
+abbrev pub shared : {G : Type 0} → List (Vec (Placed Work) G) → List (List jobs.Placed)
+shared vs = map (λ v. map (placed_of job_in) v.items) vs
+
+-- what of these jobs is dealt to whom: to the workers, numbers 0 to 15, and then to these controllers
+abbrev pub dealt : List ℕ → List jobs.Placed → List (List jobs.Placed)
+dealt cs js = map (λ k. jobs.deal cs k js) (counted 0 (16 + length cs))
+
+-- all jobs in the shares may be done, each at one of so many ports
+abbrev pub AreWork : {G : Type 0} → ℕ → List ℕ → List (Vec (Placed Work) G) → Type 0
+AreWork ports cs vs = Each (λ v. Each (IsWork ports cs) v.items) vs
+
+-- each share has fewer than 2^32 jobs
+abbrev pub AreFew : {G : Type 0} → List (Vec (Placed Work) G) → Type 0
+AreFew vs = Each (λ v. length v.items < 2 ^ 32) vs

@@ -1,9 +1,0 @@
-pub mod Agrees
-pub mod Plain
-pub mod PlainRounds
-pub mod PlainRuns
-pub mod Plenty
-pub mod Same
-pub use Rattle.vsw_history_law.proofs.Callers
-pub use Rattle.vsw_history_law.proofs.Ones
-pub use Rattle.vsw_history_law.proofs.Reports

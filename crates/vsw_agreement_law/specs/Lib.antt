@@ -1,3 +1,0 @@
-pub mod Law
-pub mod Plain
-pub use Rattle.vsw_history_law.specs.Law as HistoryLaws

@@ -1,0 +1,177 @@
+//! Command lines, with what each asks for.
+
+use std::alloc::{AllocError, Global};
+use std::test::Fail;
+use vsw_promise::{Asked, Word, read_words};
+
+/// The words of a line, between single spaces.
+fn words_of(alloc: Global, line: &str) -> Result<Vec<Word>, AllocError> {
+    let mut words = Vec::new(alloc);
+    for word in line.split(' ') {
+        words.push(Word::of(word.to_string(alloc)?))?;
+    }
+    Ok(words)
+}
+
+/// What is asked for, in words.
+fn told(alloc: Global, asked: &Option<Asked<'_>>) -> Result<String, AllocError> {
+    match asked {
+        Some(Asked::Forward(r)) => format!(in alloc;
+            "{} workers, {} {} {}",
+            r.workers, r.policy, r.commands, r.trace
+        ),
+        Some(Asked::Generate { start, packets }) => format!(in alloc;
+            "{} packets from {}",
+            packets, start
+        ),
+        None => "refused".to_string(alloc),
+    }
+}
+
+/// The first line that asks for something else than is written beside it.
+fn first_wrong<'a>(
+    alloc: Global,
+    lines: &[(&'a str, &'a str)],
+) -> Result<Option<&'a str>, AllocError> {
+    for (line, wanted) in lines {
+        let words = words_of(alloc, line)?;
+        if told(alloc, &read_words(&words))?.as_str() != *wanted {
+            return Ok(Some(*line));
+        }
+    }
+    Ok(None)
+}
+
+/// Lines of the grammar.
+const GOOD: [(&str, &str); 19] = [
+    ("vsw forward P C T", "1 workers, P C T"),
+    ("any forward - - -", "1 workers, - - -"),
+    ("vsw forward P -- C T", "1 workers, P C T"),
+    ("vsw forward P C T --", "1 workers, P C T"),
+    (
+        "vsw forward -- --workers -- -x",
+        "1 workers, --workers -- -x",
+    ),
+    (
+        "vsw forward -- -- --workers=2 -x",
+        "1 workers, -- --workers=2 -x",
+    ),
+    ("vsw forward --workers 2 P C T", "2 workers, P C T"),
+    ("vsw forward P --workers 16 C T", "16 workers, P C T"),
+    ("vsw forward P C --workers 1 T", "1 workers, P C T"),
+    ("vsw forward P C T --workers 9", "9 workers, P C T"),
+    ("vsw forward --workers=2 -- P C T", "2 workers, P C T"),
+    ("vsw forward P --workers=10 C -- T", "10 workers, P C T"),
+    ("vsw forward P C T --workers=16 --", "16 workers, P C T"),
+    (
+        "vsw forward --workers 3 -- -P --workers 4",
+        "3 workers, -P --workers 4",
+    ),
+    (
+        "vsw forward forward generate 1",
+        "1 workers, forward generate 1",
+    ),
+    (" forward P C T", "1 workers, P C T"),
+    ("vsw generate 1 1", "1 packets from 1"),
+    ("vsw generate 0 1048576", "1048576 packets from 0"),
+    ("vsw generate 2147483647 20", "20 packets from 2147483647"),
+];
+
+#[test]
+fn lines_of_the_grammar_are_read(rt: HostRuntime) -> Result<(), Fail> {
+    let wrong = first_wrong(rt.alloc(), &GOOD)?;
+    assert!(rt; wrong.is_none(), "{wrong:?}");
+    Ok(())
+}
+
+/// Each word of the grammar once with another spelling, and words too few or too many.
+const MISSPELT: [(&str, &str); 24] = [
+    ("", "refused"),
+    ("vsw", "refused"),
+    ("forward P C T", "refused"),
+    ("vsw forwards P C T", "refused"),
+    ("vsw Forward P C T", "refused"),
+    ("vsw  P C T", "refused"),
+    ("vsw help", "refused"),
+    ("vsw -h", "refused"),
+    ("vsw --help", "refused"),
+    ("vsw --workers 2 forward P C T", "refused"),
+    ("vsw forward", "refused"),
+    ("vsw forward P C", "refused"),
+    ("vsw forward P C T U", "refused"),
+    ("vsw forward P C -- T U", "refused"),
+    ("vsw forward -x C T", "refused"),
+    ("vsw forward P --trace T", "refused"),
+    ("vsw forward --worker 2 P C T", "refused"),
+    ("vsw forward --Workers=2 P C T", "refused"),
+    ("vsw forward -workers 2 P C T", "refused"),
+    ("vsw forward --- P C T", "refused"),
+    ("vsw forward  C T", "refused"),
+    ("vsw forward P  T", "refused"),
+    ("vsw forward P C ", "refused"),
+    ("vsw forward P -- C ", "refused"),
+];
+
+#[test]
+fn other_spellings_are_refused(rt: HostRuntime) -> Result<(), Fail> {
+    let wrong = first_wrong(rt.alloc(), &MISSPELT)?;
+    assert!(rt; wrong.is_none(), "{wrong:?}");
+    Ok(())
+}
+
+/// Options that are out of range, twice, without a number, or where none may stand.
+const OPTIONS: [(&str, &str); 21] = [
+    ("vsw forward --workers 0 P C T", "refused"),
+    ("vsw forward --workers 17 P C T", "refused"),
+    ("vsw forward --workers 01 P C T", "refused"),
+    ("vsw forward --workers +1 P C T", "refused"),
+    ("vsw forward --workers -1 P C T", "refused"),
+    ("vsw forward --workers 1x P C T", "refused"),
+    ("vsw forward --workers  P C T", "refused"),
+    ("vsw forward --workers 4294967297 P C T", "refused"),
+    ("vsw forward --workers=0 P C T", "refused"),
+    ("vsw forward --workers=17 P C T", "refused"),
+    ("vsw forward --workers=01 P C T", "refused"),
+    ("vsw forward --workers=+1 P C T", "refused"),
+    ("vsw forward --workers= P C T", "refused"),
+    ("vsw forward --workers= 2 P C T", "refused"),
+    ("vsw forward --workers P C T", "refused"),
+    ("vsw forward P C T --workers", "refused"),
+    ("vsw forward --workers -- P C T", "refused"),
+    ("vsw forward --workers --workers=2 P C T", "refused"),
+    ("vsw forward --workers 2 --workers 2 P C T", "refused"),
+    ("vsw forward --workers=2 P C --workers=2 T", "refused"),
+    ("vsw forward P C -- --workers 2 T", "refused"),
+];
+
+#[test]
+fn options_out_of_order_are_refused(rt: HostRuntime) -> Result<(), Fail> {
+    let wrong = first_wrong(rt.alloc(), &OPTIONS)?;
+    assert!(rt; wrong.is_none(), "{wrong:?}");
+    Ok(())
+}
+
+/// Numbers of `generate` that are out of range, and words that may not stand there.
+const NUMBERS: [(&str, &str); 14] = [
+    ("vsw generate 01 5", "refused"),
+    ("vsw generate 1 05", "refused"),
+    ("vsw generate 00 5", "refused"),
+    ("vsw generate +1 5", "refused"),
+    ("vsw generate -1 5", "refused"),
+    ("vsw generate 2147483648 1", "refused"),
+    ("vsw generate 99999999999999999999 1", "refused"),
+    ("vsw generate 1 0", "refused"),
+    ("vsw generate 1 1048577", "refused"),
+    ("vsw generate 1", "refused"),
+    ("vsw generate 1 1 1", "refused"),
+    ("vsw generate -- 1 1", "refused"),
+    ("vsw generate --workers=1 1 1", "refused"),
+    ("vsw generated 1 1", "refused"),
+];
+
+#[test]
+fn numbers_out_of_range_are_refused(rt: HostRuntime) -> Result<(), Fail> {
+    let wrong = first_wrong(rt.alloc(), &NUMBERS)?;
+    assert!(rt; wrong.is_none(), "{wrong:?}");
+    Ok(())
+}

@@ -1,5 +1,0 @@
-use Rattle.std.proofs.Common.{length}
-use Rattle.vsw_change.proofs.push.+write_encaps.Given as goal
-
-abbrev pub decreases-write_encaps : goal.decreases-write_encaps
-decreases-write_encaps l = length l.headers.now

@@ -1,0 +1,8 @@
+use Rattle.std.proofs.Common.{◌∙◌, ap}
+use Rattle.std.specs.Option.{is_some}
+use Rattle.vsw_classify.specs.Groups.{is_rule}
+use Rattle.vsw_classify.proofs.Firsts.{some-any}
+use Rattle.vsw_classify.proofs.places.has_rule.Goals as goal
+
+pub returns : goal.returns
+returns c = c.is_some.ensures ∙ ap is_some c.rule_place.ensures ∙ some-any (is_rule c.args.number) c.args.rules.now

@@ -1,0 +1,77 @@
+-- What a rule does.
+use Rattle.std.specs.Prelude.{◌≡◌, ℕ, ◌<◌, ◌^◌, nat_lt, List, [], ◌∷◌, Bool, true, false, Option, Some, None, is_some, Result, Ok, codes, refl, if◌then◌else◌}
+use Rattle.std.proofs.lemmas.Bool.{ltb-true}
+use Rattle.serde_json.specs.Data.{Data}
+use Rattle.serde_json.specs.Find.{as_null, as_str}
+use Rattle.vsw_base.specs.declared.flow.Set.{Set}
+use Rattle.vsw_base.specs.declared.flow.Outer.{Outer}
+use Rattle.vsw_rule.specs.declared.rule.Action.{Action}
+use Rattle.vsw_rule.specs.declared.rule.Action.TheVariants as action
+use Rattle.vsw_config.specs.declared.fault.Fault.{Fault}
+use Rattle.vsw_config.specs.declared.word.Word.{Word}
+use Rattle.vsw_config.specs.declared.word.Word.TheVariants as word
+use Rattle.vsw_config.specs.Fault.{◌>>=◌, shape}
+use Rattle.vsw_config.specs.Object.{object_among, read_in, read_if}
+use Rattle.vsw_config.specs.Value.{short_of, number_from, truth_of, mac_in, ip4_in, value_for}
+
+abbrev pub set_words : List Word
+set_words = word.DstMac ∷ word.SrcMac ∷ word.SrcIp ∷ word.DstIp ∷ word.SrcPort ∷ word.DstPort ∷ []
+
+-- the fields to write; none is required
+unfoldable pub set_of : Data → Result Set Fault
+set_of d = do
+  o ← object_among set_words d
+  dst_mac ← read_if word.DstMac o mac_in
+  src_mac ← read_if word.SrcMac o mac_in
+  src_ip ← read_if word.SrcIp o ip4_in
+  dst_ip ← read_if word.DstIp o ip4_in
+  src_port ← read_if word.SrcPort o short_of
+  dst_port ← read_if word.DstPort o short_of
+  Ok (record { dst_mac = dst_mac; src_mac = src_mac; src_ip = src_ip; dst_ip = dst_ip; src_port = src_port; dst_port = dst_port })
+
+abbrev pub vni_of : Data → Result ℕ Fault
+vni_of d = number_from 0 16777215 d
+
+-- what is made of a VNI and its bound
+abbrev pub if_small : {A : Type 0} → (vni : ℕ) → (vni < 2 ^ 24 → A) → (b : Bool) → nat_lt vni (2 ^ 24) ≡ b → Result A Fault
+if_small vni make true h = Ok (make (ltb-true vni (2 ^ 24) h))
+if_small vni make false h = shape
+
+unfoldable pub small : {A : Type 0} → (vni : ℕ) → (vni < 2 ^ 24 → A) → Result A Fault
+small vni make = if_small vni make (nat_lt vni (2 ^ 24)) refl
+
+-- the headers of these values
+unfoldable pub headers_of : ℕ → ℕ → ℕ → ℕ → ℕ → Result Outer Fault
+headers_of dst_mac src_mac src_ip dst_ip vni = small vni (λ bound. record { dst_mac = dst_mac; src_mac = src_mac; src_ip = src_ip; dst_ip = dst_ip; vni = vni; vni_small = bound })
+
+abbrev pub encap_words : List Word
+encap_words = word.DstMac ∷ word.SrcMac ∷ word.SrcIp ∷ word.DstIp ∷ word.Vni ∷ []
+
+unfoldable pub outer_of : Data → Result Outer Fault
+outer_of d = do
+  o ← object_among encap_words d
+  dst_mac ← read_in word.DstMac o mac_in
+  src_mac ← read_in word.SrcMac o mac_in
+  src_ip ← read_in word.SrcIp o ip4_in
+  dst_ip ← read_in word.DstIp o ip4_in
+  vni ← read_in word.Vni o vni_of
+  headers_of dst_mac src_mac src_ip dst_ip vni
+
+-- an encapsulation, or null
+unfoldable pub encap_of : Data → Result (Option Outer) Fault
+encap_of d = if is_some (as_null d) then Ok None else outer_of d >>= (λ o. Ok (Some o))
+
+unfoldable pub edit_of : Data → Result Action Fault
+edit_of d = do
+  o ← object_among (word.Decap ∷ word.Set ∷ word.Encap ∷ []) d
+  decap ← read_in word.Decap o truth_of
+  set ← read_in word.Set o set_of
+  encap ← read_in word.Encap o encap_of
+  Ok (action.Edit decap set encap)
+
+abbrev pub action_for : List ℕ → Result Action Fault
+action_for = value_for ((codes "allow", action.Allow) ∷ (codes "drop", action.Drop) ∷ [])
+
+-- one of two texts, or an edit
+unfoldable pub action_of : Data → Result Action Fault
+action_of d = elim (as_str d) [ None ↦ edit_of d | Some text ↦ action_for text ]

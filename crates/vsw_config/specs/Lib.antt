@@ -1,0 +1,14 @@
+pub mod Path
+pub mod Fault
+pub mod Object
+pub mod Value
+pub mod List
+pub mod Bytes
+pub mod Rule
+pub mod Condition
+pub mod Action
+pub mod Field
+pub mod Policy
+pub mod Port
+pub mod Layer
+pub mod Good

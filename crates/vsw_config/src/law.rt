@@ -1,0 +1,10 @@
+//! What holds of every policy file that is read.
+
+ghost use Rattle.vsw_config.specs.Good.{EachIsGood};
+
+/// Of every policy that is read, counts, rows and the numbers of layers are within the limits, what is
+/// named by a number is named by one of its own, each layer's controller is listed, and each rule may be
+/// so.
+pub fn laws()
+    ensures { EachIsGood }
+{}

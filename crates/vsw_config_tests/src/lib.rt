@@ -1,0 +1,27 @@
+//! Tests of the readers of the policy file and of the commands file, kept apart from them: with tests of its own, a crate is proved once more.
+#![tactic(auto)]
+
+#[cfg(test)]
+mod command_tests;
+#[cfg(test)]
+mod commandfile_limit_tests;
+#[cfg(test)]
+mod commandfile_order_tests;
+#[cfg(test)]
+mod commandfile_samples;
+#[cfg(test)]
+mod fault_tests;
+#[cfg(test)]
+mod file_tests;
+#[cfg(test)]
+mod item_tests;
+#[cfg(test)]
+mod limit_tests;
+#[cfg(test)]
+mod line_tests;
+#[cfg(test)]
+mod order_tests;
+#[cfg(test)]
+mod policy_tests;
+#[cfg(test)]
+mod samples;

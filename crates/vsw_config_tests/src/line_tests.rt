@@ -1,0 +1,51 @@
+//! Lines that are blank, or no JSON object.
+
+use crate::commandfile_samples::is_said;
+use std::alloc::Global;
+use std::test::Fail;
+
+/// Files, and what is said of each.
+const FILES: [[&str; 2]; 18] = [
+    ["", "read 0"],
+    ["\n", "read 0"],
+    [" \t\r", "read 0"],
+    ["\r\n\r\n \t \n", "read 0"],
+    ["\u{c}\n", "1 Json /"],
+    ["\u{a0}\n", "1 Json /"],
+    ["\n\n\0", "3 Json /"],
+    ["{}", "1 Shape /"],
+    ["{}\n", "1 Shape /"],
+    ["\n {} ", "2 Shape /"],
+    ["\r\n[]\r\n", "2 Shape /"],
+    ["null", "1 Shape /"],
+    ["7\n", "1 Shape /"],
+    ["{\n}\n", "1 Json /"],
+    ["{}{}\n", "1 Json /"],
+    ["{\"at\":1\n", "1 Json /"],
+    ["\n{\"at\":1}\nx", "2 Shape /"],
+    ["// a remark\n", "1 Json /"],
+];
+
+/// The place of the first file of which another thing is said, if there is one.
+fn first_wrong_file(alloc: Global, files: &[[&str; 2]]) -> Result<Option<usize>, Fail> {
+    for (place, [file, expected]) in files.iter().enumerate() {
+        if !is_said(alloc, file.as_bytes(), *expected)? {
+            return Ok(Some(place));
+        }
+    }
+    Ok(None)
+}
+
+#[test]
+fn blank_lines_are_counted_and_others_are_objects(rt: HostRuntime) -> Result<(), Fail> {
+    let wrong = first_wrong_file(rt.alloc(), &FILES)?;
+    assert!(rt; wrong.is_none(), "{wrong:?}");
+    Ok(())
+}
+
+#[test]
+fn other_bytes_are_no_json(rt: HostRuntime) -> Result<(), Fail> {
+    assert!(rt; is_said(rt.alloc(), b"\n\xff\n", "2 Json /")?);
+    assert!(rt; is_said(rt.alloc(), b"{\"at\":\"\xc3\"}", "1 Json /")?);
+    Ok(())
+}

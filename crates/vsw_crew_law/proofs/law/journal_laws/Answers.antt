@@ -1,5 +1,0 @@
-use Rattle.vsw_crew_law.proofs.Turns.{journals_begin, journals_end, journals_join}
-use Rattle.vsw_crew_law.proofs.law.journal_laws.Goals as goal
-
-pub returns : goal.returns
-returns c = record { begin = journals_begin; end = journals_end; join = journals_join }

@@ -1,5 +1,0 @@
-use Rattle.vsw_crew_law.proofs.Turns.{before_turns, one_caller_turns, quiet_turns, turns_begin, turns_join}
-use Rattle.vsw_crew_law.proofs.law.turn_laws.Goals as goal
-
-pub returns : goal.returns
-returns c = record { begin = turns_begin; join = turns_join; one = one_caller_turns; quiet = quiet_turns; before = before_turns }

@@ -1,6 +1,0 @@
-use Rattle.std.proofs.Common.{◌≡◌, [], replicate}
-use Rattle.vsw_deal.specs.Deal.{shared}
-use Rattle.vsw_deal.proofs.share.no_jobs.Given as goal
-
-abbrev pub invariant-loop : goal.invariant-loop
-invariant-loop l = shared l.shares.items ≡ replicate l.counter []

@@ -1,0 +1,13 @@
+-- The definition of outgoing bytes computes on frames that were rewritten by hand.
+use Rattle.std.proofs.Common.{refl}
+use Rattle.vsw_base.specs.Frame.{frame_in}
+use Rattle.vsw_ipv4.specs.Ip.{pushed_checksum}
+use Rattle.vsw_frame.specs.Vectors.{WritesEncapsulated, WritesAnswer}
+
+pub writes_encapsulated : WritesEncapsulated
+unfolding frame_in pushed_checksum
+writes_encapsulated = refl
+
+pub writes_answer : WritesAnswer
+unfolding frame_in pushed_checksum
+writes_answer = refl

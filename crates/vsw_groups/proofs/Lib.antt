@@ -1,4 +1,0 @@
-pub mod Built
-pub mod Firsts
-pub mod Ruled
-pub mod Sharing

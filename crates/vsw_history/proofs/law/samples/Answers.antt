@@ -1,5 +1,0 @@
-use Rattle.vsw_history.proofs.Values.{callers_are, measured}
-use Rattle.vsw_history.proofs.law.samples.Goals as goal
-
-pub returns : goal.returns
-returns c = record { callers = callers_are; measured = measured }

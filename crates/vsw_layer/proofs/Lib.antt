@@ -1,3 +1,0 @@
-pub use Rattle.vsw_groups.proofs.Firsts
-pub mod Sharing
-pub mod Stays

@@ -1,6 +1,0 @@
-//! Which entries of a port's history leave rows good.
-#![tactic(auto)]
-
-mod law;
-
-pub use law::laws;

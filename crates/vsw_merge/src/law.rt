@@ -1,8 +1,0 @@
-//! What holds of the order of a port's lines.
-
-ghost use Rattle.vsw_merge.specs.Law.{OneCallerInOrder};
-
-/// The lines of one caller, in its order, are in the order of the report.
-pub fn laws()
-    ensures one { OneCallerInOrder }
-{}

@@ -1,5 +1,0 @@
-//! Tests of `vsw_pcap`, kept apart from it: with tests of its own it would be proved once more.
-#![tactic(auto)]
-
-#[cfg(test)]
-mod tests;

@@ -1,4 +1,0 @@
-pub mod Policy
-pub mod Port
-pub mod Layer
-pub mod Good

@@ -1,4 +1,0 @@
-pub mod Ports
-pub mod Order
-pub mod File
-pub mod Groups

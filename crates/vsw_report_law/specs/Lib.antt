@@ -1,4 +1,0 @@
-pub mod Law
-pub mod Proper
-pub mod Reading
-pub mod Words

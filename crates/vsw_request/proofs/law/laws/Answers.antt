@@ -1,5 +1,0 @@
-use Rattle.vsw_request.proofs.Grammars.{reads_grammar, refuses_others, reads_forward, one_reading}
-use Rattle.vsw_request.proofs.law.laws.Goals as goal
-
-pub returns : goal.returns
-returns c = record { grammar = reads_grammar; others = refuses_others; forward = reads_forward; one = one_reading }

@@ -1,5 +1,0 @@
-pub mod Grammar
-pub mod Law
-pub mod Plain
-pub mod Seen
-pub mod Words

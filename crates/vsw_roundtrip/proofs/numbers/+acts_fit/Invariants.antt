@@ -1,5 +1,0 @@
-use Rattle.std.proofs.Common.{length}
-use Rattle.vsw_roundtrip.proofs.numbers.+acts_fit.Given as goal
-
-abbrev pub decreases-acts_fit : goal.decreases-acts_fit
-decreases-acts_fit l = length l.acts.now

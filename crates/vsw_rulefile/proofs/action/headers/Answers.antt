@@ -1,7 +1,0 @@
-use Rattle.vsw_rulefile.specs.Action.{headers_of}
-use Rattle.vsw_rulefile.proofs.Small.{small_is}
-use Rattle.vsw_rulefile.proofs.action.headers.Goals as goal
-
-pub returns : goal.returns
-unfolding headers_of
-returns c = small_is _ _ _

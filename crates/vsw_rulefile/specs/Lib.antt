@@ -1,4 +1,0 @@
-pub mod Rule
-pub mod Condition
-pub mod Action
-pub mod Field

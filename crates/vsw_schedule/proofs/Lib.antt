@@ -1,5 +1,0 @@
-pub mod Counts
-pub mod Beside
-pub mod First
-pub mod Stable
-pub mod Indexed

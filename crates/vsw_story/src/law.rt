@@ -1,8 +1,0 @@
-//! What holds of good rows.
-
-ghost use Rattle.vsw_story.specs.Law.{RowAnswers};
-
-/// A good row answers the packets of its key.
-pub fn laws()
-    ensures answers { RowAnswers }
-{}

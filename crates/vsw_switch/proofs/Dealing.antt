@@ -1,0 +1,124 @@
+-- What is done over all ports in a round is at each what is to be done there.
+use Rattle.std.proofs.Common.{◌≡◌, ℕ, suc, ◌==◌, ◌&&◌, ◌||◌, not, Bool, true, false, if◌then◌else◌, List, [], ◌∷◌, ◌++◌, map, filter, Result, Ok, Err, refl, ap, sym, ◌∙◌, eq-eqb, ne_eqb}
+use native.Mathlib.Decide.{ℕ_discrete}
+use Rattle.vsw_base.specs.declared.flow.Place.{Place}
+use Rattle.vsw_base.specs.Frame.{Parts}
+use Rattle.vsw_commandfile.specs.declared.line.Line.{Line}
+use Rattle.vsw_port.specs.Calls.{Ask, Job}
+use Rattle.vsw_history_law.proofs.Callers.{place_one}
+use Rattle.vsw_pcap.specs.declared.capture.Record.{Record}
+use Rattle.vsw_policy.specs.Layers.{place_of}
+use Rattle.vsw_policy.specs.Sound.{are_distinct, is_listed}
+use Rattle.vsw_promise.specs.Jobs.{Placed, aim_of, aimed_at, at_place, before_jobs, during_jobs, packet_jobs, placed_packet, placed_packets}
+use Rattle.vsw_report.specs.declared.round.LooseCause.{LooseCause}
+use Rattle.vsw_promise.specs.Schedule.{commands_at}
+use Rattle.vsw_switch.specs.Does.{placed_line}
+use Rattle.vsw_switch.proofs.Steps.{place_append}
+
+-- ---- packets
+
+one_packet : (workers i n moment : ℕ) (r : Result (Place × Parts) LooseCause) → at_place i (placed_packet workers n moment r) ≡ aimed_at workers i n moment r
+one_packet workers i n moment (Err why) = refl
+one_packet workers i n moment (Ok a) = by (a.0.port == i) refl
+  where
+    by : (b : Bool) → (a.0.port == i) ≡ b → at_place i (placed_packet workers n moment (Ok a)) ≡ aimed_at workers i n moment (Ok a)
+    by true e = rw e refl
+    by false e = rw e refl
+
+pub place_packets : (workers i : ℕ) (macs : List ℕ) (packets : List (ℕ × Record)) → at_place i (placed_packets workers macs packets) ≡ packet_jobs workers macs i packets
+place_packets workers i macs [] = refl
+place_packets workers i macs (p ∷ ps) =
+    place_append i (placed_packet workers p.0 p.1.moment (aim_of macs p.1)) (placed_packets workers macs ps)
+    ∙ (ap (λ w. w ++ at_place i (placed_packets workers macs ps)) (one_packet workers i p.0 p.1.moment (aim_of macs p.1))
+    ∙ ap (λ w. aimed_at workers i p.0 p.1.moment (aim_of macs p.1) ++ w) (place_packets workers i macs ps))
+
+-- ---- commands
+
+-- a place is a port's exactly where its number is
+same_test : (numbers : List ℕ) (number i port : ℕ) → place_of number numbers ≡ i → is_listed numbers number ≡ true → (place_of port numbers == i) ≡ (port == number)
+same_test numbers number i port at listed = by (ℕ_discrete port number)
+  where
+    by : Dec (port ≡ number) → (place_of port numbers == i) ≡ (port == number)
+    by (yes e) = eq-eqb (place_of port numbers) i (ap (λ n. place_of n numbers) e ∙ at) ∙ sym (eq-eqb port number e)
+    by (no ne) = ne_eqb (place_of port numbers) i (λ f. ne (sym (place_one numbers number port listed (at ∙ sym f)))) ∙ sym (ne_eqb port number ne)
+
+-- the commands of a round that pass a test, for all ports and for one
+abbrev placed_lines : (Line → Bool) → List ℕ → List Line → ℕ → List Placed
+placed_lines t numbers commands first = map (placed_line numbers) (filter t (commands_at first commands))
+
+abbrev jobs_where : (Line → Bool) → List Line → ℕ → ℕ → List Job
+jobs_where t commands first port = map Ask (filter (λ l. (l.at == first) && (l.port == port) && t l) commands)
+
+line_step : (numbers : List ℕ) (i : ℕ) (l : Line) (t : Line → Bool) (xs ys : List Line) (a b d : Bool) → (place_of l.port numbers == i) ≡ b → t l ≡ d → at_place i (map (placed_line numbers) (filter t xs)) ≡ map Ask ys
+    → at_place i (map (placed_line numbers) (filter t (if a then l ∷ xs else xs))) ≡ map Ask (if a && b && d then l ∷ ys else ys)
+line_step numbers i l t xs ys true true true e f ih = rw (f, e) (ap (λ w. Ask l ∷ w) ih)
+line_step numbers i l t xs ys true false true e f ih = rw (f, e) ih
+line_step numbers i l t xs ys true true false e f ih = rw f ih
+line_step numbers i l t xs ys true false false e f ih = rw f ih
+line_step numbers i l t xs ys false true d e f ih = ih
+line_step numbers i l t xs ys false false d e f ih = ih
+
+lines_where : (t : Line → Bool) (numbers : List ℕ) (commands : List Line) (first i number : ℕ) → place_of number numbers ≡ i → is_listed numbers number ≡ true → at_place i (placed_lines t numbers commands first) ≡ jobs_where t commands first number
+lines_where t numbers [] first i number at listed = refl
+lines_where t numbers (l ∷ ls) first i number at listed =
+    line_step numbers i l t (commands_at first ls) (filter (λ l. (l.at == first) && (l.port == number) && t l) ls) (l.at == first) (l.port == number) (t l) (same_test numbers number i l.port at listed) refl (lines_where t numbers ls first i number at listed)
+
+-- ---- both
+
+-- all that is done in a round: the "before" commands, the "during" commands, and the packets
+abbrev pub jobs_done : ℕ → List ℕ → List ℕ → List Line → ℕ → List (ℕ × Record) → List Placed
+jobs_done workers numbers macs commands first packets = placed_lines (λ l. not l.during) numbers commands first ++ (placed_lines (λ l. l.during) numbers commands first ++ placed_packets workers macs packets)
+
+pub jobs_there : (workers : ℕ) (numbers macs : List ℕ) (commands : List Line) (first : ℕ) (packets : List (ℕ × Record)) (i number : ℕ) → place_of number numbers ≡ i → is_listed numbers number ≡ true
+    → at_place i (jobs_done workers numbers macs commands first packets) ≡ before_jobs commands first number ++ (during_jobs commands first number ++ packet_jobs workers macs i packets)
+jobs_there workers numbers macs commands first packets i number at listed =
+    place_append i (placed_lines (λ l. not l.during) numbers commands first) (placed_lines (λ l. l.during) numbers commands first ++ placed_packets workers macs packets)
+    ∙ (ap (λ w. w ++ at_place i (placed_lines (λ l. l.during) numbers commands first ++ placed_packets workers macs packets)) (lines_where (λ l. not l.during) numbers commands first i number at listed)
+    ∙ ap (λ w. before_jobs commands first number ++ w) (place_append i (placed_lines (λ l. l.during) numbers commands first) (placed_packets workers macs packets)
+    ∙ (ap (λ w. w ++ at_place i (placed_packets workers macs packets)) (lines_where (λ l. l.during) numbers commands first i number at listed)
+    ∙ ap (λ w. during_jobs commands first number ++ w) (place_packets workers i macs packets))))
+
+-- ---- the places of numbers
+
+-- each of these numbers, from this place on, stands at its place
+abbrev pub StandInPlace : List ℕ → ℕ → List ℕ → Type 0
+StandInPlace numbers n [] = Unit {0}
+StandInPlace numbers n (m ∷ ms) = (place_of m numbers ≡ n) × (is_listed numbers m ≡ true) × StandInPlace numbers (suc n) ms
+
+or_parts : (a b : Bool) → (a || b) ≡ false → (a ≡ false) × (b ≡ false)
+or_parts true b e = absurd (cc e)
+or_parts false b e = (refl, e)
+
+or_right : (a b : Bool) → b ≡ true → (a || b) ≡ true
+or_right true b e = refl
+or_right false b e = e
+
+and_parts : (a b : Bool) → (a && b) ≡ true → (a ≡ true) × (b ≡ true)
+and_parts true b e = (refl, e)
+and_parts false b e = absurd (cc e)
+
+not_true : (b : Bool) → not b ≡ true → b ≡ false
+not_true true e = absurd (cc e)
+not_true false e = refl
+
+other : (x m : ℕ) → (x == m) ≡ false → (m == x) ≡ false
+other x m e = ne_eqb m x (λ f. absurd (cc (e, eq-eqb x m (sym f))))
+
+one_further : (x : ℕ) (numbers : List ℕ) (n : ℕ) (ms : List ℕ) → is_listed ms x ≡ false → StandInPlace numbers n ms → StandInPlace (x ∷ numbers) (suc n) ms
+one_further x numbers n [] away s = tt
+one_further x numbers n (m ∷ ms) away s =
+    let parts = or_parts (x == m) (is_listed ms x) away in
+    let apart : (m == x) ≡ false = other x m parts.0 in
+    (rw apart (ap suc s.0), or_right (m == x) (is_listed numbers m) s.1, one_further x numbers (suc n) ms parts.1 s.2)
+
+listed_first : (m : ℕ) (ms : List ℕ) → is_listed (m ∷ ms) m ≡ true
+listed_first m ms = let here : (m == m) ≡ true = eq-eqb m m refl in rw here refl
+
+place_first : (m : ℕ) (ms : List ℕ) → place_of m (m ∷ ms) ≡ 0
+place_first m ms = let here : (m == m) ≡ true = eq-eqb m m refl in rw here refl
+
+pub stand_in_place : (ms : List ℕ) → are_distinct ms ≡ true → StandInPlace ms 0 ms
+stand_in_place [] d = tt
+stand_in_place (m ∷ ms) d =
+    let parts = and_parts (not (is_listed ms m)) (are_distinct ms) d in
+    (place_first m ms, listed_first m ms, one_further m ms 0 ms (not_true (is_listed ms m) parts.0) (stand_in_place ms parts.1))

@@ -1,0 +1,15 @@
+use Rattle.vsw_promise.specs.Schedule.{commands_at}
+use Rattle.vsw_switch.proofs.Asking.{places_within}
+use Rattle.vsw_switch.proofs.Running.{runs}
+use Rattle.vsw_switch.proofs.round.run_round.Goals as goal
+
+pub ask_all-requires-clause-places : goal.ask_all-requires-clause-places
+ask_all-requires-clause-places c = places_within c.args.schedule.now (commands_at c.args.first c.args.schedule.now) c.places-places.result.now c.places-places.ensures
+
+pub ask_all-requires-2-clause-places : goal.ask_all-requires-2-clause-places
+ask_all-requires-2-clause-places c = places_within c.args.schedule.now (commands_at c.args.first c.args.schedule.now) c.places-places.result.now c.places-places.ensures
+
+pub returns-clause-runs : goal.returns-clause-runs
+returns-clause-runs c =
+    runs c.args.first c.args.schedule.now c.places-places.result.now c.args.packets.now c.args.switch.now c.ask_all.new.switch c.ask_all-2.new.switch c.forward_all.new.switch c.close.new.self c.close.result c.args.out.now.items c.close.new.out.items c.places-places.ensures
+    c.in_ok-ask_all.ensures.asked c.in_ok-ask_all-2.ensures.asked c.in_ok-forward_all.ensures.forwarded c.close.ensures.text c.close.ensures.short c.close.ensures.next c.close.ensures.apart

@@ -1,0 +1,81 @@
+//! Running a round.
+
+ghost use Rattle.std.specs.Prelude.{◌≡◌, ◌≤◌, ◌<◌, ◌+◌, ◌^◌, [], ℕ, List, filter, length, map, IfOk, OnOk};
+ghost use Rattle.vsw_commandfile.specs.declared.line.Line.{Line};
+ghost use Rattle.vsw_port.specs.declared.event.Event.{Event};
+ghost use Rattle.vsw_port.specs.Order.{numbered};
+ghost use Rattle.vsw_policy.specs.Sound.{Each};
+ghost use Rattle.vsw_promise.specs.Jobs.{Setting};
+ghost use Rattle.vsw_switch.specs.Round.{RunsRound};
+ghost use Rattle.vsw_switch.specs.Steps as steps;
+ghost use Rattle.vsw_switch.specs.Does.{Works, numbers_in, placed_line};
+ghost use Rattle.vsw_switch.specs.Switch.{AreServed, IsAt};
+
+use crate::Switch;
+use vsw_base::NoMemory;
+use vsw_commandfile::Line;
+use vsw_pcap::Batch;
+use vsw_promise::Schedule;
+
+/// Whether a command runs beside the packets, or whether it runs before them.
+fn is_when(during: bool, line: &Line) -> bool
+    ensures { result ≡ steps.is_when during line.now }
+{
+    if during { line.during } else { !line.during }
+}
+
+/// Asks the commands at these places that run beside the packets, or those that run before them.
+fn ask_all(
+    switch: &mut Switch,
+    schedule: &Schedule,
+    places: &[u32],
+    during: bool,
+) -> Result<(), NoMemory>
+    requires served { AreServed switch.old schedule.now }
+    requires places { Each (λ place. place < length schedule.now) places.now }
+    ensures asked { OnOk result (Works switch.old (map (placed_line (numbers_in switch.old)) (filter (steps.is_when during) (steps.lines_at schedule.now places.now))) [] switch.new) }
+    ensures served { (lines : List Line) → AreServed switch.old lines → AreServed switch.new lines }
+{
+    for place in places {
+        let line = schedule.line(*place);
+        if is_when(during, line) {
+            switch.ask(line)?;
+        }
+    }
+    Ok(())
+}
+
+/// Forwards these packets, of which the first has this number.
+fn forward_all(switch: &mut Switch, first: u32, packets: &Batch) -> Result<(), NoMemory>
+    requires numbers { first + length packets.now < 2 ^ 32 }
+    ensures forwarded { OnOk result (steps.ForwardsAll switch.old (numbered first packets.now) switch.new) }
+    ensures served { (lines : List Line) → AreServed switch.old lines → AreServed switch.new lines }
+{
+    for place in 0..packets.len() {
+        let captured = packets.at(place);
+        switch.forward(first + place as u32, &captured)?;
+    }
+    Ok(())
+}
+
+/// Runs the round of these packets, the first of which has the number `first` in the trace: the commands that name that
+/// number, first those before the packets and then those beside them, and then the packets. Appends its text, and answers
+/// whether memory was wanting for one of them. After `NoMemory` nothing is said of the switch and of what was appended.
+pub fn run_round(
+    switch: &mut Switch,
+    schedule: &Schedule,
+    first: u32,
+    packets: &Batch,
+    out: &mut Vec<u8>,
+) -> Result<bool, NoMemory>
+    requires served { AreServed switch.old schedule.now }
+    requires numbers { first + length packets.now < 2 ^ 32 }
+    ensures runs { IfOk result (λ short. (s : Setting) (hs : List (List Event)) → s.commands ≡ schedule.now → IsAt s hs switch.old → RunsRound s hs first packets.now switch.new short out.old.items out.new.items) }
+    ensures served { (lines : List Line) → AreServed switch.old lines → AreServed switch.new lines }
+{
+    let places = schedule.places(first);
+    ask_all(switch, schedule, places, false)?;
+    ask_all(switch, schedule, places, true)?;
+    forward_all(switch, first, packets)?;
+    switch.close(first, out)
+}

@@ -1,4 +1,0 @@
-pub mod Once
-pub mod Gone
-pub mod Steps
-pub mod Told

@@ -1,6 +1,0 @@
-use Rattle.std.proofs.Common.{◌≡◌, ◌++◌, drop, take}
-use Rattle.vsw_tell.specs.Private.Port.{all_gone}
-use Rattle.vsw_tell.proofs.port.clear.Given as goal
-
-abbrev pub invariant-loop-k : goal.invariant-loop-k
-invariant-loop-k l = take l.k l.rows ++ all_gone l.place (drop l.k l.rows) ≡ all_gone l.place l.fn.rows

@@ -1,5 +1,0 @@
-use Rattle.vsw_told_law.proofs.Telling.{counts_stand_beside, merge_tells_beside, texts_are_by_caller}
-use Rattle.vsw_told_law.proofs.law.beside_laws.Goals as goal
-
-pub returns : goal.returns
-returns c = record { counts = counts_stand_beside; told = merge_tells_beside; texts = texts_are_by_caller }

@@ -1,3 +1,0 @@
-pub mod Chosen
-pub mod Turned
-pub mod Dropped

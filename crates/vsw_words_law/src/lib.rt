@@ -1,6 +1,0 @@
-//! What the words of rows say of packets.
-#![tactic(auto)]
-
-mod law;
-
-pub use law::laws;

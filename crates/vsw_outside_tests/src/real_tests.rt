@@ -5,7 +5,7 @@ use std::{fs, process};
 use vsw_host::{Host, RealHost};
 
 #[test]
-fn a_file_is_read_and_a_missing_one_counted(rt: HostRuntime) -> Result<(), Fail> {
+fn a_file_is_read_and_a_missing_one_refused(rt: HostRuntime) -> Result<(), Fail> {
     let alloc = rt.alloc();
     let path = format!(in alloc; "/tmp/vsw_host_{}", process::id(rt.process()))?;
     fs::write(&rt, path.as_str(), b"12345")?;
@@ -22,9 +22,5 @@ fn a_file_is_read_and_a_missing_one_counted(rt: HostRuntime) -> Result<(), Fail>
         host.complain(b"complained\n").is_ok(),
     ];
     assert_eq!(rt; answers, [false, true, true]);
-    assert_eq!(rt;
-        [host.input_faults, host.put_faults, host.complain_faults],
-        [1, 0, 0]
-    );
     Ok(())
 }

@@ -14,7 +14,7 @@ work=$(mktemp -d)
 trap 'rm -rf "$work"' EXIT
 
 mkdir -p "$work/repo/crates"
-for name in vsw_base vsw_rule vsw_least vsw_trie vsw_interval vsw_classify; do
+for name in vsw_base vsw_transpose vsw_rule vsw_index vsw_classify; do
     cp -r "$root/crates/$name" "$work/repo/crates"
 done
 cd "$work/repo"
@@ -25,7 +25,7 @@ rm -rf BUILD.bazel crates/classify_speed/BUILD.bazel crates/classify_speed/src/*
 mkdir -p crates/classify_speed/proofs crates/classify_speed/specs
 : > crates/classify_speed/specs/Lib.antt
 : > crates/classify_speed/proofs/Lib.antt
-grep -E '^vsw_(base|rule|least|trie|interval|classify):' "$root/crates.txt" > crates.txt
+grep -E '^vsw_(base|transpose|rule|index|classify):' "$root/crates.txt" > crates.txt
 echo 'classify_speed: vsw_base vsw_rule vsw_classify' >> crates.txt
 cd crates/classify_speed
 cat > src/main.rt << 'END'

@@ -1,5 +1,5 @@
 #!/bin/sh
-# Speed of vsw_trie and vsw_interval: `least` beside a walk over the whole list, at 10, 100, 1,000 and 10,000
+# Speed of vsw_index: `least` beside a walk over the whole list, at 10, 100, 1,000 and 10,000
 # items, from place 0 and from places anywhere.
 #
 #   bench/index_speed.sh [ROUNDS]
@@ -15,7 +15,7 @@ work=$(mktemp -d)
 trap 'rm -rf "$work"' EXIT
 
 mkdir -p "$work/repo/crates"
-cp -r "$root/crates/vsw_base" "$root/crates/vsw_least" "$root/crates/vsw_trie" "$root/crates/vsw_interval" "$work/repo/crates"
+cp -r "$root/crates/vsw_base" "$root/crates/vsw_index" "$work/repo/crates"
 cd "$work/repo"
 git init -q .
 touch crates.txt
@@ -26,10 +26,8 @@ mkdir -p crates/index_speed/proofs crates/index_speed/specs
 : > crates/index_speed/proofs/Lib.antt
 cat > crates.txt << 'END'
 vsw_base: byteorder
-vsw_least:
-vsw_trie: vsw_base vsw_least
-vsw_interval: vsw_base vsw_least
-index_speed: vsw_base vsw_trie vsw_interval
+vsw_index: vsw_base
+index_speed: vsw_base vsw_index
 END
 cd crates/index_speed
 cat > src/main.rt << END
@@ -98,7 +96,7 @@ use std::io;
 use std::rt::Clock;
 use std::time::Instant;
 use vsw_base::{Ip4, Prefix};
-use vsw_trie::{PlacedPrefix, Trie};
+use vsw_index::{PlacedPrefix, Trie};
 
 fn address(random: &mut Random) -> u32 {
     0x0a00_0000 | random.next() >> 8
@@ -215,7 +213,7 @@ use std::alloc::{AllocError, Global};
 use std::io;
 use std::rt::Clock;
 use std::time::Instant;
-use vsw_interval::{Interval, PlacedRange};
+use vsw_index::{Interval, PlacedRange};
 
 const NAMES: [&str; 4] = ["ports", "narrow", "wide", "nested"];
 

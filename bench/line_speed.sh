@@ -12,7 +12,7 @@ work=$(mktemp -d)
 trap 'rm -rf "$work"' EXIT
 
 mkdir -p "$work/repo/crates"
-for name in vsw_base vsw_rule vsw_least vsw_trie vsw_interval vsw_classify vsw_layerflow vsw_policy vsw_report; do
+for name in vsw_base vsw_transpose vsw_rule vsw_index vsw_classify vsw_layerflow vsw_policy vsw_report; do
     cp -r "$root/crates/$name" "$work/repo/crates"
 done
 cd "$work/repo"

@@ -13,7 +13,7 @@ work=$(mktemp -d)
 trap 'rm -rf "$work"' EXIT
 
 mkdir -p "$work/repo/crates"
-for crate in vsw_base vsw_rule vsw_least vsw_trie vsw_interval vsw_classify vsw_layerflow vsw_policy; do
+for crate in vsw_base vsw_transpose vsw_rule vsw_index vsw_classify vsw_layerflow vsw_policy; do
     cp -r "$root/crates/$crate" "$work/repo/crates"
 done
 cd "$work/repo"
@@ -24,7 +24,7 @@ rm -rf crates/pair_speed/proofs crates/pair_speed/specs crates/pair_speed/src/*
 mkdir -p crates/pair_speed/proofs/fill crates/pair_speed/proofs/reopen_all crates/pair_speed/specs
 : > crates/pair_speed/specs/Lib.antt
 : > crates/pair_speed/proofs/Lib.antt
-grep -E '^vsw_(base|rule|least|trie|interval|classify|layerflow|policy):' "$root/crates.txt" > crates.txt
+grep -E '^vsw_(base|transpose|rule|index|classify|layerflow|policy):' "$root/crates.txt" > crates.txt
 echo 'pair_speed: vsw_base vsw_rule vsw_layerflow vsw_policy' >> crates.txt
 cat > crates/pair_speed/src/main.rt << 'END'
 //! Times the calls of a layer's pairs.

@@ -34,7 +34,7 @@ for size in (44, 1500):
 END
 
 mkdir -p "$work/repo/crates"
-for name in vsw_base vsw_sum vsw_link vsw_ipv4 vsw_l4 vsw_flowid vsw_transpose vsw_frame; do
+for name in vsw_base vsw_header vsw_transpose vsw_frame; do
     cp -r "$root/crates/$name" "$work/repo/crates"
     grep "^$name:" "$root/crates.txt" >> "$work/repo/crates.txt"
 done

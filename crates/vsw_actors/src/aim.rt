@@ -1,14 +1,14 @@
 //! To whom a packet goes, or why it is loose.
 
 ghost use Rattle.std.specs.Prelude.{◌≡◌, ◌≤◌, ◌<◌, ◌%◌, IfOk, length};
-ghost use Rattle.vsw_flowid.specs.Sum.{flow_sum_of};
+ghost use Rattle.vsw_header.specs.FlowSum.{flow_sum_of};
 ghost use Rattle.vsw_promise.specs.Jobs.{aim_of, loose_after, placed_packet};
 ghost use Rattle.vsw_actors.specs.Private.Aims.{IsCarried, captured_of, loose_in, placed_in};
 
 use crate::work::Packet;
 use vsw_base::{Mac, Stack};
-use vsw_flowid::{choose_port, spread};
 use vsw_frame::read_frame;
+use vsw_header::{choose_port, spread};
 use vsw_pcap::Captured;
 use vsw_report::LooseCause;
 

@@ -8,13 +8,13 @@ use Rattle.vsw_actors.specs.Rows.{IsSetUp, MayBegin}
 use Rattle.vsw_actors_tests.specs.declared.carrying.Load.{Load}
 use Rattle.vsw_actors_tests.specs.declared.carrying.Packet.{Packet}
 use Rattle.vsw_actors_tests.specs.declared.refusing.Refusing.{Refusing}
-use Rattle.vsw_commit.specs.Admit.{stop_of}
-use Rattle.vsw_commit.specs.declared.stop.Stop.{Stop}
+use Rattle.vsw_port.specs.Admit.{stop_of}
+use Rattle.vsw_port.specs.declared.stop.Stop.{Stop}
 use Rattle.vsw_base.specs.declared.fate.Fate.{Fate}
 use Rattle.vsw_base.specs.declared.fate.Fate.TheVariants.{Pass, Drop}
 use Rattle.vsw_base.specs.declared.fate.Verdict.{Verdict}
 use Rattle.vsw_base.specs.declared.fate.Verdict.TheVariants as verdict
-use Rattle.vsw_commit.specs.Cross.{cross_of, made_after}
+use Rattle.vsw_port.specs.Cross.{cross_of, made_after}
 use Rattle.vsw_port.specs.Calls.{Read, Shows}
 use Rattle.vsw_port.proofs.Fronts.{prefix_self}
 use Rattle.vsw_many.specs.Passes.{Crosses}

@@ -11,7 +11,7 @@ use Rattle.vsw_base.specs.declared.flow.Crossing.{Crossing}
 use Rattle.vsw_base.specs.declared.packet.Control.TheVariants as control
 use Rattle.vsw_base.specs.declared.packet.Dir.TheVariants.{Out}
 use Rattle.vsw_base.specs.Frame.{Parts}
-use Rattle.vsw_commit.specs.Fate.{fate_at}
+use Rattle.vsw_port.specs.Fate.{fate_at}
 use Rattle.vsw_frame.specs.Bytes.{outgoing}
 use Rattle.vsw_port.specs.Calls.{Job, Carry, Carried, Call}
 use Rattle.vsw_many.specs.Passes.{PassNow}

@@ -2,7 +2,7 @@
 
 ghost use Rattle.std.specs.Prelude.{◌≡◌, ◌≤◌, ℕ, IfOk, OnOk, filter_map, true};
 ghost use Rattle.std.specs.List.{Contains};
-ghost use Rattle.vsw_least.specs.Least.{lesser_of};
+ghost use Rattle.vsw_index.specs.Least.{lesser_of};
 ghost use Rattle.vsw_classify.specs.Private.Entry as entered;
 ghost use Rattle.vsw_classify.specs.Private.Rank.{meets_at};
 ghost use Rattle.vsw_classify.specs.Private.Search.{Narrows, IsNext, Offers, Offered};
@@ -12,9 +12,8 @@ use crate::memory::push;
 use crate::order::meets;
 use std::alloc::Global;
 use vsw_base::NoMemory;
-use vsw_interval::{Interval, PlacedRange};
+use vsw_index::{Interval, PlacedPrefix, PlacedRange, Trie};
 use vsw_rule::{Field, Item, Packet, Rule};
-use vsw_trie::{PlacedPrefix, Trie};
 
 /// More than any IPv4 address.
 const ADDRESSES: u64 = 0x1_0000_0000;

@@ -2,7 +2,7 @@
 
 use std::alloc::{AllocError, Global};
 use std::test::Fail;
-use vsw_interval::{Interval, PlacedRange};
+use vsw_index::{Interval, PlacedRange};
 
 fn placed(place: u32, low: u64, high: u64) -> PlacedRange {
     PlacedRange { place, low, high }

@@ -1,4 +1,4 @@
-//! Tests of `vsw_trie`, `vsw_interval` and `vsw_classify`, kept apart from them: with tests of its own, a crate is proved once more.
+//! Tests of `vsw_index` and `vsw_classify`, kept apart from them: with tests of its own, a crate is proved once more.
 #![tactic(auto)]
 
 #[cfg(test)]

@@ -3,7 +3,7 @@
 use std::alloc::{AllocError, Global};
 use std::test::Fail;
 use vsw_base::{Ip4, Prefix};
-use vsw_trie::{PlacedPrefix, Trie};
+use vsw_index::{PlacedPrefix, Trie};
 
 fn placed(place: u32, value: u32, bits: u8) -> PlacedPrefix {
     PlacedPrefix {

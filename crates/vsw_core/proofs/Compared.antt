@@ -7,7 +7,7 @@ use Rattle.vsw_base.specs.declared.fate.Verdict.TheVariants.{Pass, Rule, Default
 use Rattle.vsw_base.specs.declared.flow.Crossing.{Crossing}
 use Rattle.vsw_base.specs.declared.flow.Ufid.{Ufid}
 use Rattle.vsw_base.specs.declared.packet.Control.TheVariants as control
-use Rattle.vsw_commit.specs.Cross.{makes}
+use Rattle.vsw_port.specs.Cross.{makes}
 use Rattle.vsw_core.specs.Private.Comparing.{IsCompared, IsRead, IsSame, row_by}
 use Rattle.vsw_core.specs.Private.Steps.{wants_change}
 use Rattle.vsw_core.specs.Reconciling.{Agrees, IsChanged, IsCleared, IsKept, IsOld, WantsPair}
@@ -15,11 +15,11 @@ use Rattle.vsw_core.specs.Walks.{IsWholeWalk, SaysRowOf}
 use Rattle.vsw_core.proofs.Published.{key_of}
 use Rattle.vsw_core.proofs.Walked.{ActsOf, fresh_row, row_said}
 use Rattle.vsw_policy.specs.Layer.{LayerSeen}
-use Rattle.vsw_lean.specs.Good.{Row}
-use Rattle.vsw_lean.specs.Law.{wants_none}
-use Rattle.vsw_lean.specs.Way.{plain, way_of}
-use Rattle.vsw_lean.proofs.Answered.{quiet_until}
-use Rattle.vsw_lean.proofs.Ways.{walk_makes}
+use Rattle.vsw_rows.specs.Good.{Row}
+use Rattle.vsw_rows.specs.LeanLaw.{wants_none}
+use Rattle.vsw_rows.specs.Way.{plain, way_of}
+use Rattle.vsw_rows.proofs.Answered.{quiet_until}
+use Rattle.vsw_rows.proofs.Ways.{walk_makes}
 use Rattle.vsw_lookup.specs.Rules.{row_at, stamp_at}
 use Rattle.vsw_rows.specs.Rows.{IsEmpty, IsFormed, IsFresh, Says, Writing}
 use Rattle.vsw_rows.proofs.Answers.{key_length, words_are}

@@ -2,23 +2,23 @@
 use Rattle.std.proofs.Common.{◌≡◌, ◌≢◌, ◌≤◌, ◌<◌, ◌+◌, ◌-◌, ◌==◌, not, ℕ, zero, suc, Bool, true, false, true≢false, List, [], ◌∷◌, ◌++◌, length, set, slice_set, length-set, get_or, get_or-set_same, append-nil, length-append, inl, refl, sym, ap, subst, ◌∙◌, arith, Option, Some, None}
 use Rattle.std.proofs.lemmas.List.{set-set}
 use mathlib.Core.List.{IsPrefix}
-use Rattle.vsw_commit.specs.declared.stop.Stop.{Stop}
+use Rattle.vsw_port.specs.declared.stop.Stop.{Stop}
 use Rattle.vsw_base.specs.declared.fate.Fate.{Fate}
 use Rattle.vsw_base.specs.declared.fate.Verdict.{Verdict}
 use Rattle.vsw_base.specs.declared.fate.Verdict.TheVariants.{Pass, Rule, Default}
 use Rattle.vsw_base.specs.declared.flow.Crossing.{Crossing}
-use Rattle.vsw_commit.specs.Cross.{all_done, cross_of, made_after, made_by}
-use Rattle.vsw_commit.specs.Admit.{stop_of}
+use Rattle.vsw_port.specs.Cross.{all_done, cross_of, made_after, made_by}
+use Rattle.vsw_port.specs.Admit.{stop_of}
 use Rattle.vsw_core.specs.Calls.{OneShakes, Raises, ShakesCurrent, called, grown}
 use Rattle.vsw_core.specs.Private.Steps.{Steps, advanced, passing}
 use Rattle.vsw_port.specs.declared.event.Event.{Event}
 use Rattle.vsw_port.specs.declared.event.Event.TheVariants as event
 use Rattle.vsw_port.specs.History.{AllRight, AreRight, IsRight, Opening, after, after_all, replay}
 use Rattle.vsw_policy.specs.Layer.{LayerSeen}
-use Rattle.vsw_lean.specs.Good.{Row}
-use Rattle.vsw_lean.specs.Shaken.{shake}
-use Rattle.vsw_lean.specs.Way.{looks}
-use Rattle.vsw_lean.proofs.Stays.{length_all}
+use Rattle.vsw_rows.specs.Good.{Row}
+use Rattle.vsw_rows.specs.Shaken.{shake}
+use Rattle.vsw_rows.specs.Way.{looks}
+use Rattle.vsw_rows.proofs.Stays.{length_all}
 use Rattle.vsw_rows.specs.Entries.{entry_shakes}
 use Rattle.vsw_lookup.specs.Rules.{after_entry, one_if, passed, row_at}
 use Rattle.vsw_policy.specs.Layers.{PolicySeen}

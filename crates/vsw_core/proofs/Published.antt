@@ -2,9 +2,9 @@
 use Rattle.std.proofs.Common.{◌≡◌, ◌≤◌, ◌<◌, ◌+◌, ◌==◌, not, ℕ, suc, Bool, true, false, true≢false, List, [], ◌∷◌, ◌++◌, length, take, slice_set, get_or-set_same, refl, sym, ap, subst, ◌∙◌, arith, Option, Some, None}
 use Rattle.std.specs.Prelude.{nat_le}
 use Rattle.std.proofs.Math.Seq.{take-append_seam}
-use Rattle.vsw_commit.specs.declared.stop.Stop.{Stop}
-use Rattle.vsw_commit.specs.declared.stop.Stop.TheVariants as stop
-use Rattle.vsw_commit.specs.Admit.{stop_of}
+use Rattle.vsw_port.specs.declared.stop.Stop.{Stop}
+use Rattle.vsw_port.specs.declared.stop.Stop.TheVariants as stop
+use Rattle.vsw_port.specs.Admit.{stop_of}
 use Rattle.vsw_base.specs.declared.fate.Fate.{Fate}
 use Rattle.vsw_base.specs.declared.fate.Verdict.{Verdict}
 use Rattle.vsw_base.specs.declared.fate.Verdict.TheVariants.{Pass, Rule, Default}
@@ -12,8 +12,8 @@ use Rattle.vsw_base.specs.declared.flow.Crossing.{Crossing}
 use Rattle.vsw_base.specs.declared.flow.Ufid.{Ufid}
 use Rattle.vsw_base.specs.declared.header.Header.{Header}
 use Rattle.vsw_base.specs.declared.packet.Control.TheVariants as control
-use Rattle.vsw_commit.specs.Cross.{cross_of, fate_after, made_after, makes}
-use Rattle.vsw_commit.specs.Fate.{fate_at, fate_by}
+use Rattle.vsw_port.specs.Cross.{cross_of, fate_after, made_after, makes}
+use Rattle.vsw_port.specs.Fate.{fate_at, fate_by}
 use Rattle.vsw_core.specs.Calls.{Raises, called, grown}
 use Rattle.vsw_core.specs.Core.{IsOwned, total}
 use Rattle.vsw_core.specs.Private.Steps.{Publishes, Steps, wants_change}
@@ -22,11 +22,11 @@ use Rattle.vsw_core.specs.Publishing as publishing
 use Rattle.vsw_core.specs.Walks.{IsWholeWalk, SaysRowOf}
 use Rattle.vsw_port.specs.declared.event.Event.{Event}
 use Rattle.vsw_policy.specs.Layer.{LayerSeen}
-use Rattle.vsw_lean.specs.Good.{Good, Row}
-use Rattle.vsw_lean.specs.Law.{IsOfWay, wants_none}
-use Rattle.vsw_lean.specs.Way.{way_of}
-use Rattle.vsw_lean.proofs.Answered.{quiet_until}
-use Rattle.vsw_lean.proofs.Ways.{moment_unseen, walk_makes}
+use Rattle.vsw_rows.specs.Good.{Good, Row}
+use Rattle.vsw_rows.specs.LeanLaw.{IsOfWay, wants_none}
+use Rattle.vsw_rows.specs.Way.{way_of}
+use Rattle.vsw_rows.proofs.Answered.{quiet_until}
+use Rattle.vsw_rows.proofs.Ways.{moment_unseen, walk_makes}
 use Rattle.vsw_lookup.specs.Rules.{one_if, row_at, stamp_at}
 use Rattle.vsw_policy.specs.Layers.{PolicySeen}
 use Rattle.vsw_port.specs.Ledger.{LedgerSeen}

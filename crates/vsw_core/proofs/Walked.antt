@@ -6,11 +6,11 @@ use Rattle.vsw_base.specs.declared.header.Header.{Header}
 use Rattle.vsw_base.specs.declared.packet.Control.TheVariants as control
 use Rattle.vsw_base.specs.Fits.{AreFit}
 use Rattle.vsw_base.specs.Shape.{is_stack}
-use Rattle.vsw_commit.specs.Cross.{makes}
+use Rattle.vsw_port.specs.Cross.{makes}
 use Rattle.vsw_core.specs.Walks.{IsWholeWalk, SaysRowOf}
 use Rattle.vsw_policy.specs.Layer.{LayerSeen}
-use Rattle.vsw_lean.specs.Good.{IsGoodLeaning, Row}
-use Rattle.vsw_lean.proofs.Ways.{walk_makes}
+use Rattle.vsw_rows.specs.Good.{IsGoodLeaning, Row}
+use Rattle.vsw_rows.proofs.Ways.{walk_makes}
 use Rattle.vsw_rows.specs.Rows.{IsFresh}
 use Rattle.vsw_transpose.specs.declared.act.Act.{Act}
 use Rattle.vsw_transpose.specs.Apply.{apply}

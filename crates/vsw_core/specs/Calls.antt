@@ -2,7 +2,7 @@
 use Rattle.std.specs.Prelude.{◌≡◌, ◌+◌, ◌-◌, ◌++◌, ℕ, List, [], ◌∷◌, Bool, true, length, slice_set}
 use Rattle.vsw_port.specs.declared.event.Event.{Event}
 use Rattle.vsw_policy.specs.Layer.{LayerSeen}
-use Rattle.vsw_lean.specs.Good.{Row}
+use Rattle.vsw_rows.specs.Good.{Row}
 use Rattle.vsw_rows.specs.Entries.{entry_shakes}
 use Rattle.vsw_lookup.specs.declared.view.View.{View}
 use Rattle.vsw_lookup.specs.Rules.{one_if, row_at}

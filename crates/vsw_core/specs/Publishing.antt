@@ -6,10 +6,10 @@ use Rattle.vsw_base.specs.declared.fate.Fate.TheVariants.{Pass, Drop}
 use Rattle.vsw_base.specs.declared.flow.Crossing.{Crossing}
 use Rattle.vsw_base.specs.declared.flow.Ufid.{Ufid}
 use Rattle.vsw_base.specs.declared.packet.Control.TheVariants as control
-use Rattle.vsw_commit.specs.Cross.{cross_of}
-use Rattle.vsw_commit.specs.Fate.{fate_at}
+use Rattle.vsw_port.specs.Cross.{cross_of}
+use Rattle.vsw_port.specs.Fate.{fate_at}
 use Rattle.vsw_policy.specs.Layer.{LayerSeen}
-use Rattle.vsw_lean.specs.Good.{Good, Row}
+use Rattle.vsw_rows.specs.Good.{Good, Row}
 use Rattle.vsw_lookup.specs.Rules.{row_at, stamp_at}
 use Rattle.vsw_rows.specs.Rows.{IsCurrent, IsProbed, Says, Writing}
 use Rattle.vsw_words.specs.Key.{key_words}

@@ -4,8 +4,8 @@ use Rattle.vsw_base.specs.declared.fate.Verdict.TheVariants.{Pass}
 use Rattle.vsw_core.specs.declared.owner.Reconciled.{Reconciled}
 use Rattle.vsw_core.specs.declared.owner.Reconciled.TheVariants.{Fresh, Kept, Changed, Cleared}
 use Rattle.vsw_policy.specs.Layer.{LayerSeen}
-use Rattle.vsw_lean.specs.Good.{Good, Row}
-use Rattle.vsw_lean.specs.Way.{way_of}
+use Rattle.vsw_rows.specs.Good.{Good, Row}
+use Rattle.vsw_rows.specs.Way.{way_of}
 use Rattle.vsw_lookup.specs.Rules.{row_at, stamp_at}
 use Rattle.vsw_rows.specs.Rows.{IsCurrent, IsEmpty, Says, Writing}
 use Rattle.vsw_transpose.specs.Apply.{apply}

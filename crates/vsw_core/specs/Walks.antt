@@ -3,7 +3,7 @@ use Rattle.std.specs.Prelude.{◌≡◌, ℕ, List}
 use Rattle.vsw_base.specs.declared.fate.Verdict.TheVariants.{Pass}
 use Rattle.vsw_base.specs.declared.flow.Crossing.{Crossing}
 use Rattle.vsw_policy.specs.Layer.{LayerSeen}
-use Rattle.vsw_lean.specs.Good.{IsRowOf, Row}
+use Rattle.vsw_rows.specs.Good.{IsRowOf, Row}
 use Rattle.vsw_rows.specs.Rows.{Says}
 use Rattle.vsw_walk.specs.declared.walking.Walked.{Walked}
 use Rattle.vsw_walk.specs.Made.{Leads}

@@ -7,8 +7,8 @@ ghost use Rattle.vsw_core.specs.Private.Comparing.{IsCompared, IsRead, IsSame, r
 ghost use Rattle.vsw_core.specs.Reconciling.{IsOld, OthersStay, Reconciles};
 ghost use Rattle.vsw_core.specs.Walks.{IsWholeWalk};
 ghost use Rattle.vsw_policy.specs.Layer.{LayerSeen};
-ghost use Rattle.vsw_lean.specs.Good.{Row};
-ghost use Rattle.vsw_lean.specs.Way.{plain};
+ghost use Rattle.vsw_rows.specs.Good.{Row};
+ghost use Rattle.vsw_rows.specs.Way.{plain};
 ghost use Rattle.vsw_lookup.specs.Rules.{row_at};
 ghost use Rattle.vsw_port.specs.Ledger.{layers_in};
 ghost use Rattle.vsw_rows.specs.Rows.{IsEmpty, IsFormed, IsFresh, Says, layers_after};

@@ -3,7 +3,7 @@
 ghost use Rattle.std.specs.Prelude.{◌≡◌, ◌<◌, List, false, length, slice_set, true};
 ghost use Rattle.vsw_base.specs.declared.fate.Verdict.TheVariants.{Pass};
 ghost use Rattle.vsw_base.specs.declared.packet.Control.TheVariants as control;
-ghost use Rattle.vsw_commit.specs.Cross.{makes};
+ghost use Rattle.vsw_port.specs.Cross.{makes};
 ghost use Rattle.vsw_core.specs.Core.{IsOf};
 ghost use Rattle.vsw_core.specs.Walks.{IsWholeWalk, SaysRowOf};
 ghost use Rattle.vsw_policy.specs.Layer.{LayerSeen};

@@ -7,7 +7,7 @@ use Rattle.vsw_base.specs.Ipv4.{IpFields}
 use Rattle.vsw_base.specs.Shape.{ipv4_kind, is_packet, is_plain, is_stack}
 use Rattle.vsw_base.specs.Frame as frame
 use Rattle.vsw_base.specs.Frame.{Opened, End, Parts, encap_parts, frame_in, look_in, opened_of, plain_parts, ports, within, ◌>>=◌}
-use Rattle.vsw_sum.specs.Sum.{AreBytes}
+use Rattle.vsw_header.specs.Sum.{AreBytes}
 use Rattle.vsw_frame.specs.Seen.{is_within}
 use Rattle.vsw_frame.proofs.Cases.{read_in}
 use Rattle.vsw_frame.proofs.Fitting.{fits_edit}

@@ -13,8 +13,8 @@ use Rattle.vsw_base.specs.Ipv4.{IpFields, ip_header, ip_of, ip_total}
 use Rattle.vsw_base.specs.Udp.{UdpFields, udp_length}
 use Rattle.vsw_base.specs.Vxlan.{vni_of}
 use Rattle.vsw_base.proofs.Readings.{udp_dst, udp_src}
-use Rattle.vsw_sum.specs.Sum.{AreBytes}
-use Rattle.vsw_sum.proofs.Bytes.{bytes_dropped, bytes_taken}
+use Rattle.vsw_header.specs.Sum.{AreBytes}
+use Rattle.vsw_header.proofs.Bytes.{bytes_dropped, bytes_taken}
 use Rattle.vsw_transpose.specs.declared.act.Act.{Act}
 use Rattle.vsw_transpose.specs.declared.act.Act.TheVariants.{Push, Pop, Modify, Ignore}
 use Rattle.vsw_transpose.specs.declared.act.Change.{Change}

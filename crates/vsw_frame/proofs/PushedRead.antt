@@ -9,11 +9,11 @@ use Rattle.vsw_base.specs.Shape.{ipv4_kind}
 use Rattle.vsw_base.specs.Vxlan.{vxlan_port}
 use Rattle.vsw_base.specs.Frame as frame
 use Rattle.vsw_base.specs.Frame.{Opened, End, opened_of, slack_in, within}
-use Rattle.vsw_ipv4.specs.Ip.{pushed_ip_bytes}
-use Rattle.vsw_ipv4.proofs.Back as ip
-use Rattle.vsw_l4.specs.Vxlan.{udp_vxlan_bytes, vxlan_bytes}
-use Rattle.vsw_l4.proofs.Back as l4
-use Rattle.vsw_link.proofs.Back as link
+use Rattle.vsw_header.specs.Ip.{pushed_ip_bytes}
+use Rattle.vsw_header.proofs.IpBack as ip
+use Rattle.vsw_header.specs.Vxlan.{udp_vxlan_bytes, vxlan_bytes}
+use Rattle.vsw_header.proofs.L4Back as l4
+use Rattle.vsw_header.proofs.EtherBack as link
 use Rattle.vsw_frame.specs.Push.{encap_pushed, packet_pushed}
 use Rattle.vsw_frame.proofs.Openings.{end_udp, opened_over}
 

@@ -6,9 +6,9 @@ use borrow.Rule.Slice.PartMut.{put_mid}
 use Rattle.vsw_base.specs.declared.header.Header.{Header}
 use Rattle.vsw_base.specs.declared.header.Header.TheVariants.{Ether, Ip, Vxlan}
 use Rattle.vsw_base.specs.Shape.{ipv4_kind, encaps}
-use Rattle.vsw_ipv4.specs.Ip.{pushed_ip_bytes}
-use Rattle.vsw_l4.specs.Vxlan.{udp_vxlan_bytes}
-use Rattle.vsw_link.specs.Ether.{ether_bytes}
+use Rattle.vsw_header.specs.Ip.{pushed_ip_bytes}
+use Rattle.vsw_header.specs.Vxlan.{udp_vxlan_bytes}
+use Rattle.vsw_header.specs.Ether.{ether_bytes}
 use Rattle.vsw_frame.specs.Push.{packet_pushed, encap_pushed, pushed, AreEncaps}
 use Rattle.vsw_frame.specs.Headers.{outer_of}
 use Rattle.vsw_frame.specs.declared.push.Outer.{Outer}

@@ -7,8 +7,8 @@ use Rattle.std.proofs.Math.Seq.{drop-append_seam, take-add}
 use Rattle.byteorder.specs.Endian.{big_bytes, big_number}
 use Rattle.vsw_base.specs.Ethernet.{EtherFields, ether_of}
 use Rattle.vsw_base.specs.Ipv4.{IpFields, ip_fields, ip_header, ip_of, ip_total, is_part}
-use Rattle.vsw_ipv4.specs.Change.{ip_changed}
-use Rattle.vsw_link.specs.Change.{ether_changed}
+use Rattle.vsw_header.specs.IpChange.{ip_changed}
+use Rattle.vsw_header.specs.EtherChange.{ether_changed}
 use Rattle.vsw_frame.proofs.Alike.{ip_bounds}
 
 four_is : (x : ℕ) (rest : List ℕ) → x < 2 ^ 32 → big_number 4 (big_bytes 4 x ++ rest) ≡ x

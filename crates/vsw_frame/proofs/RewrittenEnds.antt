@@ -8,8 +8,8 @@ use Rattle.byteorder.specs.Endian.{big_bytes, big_number}
 use Rattle.vsw_base.specs.declared.packet.Control.{Control}
 use Rattle.vsw_base.specs.Tcp.{TcpFields, control_of, tcp_header, tcp_of}
 use Rattle.vsw_base.specs.Udp.{UdpFields, udp_length, udp_of}
-use Rattle.vsw_l4.specs.Change.{tcp_changed, udp_changed}
-use Rattle.vsw_l4.specs.declared.change.Endpoints.{Endpoints}
+use Rattle.vsw_header.specs.L4Change.{tcp_changed, udp_changed}
+use Rattle.vsw_header.specs.declared.l4_change.Endpoints.{Endpoints}
 use Rattle.vsw_frame.proofs.Alike.{tcp_bounds, udp_bounds}
 use Rattle.vsw_frame.proofs.Tiles.{tcp_payload, udp_payload, udp_slack}
 

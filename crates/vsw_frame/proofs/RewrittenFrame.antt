@@ -10,9 +10,9 @@ use Rattle.vsw_base.specs.Udp.{UdpFields}
 use Rattle.vsw_base.specs.Shape.{ipv4_kind}
 use Rattle.vsw_base.specs.Frame as frame
 use Rattle.vsw_base.specs.Frame.{Opened, End, control_in, end_of, opened_of, payload_in, ports, slack_in}
-use Rattle.vsw_ipv4.specs.Change.{ip_changed}
-use Rattle.vsw_l4.specs.Change.{tcp_changed, udp_changed}
-use Rattle.vsw_link.specs.Change.{ether_changed}
+use Rattle.vsw_header.specs.IpChange.{ip_changed}
+use Rattle.vsw_header.specs.L4Change.{tcp_changed, udp_changed}
+use Rattle.vsw_header.specs.EtherChange.{ether_changed}
 use Rattle.vsw_frame.specs.Bytes.{AreLike}
 use Rattle.vsw_frame.specs.Change.{frame_changed}
 use Rattle.vsw_frame.proofs.InnerCases.{EtherEdit, InnerCases, IpEdit, PortsEdit, inner_cases}

@@ -6,9 +6,9 @@ use Rattle.vsw_base.specs.Ipv4.{IpFields, ip_header, ip_of, ip_total}
 use Rattle.vsw_base.specs.Tcp.{TcpFields}
 use Rattle.vsw_base.specs.Udp.{UdpFields}
 use Rattle.vsw_base.specs.Frame as frame
-use Rattle.vsw_ipv4.specs.Change.{ip_changed}
-use Rattle.vsw_l4.specs.Change.{tcp_changed, udp_changed}
-use Rattle.vsw_l4.specs.declared.change.Endpoints.{Endpoints}
+use Rattle.vsw_header.specs.IpChange.{ip_changed}
+use Rattle.vsw_header.specs.L4Change.{tcp_changed, udp_changed}
+use Rattle.vsw_header.specs.declared.l4_change.Endpoints.{Endpoints}
 use Rattle.vsw_frame.proofs.Alike.{ip_bounds, tcp_bounds, udp_bounds}
 use Rattle.vsw_frame.proofs.InnerCases.{IpEdit, PortsEdit}
 use Rattle.vsw_frame.proofs.Inverted.{IsTcp, IsUdp}

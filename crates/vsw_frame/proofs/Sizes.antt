@@ -11,11 +11,11 @@ use Rattle.vsw_frame.specs.Differ.{differ}
 use Rattle.vsw_frame.specs.Kept.{udp_at, udp_kept}
 use Rattle.vsw_frame.specs.Push.{pushed}
 use Rattle.vsw_frame.specs.Room.{HasFrame, HasPacket, ports_len}
-use Rattle.vsw_ipv4.specs.Change as ip
-use Rattle.vsw_ipv4.specs.Change.{ip_changed}
-use Rattle.vsw_l4.specs.Change.{checksum_changed, tcp_changed, udp_changed, udp_checksum_changed}
-use Rattle.vsw_l4.specs.declared.change.Endpoints.{Endpoints}
-use Rattle.vsw_link.specs.Change.{ether_changed}
+use Rattle.vsw_header.specs.IpChange as ip
+use Rattle.vsw_header.specs.IpChange.{ip_changed}
+use Rattle.vsw_header.specs.L4Change.{checksum_changed, tcp_changed, udp_changed, udp_checksum_changed}
+use Rattle.vsw_header.specs.declared.l4_change.Endpoints.{Endpoints}
+use Rattle.vsw_header.specs.EtherChange.{ether_changed}
 use Rattle.vsw_frame.specs.Bytes.{drops, encap_kept, levels_changed, outgoing, outgoing_size, pushes, source_port}
 use Rattle.vsw_frame.specs.Layout.{AreLaid, IsAround}
 use Rattle.vsw_frame.proofs.Carried.{Carries, carries_count, carries_inner}

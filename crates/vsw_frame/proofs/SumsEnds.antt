@@ -11,19 +11,19 @@ use Rattle.vsw_base.specs.Ipv4.{IpFields, ip_header, ip_of, ip_total}
 use Rattle.vsw_base.specs.Tcp.{TcpFields, control_of, tcp_header, tcp_of}
 use Rattle.vsw_base.specs.Udp.{UdpFields}
 use Rattle.vsw_base.specs.Frame as frame
-use Rattle.vsw_sum.specs.Sum.{AreBytes, checksum}
-use Rattle.vsw_sum.specs.Update.{written}
-use Rattle.vsw_l4.specs.Change.{tcp_changed, udp_changed}
-use Rattle.vsw_l4.specs.Right.{AreEndpoints, IsChange, IsDatagram, IsTcpRight, IsUdpRight, datagram, udp_checksum, udp_words}
-use Rattle.vsw_l4.specs.declared.change.Endpoints.{Endpoints}
-use Rattle.vsw_l4.proofs.Right as tcp
-use Rattle.vsw_l4.proofs.RightUdp as udp
+use Rattle.vsw_header.specs.Sum.{AreBytes, checksum}
+use Rattle.vsw_header.specs.Update.{written}
+use Rattle.vsw_header.specs.L4Change.{tcp_changed, udp_changed}
+use Rattle.vsw_header.specs.L4Right.{AreEndpoints, IsChange, IsDatagram, IsTcpRight, IsUdpRight, datagram, udp_checksum, udp_words}
+use Rattle.vsw_header.specs.declared.l4_change.Endpoints.{Endpoints}
+use Rattle.vsw_header.proofs.L4Right as tcp
+use Rattle.vsw_header.proofs.UdpRight as udp
 use Rattle.vsw_frame.specs.Sums.{IsSegmentRight, WasSegmentRight, carried}
 use Rattle.vsw_frame.proofs.Alike.{tcp_bounds, udp_bounds}
 use Rattle.vsw_frame.proofs.InnerCases.{PortsEdit}
 use Rattle.vsw_frame.proofs.Inverted.{IsTcp, IsUdp}
 use Rattle.vsw_frame.proofs.RewrittenPacket.{ends_at, ip_with, packet_with, tcp_packet, udp_packet}
-use Rattle.vsw_sum.proofs.Bytes.{bytes_dropped, bytes_taken}
+use Rattle.vsw_header.proofs.Bytes.{bytes_dropped, bytes_taken}
 use Rattle.vsw_frame.proofs.Tiles.{ip_payload}
 use Rattle.vsw_base.proofs.Readings.{udp_src, udp_dst}
 

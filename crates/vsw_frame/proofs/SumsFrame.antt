@@ -3,20 +3,20 @@ use Rattle.std.proofs.Common.{◌≡◌, ℕ, ◌≤◌, List, ◌∷◌, ◌++�
 use Rattle.vsw_base.specs.declared.header.Header.{Header}
 use Rattle.vsw_base.specs.Fits.{AreFit}
 use Rattle.vsw_base.specs.Frame.{Opened, opened_of, ports}
-use Rattle.vsw_sum.specs.Sum.{AreBytes, checksum}
-use Rattle.vsw_ipv4.specs.Change.{ip_changed}
-use Rattle.vsw_sum.specs.Update.{IsOtherZero}
-use Rattle.vsw_ipv4.specs.Right.{IsRight, header_checksum, header_words}
-use Rattle.vsw_l4.specs.Change.{tcp_changed, udp_changed}
-use Rattle.vsw_l4.specs.Right.{udp_checksum}
-use Rattle.vsw_link.specs.Change.{ether_changed}
+use Rattle.vsw_header.specs.Sum.{AreBytes, checksum}
+use Rattle.vsw_header.specs.IpChange.{ip_changed}
+use Rattle.vsw_header.specs.Update.{IsOtherZero}
+use Rattle.vsw_header.specs.IpRight.{IsRight, header_checksum, header_words}
+use Rattle.vsw_header.specs.L4Change.{tcp_changed, udp_changed}
+use Rattle.vsw_header.specs.L4Right.{udp_checksum}
+use Rattle.vsw_header.specs.EtherChange.{ether_changed}
 use Rattle.vsw_frame.specs.Bytes.{AreLike}
 use Rattle.vsw_frame.specs.Change.{frame_changed}
 use Rattle.vsw_frame.specs.Sums.{HasNoSum, IsEndRight, IsIpRight, IsSegmentRight, WasEndRight, WasIpRight, carried}
 use Rattle.vsw_frame.proofs.InnerCases.{InnerCases, inner_cases}
 use Rattle.vsw_frame.proofs.Rewritten.{ether_length}
 use Rattle.vsw_frame.proofs.RewrittenPacket.{ends_at, packet_with, rest_packet, tcp_packet, udp_packet}
-use Rattle.vsw_sum.proofs.Bytes.{bytes_dropped}
+use Rattle.vsw_header.proofs.Bytes.{bytes_dropped}
 use Rattle.vsw_frame.proofs.SumsInner.{packet_right, packet_wrong, whole_right, whole_wrong}
 use Rattle.vsw_frame.proofs.SumsEnds.{datagram_of, none_right, none_wrong, tcp_right, tcp_wrong, udp_right, udp_wrong}
 

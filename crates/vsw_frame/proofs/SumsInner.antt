@@ -3,11 +3,11 @@ use Rattle.std.proofs.Common.{◌≡◌, ℕ, zero, suc, ◌^◌, ◌≤◌, ◌
 use Rattle.std.proofs.lemmas.List.{take-append-drop}
 use Rattle.std.proofs.Math.Seq.{take-append_seam}
 use Rattle.vsw_base.specs.Ipv4.{IpFields, ip_header, ip_of}
-use Rattle.vsw_sum.specs.Sum.{AreBytes, checksum, words_of}
-use Rattle.vsw_ipv4.specs.Change.{ip_changed}
-use Rattle.vsw_sum.specs.Update.{IsOtherZero}
-use Rattle.vsw_ipv4.specs.Right.{IsHeader, IsRight, header_checksum, header_words}
-use Rattle.vsw_ipv4.proofs.Right.{ip_stays_right, ip_stays_wrong}
+use Rattle.vsw_header.specs.Sum.{AreBytes, checksum, words_of}
+use Rattle.vsw_header.specs.IpChange.{ip_changed}
+use Rattle.vsw_header.specs.Update.{IsOtherZero}
+use Rattle.vsw_header.specs.IpRight.{IsHeader, IsRight, header_checksum, header_words}
+use Rattle.vsw_header.proofs.IpRight.{ip_stays_right, ip_stays_wrong}
 use Rattle.vsw_frame.proofs.Alike.{ip_bounds}
 use Rattle.vsw_frame.proofs.Rewritten.{changed_before, ip_changed-length, ip_version}
 use Rattle.vsw_frame.proofs.RewrittenPacket.{packet_with}

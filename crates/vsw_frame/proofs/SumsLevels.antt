@@ -5,9 +5,9 @@ use Rattle.vsw_base.specs.declared.header.Header.{Header}
 use Rattle.vsw_base.specs.declared.header.Header.TheVariants.{Ether, Ip, Vxlan}
 use Rattle.vsw_base.specs.Shape.{ipv4_kind}
 use Rattle.vsw_base.specs.Frame.{Level, size_at}
-use Rattle.vsw_ipv4.specs.Ip.{pushed_ip_bytes}
-use Rattle.vsw_l4.specs.Vxlan.{udp_vxlan_bytes}
-use Rattle.vsw_link.specs.Ether.{ether_bytes}
+use Rattle.vsw_header.specs.Ip.{pushed_ip_bytes}
+use Rattle.vsw_header.specs.Vxlan.{udp_vxlan_bytes}
+use Rattle.vsw_header.specs.Ether.{ether_bytes}
 use Rattle.vsw_frame.specs.Bytes.{levels_changed}
 use Rattle.vsw_frame.specs.Differ.{differ}
 use Rattle.vsw_frame.specs.Kept.{udp_at, udp_kept}

@@ -3,10 +3,10 @@ use Rattle.std.proofs.Common.{◌≡◌, ℕ, zero, suc, refl, ◌∙◌, ap, �
 use Rattle.vsw_base.specs.declared.header.Header.{Header}
 use Rattle.vsw_base.specs.declared.header.Header.TheVariants.{Ether, Ip, Vxlan}
 use Rattle.vsw_base.specs.Shape.{encaps, inner}
-use Rattle.vsw_sum.specs.Sum.{checksum, words_of}
-use Rattle.vsw_ipv4.specs.Ip.{ip_bytes, pushed_checksum, pushed_ip_bytes}
-use Rattle.vsw_ipv4.specs.Right.{IsRight}
-use Rattle.vsw_l4.specs.Vxlan.{udp_vxlan_bytes}
+use Rattle.vsw_header.specs.Sum.{checksum, words_of}
+use Rattle.vsw_header.specs.Ip.{ip_bytes, pushed_checksum, pushed_ip_bytes}
+use Rattle.vsw_header.specs.IpRight.{IsRight}
+use Rattle.vsw_header.specs.Vxlan.{udp_vxlan_bytes}
 use Rattle.vsw_frame.specs.Bytes.{levels_changed, pushes, source_port}
 use Rattle.vsw_frame.specs.Push.{pushed}
 use Rattle.vsw_frame.specs.RoundTrip.{levels_pushed, levels_staying}

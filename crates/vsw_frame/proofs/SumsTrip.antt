@@ -5,7 +5,7 @@ use Rattle.vsw_base.specs.Fits.{AreFit}
 use Rattle.vsw_base.specs.Shape.{encaps, inner}
 use Rattle.vsw_base.specs.Frame.{Level, Parts, level_of, payload_in, ports}
 use Rattle.vsw_base.proofs.Stacks.{in_front}
-use Rattle.vsw_sum.specs.Sum.{AreBytes}
+use Rattle.vsw_header.specs.Sum.{AreBytes}
 use Rattle.vsw_frame.specs.Bytes.{AreLike, drops, levels_changed, pushes, source_port}
 use Rattle.vsw_frame.specs.Change.{frame_changed}
 use Rattle.vsw_frame.specs.RoundTrip.{IsRewriting, levels_kept, levels_pushed, levels_staying, levels_written}

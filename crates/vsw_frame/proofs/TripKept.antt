@@ -11,14 +11,14 @@ use Rattle.vsw_base.specs.Frame.{Level, Parts, Opened, control_in, encap_parts, 
 use Rattle.vsw_frame.specs.Bytes.{AreLike, encap_kept, levels_changed}
 use Rattle.vsw_frame.specs.Change.{frame_changed}
 use Rattle.vsw_frame.specs.Differ.{differ}
-use Rattle.vsw_sum.specs.Sum.{AreBytes}
+use Rattle.vsw_header.specs.Sum.{AreBytes}
 use Rattle.vsw_frame.specs.RoundTrip.{levels_kept}
 use Rattle.vsw_frame.specs.Sums.{innermost}
 use Rattle.vsw_frame.proofs.Around.{TwoInFront, around, around_none, around_twice, encap_step, none_plain, two_in_front}
 use Rattle.vsw_frame.proofs.Cases.{FrameCases, frame_cases}
 use Rattle.vsw_frame.proofs.KeptEncap.{encap_kept_read}
 use Rattle.vsw_frame.proofs.RewrittenFrame.{inner_read}
-use Rattle.vsw_sum.proofs.Bytes.{bytes_dropped, bytes_taken}
+use Rattle.vsw_header.proofs.Bytes.{bytes_dropped, bytes_taken}
 use Rattle.vsw_frame.proofs.Tiles.{inner_ends, opened_ends, vxlan_follows}
 
 abbrev pub written_level : Opened → List ℕ → Level

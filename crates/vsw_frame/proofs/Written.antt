@@ -1,7 +1,7 @@
 -- The definition of outgoing bytes computes on frames that were rewritten by hand.
 use Rattle.std.proofs.Common.{refl}
 use Rattle.vsw_base.specs.Frame.{frame_in}
-use Rattle.vsw_ipv4.specs.Ip.{pushed_checksum}
+use Rattle.vsw_header.specs.Ip.{pushed_checksum}
 use Rattle.vsw_frame.specs.Vectors.{WritesEncapsulated, WritesAnswer}
 
 pub writes_encapsulated : WritesEncapsulated

@@ -9,7 +9,7 @@ use Rattle.vsw_frame.specs.Change.{frame_changed}
 use Rattle.vsw_frame.specs.Differ.{differ}
 use Rattle.vsw_frame.specs.Kept.{udp_at, udp_kept}
 use Rattle.vsw_frame.specs.Push.{pushed}
-use Rattle.vsw_flowid.specs.Sum.{flow_sum_of}
+use Rattle.vsw_header.specs.FlowSum.{flow_sum_of}
 
 -- a kept encapsulation around its inner frame: but for the UDP checksum all stays, slack and trailer too
 abbrev pub encap_kept : Bool → Level → List ℕ → List ℕ

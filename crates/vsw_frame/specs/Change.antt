@@ -5,10 +5,10 @@ use Rattle.vsw_base.specs.declared.header.Header.TheVariants.{Ether, Ip, Vxlan, 
 use Rattle.vsw_base.specs.Ipv4.{ip_header}
 use Rattle.vsw_frame.specs.Headers.{ends_of}
 use Rattle.vsw_frame.specs.declared.in_place.Ends.{Ends}
-use Rattle.vsw_ipv4.specs.Change.{ip_changed}
-use Rattle.vsw_l4.specs.Change.{tcp_changed, udp_changed}
-use Rattle.vsw_l4.specs.declared.change.Endpoints.{Endpoints}
-use Rattle.vsw_link.specs.Change.{ether_changed}
+use Rattle.vsw_header.specs.IpChange.{ip_changed}
+use Rattle.vsw_header.specs.L4Change.{tcp_changed, udp_changed}
+use Rattle.vsw_header.specs.declared.l4_change.Endpoints.{Endpoints}
+use Rattle.vsw_header.specs.EtherChange.{ether_changed}
 
 -- a whole TCP or UDP segment, whose endpoints change
 abbrev pub segment_changed : ℕ → Endpoints → Endpoints → List ℕ → List ℕ

@@ -1,7 +1,7 @@
 -- The headers of an encapsulation that is kept around a changed inner frame.
 use Rattle.std.specs.Prelude.{ℕ, ◌+◌, Bool, true, false, List, drop}
 use Rattle.vsw_base.specs.Ipv4.{ip_header}
-use Rattle.vsw_l4.specs.Change.{unchecked}
+use Rattle.vsw_header.specs.L4Change.{unchecked}
 
 -- bytes of Ethernet and IPv4 with its options, behind which UDP stands
 abbrev pub udp_at : List ℕ → ℕ

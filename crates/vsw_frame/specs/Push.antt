@@ -3,11 +3,11 @@ use Rattle.std.specs.Prelude.{ℕ, ◌+◌, ◌<◌, ◌^◌, List, [], ◌∷�
 use Rattle.vsw_base.specs.declared.header.Header.{Header}
 use Rattle.vsw_base.specs.declared.header.Header.TheVariants.{Ether, Ip, Vxlan, Ports}
 use Rattle.vsw_base.specs.Shape.{ipv4_kind}
-use Rattle.vsw_ipv4.specs.Ip.{pushed_ip_bytes}
-use Rattle.vsw_l4.specs.Vxlan.{udp_vxlan_bytes}
+use Rattle.vsw_header.specs.Ip.{pushed_ip_bytes}
+use Rattle.vsw_header.specs.Vxlan.{udp_vxlan_bytes}
 use Rattle.vsw_frame.specs.Headers.{outers_of}
 use Rattle.vsw_frame.specs.declared.push.Outer.{Outer}
-use Rattle.vsw_link.specs.Ether.{ether_bytes}
+use Rattle.vsw_header.specs.Ether.{ether_bytes}
 
 -- a pushed encapsulation, 50 bytes in front of a frame: IPv4, UDP and VXLAN, and Ethernet in front of them
 abbrev pub packet_pushed : ℕ → ℕ → ℕ → ℕ → List ℕ → List ℕ

@@ -7,7 +7,7 @@ use Rattle.vsw_base.specs.Fits.{AreFit, IsFit}
 use Rattle.vsw_base.specs.Frame.{Level, Parts, frame_of}
 use Rattle.vsw_base.specs.Shape.{encaps, inner}
 use Rattle.vsw_base.specs.Vxlan.{vni_of, vxlan_port}
-use Rattle.vsw_sum.specs.Sum.{AreBytes}
+use Rattle.vsw_header.specs.Sum.{AreBytes}
 use Rattle.vsw_transpose.specs.declared.act.Act.{Act}
 use Rattle.vsw_transpose.specs.declared.act.Act.TheVariants.{Push, Pop, Modify, Ignore}
 use Rattle.vsw_transpose.specs.declared.act.Change.{Change}

@@ -2,8 +2,8 @@
 use Rattle.std.specs.Prelude.{◌≡◌, ◌≤◌, ◌+◌, ◌*◌, true, ◌<◌, ◌||◌, ◌&&◌, ℕ, zero, suc, Bool, List, ◌∷◌, ◌++◌, length, take, drop, Option, Some, None, Result, Ok, Err}
 use Rattle.vsw_base.specs.declared.fault.BadFrame.{BadFrame}
 use Rattle.vsw_base.specs.Frame as frame
-use Rattle.vsw_l4.specs.Tcp.{tcp_view}
-use Rattle.vsw_l4.specs.Udp.{udp_view}
+use Rattle.vsw_header.specs.Tcp.{tcp_view}
+use Rattle.vsw_header.specs.Udp.{udp_view}
 use Rattle.vsw_frame.specs.declared.opened.End.{End}
 use Rattle.vsw_frame.specs.declared.opened.End.TheVariants.{Rest, OverTcp, OverUdp}
 use Rattle.vsw_frame.specs.declared.opened.Opened.{Opened}

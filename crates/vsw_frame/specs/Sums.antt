@@ -4,10 +4,10 @@ use Rattle.vsw_base.specs.declared.header.Header.{Header}
 use Rattle.vsw_base.specs.Frame.{Level, Parts}
 use Rattle.vsw_base.specs.Ipv4.{ip_header, ip_total}
 use Rattle.vsw_base.specs.Shape.{inner}
-use Rattle.vsw_sum.specs.Sum.{AreBytes, checksum}
-use Rattle.vsw_sum.specs.Update.{IsOtherZero}
-use Rattle.vsw_ipv4.specs.Right.{IsRight, header_checksum, header_words}
-use Rattle.vsw_l4.specs.Right.{IsTcpRight, IsUdpRight, tcp_checksum, tcp_words, udp_checksum}
+use Rattle.vsw_header.specs.Sum.{AreBytes, checksum}
+use Rattle.vsw_header.specs.Update.{IsOtherZero}
+use Rattle.vsw_header.specs.IpRight.{IsRight, header_checksum, header_words}
+use Rattle.vsw_header.specs.L4Right.{IsTcpRight, IsUdpRight, tcp_checksum, tcp_words, udp_checksum}
 use Rattle.vsw_frame.specs.Bytes.{levels_changed, outgoing, pushes, source_port}
 use Rattle.vsw_frame.specs.Differ.{differ}
 use Rattle.vsw_frame.specs.Kept.{udp_at}

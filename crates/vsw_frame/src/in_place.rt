@@ -5,12 +5,10 @@ ghost use Rattle.vsw_base.specs.Ipv4.{ip_header};
 ghost use Rattle.vsw_frame.specs.Change.{segment_changed, packet_changed, frame_changed};
 ghost use Rattle.vsw_frame.specs.Headers.{ends_of};
 ghost use Rattle.vsw_frame.specs.Room.{HasPacket, HasFrame, ports_len};
-ghost use Rattle.vsw_ipv4.specs.Change.{ip_changed};
+ghost use Rattle.vsw_header.specs.IpChange.{ip_changed};
 
 use vsw_base::Header;
-use vsw_ipv4::{change_ip, header_len};
-use vsw_l4::{Endpoints, change_tcp, change_udp};
-use vsw_link::change_ether;
+use vsw_header::{Endpoints, change_ether, change_ip, change_tcp, change_udp, header_len};
 
 /// IPv4's protocol number of TCP.
 const TCP: u8 = 6;

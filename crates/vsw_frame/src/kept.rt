@@ -4,8 +4,7 @@ ghost use Rattle.std.specs.Prelude.{◌≡◌, ◌≤◌, length};
 ghost use Rattle.vsw_frame.specs.Kept as kept;
 ghost use Rattle.vsw_frame.specs.Kept.{udp_kept};
 
-use vsw_ipv4::header_len;
-use vsw_l4::uncheck_udp;
+use vsw_header::{header_len, uncheck_udp};
 
 /// Bytes of an Ethernet header.
 const ETHER_LEN: usize = 14;

@@ -5,12 +5,12 @@ ghost use Rattle.vsw_base.specs.Shape.{is_plain, is_packet};
 ghost use Rattle.vsw_base.specs.declared.header.Header.TheVariants.{Ip};
 ghost use Rattle.vsw_base.specs.Frame.{opened_of, end_of, within, ports, control_in, payload_in, slack_in, ether_header};
 ghost use Rattle.vsw_frame.specs.Seen.{added, Adds, end_seen, end_fields, opened_seen, inner_seen};
-ghost use Rattle.vsw_ipv4.specs.Ip.{ip_view};
+ghost use Rattle.vsw_header.specs.Ip.{ip_view};
 
 use vsw_base::{BadFrame, Control, Header, Headers};
-use vsw_ipv4::{IpPart, read_ip};
-use vsw_l4::{TcpPart, UdpPart, read_tcp, read_udp, read_vxlan};
-use vsw_link::{EtherPart, read_ether};
+use vsw_header::{
+    EtherPart, IpPart, TcpPart, UdpPart, read_ether, read_ip, read_tcp, read_udp, read_vxlan,
+};
 
 /// The Ethernet type of IPv4 (RFC 894).
 const IPV4: u16 = 0x0800;

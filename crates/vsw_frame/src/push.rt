@@ -6,9 +6,7 @@ ghost use Rattle.vsw_frame.specs.Headers.{outer_of};
 ghost use Rattle.vsw_frame.specs.Push.{encap_pushed, packet_pushed, pushed, AreEncaps};
 
 use vsw_base::{Header, Ip4, Mac};
-use vsw_ipv4::write_ip;
-use vsw_l4::write_udp_vxlan;
-use vsw_link::write_ether;
+use vsw_header::{write_ether, write_ip, write_udp_vxlan};
 
 /// The Ethernet type of IPv4 (RFC 894).
 const IPV4: u16 = 0x0800;

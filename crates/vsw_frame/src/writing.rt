@@ -16,7 +16,7 @@ use crate::frame::{Frame, Levels};
 use crate::levels::{all_levels, levels_without};
 use crate::{ENCAP_LEN, write_encaps};
 use vsw_base::{Header, Long, Stack};
-use vsw_flowid::flow_sum;
+use vsw_header::flow_sum;
 use vsw_transpose::Transposition;
 
 /// Bytes that an IPv4 header can say (RFC 791, section 3.1).

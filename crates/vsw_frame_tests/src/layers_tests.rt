@@ -1,15 +1,14 @@
 //! What two layers do to frames, as one transposition: the actions are composed, and the frames written.
 
 ghost use Rattle.std.specs.Prelude.{◌≤◌, ◌<◌, ◌^◌, IsTrue, length};
-ghost use Rattle.vsw_compose.specs.Edit.{goes_on};
+ghost use Rattle.vsw_rule.specs.Edit.{goes_on};
 ghost use Rattle.vsw_rule.specs.Match.{can_do};
 
 use crate::frames::{DELIVERED, OLD, QUERY, REPLY, ROOM, SENT, begins};
 use std::process::Abort;
 use vsw_base::{Ip4, Mac, Outer, Set, Stack};
-use vsw_compose::{act_of, compose};
 use vsw_frame::{read_frame, rewrite};
-use vsw_rule::Action;
+use vsw_rule::{Action, act_of, compose};
 use vsw_transpose::Transposition;
 
 fn nothing() -> Set {

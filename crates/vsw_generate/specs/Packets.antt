@@ -4,9 +4,9 @@ use Rattle.byteorder.specs.Endian.{big_bytes}
 use Rattle.vsw_base.specs.declared.header.Header.{Header}
 use Rattle.vsw_base.specs.declared.header.Header.TheVariants.{Ether, Ip, Ports}
 use Rattle.vsw_base.specs.Shape.{ipv4_kind}
-use Rattle.vsw_flowid.specs.Sum.{flow_sum_of}
-use Rattle.vsw_link.specs.Ether.{ether_bytes}
-use Rattle.vsw_ipv4.specs.Ip.{pushed_ip_bytes}
+use Rattle.vsw_header.specs.FlowSum.{flow_sum_of}
+use Rattle.vsw_header.specs.Ether.{ether_bytes}
+use Rattle.vsw_header.specs.Ip.{pushed_ip_bytes}
 use Rattle.vsw_frame.specs.Push.{encap_pushed}
 use Rattle.vsw_generate.specs.Draws.{flow_of, kind_of, size_of}
 use Rattle.vsw_generate.specs.declared.frame.Ends.{Ends}

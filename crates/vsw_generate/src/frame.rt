@@ -5,10 +5,8 @@ ghost use Rattle.vsw_generate.specs.Packets as spec;
 ghost use Rattle.vsw_generate.specs.Packets.{udp_bytes, packet_bytes, frame_bytes, answer_bytes, query, turned, bytes_by, len_by};
 
 use vsw_base::{Header, Headers, Ip4, Mac, Stack};
-use vsw_flowid::flow_sum;
 use vsw_frame::write_encaps;
-use vsw_ipv4::write_ip;
-use vsw_link::write_ether;
+use vsw_header::{flow_sum, write_ether, write_ip};
 
 /// The Ethernet type of IPv4 (RFC 894).
 const IPV4: u16 = 0x0800;

@@ -1,7 +1,7 @@
 //! Headers from other sources.
 
 use vsw_base::{BadFrame, Mac};
-use vsw_link::{EtherPart, change_ether, read_ether, write_ether};
+use vsw_header::{EtherPart, change_ether, read_ether, write_ether};
 
 /// From 02:00:00:00:00:01 to 02:00:00:00:00:99, IPv4.
 const HEADER: [u8; 14] = [

@@ -3,7 +3,7 @@
 ghost use Rattle.std.specs.Prelude.{◌<◌, ◌^◌};
 
 use vsw_base::{BadShape, Dir, Header, Ip4, LayerKey, Mac, Place, Stack};
-use vsw_flowid::{choose_port, flow_sum, key_of, mirror, same_id, same_key, spread, ufid};
+use vsw_header::{choose_port, flow_sum, key_of, mirror, same_id, same_key, spread, ufid};
 
 const IPV4: u16 = 0x0800;
 

@@ -1,7 +1,7 @@
 //! Headers from other sources.
 
 use vsw_base::{BadFrame, Ip4};
-use vsw_ipv4::{IpPart, change_ip, header_len, read_ip, write_ip};
+use vsw_header::{IpPart, change_ip, header_len, read_ip, write_ip};
 
 /// 127.0.0.1, to which Linux wrote the packets below.
 const LOCAL: u32 = 0x7f00_0001;

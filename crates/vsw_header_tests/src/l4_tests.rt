@@ -1,7 +1,7 @@
 //! Headers from other sources.
 
 use vsw_base::{BadFrame, Control, Ip4};
-use vsw_l4::{
+use vsw_header::{
     Endpoints, TcpPart, UdpPart, change_tcp, change_udp, read_tcp, read_udp, read_vxlan,
     uncheck_udp, write_udp_vxlan,
 };

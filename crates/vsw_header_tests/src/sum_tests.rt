@@ -1,7 +1,7 @@
 //! Checksums from other sources.
 
 use vsw_base::Ip4;
-use vsw_sum::{fresh, pseudo, update};
+use vsw_header::{fresh, pseudo, update};
 
 #[test]
 fn bytes_of_the_rfc_have_its_checksum(rt: HostRuntime) {

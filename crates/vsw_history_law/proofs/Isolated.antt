@@ -5,7 +5,7 @@ use native.Mathlib.Decide.{ℕ_discrete}
 use Rattle.vsw_base.specs.declared.flow.Crossing.{Crossing}
 use Rattle.vsw_base.specs.declared.packet.Dir.{Dir}
 use Rattle.vsw_base.specs.declared.packet.Dir.TheVariants.{Out, In}
-use Rattle.vsw_commit.specs.Cross.{cross_of, done, all_done, made_by}
+use Rattle.vsw_port.specs.Cross.{cross_of, done, all_done, made_by}
 use Rattle.vsw_walk.specs.declared.scratch.Wanted.{Wanted}
 use Rattle.vsw_walk.specs.declared.scratch.Wanted.TheVariants.{Make, Touch, Leave}
 use Rattle.vsw_policy.specs.declared.layer.LayerSpec.{LayerSpec}

@@ -1,8 +1,8 @@
 -- Layers without pairs and stateful rules: packets change nothing there.
 use Rattle.std.proofs.Common.{◌≡◌, ℕ, suc, ◌==◌, not, Bool, true, false, nat_le, if◌then◌else◌, List, [], ◌∷◌, length, Option, Some, None, refl, ap, sym, ◌∙◌, subst, arith, ne_eqb}
-use Rattle.vsw_commit.specs.declared.stop.Stop.{Stop}
-use Rattle.vsw_commit.specs.Admit.{stop_of}
-use Rattle.vsw_commit.proofs.Walks.{each_crossed}
+use Rattle.vsw_port.specs.declared.stop.Stop.{Stop}
+use Rattle.vsw_port.specs.Admit.{stop_of}
+use Rattle.vsw_port.proofs.Walks.{each_crossed}
 use Rattle.vsw_base.specs.declared.fate.Verdict.{Verdict}
 use Rattle.vsw_base.specs.declared.fate.Verdict.TheVariants as verdict
 use Rattle.vsw_base.specs.declared.flow.Crossing.{Crossing}
@@ -13,11 +13,11 @@ use Rattle.vsw_rule.specs.Choice.{Chosen, better, pick, choose, applies}
 use Rattle.vsw_rule.specs.Private.FromEnd.{decided, from_end}
 use Rattle.vsw_rule.specs.Private.FromEnd as choice
 use Rattle.vsw_rule.proofs.FromEnd.{choose_is}
-use Rattle.vsw_commit.specs.Cross.{all_done, cross_of, made_by, made_after, makes}
-use Rattle.vsw_compose.specs.Edit.{edited, kept_after}
+use Rattle.vsw_port.specs.Cross.{all_done, cross_of, made_by, made_after, makes}
+use Rattle.vsw_rule.specs.Edit.{edited, kept_after}
 use Rattle.vsw_walk.specs.declared.scratch.Wanted.{Wanted}
 use Rattle.vsw_walk.specs.Walk.{Walk, along, by_visit, crossed, placed, walk_of}
-use Rattle.vsw_flowid.specs.Key.{key_from}
+use Rattle.vsw_header.specs.Key.{key_from}
 use Rattle.vsw_policy.specs.Groups.{changed, removed, is_group, is_rule, with_rules, with_rule, without_rule}
 use Rattle.vsw_policy.specs.Layer.{LayerSeen}
 use Rattle.vsw_layerflow.specs.Pairs.{pair_of}

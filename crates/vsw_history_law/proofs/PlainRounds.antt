@@ -20,7 +20,7 @@ use Rattle.vsw_report.specs.declared.round.PortRound.{PortRound}
 use Rattle.vsw_promise.specs.Alone.{shown, deed_at}
 use Rattle.vsw_port.specs.Calls.{Job, Carry, Deed, Carried, Asked, Call, job_of, event_of, entries_of, Reads, Wants, Shows, ShowsAt, HasBytes, IsCall, Entry, Read, Short}
 use Rattle.vsw_port.specs.History.{Opening, replay, after, after_all, left_by, IsRight, AreRight, AllRight}
-use Rattle.vsw_commit.specs.Fate.{fate_at}
+use Rattle.vsw_port.specs.Fate.{fate_at}
 use Rattle.vsw_promise.specs.Jobs.{aim_of, Jobs, crossing_by, worker_of, aimed_at, packet_jobs}
 use Rattle.vsw_promise.specs.Rounds.{opening_of, IsPortRound}
 use Rattle.vsw_promise.specs.Told.{what_of}

@@ -1,16 +1,16 @@
 -- The rounds that are worked out tell of no want of memory.
 use Rattle.std.proofs.Common.{◌≡◌, ◌≢◌, ◌-◌, ◌||◌, ℕ, suc, Bool, true, false, if◌then◌else◌, nat_le, List, [], ◌∷◌, length, map, Option, Some, None, refl, ap, sym, ◌∙◌, subst}
 use Rattle.std.specs.List.{list_any}
-use Rattle.vsw_commit.specs.declared.stop.Stop.{Stop}
-use Rattle.vsw_commit.specs.declared.stop.Stop.TheVariants as stop
-use Rattle.vsw_commit.specs.Admit.{stop_of, on_pass, refusal, refused_at, refused, taken_by, left_in, staying}
-use Rattle.vsw_commit.proofs.Firsts.{of_first}
-use Rattle.vsw_commit.specs.Long.{is_long}
+use Rattle.vsw_port.specs.declared.stop.Stop.{Stop}
+use Rattle.vsw_port.specs.declared.stop.Stop.TheVariants as stop
+use Rattle.vsw_port.specs.Admit.{stop_of, on_pass, refusal, refused_at, refused, taken_by, left_in, staying}
+use Rattle.vsw_port.proofs.Firsts.{of_first}
+use Rattle.vsw_port.specs.Long.{is_long}
 use Rattle.vsw_base.specs.declared.fate.Verdict.{Verdict}
 use Rattle.vsw_base.specs.declared.fate.Verdict.TheVariants as verdict
 use Rattle.vsw_base.specs.declared.flow.Crossing.{Crossing}
 use Rattle.vsw_base.specs.declared.header.Header.{Header}
-use Rattle.vsw_commit.specs.Cross.{cross_of, fate_after}
+use Rattle.vsw_port.specs.Cross.{cross_of, fate_after}
 use Rattle.vsw_walk.specs.declared.scratch.Wanted.{Wanted}
 use Rattle.vsw_walk.specs.Walk.{walk_of}
 use Rattle.vsw_policy.specs.Layer.{LayerSeen}
@@ -27,7 +27,7 @@ use Rattle.vsw_promise.specs.Ports.{PortSeen, ports_of}
 use Rattle.vsw_port.specs.declared.event.Event.{Event}
 use Rattle.vsw_port.specs.Calls.{Job, Carry, Ask, Call}
 use Rattle.vsw_port.specs.History.{Opening, replay, reply_in}
-use Rattle.vsw_commit.specs.Fate.{fate_by, fate_at}
+use Rattle.vsw_port.specs.Fate.{fate_by, fate_at}
 use Rattle.vsw_report.specs.declared.round.PortRound.{PortRound}
 use Rattle.vsw_report.specs.declared.told.What.TheVariants as what
 use Rattle.vsw_promise.specs.Alone.{deed_at, call_at, next_history, calls_from, history_from, all_of, port_round_from, port_rounds_from, histories_from, rounds_from, rounds_alone, shown}

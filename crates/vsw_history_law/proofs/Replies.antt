@@ -6,7 +6,7 @@ use Rattle.std.proofs.lemmas.Nat.{mod_below}
 use Rattle.vsw_base.specs.declared.flow.Place.{Place}
 use Rattle.vsw_base.specs.Frame.{Parts}
 use Rattle.vsw_commandfile.specs.declared.line.Line.{Line}
-use Rattle.vsw_flowid.specs.Sum.{flow_sum_of}
+use Rattle.vsw_header.specs.FlowSum.{flow_sum_of}
 use Rattle.vsw_policy.specs.Layer.{LayerSeen}
 use Rattle.vsw_pcap.specs.declared.capture.Record.{Record}
 use Rattle.vsw_policy.specs.declared.command.Command.{Command}

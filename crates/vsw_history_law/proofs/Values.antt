@@ -6,7 +6,7 @@ use mathlib.Core.List.{IsPrefix}
 use Rattle.vsw_base.specs.declared.flow.Place.{Place}
 use Rattle.vsw_base.specs.Frame.{Parts}
 use Rattle.vsw_commandfile.specs.declared.line.Line.{Line}
-use Rattle.vsw_flowid.specs.Sum.{flow_sum_of}
+use Rattle.vsw_header.specs.FlowSum.{flow_sum_of}
 use Rattle.vsw_pcap.specs.declared.capture.Record.{Record}
 use Rattle.vsw_policy.specs.Sound.{Each, is_listed}
 use Rattle.vsw_config.specs.declared.file.PortFile.{PortFile}

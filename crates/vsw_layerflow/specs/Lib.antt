@@ -1,3 +1,4 @@
+pub mod Track
 pub mod Pairs
 pub mod Life
 pub mod Index

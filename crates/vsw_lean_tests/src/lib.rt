@@ -1,4 +1,4 @@
-//! Tests of `vsw_words` and `vsw_lean`, kept apart from them: with tests of its own, a crate is proved once more.
+//! Tests of `vsw_words`, and of what rows lean on (`vsw_rows`), kept apart from them: with tests of its own, a crate is proved once more.
 #![tactic(auto)]
 
 #[cfg(test)]

@@ -6,7 +6,7 @@ use crate::packets::packet;
 use crate::trial::{Row, Trial};
 use std::alloc::Global;
 use vsw_base::{Control, Ufid};
-use vsw_lean::Leaning;
+use vsw_rows::Leaning;
 use vsw_walk::Looked;
 
 /// Rows that are all current.

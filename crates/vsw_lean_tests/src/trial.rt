@@ -8,9 +8,9 @@ use crate::packets::packet;
 use crate::rows::Rows;
 use std::alloc::Global;
 use vsw_base::{Control, Crossing, Stack, Ufid, Verdict};
-use vsw_commit::commit;
-use vsw_lean::shake;
 use vsw_policy::{Layer, Policy};
+use vsw_port::commit;
+use vsw_rows::shake;
 use vsw_walk::{Looked, Scratch, Walked, Wanted, walk};
 
 /// Whether each layer has a number for one more pair.

@@ -7,9 +7,8 @@ ghost use Rattle.vsw_policy.specs.Sound.{Each, is_listed};
 use crate::given::is_good;
 use std::alloc::Global;
 use vsw_base::{Cause, Crossing, Fate, Stack, Verdict};
-use vsw_commit::{commit, is_long, outgoing_size};
 use vsw_policy::{Command, Layer, Policy, Reply};
-use vsw_port::Event;
+use vsw_port::{Event, commit, is_long, outgoing_size};
 use vsw_walk::{Scratch, Walked, walk};
 
 /// Whether each layer has a number for one more pair.

@@ -2,8 +2,8 @@
 use Rattle.std.proofs.Common.{◌≡◌, ℕ, zero, suc, ◌+◌, ◌≤◌, ◌==◌, not, Bool, true, false, if◌then◌else◌, List, [], ◌∷◌, ◌++◌, length, take, map, filter, Some, slice_get, refl, ap, sym, ◌∙◌, subst, arith, append_assoc, length-append, ne_eqb}
 use mathlib.Core.List.{IsPrefix}
 use Rattle.vsw_base.specs.declared.flow.Crossing.{Crossing}
-use Rattle.vsw_commit.specs.Cross.{all_done, cross_of, made_by}
-use Rattle.vsw_commit.specs.WalkWanted.{Wanted}
+use Rattle.vsw_port.specs.Cross.{all_done, cross_of, made_by}
+use Rattle.vsw_port.specs.WalkWanted.{Wanted}
 use Rattle.vsw_policy.specs.Layer.{LayerSeen}
 use Rattle.vsw_policy.specs.Sound.{Each}
 use Rattle.vsw_port.specs.declared.event.Event.{Event}

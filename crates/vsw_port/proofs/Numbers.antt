@@ -3,7 +3,7 @@ use Rattle.std.proofs.Common.{◌≡◌, ◌≤◌, ◌+◌, ◌==◌, ◌⊎◌
 use Rattle.vsw_base.specs.declared.fate.Verdict.{Verdict}
 use Rattle.vsw_base.specs.declared.fate.Verdict.TheVariants.{Pass, Rule, Default}
 use Rattle.vsw_base.specs.declared.flow.Crossing.{Crossing}
-use Rattle.vsw_port.specs.Stop.{Stop}
+use Rattle.vsw_port.specs.declared.stop.Stop.{Stop}
 use Rattle.vsw_port.specs.Admit.{stop_of}
 use Rattle.vsw_port.specs.Can.{AreApart, NotMade}
 use Rattle.vsw_port.specs.Cross.{all_done, cross_of, made_after, made_by}

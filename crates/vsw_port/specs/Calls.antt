@@ -8,10 +8,10 @@ use Rattle.vsw_base.specs.declared.fate.Fate.TheVariants.{Pass, Drop}
 use Rattle.vsw_base.specs.declared.flow.Crossing.{Crossing}
 use Rattle.vsw_base.specs.Frame.{Parts}
 use Rattle.vsw_commandfile.specs.declared.line.Line.{Line}
-use Rattle.vsw_commit.specs.Cross.{cross_of, made_by, makes}
-use Rattle.vsw_commit.specs.Fate.{fate_at}
-use Rattle.vsw_commit.specs.Walk.{walk_of}
-use Rattle.vsw_commit.specs.Bytes.{outgoing}
+use Rattle.vsw_port.specs.Cross.{cross_of, made_by, makes}
+use Rattle.vsw_port.specs.Fate.{fate_at}
+use Rattle.vsw_port.specs.Walk.{walk_of}
+use Rattle.vsw_port.specs.Bytes.{outgoing}
 use Rattle.vsw_policy.specs.Layer.{LayerSeen}
 use Rattle.vsw_policy.specs.declared.refusal.Refusal.TheVariants as refusal
 use Rattle.vsw_policy.specs.declared.refusal.Reply.{Reply}

@@ -1,7 +1,7 @@
 -- The history of a port: the layers after it, and when its entries are right.
 use Rattle.std.specs.Prelude.{◌≡◌, ℕ, List, [], ◌∷◌, true, Result, Ok, Err}
-use Rattle.vsw_commit.specs.Cross.{cross_of}
-use Rattle.vsw_commit.specs.Fate.{fate_at}
+use Rattle.vsw_port.specs.Cross.{cross_of}
+use Rattle.vsw_port.specs.Fate.{fate_at}
 use Rattle.vsw_policy.specs.Layer.{LayerSeen}
 use Rattle.vsw_policy.specs.declared.refusal.Refusal.{Refusal}
 use Rattle.vsw_policy.specs.declared.refusal.Reply.{Reply}

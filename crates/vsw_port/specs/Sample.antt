@@ -4,7 +4,7 @@ use Rattle.vsw_base.specs.declared.flow.Crossing.{Crossing}
 use Rattle.vsw_base.specs.declared.header.Header.TheVariants.{Ether, Ip, Vxlan}
 use Rattle.vsw_base.specs.declared.packet.Control.TheVariants as control
 use Rattle.vsw_base.specs.declared.packet.Dir.TheVariants.{Out}
-use Rattle.vsw_commit.specs.Fate.{length_of}
+use Rattle.vsw_port.specs.Fate.{length_of}
 use Rattle.vsw_port.specs.Calls.{controller_at}
 
 -- controllers call by their places in the policy's list, behind sixteen workers

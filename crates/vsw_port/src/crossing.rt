@@ -7,7 +7,8 @@ ghost use Rattle.vsw_base.specs.declared.fate.Verdict.TheVariants as verdict;
 ghost use Rattle.vsw_policy.specs.Sound.{Each};
 ghost use Rattle.vsw_port.specs.Crossed.{EditsPass, MayBeShort, crossed, is_short};
 
-use crate::{commit, outgoing_size};
+use crate::committing::commit;
+use crate::length::outgoing_size;
 use vsw_base::{Cause, Crossing, Fate, Verdict};
 use vsw_policy::Policy;
 use vsw_walk::{Scratch, Walked};

@@ -14,9 +14,9 @@ ghost use Rattle.vsw_port.specs.Core.{AreAtMost, IsHeld, entered, opening_of};
 ghost use Rattle.vsw_port.specs.Crossed.{EditsPass, MayBeShort, crossed, is_short};
 ghost use Rattle.vsw_port.specs.Ledger.{layers_in};
 
-use crate::Event;
 use crate::copies::copy_command;
 use crate::crossing::{Outcome, settle};
+use crate::event::Event;
 use std::alloc::Global;
 use std::marker::Model;
 use std::snapshot::Snapshot;

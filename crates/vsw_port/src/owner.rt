@@ -12,8 +12,8 @@ ghost use Rattle.vsw_policy.specs.Sound.{Each, IsGoodRule, is_listed};
 ghost use Rattle.vsw_port.specs.Core.{AreAtMost, IsHeld, entered, layers_of, opening_of};
 ghost use Rattle.vsw_port.specs.Crossed.{EditsPass, MayBeShort, crossed, is_short};
 
-use crate::Event;
 use crate::crossing::Outcome;
+use crate::event::Event;
 use crate::ledger::Ledger;
 use std::alloc::Global;
 use std::marker::Model;

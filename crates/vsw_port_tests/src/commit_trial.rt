@@ -7,8 +7,8 @@ ghost use Rattle.vsw_policy.specs.Sound.{Each};
 use crate::commit_packets::packet;
 use std::alloc::Global;
 use vsw_base::{Control, Crossing, Dir, Moment};
-use vsw_commit::{Stop, commit};
 use vsw_policy::{Layer, Policy};
+use vsw_port::{Stop, commit};
 use vsw_walk::{Scratch, walk};
 
 /// Whether each layer has a number for one more pair.

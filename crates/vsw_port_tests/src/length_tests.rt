@@ -5,7 +5,7 @@ use crate::commit_trial::Trial;
 use crate::layers::{add_layer, put_in_network};
 use std::alloc::Global;
 use vsw_base::{Control, Dir};
-use vsw_commit::Stop;
+use vsw_port::Stop;
 
 /// Two layers that put packets in a network, or one.
 fn pushing(alloc: Global, both: bool) -> Option<Trial> {

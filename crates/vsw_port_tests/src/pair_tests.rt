@@ -5,7 +5,7 @@ use crate::commit_trial::Trial;
 use crate::layers::{PUBLIC, add_layer, hide_source};
 use std::alloc::Global;
 use vsw_base::{Control, Dir};
-use vsw_commit::Stop;
+use vsw_port::Stop;
 use vsw_rule::Action;
 
 /// Layer 10, whose outbound rule makes pairs.

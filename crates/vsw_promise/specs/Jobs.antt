@@ -5,8 +5,8 @@ use Rattle.vsw_base.specs.declared.flow.Crossing.{Crossing}
 use Rattle.vsw_base.specs.declared.flow.Place.{Place}
 use Rattle.vsw_base.specs.Frame.{Parts, frame_of, sizes_of}
 use Rattle.vsw_commandfile.specs.declared.line.Line.{Line}
-use Rattle.vsw_flowid.specs.Port.{choose}
-use Rattle.vsw_flowid.specs.Sum.{flow_sum_of}
+use Rattle.vsw_header.specs.PortChoice.{choose}
+use Rattle.vsw_header.specs.FlowSum.{flow_sum_of}
 use Rattle.vsw_pcap.specs.declared.capture.Record.{Record}
 use Rattle.vsw_config.specs.declared.file.PolicyFile.{PolicyFile}
 use Rattle.vsw_promise.specs.Ports.{ports_of}

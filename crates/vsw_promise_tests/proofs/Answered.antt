@@ -4,7 +4,7 @@ use Rattle.std.specs.Fmt.{digits}
 use Rattle.hex.specs.Hex.{encode_with}
 use Rattle.vsw_base.specs.Frame.{frame_in}
 use Rattle.vsw_walk.specs.Walk.{walk_of}
-use Rattle.vsw_ipv4.specs.Ip.{pushed_checksum}
+use Rattle.vsw_header.specs.Ip.{pushed_checksum}
 use Rattle.vsw_pcap.specs.declared.capture.Record.{Record}
 use Rattle.vsw_report.specs.Print.{port_line}
 use Rattle.vsw_promise.specs.Alone.{rounds_alone}

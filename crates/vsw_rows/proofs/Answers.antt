@@ -6,11 +6,11 @@ use Rattle.std.specs.Prelude.{replicate}
 use Rattle.vsw_base.specs.declared.flow.Ufid.{Ufid}
 use Rattle.vsw_base.specs.declared.header.Header.{Header}
 use Rattle.vsw_base.specs.declared.packet.Dir.{Dir}
-use Rattle.vsw_commit.specs.Cross.{cross_of}
+use Rattle.vsw_port.specs.Cross.{cross_of}
 use Rattle.vsw_port.specs.History.{replay}
-use Rattle.vsw_lean.specs.Good.{MayAnswer, Row}
-use Rattle.vsw_lean.specs.Law.{answer_by}
-use Rattle.vsw_lean.proofs.Answered.{row_answers}
+use Rattle.vsw_rows.specs.Good.{MayAnswer, Row}
+use Rattle.vsw_rows.specs.LeanLaw.{answer_by}
+use Rattle.vsw_rows.proofs.Answered.{row_answers}
 use Rattle.vsw_rows.specs.Law.{RowAnswers}
 use Rattle.vsw_rows.specs.GoodRows.{words_of}
 use Rattle.vsw_words.specs.Key.{addresses, key_words, macs, padded}

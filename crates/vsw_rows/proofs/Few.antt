@@ -8,9 +8,9 @@ use Rattle.vsw_base.specs.declared.packet.Control.TheVariants as control
 use Rattle.vsw_base.specs.declared.packet.Dir.{Dir}
 use Rattle.vsw_base.specs.declared.packet.Dir.TheVariants.{Out, In}
 use Rattle.vsw_base.specs.Shape.{encaps}
-use Rattle.vsw_compose.specs.Edit.{edited, kept_after}
+use Rattle.vsw_rule.specs.Edit.{edited, kept_after}
 use Rattle.vsw_policy.specs.Layer.{LayerSeen}
-use Rattle.vsw_lean.specs.Way.{looks}
+use Rattle.vsw_rows.specs.Way.{looks}
 use Rattle.vsw_walk.specs.declared.outcome.Visit.{Visit}
 use Rattle.vsw_walk.specs.declared.outcome.Visit.TheVariants.{Stops, Goes}
 use Rattle.vsw_walk.specs.Visit.{visit_of}

@@ -8,14 +8,14 @@ use Rattle.vsw_port.specs.declared.event.Event.{Event}
 use Rattle.vsw_port.specs.History as history
 use Rattle.vsw_port.specs.History.{after, after_all}
 use Rattle.vsw_policy.specs.Layer.{LayerSeen}
-use Rattle.vsw_lean.specs.Good.{IsGoodLeaning, LeaningRow, Row, all_looks, shaken}
-use Rattle.vsw_lean.specs.Leant.{Leant, StandsFor}
-use Rattle.vsw_lean.specs.Shaken.{IsRight, shake}
-use Rattle.vsw_lean.specs.Way.{looks}
-use Rattle.vsw_lean.proofs.Joined.{looks_join, one_list_serves}
-use Rattle.vsw_lean.proofs.Ways.{right_looks}
-use Rattle.vsw_lean.specs.Entries.{ShakesNone, entry_shakes}
-use Rattle.vsw_lean.proofs.Leaves.{entry_leaves}
+use Rattle.vsw_rows.specs.Good.{IsGoodLeaning, LeaningRow, Row, all_looks, shaken}
+use Rattle.vsw_rows.specs.Leant.{Leant, StandsFor}
+use Rattle.vsw_rows.specs.Shaken.{IsRight, shake}
+use Rattle.vsw_rows.specs.Way.{looks}
+use Rattle.vsw_rows.proofs.Joined.{looks_join, one_list_serves}
+use Rattle.vsw_rows.proofs.Ways.{right_looks}
+use Rattle.vsw_rows.specs.Entries.{ShakesNone, entry_shakes}
+use Rattle.vsw_rows.proofs.Leaves.{entry_leaves}
 use Rattle.vsw_lookup.specs.Rules.{after_entry, row_at, stamp_at}
 use Rattle.vsw_policy.specs.Layers.{PolicySeen}
 use Rattle.vsw_policy.specs.Sound.{Each}

@@ -1,3 +1,17 @@
+pub mod PairFound
+pub mod Stays
+pub mod Courses
+pub mod Along
+pub mod Ways
+pub mod Quiet
+pub mod Answered
+pub mod Late
+pub mod Joined
+pub mod Numbers
+pub mod Spots
+pub mod Leans
+pub mod Leaves
+pub mod Alike
 pub mod Answers
 pub mod Few
 pub mod Counts

@@ -4,8 +4,8 @@ use Rattle.std.specs.Prelude.{Some}
 use Rattle.std.proofs.lemmas.List.{get_or-take}
 use native.Mathlib.Decide.{ℕ_discrete}
 use mathlib.Core.Logic.{dite}
-use Rattle.vsw_lean.specs.Good.{IsGoodLeaning}
-use Rattle.vsw_lean.specs.Leant.{Leant}
+use Rattle.vsw_rows.specs.Good.{IsGoodLeaning}
+use Rattle.vsw_rows.specs.Leant.{Leant}
 use Rattle.vsw_lookup.specs.Rules.{row_at, stamp_at}
 use Rattle.vsw_policy.specs.Layers.{PolicySeen}
 use Rattle.vsw_rows.specs.declared.rows.Found.{Found}

@@ -2,7 +2,7 @@
 use Rattle.std.specs.Prelude.{◌≡◌, ℕ, List}
 use Rattle.vsw_port.specs.declared.event.Event.{Event}
 use Rattle.vsw_port.specs.History.{Opening, replay}
-use Rattle.vsw_lean.specs.Good.{Good, Row}
+use Rattle.vsw_rows.specs.Good.{Good, Row}
 use Rattle.vsw_policy.specs.Layers.{PolicySeen}
 use Rattle.vsw_words.specs.Law.{IsId}
 use Rattle.vsw_words.specs.Reading.{IsBody}

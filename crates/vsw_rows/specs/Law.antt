@@ -2,11 +2,11 @@
 use Rattle.std.specs.Prelude.{◌≡◌, ℕ, List, ◌++◌}
 use Rattle.vsw_base.specs.declared.fate.Verdict.{Verdict}
 use Rattle.vsw_base.specs.declared.flow.Crossing.{Crossing}
-use Rattle.vsw_commit.specs.Cross.{cross_of}
+use Rattle.vsw_port.specs.Cross.{cross_of}
 use Rattle.vsw_port.specs.declared.event.Event.{Event}
 use Rattle.vsw_port.specs.History.{Opening, replay}
-use Rattle.vsw_lean.specs.Good.{MayAnswer, Row}
-use Rattle.vsw_lean.specs.Law.{answer_by}
+use Rattle.vsw_rows.specs.Good.{MayAnswer, Row}
+use Rattle.vsw_rows.specs.LeanLaw.{answer_by}
 use Rattle.vsw_rows.specs.GoodRows.{IsGoodRow}
 use Rattle.vsw_transpose.specs.declared.act.Act.{Act}
 use Rattle.vsw_words.specs.Key.{key_words}

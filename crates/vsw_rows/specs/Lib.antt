@@ -1,7 +1,15 @@
+pub mod LeanLaw
+pub mod Good
+pub mod Way
+pub mod Shaken
+pub mod Leant
+pub mod Spots
+pub mod GrowingLaw
+pub mod Entries
+pub mod WordsLaw
 pub mod GoodRows
 pub mod Zeros
 pub mod Law
 pub mod Rows
 pub mod Places
 pub mod Standing
-pub use Rattle.vsw_lean.specs.Entries

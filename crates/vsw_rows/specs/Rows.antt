@@ -3,11 +3,11 @@ use Rattle.std.specs.Prelude.{◌≡◌, ◌⊎◌, ◌<◌, ◌≤◌, ◌+◌,
 use Rattle.vsw_port.specs.declared.event.Event.{Event}
 use Rattle.vsw_port.specs.History.{after, replay}
 use Rattle.vsw_policy.specs.Layer.{LayerSeen}
-use Rattle.vsw_lean.specs.Good.{IsGoodLeaning, LeaningRow, Row}
-use Rattle.vsw_lean.specs.Leant.{Leant}
-use Rattle.vsw_lean.specs.Shaken.{shake}
-use Rattle.vsw_lean.specs.Way.{looks}
-use Rattle.vsw_lean.specs.Entries.{entry_shakes}
+use Rattle.vsw_rows.specs.Good.{IsGoodLeaning, LeaningRow, Row}
+use Rattle.vsw_rows.specs.Leant.{Leant}
+use Rattle.vsw_rows.specs.Shaken.{shake}
+use Rattle.vsw_rows.specs.Way.{looks}
+use Rattle.vsw_rows.specs.Entries.{entry_shakes}
 use Rattle.vsw_lookup.specs.Rules.{Held, row_at, stamp_at}
 use Rattle.vsw_policy.specs.Layers.{PolicySeen}
 use Rattle.vsw_rows.specs.declared.rows.Found.{Found}

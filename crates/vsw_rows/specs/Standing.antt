@@ -1,8 +1,8 @@
 -- What the rows of a port keep: each row is empty or says a row, and each current one is good and leans on what is known to be leant on.
 use Rattle.std.specs.Prelude.{◌≡◌, ◌⊎◌, ◌≤◌, ◌+◌, ◌*◌, ◌==◌, ℕ, suc, List, [], ◌∷◌, length, Some, if◌then◌else◌}
 use Rattle.vsw_policy.specs.Layer.{LayerSeen}
-use Rattle.vsw_lean.specs.Good.{IsGoodLeaning, LeaningRow, all_looks}
-use Rattle.vsw_lean.specs.Leant.{Leant, StandsFor}
+use Rattle.vsw_rows.specs.Good.{IsGoodLeaning, LeaningRow, all_looks}
+use Rattle.vsw_rows.specs.Leant.{Leant, StandsFor}
 use Rattle.vsw_lookup.specs.Rules.{row_at, stamp_at}
 use Rattle.vsw_policy.specs.Layers.{PolicySeen}
 use Rattle.vsw_policy.specs.Sound.{Each}

@@ -5,7 +5,7 @@ use Rattle.std.proofs.lemmas.List.{get_or-take, take-append-drop}
 use Rattle.vsw_port.specs.declared.event.Event.{Event}
 use Rattle.vsw_port.specs.History.{Opening}
 use Rattle.vsw_rows.specs.GoodRows.{IsGoodRow, words_of}
-use Rattle.vsw_lean.specs.Good.{Row}
+use Rattle.vsw_rows.specs.Good.{Row}
 use Rattle.vsw_words.specs.Row.{in_use}
 use Rattle.vsw_words.proofs.Used.{row_ends}
 use Rattle.vsw_words.proofs.Written.{form_short}

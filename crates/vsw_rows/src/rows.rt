@@ -11,12 +11,12 @@ ghost use Rattle.vsw_rows.specs.Rows.{HasRoom, IsFormed, IsFound, IsFresh, IsSha
 ghost use Rattle.vsw_rows.specs.declared.rows.Found.TheVariants.{Own};
 ghost use Rattle.vsw_rows.specs.GoodRows.{IsGoodRow, opening_of};
 
-use crate::PortStory;
+use crate::leaning::Leaning;
 use crate::places::{read_words, search};
+use crate::story::PortStory;
 use std::alloc::Global;
 use std::marker::Model;
 use vsw_base::NoMemory;
-use vsw_lean::Leaning;
 use vsw_lookup::{Lookup, Pass, Writer};
 use vsw_policy::Layer;
 use vsw_port::Event;

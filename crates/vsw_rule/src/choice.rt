@@ -7,7 +7,9 @@ ghost use Rattle.vsw_rule.specs.Choice as spec;
 ghost use Rattle.vsw_rule.specs.ChoiceSeen.{seen};
 ghost use Rattle.vsw_rule.specs.Private.FromEnd.{after, from_end};
 
-use crate::{Group, Packet, Rule, all_hold};
+use crate::matching::all_hold;
+use crate::packet::Packet;
+use crate::rule::{Group, Rule};
 use vsw_base::{Dir, Stack};
 
 /// A rule that was chosen, and the number of its group.

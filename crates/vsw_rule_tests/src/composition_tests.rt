@@ -1,13 +1,12 @@
 //! The edits of two layers as one, on frames that were read by hand.
 
 ghost use Rattle.std.specs.Prelude.{◌<◌, ◌^◌, IsTrue};
-ghost use Rattle.vsw_compose.specs.Edit.{goes_on};
+ghost use Rattle.vsw_rule.specs.Edit.{goes_on};
 ghost use Rattle.vsw_rule.specs.Match.{can_do};
 
 use crate::compose_samples::{IPV4, encap, ether, plain, ports, query, sent, udp};
 use vsw_base::{BadShape, Header, Ip4, Mac, Outer, Set, Stack};
-use vsw_compose::{act_of, compose};
-use vsw_rule::Action;
+use vsw_rule::{Action, act_of, compose};
 use vsw_transpose::{Act, Change, Transposition};
 
 const ARP: u16 = 0x0806;

@@ -1,4 +1,4 @@
-//! Tests of rules, and of actions as transpositions, kept apart from `vsw_rule` and `vsw_compose`: with tests of its own, a crate is proved once more.
+//! Tests of rules, and of actions as transpositions, kept apart from `vsw_transpose` and `vsw_rule`: with tests of its own, a crate is proved once more.
 #![tactic(auto)]
 
 #[cfg(test)]

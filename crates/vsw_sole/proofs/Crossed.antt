@@ -1,8 +1,8 @@
 -- What a call at the history's end tells of a packet.
 use Rattle.std.proofs.Common.{◌≡◌, ℕ, Bool, true, false, not, true≢false, List, [], ◌∷◌, ◌++◌, Option, None, Some, Result, Ok, Err, refl, sym, ap, subst, ◌∙◌, append-nil}
-use Rattle.vsw_commit.specs.declared.stop.Stop.{Stop}
-use Rattle.vsw_commit.specs.declared.stop.Stop.TheVariants.{Long, Full, Taken, Memory}
-use Rattle.vsw_commit.specs.Admit.{stop_of}
+use Rattle.vsw_port.specs.declared.stop.Stop.{Stop}
+use Rattle.vsw_port.specs.declared.stop.Stop.TheVariants.{Long, Full, Taken, Memory}
+use Rattle.vsw_port.specs.Admit.{stop_of}
 use Rattle.vsw_base.specs.declared.fate.Fate.{Fate}
 use Rattle.vsw_base.specs.declared.fate.Verdict.{Verdict}
 use Rattle.vsw_base.specs.declared.fate.Verdict.TheVariants.{Pass, Rule, Default}
@@ -10,9 +10,9 @@ use Rattle.vsw_base.specs.declared.flow.Crossing.{Crossing}
 use Rattle.vsw_base.specs.declared.header.Header.{Header}
 use Rattle.vsw_base.specs.declared.packet.Control.TheVariants as control
 use Rattle.vsw_base.specs.Frame.{Parts}
-use Rattle.vsw_commit.specs.Cross.{cross_of, fate_after, is_memory}
-use Rattle.vsw_commit.specs.Fate.{fate_at, fate_by}
-use Rattle.vsw_commit.proofs.Makes.{judged_other}
+use Rattle.vsw_port.specs.Cross.{cross_of, fate_after, is_memory}
+use Rattle.vsw_port.specs.Fate.{fate_at, fate_by}
+use Rattle.vsw_port.proofs.Makes.{judged_other}
 use Rattle.vsw_port.specs.declared.event.Event.{Event}
 use Rattle.vsw_port.specs.declared.event.Event.TheVariants as event
 use Rattle.vsw_port.specs.Calls.{Carried}

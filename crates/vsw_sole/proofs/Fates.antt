@@ -1,19 +1,19 @@
 -- A packet's fate by its frame and by its sizes.
 use Rattle.std.proofs.Common.{◌≡◌, ℕ, List, length, Option, Some, None, ap, refl}
-use Rattle.vsw_commit.specs.declared.stop.Stop.{Stop}
-use Rattle.vsw_commit.specs.Admit.{stop_of}
-use Rattle.vsw_commit.specs.Long.{outgoing_size}
-use Rattle.vsw_commit.proofs.Alike.{sized}
+use Rattle.vsw_port.specs.declared.stop.Stop.{Stop}
+use Rattle.vsw_port.specs.Admit.{stop_of}
+use Rattle.vsw_port.specs.Long.{outgoing_size}
+use Rattle.vsw_port.proofs.Alike.{sized}
 use Rattle.vsw_base.specs.declared.fate.Fate.TheVariants.{Pass}
 use Rattle.vsw_base.specs.declared.fate.Verdict.{Verdict}
 use Rattle.vsw_base.specs.declared.fate.Verdict.TheVariants as verdict
 use Rattle.vsw_base.specs.declared.flow.Crossing.{Crossing}
 use Rattle.vsw_base.specs.declared.header.Header.{Header}
 use Rattle.vsw_base.specs.Frame.{Parts}
-use Rattle.vsw_commit.specs.Cross.{fate_after}
+use Rattle.vsw_port.specs.Cross.{fate_after}
 use Rattle.vsw_walk.specs.Walk.{walk_of}
 use Rattle.vsw_frame.specs.Bytes.{outgoing}
-use Rattle.vsw_commit.specs.Fate.{fate_by}
+use Rattle.vsw_port.specs.Fate.{fate_by}
 use Rattle.vsw_sole.specs.Fate.{Measures}
 use Rattle.vsw_sole.specs.Transit.{fate_of}
 

@@ -1,13 +1,13 @@
 -- What a core and the writing of a frame tell is the passage of the frame.
 use Rattle.std.proofs.Common.{◌≡◌, ◌≤◌, ◌+◌, ◌*◌, ℕ, Bool, true, false, true≢false, List, [], length, nat_lt, take, Option, None, Some, Result, Ok, Err, refl, sym, ap, subst, ◌∙◌, arith}
 use Rattle.std.specs.Prelude.{if◌then◌else◌}
-use Rattle.vsw_commit.specs.declared.stop.Stop.{Stop}
-use Rattle.vsw_commit.specs.declared.stop.Stop.TheVariants.{Long}
-use Rattle.vsw_commit.specs.Admit.{on_pass, refusal, stop_of}
-use Rattle.vsw_commit.specs.Long as sizes
-use Rattle.vsw_commit.specs.Long.{is_long}
-use Rattle.vsw_commit.proofs.Alike.{long_alike, size_told}
-use Rattle.vsw_commit.proofs.Edits.{followed}
+use Rattle.vsw_port.specs.declared.stop.Stop.{Stop}
+use Rattle.vsw_port.specs.declared.stop.Stop.TheVariants.{Long}
+use Rattle.vsw_port.specs.Admit.{on_pass, refusal, stop_of}
+use Rattle.vsw_port.specs.Long as sizes
+use Rattle.vsw_port.specs.Long.{is_long}
+use Rattle.vsw_port.proofs.Alike.{long_alike, size_told}
+use Rattle.vsw_port.proofs.Edits.{followed}
 use Rattle.vsw_base.specs.declared.fate.Cause.{Cause}
 use Rattle.vsw_base.specs.declared.fate.Fate.{Fate}
 use Rattle.vsw_base.specs.declared.fate.Fate.TheVariants.{Pass, Drop}
@@ -18,8 +18,8 @@ use Rattle.vsw_base.specs.declared.header.Header.{Header}
 use Rattle.vsw_base.specs.Frame.{Parts, sizes_of}
 use Rattle.vsw_base.specs.Shape.{encaps, is_stack}
 use Rattle.vsw_base.proofs.Stacks.{in_front}
-use Rattle.vsw_commit.specs.Cross.{Passing, cross_of, fate_after}
-use Rattle.vsw_commit.specs.Fate.{fate_at, fate_by}
+use Rattle.vsw_port.specs.Cross.{Passing, cross_of, fate_after}
+use Rattle.vsw_port.specs.Fate.{fate_at, fate_by}
 use Rattle.vsw_walk.specs.Walk.{Walk, walk_of}
 use Rattle.vsw_frame.specs.Bytes.{IsEdit, outer_total, outgoing, outgoing_size, pushes}
 use Rattle.vsw_port.specs.Calls.{Shows}

@@ -1,8 +1,8 @@
 -- From a good row that was found to what it says of the packet.
 use Rattle.std.proofs.Common.{◌≡◌, ◌≤◌, ◌<◌, ℕ, List, [], ◌++◌, true, false, true≢false, Bool, refl, sym, ◌∙◌, ap, subst, length, drop, Option, Some, None, Result, Ok, Err}
 use Rattle.std.proofs.Math.Seq.{drop-append_seam}
-use Rattle.vsw_commit.specs.declared.stop.Stop.{Stop}
-use Rattle.vsw_commit.specs.Admit.{stop_of}
+use Rattle.vsw_port.specs.declared.stop.Stop.{Stop}
+use Rattle.vsw_port.specs.Admit.{stop_of}
 use Rattle.vsw_sole.specs.Private.Said.{AreEdited, AreWordsOf, IfPasses, IsBodyOf, IsEdited, IsFound, Said, SaidLate, fate_said, row_with}
 use Rattle.vsw_base.specs.declared.fate.Cause.{Cause}
 use Rattle.vsw_base.specs.declared.fate.Fate.{Fate}
@@ -12,15 +12,15 @@ use Rattle.vsw_base.specs.declared.fate.Verdict.TheVariants as verdict
 use Rattle.vsw_base.specs.declared.flow.Crossing.{Crossing}
 use Rattle.vsw_base.specs.declared.header.Header.{Header}
 use Rattle.vsw_base.specs.declared.packet.Control.TheVariants as control
-use Rattle.vsw_commit.specs.Cross.{Crossed, Passing, cross_of, fate_after}
-use Rattle.vsw_commit.specs.Fate.{fate_by}
+use Rattle.vsw_port.specs.Cross.{Crossed, Passing, cross_of, fate_after}
+use Rattle.vsw_port.specs.Fate.{fate_by}
 use Rattle.vsw_walk.specs.Walk.{walk_of}
 use Rattle.vsw_port.specs.declared.event.Event.{Event}
 use Rattle.vsw_port.specs.History.{Opening, replay}
 use Rattle.vsw_policy.specs.Layer.{LayerSeen}
-use Rattle.vsw_lean.specs.Good.{Good, Row}
-use Rattle.vsw_lean.specs.Law.{answer_by, stop_by}
-use Rattle.vsw_lean.proofs.Answered.{row_answers}
+use Rattle.vsw_rows.specs.Good.{Good, Row}
+use Rattle.vsw_rows.specs.LeanLaw.{answer_by, stop_by}
+use Rattle.vsw_rows.proofs.Answered.{row_answers}
 use Rattle.vsw_port.specs.declared.crossing.Outcome.{Outcome}
 use Rattle.vsw_port.specs.Crossed.{EditsPass}
 use Rattle.vsw_core.proofs.Answers.{fronts, key_length, words_are}

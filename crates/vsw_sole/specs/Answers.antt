@@ -11,7 +11,7 @@ use Rattle.vsw_core.specs.Core.{Looking}
 use Rattle.vsw_port.specs.declared.event.Event.{Event}
 use Rattle.vsw_port.specs.Calls.{Carried, Reads}
 use Rattle.vsw_port.specs.History.{replay}
-use Rattle.vsw_lean.specs.Good.{Good, Row}
+use Rattle.vsw_rows.specs.Good.{Good, Row}
 use Rattle.vsw_lookup.specs.declared.view.View.{View}
 use Rattle.vsw_lookup.specs.Rules.{Found, Missed}
 use Rattle.vsw_policy.specs.Layers.{PolicySeen}

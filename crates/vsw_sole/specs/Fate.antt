@@ -2,8 +2,8 @@
 use Rattle.std.specs.Prelude.{◌≡◌, ℕ, List, Ok}
 use Rattle.vsw_base.specs.declared.flow.Crossing.{Crossing}
 use Rattle.vsw_base.specs.Frame.{Parts, frame_of}
-use Rattle.vsw_commit.specs.Cross.{cross_of}
-use Rattle.vsw_commit.specs.Fate.{fate_at}
+use Rattle.vsw_port.specs.Cross.{cross_of}
+use Rattle.vsw_port.specs.Fate.{fate_at}
 use Rattle.vsw_policy.specs.Layer.{LayerSeen}
 use Rattle.vsw_sole.specs.Transit.{IsOfFrame, fate_of}
 

@@ -7,7 +7,7 @@ use Rattle.vsw_base.specs.declared.fate.Fate.TheVariants.{Pass, Drop}
 use Rattle.vsw_base.specs.declared.flow.Crossing.{Crossing}
 use Rattle.vsw_base.specs.declared.header.Header.{Header}
 use Rattle.vsw_base.specs.Frame.{Parts, sizes_of}
-use Rattle.vsw_commit.specs.Cross.{Passing, cross_of}
+use Rattle.vsw_port.specs.Cross.{Passing, cross_of}
 use Rattle.vsw_frame.specs.Bytes.{IsEdit, outer_total, outgoing, outgoing_size}
 use Rattle.vsw_policy.specs.Layer.{LayerSeen}
 

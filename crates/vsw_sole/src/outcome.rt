@@ -1,7 +1,7 @@
 //! What a row's body makes of a packet.
 
 ghost use Rattle.std.specs.Prelude.{◌≡◌, false, true, if◌then◌else◌};
-ghost use Rattle.vsw_commit.specs.Long as long;
+ghost use Rattle.vsw_port.specs.Long as long;
 ghost use Rattle.vsw_sole.specs.Private.Said.{IsEdited, fate_said};
 ghost use Rattle.vsw_base.specs.declared.fate.Cause.TheVariants as cause;
 ghost use Rattle.vsw_base.specs.declared.fate.Fate.TheVariants as fate;
@@ -10,8 +10,7 @@ ghost use Rattle.vsw_transpose.specs.Apply.{apply};
 ghost use Rattle.vsw_transpose.specs.Fits as fit;
 
 use vsw_base::{Cause, Crossing, Fate, Stack, Verdict};
-use vsw_commit::{is_long, outgoing_size};
-use vsw_port::Outcome;
+use vsw_port::{Outcome, is_long, outgoing_size};
 use vsw_transpose::Transposition;
 use vsw_words::Body;
 

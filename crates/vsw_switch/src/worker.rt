@@ -1,14 +1,14 @@
 //! The rooms in which packet after packet is brought to its port.
 
 ghost use Rattle.std.specs.Prelude.{◌≡◌, ◌≤◌, ◌<◌, ◌%◌};
-ghost use Rattle.vsw_flowid.specs.Sum.{flow_sum_of};
+ghost use Rattle.vsw_header.specs.FlowSum.{flow_sum_of};
 ghost use Rattle.vsw_frame.specs.Frame.{parts};
 ghost use Rattle.vsw_promise.specs.Jobs.{crossing_by, worker_of};
 
 use std::alloc::Global;
 use vsw_base::{Control, Crossing, Dir, Moment, NoMemory, Place, Sizes, Stack, Ufid};
-use vsw_flowid::spread;
 use vsw_frame::Frame;
+use vsw_header::spread;
 use vsw_sole::Room;
 
 /// A packet on its way, and room for its outgoing bytes. Both are written over by the next packet.

@@ -2,7 +2,7 @@
 use Rattle.std.proofs.Common.{◌≡◌, ◌∙◌, List, [], ◌∷◌, ◌++◌, true, sym, ap, subst}
 use Rattle.vsw_base.specs.declared.header.Header.{Header}
 use Rattle.vsw_base.specs.Shape.{encaps, is_stack}
-use Rattle.vsw_compose.specs.Edit.{edited, kept_after}
+use Rattle.vsw_rule.specs.Edit.{edited, kept_after}
 use Rattle.vsw_rule.specs.declared.rule.Action.{Action}
 use Rattle.vsw_rule.specs.Match.{can_do}
 use Rattle.vsw_transpose.specs.declared.act.Act.{Act}

@@ -3,8 +3,8 @@ use Rattle.std.proofs.Common.{◌≡◌, ◌≤◌, ◌∙◌, List, [], ◌∷�
 use Rattle.std.specs.Prelude.{min}
 use Rattle.vsw_base.specs.declared.header.Header.{Header}
 use Rattle.vsw_base.specs.Shape.{encaps, is_stack}
-use Rattle.vsw_compose.specs.Edit.{kept_after}
-use Rattle.vsw_compose.proofs.Along.{along}
+use Rattle.vsw_rule.specs.Edit.{kept_after}
+use Rattle.vsw_rule.proofs.Along.{along}
 use Rattle.vsw_rule.specs.declared.rule.Action.{Action}
 use Rattle.vsw_rule.specs.Match.{can_do}
 use Rattle.vsw_transpose.specs.declared.act.Act.{Act}

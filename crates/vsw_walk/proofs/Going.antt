@@ -4,7 +4,7 @@ use Rattle.std.proofs.lemmas.List.{append-nil}
 use Rattle.vsw_base.specs.declared.flow.Outer.{Outer}
 use Rattle.vsw_base.specs.declared.flow.Set.{Set}
 use Rattle.vsw_base.specs.declared.header.Header.{Header}
-use Rattle.vsw_compose.specs.Edit.{edited, kept_after}
+use Rattle.vsw_rule.specs.Edit.{edited, kept_after}
 use Rattle.vsw_rule.specs.declared.rule.Action.{Action}
 use Rattle.vsw_rule.specs.declared.rule.Action.TheVariants.{Edit}
 use Rattle.vsw_rule.specs.Match.{can_do}

@@ -3,7 +3,7 @@ use Rattle.std.proofs.Common.{◌≡◌, ◌∙◌, ℕ, List, [], ◌∷◌, �
 use Rattle.std.proofs.lemmas.List.{append-nil}
 use Rattle.vsw_base.specs.declared.header.Header.{Header}
 use Rattle.vsw_base.specs.Shape.{encaps}
-use Rattle.vsw_compose.specs.Edit.{edited, kept_after}
+use Rattle.vsw_rule.specs.Edit.{edited, kept_after}
 use Rattle.vsw_rule.specs.declared.rule.Action.{Action}
 use Rattle.vsw_rule.specs.declared.rule.Action.TheVariants.{Allow, Drop, Edit}
 use Rattle.vsw_rule.specs.Match.{can_do}

@@ -10,8 +10,8 @@ use Rattle.vsw_base.specs.declared.packet.Control.{Control}
 use Rattle.vsw_base.specs.declared.packet.Dir.{Dir}
 use Rattle.vsw_base.specs.Shape.{is_stack, is_plain, encaps, inner}
 use Rattle.vsw_base.proofs.Stacks.{stack_cases, plain_cases, encapped}
-use Rattle.vsw_compose.specs.Edit.{written, with_set, edited}
-use Rattle.vsw_flowid.specs.Key.{vnis, packet_of, ports_of, key_from, mirror_of}
+use Rattle.vsw_rule.specs.Edit.{written, with_set, edited}
+use Rattle.vsw_header.specs.Key.{vnis, packet_of, ports_of, key_from, mirror_of}
 use Rattle.vsw_layerflow.specs.Pairs.{holds, probe, turned, front, back}
 use Rattle.vsw_layerflow.proofs.Lists.{same_self}
 use Rattle.vsw_rule.specs.declared.rule.Action.{Action}

@@ -2,8 +2,8 @@
 use Rattle.std.specs.Prelude.{◌≡◌, ℕ, List, [], ◌∷◌, ◌++◌}
 use Rattle.vsw_base.specs.declared.header.Header.{Header}
 use Rattle.vsw_base.specs.declared.packet.Dir.{Dir}
-use Rattle.vsw_compose.specs.Edit.{edited, kept_after}
-use Rattle.vsw_flowid.specs.Key.{key_from}
+use Rattle.vsw_rule.specs.Edit.{edited, kept_after}
+use Rattle.vsw_header.specs.Key.{key_from}
 use Rattle.vsw_policy.specs.Layer.{LayerSeen}
 use Rattle.vsw_layerflow.specs.Pairs.{pair_of}
 use Rattle.vsw_rule.specs.declared.rule.Action.{Action}

@@ -2,7 +2,7 @@
 use Rattle.std.specs.Prelude.{◌≡◌, ℕ, List, [], ◌∷◌, true}
 use Rattle.vsw_base.specs.declared.header.Header.{Header}
 use Rattle.vsw_base.specs.Shape.{encaps}
-use Rattle.vsw_compose.specs.Edit.{edited, kept_after}
+use Rattle.vsw_rule.specs.Edit.{edited, kept_after}
 use Rattle.vsw_rule.specs.declared.rule.Action.{Action}
 use Rattle.vsw_rule.specs.declared.rule.Action.TheVariants.{Allow, Drop, Edit}
 use Rattle.vsw_rule.specs.Match.{can_do}

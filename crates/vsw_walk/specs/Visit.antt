@@ -6,7 +6,7 @@ use Rattle.vsw_base.specs.declared.packet.Control.{Control}
 use Rattle.vsw_base.specs.declared.packet.Dir.{Dir}
 use Rattle.vsw_base.specs.declared.packet.Dir.TheVariants.{Out, In}
 use Rattle.vsw_rule.specs.Choice.{Chosen, choose}
-use Rattle.vsw_flowid.specs.Key.{key_from}
+use Rattle.vsw_header.specs.Key.{key_from}
 use Rattle.vsw_policy.specs.declared.layer.LayerSpec.{LayerSpec}
 use Rattle.vsw_policy.specs.Layer.{LayerSeen}
 use Rattle.vsw_layerflow.specs.declared.pair.Pair.{Pair}
@@ -14,9 +14,9 @@ use Rattle.vsw_layerflow.specs.Pairs.{pair_of}
 use Rattle.vsw_rule.specs.declared.rule.Action.{Action}
 use Rattle.vsw_rule.specs.declared.rule.Action.TheVariants.{Allow, Drop, Edit}
 use Rattle.vsw_rule.specs.declared.rule.Rule.{Rule}
-use Rattle.vsw_tcp.specs.declared.state.Tracked.{Tracked}
-use Rattle.vsw_tcp.specs.declared.state.Tracked.TheVariants.{To, Reopen}
-use Rattle.vsw_tcp.specs.Track.{track_of}
+use Rattle.vsw_layerflow.specs.declared.tcp_state.Tracked.{Tracked}
+use Rattle.vsw_layerflow.specs.declared.tcp_state.Tracked.TheVariants.{To, Reopen}
+use Rattle.vsw_layerflow.specs.Track.{track_of}
 use Rattle.vsw_walk.specs.declared.outcome.Visit.{Visit}
 use Rattle.vsw_walk.specs.declared.outcome.Visit.TheVariants.{Stops, Goes}
 use Rattle.vsw_walk.specs.declared.outcome.Want.{Want}

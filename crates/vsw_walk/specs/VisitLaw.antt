@@ -6,8 +6,8 @@ use Rattle.vsw_base.specs.declared.header.Header.{Header}
 use Rattle.vsw_base.specs.declared.packet.Control.{Control}
 use Rattle.vsw_base.specs.declared.packet.Dir.{Dir}
 use Rattle.vsw_base.specs.Shape.{is_stack, inner}
-use Rattle.vsw_compose.specs.Edit.{with_set}
-use Rattle.vsw_flowid.specs.Key.{key_from, mirror_of}
+use Rattle.vsw_rule.specs.Edit.{with_set}
+use Rattle.vsw_header.specs.Key.{key_from, mirror_of}
 use Rattle.vsw_layerflow.specs.declared.pair.Pair.{Pair}
 use Rattle.vsw_layerflow.specs.Pairs.{holds, probe, turned}
 use Rattle.vsw_rule.specs.declared.rule.Rule.{Rule}

@@ -8,8 +8,8 @@ use Rattle.vsw_base.specs.declared.packet.Control.{Control}
 use Rattle.vsw_base.specs.declared.packet.Dir.{Dir}
 use Rattle.vsw_base.specs.declared.packet.Dir.TheVariants.{Out, In}
 use Rattle.vsw_base.specs.Shape.{encaps}
-use Rattle.vsw_compose.specs.Edit.{edited, kept_after}
-use Rattle.vsw_flowid.specs.Key.{key_from}
+use Rattle.vsw_rule.specs.Edit.{edited, kept_after}
+use Rattle.vsw_header.specs.Key.{key_from}
 use Rattle.vsw_policy.specs.declared.layer.LayerSpec.{LayerSpec}
 use Rattle.vsw_policy.specs.Layer.{LayerSeen}
 use Rattle.vsw_layerflow.specs.declared.pair.Pair.{Pair}

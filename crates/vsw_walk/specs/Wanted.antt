@@ -9,14 +9,14 @@ use Rattle.vsw_base.specs.declared.header.Header.{Header}
 use Rattle.vsw_base.specs.declared.packet.Control.{Control}
 use Rattle.vsw_base.specs.declared.packet.Dir.{Dir}
 use Rattle.vsw_base.specs.Shape.{inner}
-use Rattle.vsw_compose.specs.Edit.{edited}
-use Rattle.vsw_flowid.specs.Key.{key_from, mirror_of}
+use Rattle.vsw_rule.specs.Edit.{edited}
+use Rattle.vsw_header.specs.Key.{key_from, mirror_of}
 use Rattle.vsw_layerflow.specs.declared.pair.Pair.{Pair}
 use Rattle.vsw_rule.specs.declared.rule.Action.{Action}
 use Rattle.vsw_rule.specs.declared.rule.Action.TheVariants.{Allow, Drop, Edit}
 use Rattle.vsw_rule.specs.declared.rule.Rule.{Rule}
 use Rattle.vsw_rule.specs.Field as field
-use Rattle.vsw_tcp.specs.Track.{opening_of}
+use Rattle.vsw_layerflow.specs.Track.{opening_of}
 
 -- no field is written
 abbrev pub nothing : Set

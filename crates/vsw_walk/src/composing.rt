@@ -2,7 +2,7 @@
 
 ghost use Rattle.std.specs.Prelude.{◌≡◌, IsTrue};
 ghost use Rattle.vsw_base.specs.Shape.{encaps};
-ghost use Rattle.vsw_compose.specs.Edit.{edited, kept_after};
+ghost use Rattle.vsw_rule.specs.Edit.{edited, kept_after};
 ghost use Rattle.vsw_rule.specs.Match.{can_do};
 ghost use Rattle.vsw_transpose.specs.Apply.{apply};
 ghost use Rattle.vsw_transpose.specs.Fits as fit;
@@ -11,8 +11,7 @@ ghost use Rattle.vsw_walk.specs.Made.{CanMake, Does, Leads};
 use crate::scratch::Scratch;
 use crate::walking::Walked;
 use vsw_base::Stack;
-use vsw_compose::{compose_to, edit_to};
-use vsw_rule::Action;
+use vsw_rule::{Action, compose_to, edit_to};
 use vsw_transpose::Transposition;
 
 /// Rooms for one action: the stack that it meets, and its transposition.

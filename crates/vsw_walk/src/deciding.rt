@@ -2,7 +2,7 @@
 
 ghost use Rattle.std.specs.Prelude.{◌≡◌, ℕ, List, Bool, Some, IsTrue, option_copied, option_map};
 ghost use Rattle.vsw_base.specs.declared.header.Header.{Header};
-ghost use Rattle.vsw_compose.specs.Edit.{goes_on};
+ghost use Rattle.vsw_rule.specs.Edit.{goes_on};
 ghost use Rattle.vsw_policy.specs.Layer.{seen};
 ghost use Rattle.vsw_layerflow.specs.Pairs.{number_of};
 ghost use Rattle.vsw_rule.specs.declared.rule.Rule.{Rule};
@@ -12,10 +12,9 @@ ghost use Rattle.vsw_walk.specs.Visit as spec;
 
 use crate::outcome::Decision;
 use vsw_base::{Control, Dir, Stack, Verdict};
-use vsw_layerflow::Pair;
+use vsw_layerflow::{Pair, Tracked, track};
 use vsw_policy::{Layer, LayerSpec};
 use vsw_rule::{Action, Rule};
-use vsw_tcp::{Tracked, track};
 
 /// Whether packets of this direction go on that meet no rule.
 #[inline(always)]

@@ -3,8 +3,8 @@
 ghost use Rattle.std.specs.Prelude.{◌≡◌, ◌≤◌, ◌<◌, ◌+◌, ◌∷◌, ◌++◌, [], Option, None, Some, false, IfOk, IsTrue, length, option_copied, option_map};
 ghost use Rattle.vsw_base.specs.declared.flow.Outer.{Outer};
 ghost use Rattle.vsw_base.specs.declared.flow.Set.{Set};
-ghost use Rattle.vsw_compose.specs.Edit.{kept_after};
-ghost use Rattle.vsw_flowid.specs.Key.{key_from};
+ghost use Rattle.vsw_rule.specs.Edit.{kept_after};
+ghost use Rattle.vsw_header.specs.Key.{key_from};
 ghost use Rattle.vsw_policy.specs.Layer.{seen};
 ghost use Rattle.vsw_layerflow.specs.Pairs.{number_of, pair_of};
 ghost use Rattle.vsw_rule.specs.declared.rule.Action.TheVariants.{Edit};

@@ -1,8 +1,8 @@
 //! A packet's stack on its way through the layers, and its key.
 
 ghost use Rattle.std.specs.Prelude.{◌≡◌, ◌∷◌, ◌++◌, [], ◌<◌, IsTrue, length, option_copied, option_map, vec_capacity, if◌then◌else◌};
-ghost use Rattle.vsw_compose.specs.Edit.{edited};
-ghost use Rattle.vsw_flowid.specs.Key.{key_from};
+ghost use Rattle.vsw_rule.specs.Edit.{edited};
+ghost use Rattle.vsw_header.specs.Key.{key_from};
 ghost use Rattle.vsw_layerflow.specs.Pairs.{number_of, pair_of};
 ghost use Rattle.vsw_rule.specs.declared.rule.Action.TheVariants.{Edit};
 ghost use Rattle.vsw_rule.specs.Match.{can_do};
@@ -11,9 +11,9 @@ ghost use Rattle.vsw_walk.specs.Walk.{look_of};
 use crate::scratch::Looked;
 use std::marker::Model;
 use vsw_base::{Dir, Ip4, LayerKey, Outer, Set, Stack};
-use vsw_compose::edit_stack;
-use vsw_flowid::key_of;
+use vsw_header::key_of;
 use vsw_layerflow::{Flows, Pair};
+use vsw_rule::edit_stack;
 
 /// A stack that is edited from one room into another, by turns, so that none is copied back. Its key is
 /// found once, and once more where it is asked for after an edit.
@@ -31,7 +31,7 @@ pub struct Turns {
 impl Model for Turns {
     ghost use Rattle.std.specs.Prelude.{◌≡◌, List, IsTrue, if◌then◌else◌};
     ghost use Rattle.vsw_base.specs.declared.header.Header.{Header};
-    ghost use Rattle.vsw_flowid.specs.Key.{key_from};
+    ghost use Rattle.vsw_header.specs.Key.{key_from};
 
     ghost Value = { List Header };
 

@@ -1,8 +1,8 @@
 //! What a layer makes of a packet, as one value.
 
 ghost use Rattle.std.specs.Prelude.{◌≡◌, IsTrue, option_copied, option_map};
-ghost use Rattle.vsw_compose.specs.Edit.{edited, goes_on};
-ghost use Rattle.vsw_flowid.specs.Key.{key_from};
+ghost use Rattle.vsw_rule.specs.Edit.{edited, goes_on};
+ghost use Rattle.vsw_header.specs.Key.{key_from};
 ghost use Rattle.vsw_policy.specs.Layer.{seen};
 ghost use Rattle.vsw_layerflow.specs.Pairs.{number_of};
 ghost use Rattle.vsw_rule.specs.Match.{can_do};
@@ -15,11 +15,10 @@ use crate::known::{last_use, set_towards};
 use crate::outcome::{Decision, Visit, Want};
 use crate::wanted::{reverse_set, set_of, wanted_pair};
 use vsw_base::{Control, Dir, LayerKey, Moment, Stack, Track};
-use vsw_compose::edit_stack;
-use vsw_flowid::key_of;
+use vsw_header::key_of;
 use vsw_layerflow::Pair;
 use vsw_policy::{Layer, LayerSpec};
-use vsw_rule::{Action, Rule};
+use vsw_rule::{Action, Rule, edit_stack};
 
 /// The key of the stack after the action.
 fn key_after(action: &Action, stack: &Stack) -> LayerKey

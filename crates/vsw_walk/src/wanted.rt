@@ -1,17 +1,16 @@
 //! The pair that a stateful rule wants.
 
 ghost use Rattle.std.specs.Prelude.{◌≡◌, List};
-ghost use Rattle.vsw_compose.specs.Edit.{edited};
-ghost use Rattle.vsw_flowid.specs.Key.{key_from};
+ghost use Rattle.vsw_rule.specs.Edit.{edited};
+ghost use Rattle.vsw_header.specs.Key.{key_from};
 ghost use Rattle.vsw_rule.specs.Field as field;
 ghost use Rattle.vsw_base.specs.declared.header.Header.{Header};
 ghost use Rattle.vsw_walk.specs.Wanted as spec;
 
 use vsw_base::{Control, Dir, Header, Ip4, LayerKey, Mac, Moment, Set, Stack, Track};
-use vsw_flowid::mirror;
-use vsw_layerflow::Pair;
+use vsw_header::mirror;
+use vsw_layerflow::{Pair, opening};
 use vsw_rule::{Action, Rule};
-use vsw_tcp::opening;
 
 /// The protocol number of TCP.
 const TCP: u8 = 6;

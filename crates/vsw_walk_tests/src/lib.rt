@@ -1,4 +1,4 @@
-//! Tests of pairs, of visits and of walks, kept apart from `vsw_layerflow`, `vsw_tcp` and `vsw_walk`: with tests of its own, a crate is proved once more.
+//! Tests of pairs, of visits and of walks, kept apart from `vsw_layerflow` and `vsw_walk`: with tests of its own, a crate is proved once more.
 #![tactic(auto)]
 
 #[cfg(test)]

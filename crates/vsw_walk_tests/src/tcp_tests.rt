@@ -1,7 +1,7 @@
 //! The table of states, cell by cell.
 
 use vsw_base::{Control, Dir, Track};
-use vsw_tcp::{Tracked, opening, track};
+use vsw_layerflow::{Tracked, opening, track};
 
 /// The columns of the table.
 const CONTROLS: [Control; 5] = [

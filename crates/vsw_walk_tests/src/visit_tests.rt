@@ -7,9 +7,8 @@ use crate::samples::{
 use std::alloc::{AllocError, Global};
 use std::test::Fail;
 use vsw_base::{BadShape, Control, Dir, Moment, Stack, Track, Verdict};
-use vsw_compose::act_of;
 use vsw_policy::{Groups, Layer};
-use vsw_rule::Action;
+use vsw_rule::{Action, act_of};
 use vsw_walk::{Visit, Want, visit};
 
 /// A quarter of the lives of a pair that is open and of one that is closed, in microseconds.

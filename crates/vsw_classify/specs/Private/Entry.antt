@@ -11,8 +11,8 @@ use Rattle.vsw_rule.specs.declared.rule.Cond.{Cond}
 use Rattle.vsw_rule.specs.declared.rule.Rule.{Rule}
 use Rattle.vsw_rule.specs.Field.{value_of}
 use Rattle.vsw_rule.specs.Match.{in_items}
-use Rattle.vsw_interval.specs.declared.placed.PlacedRange.{PlacedRange}
-use Rattle.vsw_trie.specs.declared.placed.PlacedPrefix.{PlacedPrefix}
+use Rattle.vsw_index.specs.declared.placed_range.PlacedRange.{PlacedRange}
+use Rattle.vsw_index.specs.declared.placed_prefix.PlacedPrefix.{PlacedPrefix}
 use Rattle.vsw_classify.specs.declared.entry.Entry.{Entry}
 use Rattle.vsw_classify.specs.declared.field_index.FieldIndex.{FieldIndex}
 use Rattle.vsw_classify.specs.Private.Rank.{meets_at}

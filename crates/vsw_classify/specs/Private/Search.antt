@@ -5,10 +5,10 @@ use Rattle.std.specs.List.Sorted.{IsNonDecreasing}
 use Rattle.vsw_base.specs.declared.header.Header.{Header}
 use Rattle.vsw_rule.specs.declared.rule.Rule.{Rule}
 use Rattle.vsw_rule.specs.Field.{value_of, is_ip}
-use Rattle.vsw_interval.specs.Least as interval
-use Rattle.vsw_interval.specs.declared.placed.PlacedRange.{PlacedRange}
-use Rattle.vsw_trie.specs.Least as trie
-use Rattle.vsw_trie.specs.declared.placed.PlacedPrefix.{PlacedPrefix}
+use Rattle.vsw_index.specs.RangeLeast as interval
+use Rattle.vsw_index.specs.declared.placed_range.PlacedRange.{PlacedRange}
+use Rattle.vsw_index.specs.PrefixLeast as trie
+use Rattle.vsw_index.specs.declared.placed_prefix.PlacedPrefix.{PlacedPrefix}
 use Rattle.vsw_classify.specs.declared.field_index.FieldIndex.{FieldIndex}
 use Rattle.vsw_classify.specs.Private.Rank.{IsRanked, meets_at}
 

@@ -3,11 +3,11 @@ use Rattle.std.specs.Prelude.{◌≡◌, ◌≤◌, ◌<◌, ℕ, List, false, t
 use Rattle.vsw_base.specs.declared.fate.Verdict.TheVariants.{Pass}
 use Rattle.vsw_base.specs.declared.flow.Crossing.{Crossing}
 use Rattle.vsw_base.specs.declared.header.Header.{Header}
-use Rattle.vsw_commit.specs.Cross.{makes}
+use Rattle.vsw_port.specs.Cross.{makes}
 use Rattle.vsw_core.specs.Walks.{IsWholeWalk}
 use Rattle.vsw_policy.specs.Layer.{LayerSeen}
-use Rattle.vsw_lean.specs.Good.{Row}
-use Rattle.vsw_lean.specs.Way.{plain}
+use Rattle.vsw_rows.specs.Good.{Row}
+use Rattle.vsw_rows.specs.Way.{plain}
 use Rattle.vsw_rows.specs.Rows.{Says}
 use Rattle.vsw_transpose.specs.Apply.{apply}
 use Rattle.vsw_transpose.specs.Fits as fit

@@ -9,7 +9,7 @@ use Rattle.vsw_core.specs.Calls.{Raises, called, grown}
 use Rattle.vsw_core.specs.Publishing.{HasPlace, IsSettled, StandsUntil, WritesOne}
 use Rattle.vsw_port.specs.declared.event.Event.{Event}
 use Rattle.vsw_policy.specs.Layer.{LayerSeen}
-use Rattle.vsw_lean.specs.Law.{wants_none}
+use Rattle.vsw_rows.specs.LeanLaw.{wants_none}
 use Rattle.vsw_lookup.specs.declared.view.View.{View}
 use Rattle.vsw_lookup.specs.Rules.{after_entry, passed}
 use Rattle.vsw_policy.specs.Layers.{PolicySeen}

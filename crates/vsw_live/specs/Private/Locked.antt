@@ -6,7 +6,7 @@ use Rattle.vsw_base.specs.declared.fate.Fate.{Fate}
 use Rattle.vsw_base.specs.declared.fate.Fate.TheVariants.{Drop}
 use Rattle.vsw_base.specs.declared.flow.Crossing.{Crossing}
 use Rattle.vsw_base.specs.Frame.{Parts}
-use Rattle.vsw_commit.specs.Fate.{fate_at}
+use Rattle.vsw_port.specs.Fate.{fate_at}
 use Rattle.vsw_sole.specs.Core.{IsOf, Looking}
 use Rattle.vsw_port.specs.Calls.{Call, Carried, HasBytes}
 use Rattle.vsw_port.specs.History.{AllRight, Opening, replay}

@@ -8,13 +8,13 @@ use Rattle.vsw_base.specs.declared.flow.Crossing.{Crossing}
 use Rattle.vsw_base.specs.declared.flow.Ufid.{Ufid}
 use Rattle.vsw_base.specs.declared.header.Header.{Header}
 use Rattle.vsw_base.specs.Frame.{Parts}
-use Rattle.vsw_commit.specs.Cross.{fate_after}
-use Rattle.vsw_commit.specs.Fate.{fate_by}
+use Rattle.vsw_port.specs.Cross.{fate_after}
+use Rattle.vsw_port.specs.Fate.{fate_by}
 use Rattle.vsw_port.specs.declared.event.Event.{Event}
 use Rattle.vsw_port.specs.Calls.{Carried, Reads}
 use Rattle.vsw_port.specs.History.{Opening, replay}
-use Rattle.vsw_lean.specs.Good.{Good, Row}
-use Rattle.vsw_lean.specs.Law.{stop_by}
+use Rattle.vsw_rows.specs.Good.{Good, Row}
+use Rattle.vsw_rows.specs.LeanLaw.{stop_by}
 use Rattle.vsw_port.specs.declared.crossing.Outcome.{Outcome}
 use Rattle.vsw_port.specs.Crossed.{EditsPass}
 use Rattle.vsw_core.specs.Law.{row_found}

@@ -1,5 +1,5 @@
 use Rattle.std.proofs.Common.{◌∙◌, ◌++◌, ℕ, List, ap, arith, take, drop}
-use Rattle.vsw_ipv4.specs.Change.{ip_changed}
+use Rattle.vsw_header.specs.IpChange.{ip_changed}
 use Rattle.vsw_frame.specs.Change.{segment_changed}
 use Rattle.vsw_frame.proofs.Places.{both_written}
 use Rattle.vsw_frame.proofs.in_place.change_whole.Goals as goal

@@ -1,6 +1,6 @@
 use Rattle.std.proofs.Common.{arith, sym}
-use Rattle.vsw_link.specs.Ether.{ether_view}
-use Rattle.vsw_ipv4.specs.Ip.{ip_view}
+use Rattle.vsw_header.specs.Ether.{ether_view}
+use Rattle.vsw_header.specs.Ip.{ip_view}
 use Rattle.vsw_frame.proofs.Shorter.{ether_shorter, ip_shorter}
 use Rattle.vsw_frame.proofs.opened.read_headers.Goals as goal
 

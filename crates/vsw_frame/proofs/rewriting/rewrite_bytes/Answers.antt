@@ -1,6 +1,6 @@
 use Rattle.std.proofs.Common.{◌≡◌, ◌∙◌, ℕ, List, true, drop, length, sym, ap, arith}
 use Rattle.vsw_base.specs.Frame.{Parts}
-use Rattle.vsw_sum.specs.Sum.{AreBytes}
+use Rattle.vsw_header.specs.Sum.{AreBytes}
 use Rattle.vsw_transpose.specs.declared.act.Act.{Act}
 use Rattle.vsw_transpose.specs.Apply.{apply}
 use Rattle.vsw_transpose.specs.Fits.{fits, kept}

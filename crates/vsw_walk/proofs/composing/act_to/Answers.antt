@@ -2,7 +2,7 @@ use Rattle.std.proofs.Common.{◌≡◌, ◌∙◌, ℕ, sym, ap, ◌⊎◌, inl
 use Rattle.std.specs.Prelude.{List}
 use Rattle.vsw_base.specs.declared.header.Header.{Header}
 use Rattle.vsw_base.specs.Shape.{encaps, is_stack}
-use Rattle.vsw_compose.specs.Edit.{edited, kept_after}
+use Rattle.vsw_rule.specs.Edit.{edited, kept_after}
 use Rattle.vsw_rule.specs.declared.rule.Action.{Action}
 use Rattle.vsw_rule.specs.declared.rule.Action.TheVariants.{Allow, Drop}
 use Rattle.vsw_transpose.specs.Fits.{kept}

@@ -1,5 +1,5 @@
 use Rattle.std.proofs.Common.{◌∙◌, sym, ap}
-use Rattle.vsw_compose.specs.Edit.{edited}
+use Rattle.vsw_rule.specs.Edit.{edited}
 use Rattle.vsw_transpose.specs.Apply.{apply}
 use Rattle.vsw_walk.proofs.Goes.{alike_itself, kept_on}
 use Rattle.vsw_walk.proofs.composing.compose_last.Goals as goal

@@ -1,6 +1,6 @@
 use Rattle.std.proofs.Common.{sym, ap, ◌∙◌, option_map}
 use Rattle.vsw_rule.specs.ChoiceSeen.{seen}
-use Rattle.vsw_compose.specs.Edit.{goes_on}
+use Rattle.vsw_rule.specs.Edit.{goes_on}
 use Rattle.vsw_rule.specs.declared.rule.Rule.{Rule}
 use Rattle.vsw_rule.specs.Match.{can_do}
 use Rattle.vsw_walk.proofs.Chosen.{chosen_can}

@@ -1,6 +1,6 @@
 use Rattle.std.proofs.Common.{◌∙◌, sym, ap}
-use Rattle.vsw_compose.specs.Edit.{edited}
-use Rattle.vsw_flowid.specs.Key.{key_from}
+use Rattle.vsw_rule.specs.Edit.{edited}
+use Rattle.vsw_header.specs.Key.{key_from}
 use Rattle.vsw_rule.specs.declared.rule.Action.{Action}
 use Rattle.vsw_walk.proofs.visiting.key_after.Goals as goal
 

@@ -1,7 +1,7 @@
 use Rattle.std.proofs.Common.{◌∙◌, ap, refl}
 use Rattle.std.specs.Prelude.{List}
 use Rattle.vsw_base.specs.declared.header.Header.{Header}
-use Rattle.vsw_compose.specs.Edit.{kept_after}
+use Rattle.vsw_rule.specs.Edit.{kept_after}
 use Rattle.vsw_rule.specs.declared.rule.Action.TheVariants.{Edit}
 use Rattle.vsw_walk.proofs.Going.{edits_on}
 use Rattle.vsw_walk.proofs.scratch.Scratch.edit.Goals as goal

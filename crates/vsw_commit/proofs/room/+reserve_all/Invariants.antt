@@ -1,5 +1,0 @@
-use Rattle.std.proofs.Common.{length}
-use Rattle.vsw_commit.proofs.room.+reserve_all.Given as goal
-
-abbrev pub decreases-reserve_all : goal.decreases-reserve_all
-decreases-reserve_all l = length l.changes.now

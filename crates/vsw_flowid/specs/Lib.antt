@@ -1,4 +1,0 @@
-pub mod Key
-pub mod Sum
-pub mod Mirror
-pub mod Port

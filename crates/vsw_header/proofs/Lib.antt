@@ -1,0 +1,15 @@
+pub mod Folds
+pub mod Changed
+pub mod Zeros
+pub mod Bytes
+pub mod EtherBack
+pub mod IpBack
+pub mod IpRight
+pub mod IpRights
+pub mod L4Back
+pub mod L4Update
+pub mod L4Right
+pub mod UdpRight
+pub mod L4Rights
+pub mod Mirrors
+pub mod Ports

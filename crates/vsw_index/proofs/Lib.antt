@@ -1,0 +1,9 @@
+pub mod Least
+pub mod Fits
+pub mod Ordered
+pub mod Chains
+pub mod Places
+pub mod PrefixAgreed
+pub mod Blocks
+pub mod RangeAgreed
+pub mod Nearby

@@ -1,0 +1,7 @@
+use Rattle.std.proofs.Common.{rules}
+use Rattle.std.proofs.lemmas.List.Sorted.{IsNonDecreasingBy-from_sort_by_key}
+use Rattle.vsw_index.specs.declared.placed_range.PlacedRange.{PlacedRange}
+use Rattle.vsw_index.proofs.interval.put_by_low.Goals as goal
+
+pub returns-in-Ok-clause-by_low : goal.returns-in-Ok-clause-by_low
+returns-in-Ok-clause-by_low c = IsNonDecreasingBy-from_sort_by_key (λ (r : PlacedRange). r.low) _ c.in-Ok.ensures.sorted (λ a r q k. search rules)

@@ -1,8 +1,0 @@
-use Rattle.std.proofs.Common.{◌≡◌, false}
-use Rattle.std.specs.List.{AllWithin}
-use Rattle.vsw_interval.specs.declared.placed.PlacedRange.{PlacedRange}
-use Rattle.vsw_interval.specs.Least.{counts}
-use Rattle.vsw_interval.proofs.near.look.Given as goal
-
-abbrev pub invariant-loop-at : goal.invariant-loop-at
-invariant-loop-at l = AllWithin (λ (r : PlacedRange). counts l.value l.fn.from r ≡ false) l.ranges 0 l.at

@@ -1,3 +1,0 @@
-pub mod Least
-pub mod Block
-pub mod Near

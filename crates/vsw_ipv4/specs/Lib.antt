@@ -1,4 +1,0 @@
-pub mod Ip
-pub mod Change
-pub mod Right
-pub mod Vectors

@@ -1,9 +1,0 @@
--- The definitions of right checksums compute on segments of other programs.
-use Rattle.std.proofs.Common.{refl}
-use Rattle.vsw_l4.specs.Vectors.{HelloIsRight, QueryIsRight}
-
-pub hello_is_right : HelloIsRight
-hello_is_right = refl
-
-pub query_is_right : QueryIsRight
-query_is_right = refl

@@ -1,5 +1,0 @@
-use Rattle.std.proofs.Common.{arith, length-take}
-use Rattle.vsw_link.proofs.ether.write_ether.Goals as goal
-
-pub copy_from_slice-requires : goal.copy_from_slice-requires
-copy_from_slice-requires c = omega (arith, length-take 14 c.args.out.now, c.header.ensures.len)

@@ -1,4 +1,0 @@
-pub mod Folds
-pub mod Changed
-pub mod Zeros
-pub mod Bytes

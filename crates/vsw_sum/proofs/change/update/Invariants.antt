@@ -1,7 +1,0 @@
-use Rattle.std.proofs.Common.{◌≡◌, ◌+◌, ◌-◌, drop, sum}
-use Rattle.vsw_sum.specs.Fold.{fold_of}
-use Rattle.vsw_sum.specs.Update.{changes}
-use Rattle.vsw_sum.proofs.change.update.Given as goal
-
-abbrev pub invariant-loop-i : goal.invariant-loop-i
-invariant-loop-i l = fold_of (l.sum + sum (changes (drop l.i l.from) (drop l.i l.to))) ≡ fold_of (65535 - l.old + sum (changes l.from l.to))

@@ -1,3 +1,0 @@
-pub mod Sum
-pub mod Update
-pub mod Fold

@@ -3,7 +3,7 @@
 ghost use Rattle.std.specs.Prelude.{◌≡◌, ◌+◌, [], None, IsTrue};
 ghost use Rattle.vsw_layerflow.specs.Pairs.{AllBelow, numbered, put_by_number};
 
-use std::process::Abort;
+use std::alloc::Global;
 use vsw_base::{Dir, Ip4, LayerKey, Moment, Set, Track};
 use vsw_layerflow::{Flows, Pair, due};
 
@@ -151,7 +151,140 @@ fn found_by_both(flows: &Flows) -> [Found; 4] {
     ]
 }
 
-// What they lead to: nothing, or pair 0, which goes out.
+/// The key of `there` from the next port.
+fn there_from_next() -> LayerKey {
+    key(0x0a00_0005, 0x0a00_0009, 40001, 80)
+}
+
+/// How many of the numbers below this have a pair that is open, and that both of its keys lead to.
+fn count_open(flows: &Flows, count: u32) -> u32 {
+    let mut there = 0u32;
+    for number in 0..count {
+        let front = found(flows, Dir::Out, &there_of(number));
+        let back = found(flows, Dir::In, &back_of(number));
+        if front == Some((number, Track::Open)) && back == front {
+            there = there.wrapping_add(1);
+        }
+    }
+    there
+}
+
+/// Opens the pairs of these numbers, each used a second later than the one before.
+fn open_all(flows: &mut Flows, count: u32) {
+    for number in 0..count {
+        let seconds = u64::from(number).wrapping_add(1);
+        flows.touch(
+            number,
+            Track::Open,
+            Moment::of(seconds.wrapping_mul(1_000_000)),
+        );
+    }
+}
+
+/// What is done to pairs, or seen of them, and what must come of it.
+#[derive(Clone, Copy)]
+enum Step {
+    /// The pair of this number gets a state and a moment of its last use.
+    Touch(u32, Track, u64),
+    Remove(u32),
+    /// Every number below `MOST` is touched.
+    OpenAll,
+    /// A sweep at this moment takes so many pairs, where the idle and linger times are these.
+    Sweep(u64, u32, u32, u32),
+    /// So many pairs go with the rule of this group and number.
+    DropRule(u16, u16, u32),
+    /// There are so many pairs.
+    Counts(u32),
+    /// So many numbers below `MOST` have an open pair that both of its keys lead to.
+    CountsOpen(u32),
+    /// What `there` and `back` lead to, each out and in.
+    Both([Found; 4]),
+    /// What `there_from_next` leads to, out and in alike.
+    Next(Found),
+    /// What the keys of a number lead to: that of its flow out, and that of the replies in.
+    Number(u32, Found),
+}
+
+fn comes_out(flows: &mut Flows, step: &Step) -> bool {
+    match *step {
+        Step::Touch(number, state, last) => {
+            flows.touch(number, state, Moment::of(last));
+            true
+        }
+        Step::Remove(number) => {
+            flows.remove(number);
+            true
+        }
+        Step::OpenAll => {
+            open_all(flows, MOST);
+            true
+        }
+        Step::Sweep(now, idle, linger, count) => {
+            flows.sweep(Moment::of(now), idle, linger) == count
+        }
+        Step::DropRule(group, rule, count) => flows.drop_rule(group, rule) == count,
+        Step::Counts(count) => flows.len() == count,
+        Step::CountsOpen(count) => count_open(flows, MOST) == count,
+        Step::Both(all) => found_by_both(flows) == all,
+        Step::Next(pair) => {
+            found(flows, Dir::Out, &there_from_next()) == pair
+                && found(flows, Dir::In, &there_from_next()) == pair
+        }
+        Step::Number(number, pair) => {
+            found(flows, Dir::Out, &there_of(number)) == pair
+                && found(flows, Dir::In, &back_of(number)) == pair
+        }
+    }
+}
+
+/// The place of the first step that doesn't come out as it says.
+fn first_wrong(flows: &mut Flows, steps: &[Step]) -> Option<usize> {
+    for place in 0..steps.len() {
+        if !comes_out(flows, &steps[place]) {
+            return Some(place);
+        }
+    }
+    None
+}
+
+/// The pairs that are there before the first step.
+#[derive(Clone, Copy)]
+enum First {
+    /// One pair, of `there` and `back`.
+    One,
+    /// Pair 7 came before pair 3, whose keys are `there_from_next`.
+    Backwards,
+    Touching,
+    ByRules,
+    /// One for each number below this.
+    Below(u32),
+    /// A full layer, of which each third pair was opened again.
+    Reopened,
+}
+
+fn begin(flows: &mut Flows, first: First) -> bool
+    requires none { flows.old.pairs ≡ [] }
+{
+    match first {
+        First::One => put(flows, pair(0, Dir::Out, there(), back())),
+        First::Backwards => put_backwards(flows),
+        First::Touching => open_touching(flows),
+        First::ByRules => open_by_rules(flows),
+        First::Below(count) => fill(flows, count),
+        First::Reopened => fill(flows, MOST) && flows.len() == MOST && reopen_thirds(flows),
+    }
+}
+
+/// The first step that doesn't come out as it says, where these pairs could be opened.
+fn tried(alloc: Global, first: First, steps: &[Step]) -> Option<Option<usize>> {
+    let mut flows = Flows::new(alloc);
+    if !begin(&mut flows, first) {
+        return None;
+    }
+    Some(first_wrong(&mut flows, steps))
+}
+
+// What `there` and `back` lead to: nothing, or pair 0, which goes out.
 const NOTHING: [Found; 4] = [None, None, None, None];
 
 const OPENING: [Found; 4] = [
@@ -168,19 +301,21 @@ const CLOSED: [Found; 4] = [
     Some((0, Track::Closed)),
 ];
 
+const ONE: [Step; 9] = [
+    Step::Counts(1),
+    Step::Both(OPENING),
+    Step::Touch(0, Track::Closed, 2_000_000),
+    Step::Both(CLOSED),
+    Step::Remove(1),
+    Step::Counts(1),
+    Step::Remove(0),
+    Step::Counts(0),
+    Step::Both(NOTHING),
+];
+
 #[test]
 fn a_pair_is_found_either_way_until_it_goes(rt: HostRuntime) {
-    let mut flows = Flows::new(rt.alloc());
-    assert!(rt; put(&mut flows, pair(0, Dir::Out, there(), back())));
-    assert_eq!(rt; flows.len(), 1);
-    assert_eq!(rt; found_by_both(&flows), OPENING);
-    flows.touch(0, Track::Closed, Moment::of(2_000_000));
-    assert_eq!(rt; found_by_both(&flows), CLOSED);
-    flows.remove(1);
-    assert_eq!(rt; flows.len(), 1);
-    flows.remove(0);
-    assert_eq!(rt; flows.len(), 0);
-    assert_eq!(rt; found_by_both(&flows), NOTHING);
+    assert!(&rt; tried(rt.alloc(), First::One, &ONE) == Some(None));
 }
 
 /// Adds a pair of any new number, if its keys are free, and tells whether it did.
@@ -214,22 +349,19 @@ fn put_backwards(flows: &mut Flows) -> bool
     )
 }
 
-#[test]
-fn pairs_come_in_any_order_of_their_numbers(rt: HostRuntime) {
-    let mut flows = Flows::new(rt.alloc());
-    assert!(rt; put_backwards(&mut flows));
-    assert_eq!(rt; found(&flows, Dir::Out, &there_from_next()), LATER);
-    flows.remove(7);
-    assert_eq!(rt; found(&flows, Dir::Out, &there_from_next()), LATER);
-    assert_eq!(rt; flows.len(), 1);
-}
-
 // A pair that came after one of a greater number.
 const LATER: Found = Some((3, Track::Opening));
 
-/// The key of `there` from the next port.
-fn there_from_next() -> LayerKey {
-    key(0x0a00_0005, 0x0a00_0009, 40001, 80)
+const BACKWARDS: [Step; 4] = [
+    Step::Next(LATER),
+    Step::Remove(7),
+    Step::Next(LATER),
+    Step::Counts(1),
+];
+
+#[test]
+fn pairs_come_in_any_order_of_their_numbers(rt: HostRuntime) {
+    assert!(&rt; tried(rt.alloc(), First::Backwards, &BACKWARDS) == Some(None));
 }
 
 /// Adds three pairs and tells whether it did: the second goes the other way with the keys of the first,
@@ -247,6 +379,13 @@ fn open_three(flows: &mut Flows) -> bool
     first && second && third
 }
 
+/// Adds those three, and no fourth, whose replies are those of the first.
+fn open_touching(flows: &mut Flows) -> bool
+    requires none { flows.old.pairs ≡ [] }
+{
+    open_three(flows) && !put(flows, pair(3, Dir::Out, key(1, 2, 3, 4), back()))
+}
+
 // What `there` and `back` lead to then, and once the second is open and the first has gone.
 const BOTH: [Found; 4] = [
     Some((0, Track::Opening)),
@@ -257,93 +396,47 @@ const BOTH: [Found; 4] = [
 
 const SECOND: [Found; 4] = [None, Some((1, Track::Open)), Some((1, Track::Open)), None];
 
+const TOUCHING: [Step; 5] = [
+    Step::Both(BOTH),
+    Step::Touch(1, Track::Open, 2_000_000),
+    Step::Remove(0),
+    Step::Both(SECOND),
+    Step::Next(Some((2, Track::Opening))),
+];
+
 #[test]
 fn pairs_whose_keys_touch_stay_apart(rt: HostRuntime) {
-    let mut flows = Flows::new(rt.alloc());
-    assert!(rt; open_three(&mut flows));
-    // The fourth's replies are those of the first.
-    assert!(rt; !put(&mut flows, pair(3, Dir::Out, key(1, 2, 3, 4), back())));
-    assert_eq!(rt; found_by_both(&flows), BOTH);
-    flows.touch(1, Track::Open, Moment::of(2_000_000));
-    flows.remove(0);
-    assert_eq!(rt; found_by_both(&flows), SECOND);
-    let third = Some((2, Track::Opening));
-    assert_eq!(rt; found(&flows, Dir::Out, &there_from_next()), third);
-    assert_eq!(rt; found(&flows, Dir::In, &there_from_next()), third);
+    assert!(&rt; tried(rt.alloc(), First::Touching, &TOUCHING) == Some(None));
 }
 
-/// How many of the numbers below this have a pair that both of its keys lead to.
-fn count_found(flows: &Flows, count: u32) -> u32 {
-    let mut there = 0u32;
-    for number in 0..count {
-        let front = found(flows, Dir::Out, &there_of(number));
-        let back = found(flows, Dir::In, &back_of(number));
-        if front == Some((number, Track::Open)) && back == front {
-            there = there.wrapping_add(1);
-        }
-    }
-    there
-}
-
-/// Opens the pairs of these numbers, each used a second later than the one before.
-fn open_all(flows: &mut Flows, count: u32) {
-    for number in 0..count {
-        let seconds = u64::from(number).wrapping_add(1);
-        flows.touch(
-            number,
-            Track::Open,
-            Moment::of(seconds.wrapping_mul(1_000_000)),
-        );
-    }
-}
-
-/// Fills a layer, and opens a third of its pairs again: none of those that are found is open.
-fn check_filled(rt: &impl Abort, flows: &mut Flows)
-    requires none { flows.old.pairs ≡ [] }
-{
-    assert!(rt; fill(flows, MOST));
-    assert_eq!(rt; flows.len(), 65_536);
-    assert!(rt; reopen_thirds(flows));
-    assert_eq!(rt; flows.len(), 65_536);
-    assert_eq!(rt; count_found(flows, MOST), 0);
-}
-
-/// Opens the pairs that weren't opened again.
-fn check_opened(rt: &impl Abort, flows: &mut Flows) {
-    open_all(flows, MOST);
-    assert_eq!(rt; count_found(flows, MOST), 43_690);
-    let third = Some((MOST + 3, Track::Opening));
-    assert_eq!(rt; found(flows, Dir::Out, &there_of(3)), third);
-    assert_eq!(rt; found(flows, Dir::In, &back_of(3)), third);
-}
-
-/// Sweeps half of the open pairs and all that were opened again, and drops the others.
-fn check_swept(rt: &impl Abort, flows: &mut Flows) {
+/// Half of the open pairs and all that were opened again are swept, and the others go with their rule.
+const REOPENED: [Step; 12] = [
+    Step::Counts(65_536),
+    Step::CountsOpen(0),
+    Step::OpenAll,
+    // Those that were opened again have other numbers.
+    Step::CountsOpen(43_690),
+    Step::Number(3, Some((MOST + 3, Track::Opening))),
     // Those up to number 32,767 were last used by second 32,768, those opened again at second 1.
-    assert_eq!(rt;
-        flows.sweep(Moment::of(33_008_000_000), 240, 10),
-        21_846 + 21_845
-    );
-    assert_eq!(rt; found(flows, Dir::Out, &there_of(32_767)), None);
-    let first = Some((32_768, Track::Open));
-    assert_eq!(rt; found(flows, Dir::Out, &there_of(32_768)), first);
-    assert_eq!(rt; count_found(flows, MOST), 21_845);
-    assert_eq!(rt; flows.drop_rule(2, 7), 21_845);
-    assert_eq!(rt; flows.len(), 0);
-    assert_eq!(rt; count_found(flows, MOST), 0);
-}
+    Step::Sweep(33_008_000_000, 240, 10, 21_846 + 21_845),
+    Step::Number(32_767, None),
+    Step::Number(32_768, Some((32_768, Track::Open))),
+    Step::CountsOpen(21_845),
+    Step::DropRule(2, 7, 21_845),
+    Step::Counts(0),
+    Step::CountsOpen(0),
+];
 
 #[test]
 fn a_full_layer_is_touched_opened_again_and_swept(rt: HostRuntime) {
-    let mut flows = Flows::new(rt.alloc());
-    check_filled(&rt, &mut flows);
-    check_opened(&rt, &mut flows);
-    check_swept(&rt, &mut flows);
+    assert!(&rt; tried(rt.alloc(), First::Reopened, &REOPENED) == Some(None));
 }
 
 /// The state of a pair, the moment it was last used, and the last moment at which a sweep leaves it,
 /// where the layer's idle and linger times are 240 and 10 seconds.
-const LIVES: [(Track, u64, u64); 6] = [
+type Life = (Track, u64, u64);
+
+const LIVES: [Life; 6] = [
     (Track::Plain, 1_000_000, 240_999_999),
     (Track::Opening, 0, 239_999_999),
     (Track::Half(Dir::In), 7, 240_000_006),
@@ -352,25 +445,40 @@ const LIVES: [(Track, u64, u64); 6] = [
     (Track::Closed, u64::MAX - 10_000_000, u64::MAX - 1),
 ];
 
-#[test]
-fn a_sweep_takes_a_pair_at_the_end_of_its_life(rt: HostRuntime) {
-    for (state, last, stays) in LIVES {
-        let mut flows = Flows::new(rt.alloc());
-        assert!(rt; fill(&mut flows, 1));
-        flows.touch(0, state, Moment::of(last));
-        assert_eq!(rt; flows.sweep(Moment::of(stays), 240, 10), 0);
-        assert_eq!(rt; flows.sweep(Moment::of(stays.wrapping_add(1)), 240, 10), 1);
-        assert_eq!(rt; flows.len(), 0);
+/// Whether a sweep takes the only pair then, and not before.
+fn ends_then(flows: &mut Flows, life: &Life) -> bool {
+    let (state, last, stays) = *life;
+    flows.touch(0, state, Moment::of(last));
+    flows.sweep(Moment::of(stays), 240, 10) == 0
+        && flows.sweep(Moment::of(stays.wrapping_add(1)), 240, 10) == 1
+        && flows.len() == 0
+}
+
+/// The place of the first pair that doesn't live so long.
+fn first_other(alloc: Global, lives: &[Life]) -> Option<usize> {
+    for place in 0..lives.len() {
+        let mut flows = Flows::new(alloc);
+        if !(fill(&mut flows, 1) && ends_then(&mut flows, &lives[place])) {
+            return Some(place);
+        }
     }
+    None
 }
 
 #[test]
+fn a_sweep_takes_a_pair_at_the_end_of_its_life(rt: HostRuntime) {
+    assert!(&rt; first_other(rt.alloc(), &LIVES) == None);
+}
+
+const GREATEST: [Step; 3] = [
+    Step::Touch(1, Track::Open, u64::MAX),
+    Step::Touch(2, Track::Closed, u64::MAX - 1),
+    Step::Sweep(u64::MAX, u32::MAX, u32::MAX, 3),
+];
+
+#[test]
 fn a_sweep_at_the_greatest_moment_takes_every_pair(rt: HostRuntime) {
-    let mut flows = Flows::new(rt.alloc());
-    assert!(rt; fill(&mut flows, 3));
-    flows.touch(1, Track::Open, Moment::of(u64::MAX));
-    flows.touch(2, Track::Closed, Moment::of(u64::MAX - 1));
-    assert_eq!(rt; flows.sweep(Moment::of(u64::MAX), u32::MAX, u32::MAX), 3);
+    assert!(&rt; tried(rt.alloc(), First::Below(3), &GREATEST) == Some(None));
 }
 
 /// A last use, a state, the layer's idle and linger times, and the moment after which a packet is due.
@@ -384,10 +492,7 @@ const DUES: [(u64, Track, u32, u32, u64); 4] = [
 #[test]
 fn a_packet_is_due_after_a_quarter_of_the_life(rt: HostRuntime) {
     for (last, state, idle, linger, moment) in DUES {
-        assert_eq!(rt;
-            due(Moment::of(last), state, idle, linger),
-            Moment::of(moment)
-        );
+        assert!(&rt; due(Moment::of(last), state, idle, linger) == Moment::of(moment));
     }
 }
 
@@ -413,29 +518,17 @@ fn open_by_rules(flows: &mut Flows) -> bool
     first && second && third && fourth
 }
 
-/// What the keys of the numbers below 4 lead to, and what those of their replies do.
-fn found_out(flows: &Flows) -> [Found; 4] {
-    [0u32, 1, 2, 3].map(|number| found(flows, Dir::Out, &there_of(number)))
-}
-
-fn found_in(flows: &Flows) -> [Found; 4] {
-    [0u32, 1, 2, 3].map(|number| found(flows, Dir::In, &back_of(number)))
-}
-
-/// What is left without the first and the last.
-const MIDDLE: [Found; 4] = [
-    None,
-    Some((1, Track::Opening)),
-    Some((2, Track::Opening)),
-    None,
+/// The first and the last go.
+const BY_RULES: [Step; 6] = [
+    Step::DropRule(1, 7, 0),
+    Step::DropRule(2, 7, 2),
+    Step::Number(0, None),
+    Step::Number(1, Some((1, Track::Opening))),
+    Step::Number(2, Some((2, Track::Opening))),
+    Step::Number(3, None),
 ];
 
 #[test]
 fn pairs_go_with_their_rule_alone(rt: HostRuntime) {
-    let mut flows = Flows::new(rt.alloc());
-    assert!(rt; open_by_rules(&mut flows));
-    assert_eq!(rt; flows.drop_rule(1, 7), 0);
-    assert_eq!(rt; flows.drop_rule(2, 7), 2);
-    assert_eq!(rt; found_out(&flows), MIDDLE);
-    assert_eq!(rt; found_in(&flows), MIDDLE);
+    assert!(&rt; tried(rt.alloc(), First::ByRules, &BY_RULES) == Some(None));
 }

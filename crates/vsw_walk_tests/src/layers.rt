@@ -144,20 +144,23 @@ fn add_rule(layer: u16, group: u16, rule: Rule) -> Command {
     Command::AddRule { layer, group, rule }
 }
 
+/// Rule 5 of layer 10, and rule 9 for inbound packets.
+fn to_public(alloc: Global) -> Rule {
+    rule(5, only(alloc, is_own(alloc)), &hide_source(), true)
+}
+
+fn to_own(alloc: Global) -> Rule {
+    let public = is(alloc, Field::DstIp, u64::from(PUBLIC));
+    rule(9, only(alloc, public), &restore_destination(), true)
+}
+
 /// Layer 10 of controller 1: group 1 with rule 5, and for inbound packets group 2 with rule 9.
 fn add_translation(alloc: Global, policy: &mut Policy) -> bool {
-    let out = rule(5, only(alloc, is_own(alloc)), &hide_source(), true);
-    let back = rule(
-        9,
-        only(alloc, is(alloc, Field::DstIp, u64::from(PUBLIC))),
-        &restore_destination(),
-        true,
-    );
     give(policy, 1, add_layer(10))
         && give(policy, 1, add_group(alloc, 10, 1, Dir::Out))
-        && give(policy, 1, add_rule(10, 1, out))
+        && give(policy, 1, add_rule(10, 1, to_public(alloc)))
         && give(policy, 1, add_group(alloc, 10, 2, Dir::In))
-        && give(policy, 1, add_rule(10, 2, back))
+        && give(policy, 1, add_rule(10, 2, to_own(alloc)))
 }
 
 /// A stateful rule that allows packets with this value of a field.
@@ -170,32 +173,34 @@ fn web(alloc: Global, number: u16, field: Field) -> Rule {
     )
 }
 
+/// Rules 7 and 8 of layer 20, and rule 3 for inbound packets.
+fn stop(alloc: Global) -> Rule {
+    let telnet = is(alloc, Field::DstPort, 23);
+    rule(7, only(alloc, telnet), &Action::Drop, false)
+}
+
+fn into_network(alloc: Global) -> Rule {
+    let public = is(alloc, Field::SrcIp, u64::from(PUBLIC));
+    rule(8, only(alloc, public), &put_in_network(), false)
+}
+
+fn out_of_network(alloc: Global) -> Rule {
+    rule(3, is_for_us(alloc), &take_out(), false)
+}
+
 /// Layer 20 of controller 2, and its group 1 with rules 6, which makes pairs, 7, which drops, and 8.
 fn add_network(alloc: Global, policy: &mut Policy) -> bool {
-    let stop = rule(
-        7,
-        only(alloc, is(alloc, Field::DstPort, 23)),
-        &Action::Drop,
-        false,
-    );
-    let out = rule(
-        8,
-        only(alloc, is(alloc, Field::SrcIp, u64::from(PUBLIC))),
-        &put_in_network(),
-        false,
-    );
     give(policy, 2, add_layer(20))
         && give(policy, 2, add_group(alloc, 20, 1, Dir::Out))
         && give(policy, 2, add_rule(20, 1, web(alloc, 6, Field::DstPort)))
-        && give(policy, 2, add_rule(20, 1, stop))
-        && give(policy, 2, add_rule(20, 1, out))
+        && give(policy, 2, add_rule(20, 1, stop(alloc)))
+        && give(policy, 2, add_rule(20, 1, into_network(alloc)))
 }
 
 /// Group 2 of layer 20, for inbound packets, with rules 3 and 4, which makes pairs.
 fn add_way_back(alloc: Global, policy: &mut Policy) -> bool {
-    let back = rule(3, is_for_us(alloc), &take_out(), false);
     give(policy, 2, add_group(alloc, 20, 2, Dir::In))
-        && give(policy, 2, add_rule(20, 2, back))
+        && give(policy, 2, add_rule(20, 2, out_of_network(alloc)))
         && give(policy, 2, add_rule(20, 2, web(alloc, 4, Field::SrcPort)))
 }
 

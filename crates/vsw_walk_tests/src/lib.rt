@@ -16,6 +16,8 @@ mod samples;
 #[cfg(test)]
 mod tcp_tests;
 #[cfg(test)]
+mod trial;
+#[cfg(test)]
 mod visit_tests;
 #[cfg(test)]
 mod walk_tests;

@@ -10,6 +10,17 @@ use vsw_policy::Policy;
 use vsw_transpose::Transposition;
 use vsw_walk::{Scratch, Walked, Wanted, walk};
 
+/// An address and a port.
+pub type End = (u32, u16);
+
+/// UDP from one end to another.
+#[derive(Clone, Copy)]
+pub enum Packet {
+    Plain(End, End),
+    /// In network 5001, from 172.16.0.1 to 172.16.0.2.
+    Covered(End, End),
+}
+
 fn ether(dst: u64, src: u64) -> Header
     requires dst { dst < 2 ^ 48 }
     requires src { src < 2 ^ 48 }
@@ -38,25 +49,31 @@ fn ports(src: u16, dst: u16) -> Header {
     }
 }
 
-/// UDP from a port of an address to a port of another.
-pub fn plain(src: u32, src_port: u16, dst: u32, dst_port: u16) -> Result<Stack, BadShape> {
+fn plain(src: End, dst: End) -> Result<Stack, BadShape> {
     Stack::of(&[
         ether(0x0200_0000_0099, 0x0200_0000_0001),
-        udp(src, dst),
-        ports(src_port, dst_port),
+        udp(src.0, dst.0),
+        ports(src.1, dst.1),
     ])
 }
 
-/// Such a packet in network 5001, from 172.16.0.1 to 172.16.0.2.
-pub fn covered(src: u32, src_port: u16, dst: u32, dst_port: u16) -> Result<Stack, BadShape> {
+fn covered(src: End, dst: End) -> Result<Stack, BadShape> {
     Stack::of(&[
         ether(0x0200_0000_0a02, 0x0200_0000_0a01),
         udp(0xac10_0001, 0xac10_0002),
         Header::Vxlan { vni: 5001 },
         ether(0x0200_0000_0099, 0x0200_0000_0001),
-        udp(src, dst),
-        ports(src_port, dst_port),
+        udp(src.0, dst.0),
+        ports(src.1, dst.1),
     ])
+}
+
+/// The headers of a packet.
+pub fn stack_of(packet: &Packet) -> Result<Stack, BadShape> {
+    match *packet {
+        Packet::Plain(src, dst) => plain(src, dst),
+        Packet::Covered(src, dst) => covered(src, dst),
+    }
 }
 
 /// What becomes of a packet of this direction and stack.
@@ -112,9 +129,12 @@ pub fn places(scratch: &Scratch) -> Option<(u32, u32)> {
     }
 }
 
-/// What the packet looked for in the layer that it met after so many others: the layer's place,
-/// encapsulations, source address and source port of the key, and the pair.
-pub fn looked(scratch: &Scratch, met: usize) -> Option<(u32, u8, u32, u16, Option<u32>)> {
+/// What a packet looked for in a layer: the layer's place, encapsulations, source address and source port of
+/// the key, and the pair.
+pub type Look = (u32, u8, u32, u16, Option<u32>);
+
+/// What the packet looked for in the layer that it met after so many others.
+pub fn looked(scratch: &Scratch, met: usize) -> Option<Look> {
     let look = scratch.looked().get(met)?;
     let key = &look.key;
     let address = key.src.number();

@@ -1,7 +1,7 @@
 //! A layer, its rule and its pair, and packets of one TCP connection through it, which were worked out
 //! by hand.
 
-use std::alloc::{AllocError, Global};
+use std::alloc::Global;
 use vsw_base::{BadShape, Dir, Header, Ip4, Items, LayerKey, Mac, Moment, Set, Stack, Track};
 use vsw_layerflow::{Flows, Pair};
 use vsw_policy::{Groups, Layer, LayerSpec};
@@ -169,18 +169,10 @@ fn rule(alloc: Global, action: &Action) -> Rule {
     }
 }
 
-/// Layer 10 of controller 3: stateful rule 7 of group 2 does this to all outbound packets. Pairs live for
-/// 240 or, closed, 10 seconds, and the next one has number 6.
-fn layer(alloc: Global, action: &Action, flows: Flows) -> Result<Layer, AllocError> {
-    let group = Group {
-        number: 2,
-        dir: Dir::Out,
-        when: Items::new(alloc),
-        rules: Items::of(Vec::from_array(alloc, [rule(alloc, action)])?),
-    };
-    let mut groups = Groups::new(alloc);
-    let _ = groups.push(alloc, group);
-    Ok(Layer {
+/// Layer 10 of controller 3. Outbound packets go on where no rule decides, and inbound ones don't. Pairs live
+/// for 240 or, closed, 10 seconds, and the next one has number 6.
+fn layer(groups: Groups, flows: Flows) -> Layer {
+    Layer {
         controller: 3,
         spec: LayerSpec {
             layer: 10,
@@ -194,12 +186,35 @@ fn layer(alloc: Global, action: &Action, flows: Flows) -> Result<Layer, AllocErr
         groups,
         flows,
         next_pair: 6,
-    })
+    }
+}
+
+/// Stateful rule 7 of group 2 does this to all outbound packets.
+fn groups_of(alloc: Global, action: &Action) -> Groups {
+    let mut rules = Items::new(alloc);
+    let _ = rules.push(rule(alloc, action));
+    let group = Group {
+        number: 2,
+        dir: Dir::Out,
+        when: Items::new(alloc),
+        rules,
+    };
+    let mut groups = Groups::new(alloc);
+    let _ = groups.push(alloc, group);
+    groups
+}
+
+/// The layer without rules and pairs.
+pub fn without_rules(alloc: Global, allow_out: bool, allow_in: bool) -> Layer {
+    let mut layer = layer(Groups::new(alloc), Flows::new(alloc));
+    layer.spec.allow_out = allow_out;
+    layer.spec.allow_in = allow_in;
+    layer
 }
 
 /// The layer without pairs.
-pub fn without_pairs(alloc: Global, action: &Action) -> Result<Layer, AllocError> {
-    layer(alloc, action, Flows::new(alloc))
+pub fn without_pairs(alloc: Global, action: &Action) -> Layer {
+    layer(groups_of(alloc, action), Flows::new(alloc))
 }
 
 /// One pair alone.
@@ -212,6 +227,9 @@ fn flows_of(alloc: Global, pair: Pair) -> Flows {
 }
 
 /// The layer with pair 5 in this state.
-pub fn with_pair(alloc: Global, action: &Action, state: Track) -> Result<Layer, AllocError> {
-    layer(alloc, action, flows_of(alloc, pair(5, state, USED)))
+pub fn with_pair(alloc: Global, action: &Action, state: Track) -> Layer {
+    layer(
+        groups_of(alloc, action),
+        flows_of(alloc, pair(5, state, USED)),
+    )
 }

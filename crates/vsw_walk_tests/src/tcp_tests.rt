@@ -78,23 +78,31 @@ fn cells(now: Track, dir: Dir) -> [Tracked; 5] {
     CONTROLS.map(|control| track(now, Dir::Out, control, dir))
 }
 
+/// The place of the first row that comes out otherwise.
+fn first_wrong(rows: &[(Track, Dir, [Tracked; 5])]) -> Option<usize> {
+    for place in 0..rows.len() {
+        let (now, dir, row) = rows[place];
+        if cells(now, dir) != row {
+            return Some(place);
+        }
+    }
+    None
+}
+
 #[test]
 fn packets_move_a_pair(rt: HostRuntime) {
-    for (now, dir, row) in ROWS {
-        assert_eq!(rt; cells(now, dir), row);
-    }
+    assert!(&rt; first_wrong(&ROWS) == None);
 }
 
 #[test]
 fn replies_open_a_pair_of_inbound_packets(rt: HostRuntime) {
-    assert_eq!(rt;
-        track(Track::Opening, Dir::In, Control::SynAck, Dir::Out),
-        OPEN
-    );
-    assert_eq!(rt;
-        track(Track::Opening, Dir::In, Control::SynAck, Dir::In),
-        OPENING
-    );
+    assert!(&rt; track(Track::Opening, Dir::In, Control::SynAck, Dir::Out) == OPEN);
+    assert!(&rt; track(Track::Opening, Dir::In, Control::SynAck, Dir::In) == OPENING);
+}
+
+/// What the controls make of no pair, in the order of the columns.
+fn openings(dir: Dir) -> [Track; 5] {
+    CONTROLS.map(|control| opening(control, dir))
 }
 
 #[test]
@@ -107,6 +115,6 @@ fn packets_make_a_pair(rt: HostRuntime) {
             Track::Opening,
             Track::Open,
         ];
-        assert_eq!(rt; CONTROLS.map(|control| opening(control, dir)), row);
+        assert!(&rt; openings(dir) == row);
     }
 }

@@ -2,12 +2,11 @@
 
 use crate::samples::{
     USED, edit, fragment, inwards, outwards, pair, pair_of_fragments, reply, reply_inside, request,
-    request_outside, with_pair, without_pairs,
+    request_outside, with_pair, without_pairs, without_rules,
 };
-use std::alloc::{AllocError, Global};
-use std::test::Fail;
+use std::alloc::Global;
 use vsw_base::{BadShape, Control, Dir, Moment, Stack, Track, Verdict};
-use vsw_policy::{Groups, Layer};
+use vsw_policy::Layer;
 use vsw_rule::{Action, act_of};
 use vsw_walk::{Visit, Want, visit};
 
@@ -15,6 +14,28 @@ use vsw_walk::{Visit, Want, visit};
 const QUARTER: u64 = 60_000_000;
 
 const CLOSED_QUARTER: u64 = 2_500_000;
+
+/// A packet at a layer, and what must become of it.
+#[derive(Clone, Copy)]
+enum Step {
+    /// Rule 7 drops a SYN.
+    Drops,
+    /// No rule decides about a packet of this direction, which goes on as it is.
+    Goes(Dir),
+    /// It is dropped by default.
+    Stops(Dir),
+    /// A SYN is translated and wants pair 6, and this pair leaves.
+    Opens(Option<u32>),
+    /// A fragment is translated and wants a pair without states.
+    OpensByFragment,
+    /// A request or a reply goes on as it should be outside or inside.
+    Translates(Dir, Control),
+    /// A packet takes what pair 5 writes, so long after the last use.
+    Keeps(Dir, Control, u64, Touched),
+}
+
+/// What is wanted of a pair: another state, or the moment as its last use.
+type Touched = Option<(Track, u64)>;
 
 /// Whether the layer makes this of a request, or of a reply.
 fn makes(layer: &Layer, dir: Dir, control: Control, micros: u64, wanted: &Visit) -> bool {
@@ -28,8 +49,7 @@ fn makes(layer: &Layer, dir: Dir, control: Control, micros: u64, wanted: &Visit)
     }
 }
 
-/// Whether the rule drops a SYN.
-fn is_dropped(layer: &Layer) -> bool {
+fn drops(layer: &Layer) -> bool {
     let wanted = Visit::Stops(Verdict::Rule {
         controller: 3,
         layer: 10,
@@ -37,29 +57,6 @@ fn is_dropped(layer: &Layer) -> bool {
         rule: 7,
     });
     makes(layer, Dir::Out, Control::Syn, USED, &wanted)
-}
-
-#[test]
-fn a_rule_drops_and_wants_nothing(rt: HostRuntime) -> Result<(), Fail> {
-    let layer = without_pairs(rt.alloc(), &Action::Drop)?;
-    assert!(rt; is_dropped(&layer));
-    Ok(())
-}
-
-#[test]
-fn a_closed_pair_stays_where_the_syn_is_dropped(rt: HostRuntime) -> Result<(), Fail> {
-    let layer = with_pair(rt.alloc(), &Action::Drop, Track::Closed)?;
-    assert!(rt; is_dropped(&layer));
-    Ok(())
-}
-
-/// The layer without rules.
-fn by_default(alloc: Global, allow_out: bool, allow_in: bool) -> Result<Layer, AllocError> {
-    let mut layer = without_pairs(alloc, &Action::Drop)?;
-    layer.groups = Groups::new(alloc);
-    layer.spec.allow_out = allow_out;
-    layer.spec.allow_in = allow_in;
-    Ok(layer)
 }
 
 fn goes(layer: &Layer, dir: Dir) -> bool {
@@ -80,16 +77,6 @@ fn stops(layer: &Layer, dir: Dir) -> bool {
     makes(layer, dir, Control::None, USED, &wanted)
 }
 
-#[test]
-fn the_default_of_the_direction_decides_where_no_rule_does(rt: HostRuntime) -> Result<(), Fail> {
-    let out_alone = by_default(rt.alloc(), true, false)?;
-    assert!(rt; goes(&out_alone, Dir::Out) && stops(&out_alone, Dir::In));
-    let in_alone = by_default(rt.alloc(), false, true)?;
-    assert!(rt; stops(&in_alone, Dir::Out) && goes(&in_alone, Dir::In));
-    Ok(())
-}
-
-/// Whether a SYN is translated and wants pair 6, and whether this pair leaves.
 fn opens(layer: &Layer, leaves: Option<u32>) -> bool {
     let wanted = Visit::Goes {
         action: edit(outwards()),
@@ -99,18 +86,16 @@ fn opens(layer: &Layer, leaves: Option<u32>) -> bool {
     makes(layer, Dir::Out, Control::Syn, 77, &wanted)
 }
 
-#[test]
-fn a_translated_request_wants_a_pair(rt: HostRuntime) -> Result<(), Fail> {
-    let layer = without_pairs(rt.alloc(), &edit(outwards()))?;
-    assert!(rt; opens(&layer, None));
-    Ok(())
-}
-
-#[test]
-fn a_syn_opens_a_closed_pair_again(rt: HostRuntime) -> Result<(), Fail> {
-    let layer = with_pair(rt.alloc(), &edit(outwards()), Track::Closed)?;
-    assert!(rt; opens(&layer, Some(5)));
-    Ok(())
+fn opens_by_fragment(layer: &Layer) -> bool {
+    let wanted = Visit::Goes {
+        action: edit(outwards()),
+        leaves: None,
+        wants: Some(Want::Make(pair_of_fragments(6, 77))),
+    };
+    match fragment() {
+        Ok(stack) => visit(layer, Dir::Out, Control::None, Moment::of(77), &stack) == wanted,
+        Err(_) => false,
+    }
 }
 
 /// The stack with which a packet goes on.
@@ -138,108 +123,197 @@ fn becomes(
     }
 }
 
-#[test]
-fn a_request_and_its_reply_are_translated(rt: HostRuntime) -> Result<(), Fail> {
-    let layer = with_pair(rt.alloc(), &Action::Drop, Track::Opening)?;
-    assert!(rt; becomes(&layer, Dir::Out, Control::Syn, request(), request_outside()));
-    assert!(rt; becomes(&layer, Dir::In, Control::SynAck, reply(), reply_inside()));
-    Ok(())
-}
-
-/// Whether the fragment is translated and wants a pair.
-fn opens_by_fragment(layer: &Layer) -> bool {
-    let wanted = Visit::Goes {
-        action: edit(outwards()),
-        leaves: None,
-        wants: Some(Want::Make(pair_of_fragments(6, 77))),
-    };
-    match fragment() {
-        Ok(stack) => visit(layer, Dir::Out, Control::None, Moment::of(77), &stack) == wanted,
-        Err(_) => false,
+fn translates(layer: &Layer, dir: Dir, control: Control) -> bool {
+    match dir {
+        Dir::Out => becomes(layer, dir, control, request(), request_outside()),
+        Dir::In => becomes(layer, dir, control, reply(), reply_inside()),
     }
 }
 
-#[test]
-fn a_translated_fragment_wants_a_pair_without_states(rt: HostRuntime) -> Result<(), Fail> {
-    let layer = without_pairs(rt.alloc(), &edit(outwards()))?;
-    assert!(rt; opens_by_fragment(&layer));
-    Ok(())
+/// What touches pair 5.
+fn touch(touched: Touched) -> Option<Want> {
+    match touched {
+        Some((state, last)) => Some(Want::Touch {
+            number: 5,
+            state,
+            last: Moment::of(last),
+        }),
+        None => None,
+    }
 }
 
-/// Whether a packet takes what pair 5 writes in its direction, so long after the last use, and what is
-/// wanted of the pair: another state, or the moment as its last use.
-fn keeps(
-    layer: &Layer,
-    dir: Dir,
-    control: Control,
-    micros: u64,
-    touch: Option<(Track, u64)>,
-) -> bool {
+fn keeps(layer: &Layer, dir: Dir, control: Control, micros: u64, touched: Touched) -> bool {
     let set = match dir {
         Dir::Out => outwards(),
         Dir::In => inwards(),
     };
-    let wants = touch.map(|(state, last)| Want::Touch {
-        number: 5,
-        state,
-        last: Moment::of(last),
-    });
     let wanted = Visit::Goes {
         action: edit(set),
         leaves: None,
-        wants,
+        wants: touch(touched),
     };
     makes(layer, dir, control, USED.saturating_add(micros), &wanted)
 }
 
-/// Whether a packet takes what a pair in this state writes, though the rule drops, and moves the pair to
-/// another state, if to any.
-fn moves(
-    alloc: Global,
-    state: Track,
-    dir: Dir,
-    control: Control,
-    to: Option<Track>,
-) -> Result<bool, AllocError> {
-    let layer = with_pair(alloc, &Action::Drop, state)?;
-    Ok(keeps(&layer, dir, control, 1, to.map(|state| (state, USED))))
+fn comes_out(layer: &Layer, step: &Step) -> bool {
+    match *step {
+        Step::Drops => drops(layer),
+        Step::Goes(dir) => goes(layer, dir),
+        Step::Stops(dir) => stops(layer, dir),
+        Step::Opens(leaves) => opens(layer, leaves),
+        Step::OpensByFragment => opens_by_fragment(layer),
+        Step::Translates(dir, control) => translates(layer, dir, control),
+        Step::Keeps(dir, control, micros, touched) => keeps(layer, dir, control, micros, touched),
+    }
+}
+
+/// The place of the first step that doesn't come out as it says.
+fn first_wrong(layer: &Layer, steps: &[Step]) -> Option<usize> {
+    for place in 0..steps.len() {
+        if !comes_out(layer, &steps[place]) {
+            return Some(place);
+        }
+    }
+    None
+}
+
+/// The first wrong step at the layer with this rule and no pairs.
+fn without(alloc: Global, action: &Action, steps: &[Step]) -> Option<usize> {
+    first_wrong(&without_pairs(alloc, action), steps)
+}
+
+/// The same with a pair in this state.
+fn with(alloc: Global, action: &Action, state: Track, steps: &[Step]) -> Option<usize> {
+    first_wrong(&with_pair(alloc, action, state), steps)
+}
+
+/// The same without a rule.
+fn by_default(alloc: Global, allow_out: bool, allow_in: bool, steps: &[Step]) -> Option<usize> {
+    first_wrong(&without_rules(alloc, allow_out, allow_in), steps)
 }
 
 #[test]
-fn a_handshake_opens_a_pair(rt: HostRuntime) -> Result<(), Fail> {
-    let alloc = rt.alloc();
-    let open = Some(Track::Open);
-    assert!(rt; moves(alloc, Track::Opening, Dir::In, Control::SynAck, open)?);
-    assert!(rt; moves(alloc, Track::Open, Dir::Out, Control::None, None)?);
-    Ok(())
+fn a_rule_drops_and_wants_nothing(rt: HostRuntime) {
+    assert!(&rt; without(rt.alloc(), &Action::Drop, &[Step::Drops]) == None);
 }
 
 #[test]
-fn two_ends_close_a_pair(rt: HostRuntime) -> Result<(), Fail> {
-    let alloc = rt.alloc();
-    let half = Track::Half(Dir::Out);
-    assert!(rt; moves(alloc, Track::Open, Dir::Out, Control::Fin, Some(half))?);
-    assert!(rt; moves(alloc, half, Dir::In, Control::Fin, Some(Track::Closed))?);
-    assert!(rt; moves(alloc, Track::Closed, Dir::Out, Control::None, None)?);
-    Ok(())
+fn a_closed_pair_stays_where_the_syn_is_dropped(rt: HostRuntime) {
+    assert!(&rt; with(rt.alloc(), &Action::Drop, Track::Closed, &[Step::Drops]) == None);
+}
+
+const OUT_ALONE: [Step; 2] = [Step::Goes(Dir::Out), Step::Stops(Dir::In)];
+
+const IN_ALONE: [Step; 2] = [Step::Stops(Dir::Out), Step::Goes(Dir::In)];
+
+#[test]
+fn the_default_of_the_direction_decides_where_no_rule_does(rt: HostRuntime) {
+    assert!(&rt; by_default(rt.alloc(), true, false, &OUT_ALONE) == None);
+    assert!(&rt; by_default(rt.alloc(), false, true, &IN_ALONE) == None);
 }
 
 #[test]
-fn a_packet_renews_the_last_use_after_a_quarter_of_the_life(rt: HostRuntime) -> Result<(), Fail> {
-    let layer = with_pair(rt.alloc(), &Action::Drop, Track::Open)?;
-    let renewed = Some((Track::Open, USED + QUARTER + 1));
-    assert!(rt; keeps(&layer, Dir::In, Control::None, QUARTER - 1, None));
-    assert!(rt; keeps(&layer, Dir::In, Control::None, QUARTER, None));
-    assert!(rt; keeps(&layer, Dir::In, Control::None, QUARTER + 1, renewed));
-    Ok(())
+fn a_translated_request_wants_a_pair(rt: HostRuntime) {
+    assert!(&rt; without(rt.alloc(), &edit(outwards()), &[Step::Opens(None)]) == None);
 }
 
 #[test]
-fn the_life_is_that_of_the_new_state(rt: HostRuntime) -> Result<(), Fail> {
-    let layer = with_pair(rt.alloc(), &Action::Drop, Track::Open)?;
-    let closed = Some((Track::Closed, USED));
-    let renewed = Some((Track::Closed, USED + CLOSED_QUARTER + 1));
-    assert!(rt; keeps(&layer, Dir::In, Control::Rst, CLOSED_QUARTER, closed));
-    assert!(rt; keeps(&layer, Dir::In, Control::Rst, CLOSED_QUARTER + 1, renewed));
-    Ok(())
+fn a_syn_opens_a_closed_pair_again(rt: HostRuntime) {
+    let action = edit(outwards());
+    assert!(&rt; with(rt.alloc(), &action, Track::Closed, &[Step::Opens(Some(5))]) == None);
+}
+
+const BOTH_WAYS: [Step; 2] = [
+    Step::Translates(Dir::Out, Control::Syn),
+    Step::Translates(Dir::In, Control::SynAck),
+];
+
+#[test]
+fn a_request_and_its_reply_are_translated(rt: HostRuntime) {
+    assert!(&rt; with(rt.alloc(), &Action::Drop, Track::Opening, &BOTH_WAYS) == None);
+}
+
+#[test]
+fn a_translated_fragment_wants_a_pair_without_states(rt: HostRuntime) {
+    assert!(&rt; without(rt.alloc(), &edit(outwards()), &[Step::OpensByFragment]) == None);
+}
+
+/// A pair in this state, the direction and the control of a packet, and the state to which it moves the
+/// pair, if to any.
+type Move = (Track, Dir, Control, Option<Track>);
+
+/// Whether a packet takes what the pair writes, though the rule drops, and moves it so.
+fn moves(alloc: Global, way: &Move) -> bool {
+    let (state, dir, control, to) = *way;
+    let touched = match to {
+        Some(next) => Some((next, USED)),
+        None => None,
+    };
+    keeps(
+        &with_pair(alloc, &Action::Drop, state),
+        dir,
+        control,
+        1,
+        touched,
+    )
+}
+
+/// The place of the first packet that moves its pair otherwise.
+fn first_other(alloc: Global, ways: &[Move]) -> Option<usize> {
+    for place in 0..ways.len() {
+        if !moves(alloc, &ways[place]) {
+            return Some(place);
+        }
+    }
+    None
+}
+
+const HANDSHAKE: [Move; 2] = [
+    (Track::Opening, Dir::In, Control::SynAck, Some(Track::Open)),
+    (Track::Open, Dir::Out, Control::None, None),
+];
+
+#[test]
+fn a_handshake_opens_a_pair(rt: HostRuntime) {
+    assert!(&rt; first_other(rt.alloc(), &HANDSHAKE) == None);
+}
+
+const HALF: Track = Track::Half(Dir::Out);
+
+const ENDS: [Move; 3] = [
+    (Track::Open, Dir::Out, Control::Fin, Some(HALF)),
+    (HALF, Dir::In, Control::Fin, Some(Track::Closed)),
+    (Track::Closed, Dir::Out, Control::None, None),
+];
+
+#[test]
+fn two_ends_close_a_pair(rt: HostRuntime) {
+    assert!(&rt; first_other(rt.alloc(), &ENDS) == None);
+}
+
+const RENEWED: Touched = Some((Track::Open, USED + QUARTER + 1));
+
+const QUARTERS: [Step; 3] = [
+    Step::Keeps(Dir::In, Control::None, QUARTER - 1, None),
+    Step::Keeps(Dir::In, Control::None, QUARTER, None),
+    Step::Keeps(Dir::In, Control::None, QUARTER + 1, RENEWED),
+];
+
+#[test]
+fn a_packet_renews_the_last_use_after_a_quarter_of_the_life(rt: HostRuntime) {
+    assert!(&rt; with(rt.alloc(), &Action::Drop, Track::Open, &QUARTERS) == None);
+}
+
+const CLOSED: Touched = Some((Track::Closed, USED));
+
+const CLOSED_LATER: Touched = Some((Track::Closed, USED + CLOSED_QUARTER + 1));
+
+const CLOSED_QUARTERS: [Step; 2] = [
+    Step::Keeps(Dir::In, Control::Rst, CLOSED_QUARTER, CLOSED),
+    Step::Keeps(Dir::In, Control::Rst, CLOSED_QUARTER + 1, CLOSED_LATER),
+];
+
+#[test]
+fn the_life_is_that_of_the_new_state(rt: HostRuntime) {
+    assert!(&rt; with(rt.alloc(), &Action::Drop, Track::Open, &CLOSED_QUARTERS) == None);
 }

@@ -1,99 +1,132 @@
 //! Walks over two layers, and over none.
 
 use crate::layers::{PUBLIC, two_layers};
-use crate::packets::{covered, cross, passes_as, places, plain, wanted};
+use crate::packets::{End, Packet};
+use crate::trial::{Step, tried};
 use vsw_base::{Dir, Verdict};
 use vsw_policy::Policy;
-use vsw_walk::Scratch;
 
-/// One of the addresses behind the first layer, and one beyond the second.
-const OWN: u32 = 0x0a00_0005;
+/// A port of one of the addresses behind the first layer.
+const OWN: End = (0x0a00_0005, 1234);
 
+/// The port that stands for those behind the first layer.
+const PUBLIC_PORT: End = (PUBLIC, 40_000);
+
+/// An address beyond the second layer.
 const FAR: u32 = 0x0a00_0109;
+
+const SEEN: [Step; 3] = [
+    Step::WantsNothing,
+    Step::Passes(
+        Dir::Out,
+        Packet::Plain(OWN, (FAR, 53)),
+        Packet::Covered(PUBLIC_PORT, (FAR, 53)),
+        0,
+    ),
+    Step::WantsOne(0, 0, 5),
+];
 
 #[test]
 fn the_second_layer_sees_what_the_first_left(rt: HostRuntime) {
-    let policy = two_layers(rt.alloc()).expect(&rt, "memory");
-    let mut scratch = Scratch::new(rt.alloc()).expect(&rt, "memory");
-    assert!(rt; scratch.changes().is_empty());
-    let query = plain(OWN, 1234, FAR, 53).expect(&rt, "it has the shape");
-    let sent = covered(PUBLIC, 40_000, FAR, 53).expect(&rt, "it has the shape");
-    let walked = cross(&policy, Dir::Out, &query, &mut scratch);
-    assert!(rt; passes_as(&walked, &scratch, &query, &sent));
-    assert_eq!(rt; walked.kept, 0);
-    assert_eq!(rt; wanted(&scratch), Some((0, 0, 5)));
+    let alloc = rt.alloc();
+    assert!(&rt; tried(alloc, two_layers(alloc), &SEEN) == Some(None));
 }
+
+const REVERSE: [Step; 2] = [
+    Step::Passes(
+        Dir::In,
+        Packet::Covered((FAR, 53), PUBLIC_PORT),
+        Packet::Plain((FAR, 53), OWN),
+        0,
+    ),
+    Step::WantsOne(0, 0, 9),
+];
 
 #[test]
 fn inbound_packets_cross_the_layers_in_reverse(rt: HostRuntime) {
-    let policy = two_layers(rt.alloc()).expect(&rt, "memory");
-    let mut scratch = Scratch::new(rt.alloc()).expect(&rt, "memory");
-    let received = covered(FAR, 53, PUBLIC, 40_000).expect(&rt, "it has the shape");
-    let answer = plain(FAR, 53, OWN, 1234).expect(&rt, "it has the shape");
-    let walked = cross(&policy, Dir::In, &received, &mut scratch);
-    assert!(rt; passes_as(&walked, &scratch, &received, &answer));
-    assert_eq!(rt; walked.kept, 0);
-    assert_eq!(rt; wanted(&scratch), Some((0, 0, 9)));
+    let alloc = rt.alloc();
+    assert!(&rt; tried(alloc, two_layers(alloc), &REVERSE) == Some(None));
 }
+
+const CHANGES: [Step; 4] = [
+    Step::Meets(Dir::Out, Packet::Plain(OWN, (FAR, 80)), Verdict::Pass),
+    Step::WantsTwo(0, 1),
+    Step::Meets(
+        Dir::In,
+        Packet::Plain((FAR, 80), PUBLIC_PORT),
+        Verdict::Pass,
+    ),
+    Step::WantsTwo(1, 0),
+];
 
 #[test]
 fn changes_stand_in_crossing_order(rt: HostRuntime) {
-    let policy = two_layers(rt.alloc()).expect(&rt, "memory");
-    let mut scratch = Scratch::new(rt.alloc()).expect(&rt, "memory");
-    let query = plain(OWN, 1234, FAR, 80).expect(&rt, "it has the shape");
-    let _ = cross(&policy, Dir::Out, &query, &mut scratch);
-    assert_eq!(rt; places(&scratch), Some((0, 1)));
-    let answer = plain(FAR, 80, PUBLIC, 40_000).expect(&rt, "it has the shape");
-    let _ = cross(&policy, Dir::In, &answer, &mut scratch);
-    assert_eq!(rt; places(&scratch), Some((1, 0)));
+    let alloc = rt.alloc();
+    assert!(&rt; tried(alloc, two_layers(alloc), &CHANGES) == Some(None));
 }
+
+const DROPPED: [Step; 2] = [
+    Step::Meets(
+        Dir::Out,
+        Packet::Plain(OWN, (FAR, 23)),
+        Verdict::Rule {
+            controller: 2,
+            layer: 20,
+            group: 1,
+            rule: 7,
+        },
+    ),
+    Step::WantsOne(0, 0, 5),
+];
 
 #[test]
 fn what_was_wanted_before_a_drop_is_told(rt: HostRuntime) {
-    let policy = two_layers(rt.alloc()).expect(&rt, "memory");
-    let mut scratch = Scratch::new(rt.alloc()).expect(&rt, "memory");
-    let query = plain(OWN, 1234, FAR, 23).expect(&rt, "it has the shape");
-    let walked = cross(&policy, Dir::Out, &query, &mut scratch);
-    let dropped = Verdict::Rule {
-        controller: 2,
-        layer: 20,
-        group: 1,
-        rule: 7,
-    };
-    assert!(rt; walked.verdict == dropped);
-    assert_eq!(rt; wanted(&scratch), Some((0, 0, 5)));
+    let alloc = rt.alloc();
+    assert!(&rt; tried(alloc, two_layers(alloc), &DROPPED) == Some(None));
 }
+
+/// From an address beyond the second layer to one behind the first.
+const OTHER: Packet = Packet::Plain((FAR, 1234), (OWN.0, 53));
+
+const BY_DEFAULT: [Step; 4] = [
+    Step::Meets(
+        Dir::Out,
+        OTHER,
+        Verdict::Default {
+            controller: 1,
+            layer: 10,
+            dir: Dir::Out,
+        },
+    ),
+    Step::WantsNothing,
+    Step::Meets(
+        Dir::In,
+        OTHER,
+        Verdict::Default {
+            controller: 2,
+            layer: 20,
+            dir: Dir::In,
+        },
+    ),
+    Step::WantsNothing,
+];
 
 #[test]
 fn the_first_layer_that_lets_no_packet_on_drops_it(rt: HostRuntime) {
-    let policy = two_layers(rt.alloc()).expect(&rt, "memory");
-    let mut scratch = Scratch::new(rt.alloc()).expect(&rt, "memory");
-    let other = plain(FAR, 1234, OWN, 53).expect(&rt, "it has the shape");
-    let out = cross(&policy, Dir::Out, &other, &mut scratch);
-    let first = Verdict::Default {
-        controller: 1,
-        layer: 10,
-        dir: Dir::Out,
-    };
-    assert!(rt; out.verdict == first && scratch.changes().is_empty());
-    let back = cross(&policy, Dir::In, &other, &mut scratch);
-    let last = Verdict::Default {
-        controller: 2,
-        layer: 20,
-        dir: Dir::In,
-    };
-    assert!(rt; back.verdict == last && scratch.changes().is_empty());
+    let alloc = rt.alloc();
+    assert!(&rt; tried(alloc, two_layers(alloc), &BY_DEFAULT) == Some(None));
 }
+
+const RECEIVED: Packet = Packet::Covered((FAR, 53), PUBLIC_PORT);
+
+const FREE: [Step; 3] = [
+    Step::Passes(Dir::Out, RECEIVED, RECEIVED, 1),
+    Step::Passes(Dir::In, RECEIVED, RECEIVED, 1),
+    Step::WantsNothing,
+];
 
 #[test]
 fn a_packet_passes_where_there_are_no_layers(rt: HostRuntime) {
-    let policy = Policy::new(rt.alloc(), &[1]).expect(&rt, "memory");
-    let mut scratch = Scratch::new(rt.alloc()).expect(&rt, "memory");
-    let received = covered(FAR, 53, PUBLIC, 40_000).expect(&rt, "it has the shape");
-    let out = cross(&policy, Dir::Out, &received, &mut scratch);
-    assert!(rt; passes_as(&out, &scratch, &received, &received));
-    let back = cross(&policy, Dir::In, &received, &mut scratch);
-    assert!(rt; passes_as(&back, &scratch, &received, &received));
-    assert_eq!(rt; back.kept, 1);
-    assert!(rt; scratch.changes().is_empty());
+    let alloc = rt.alloc();
+    assert!(&rt; tried(alloc, Policy::new(alloc, &[1]).ok(), &FREE) == Some(None));
 }

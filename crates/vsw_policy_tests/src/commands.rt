@@ -1,9 +1,32 @@
 //! The commands that are given: their layers, groups and rules.
 
-use std::alloc::{AllocError, Global};
+use std::alloc::Global;
 use vsw_base::{Dir, Items, Moment};
 use vsw_policy::{Command, LayerSpec};
 use vsw_rule::{Action, Cond, Field, Item, Rule};
+
+/// What a command asks: of layer 10 and its group 1, where it names no others.
+#[derive(Clone, Copy)]
+pub enum Ask {
+    /// A further layer of this number and order.
+    AddLayer(u16, u16),
+    RemoveLayer(u16),
+    /// An outbound group of this number without conditions.
+    AddGroup(u16),
+    /// An inbound group 2, for packets to port 80, or to 443 and above.
+    AddWeb,
+    RemoveGroup(u16),
+    /// A rule of this number and priority.
+    AddRule(u16, u16),
+    RemoveRule(u16),
+    /// Rules of these numbers and priorities in place of all in this layer's group.
+    PutTwo(u16, (u16, u16), (u16, u16)),
+    /// So many rules, numbered from 0, and then one of this number.
+    PutMany(u16, u16),
+    SetDefault(Dir, bool),
+    /// A sweep of this layer at a moment.
+    Sweep(u16, u64),
+}
 
 /// Allows 16 pairs, which live for 240 or, closed, 10 seconds.
 pub fn spec(layer: u16, order: u16) -> LayerSpec {
@@ -18,14 +41,7 @@ pub fn spec(layer: u16, order: u16) -> LayerSpec {
     }
 }
 
-pub fn add_layer(layer: u16, order: u16) -> Command {
-    Command::AddLayer {
-        spec: spec(layer, order),
-    }
-}
-
-/// An outbound group of layer 10 without conditions.
-pub fn add_group(alloc: Global, group: u16) -> Command {
+fn add_group(alloc: Global, group: u16) -> Command {
     Command::AddGroup {
         layer: 10,
         group,
@@ -34,28 +50,29 @@ pub fn add_group(alloc: Global, group: u16) -> Command {
     }
 }
 
-/// A group of layer 10 goes.
-pub fn remove_group(group: u16) -> Command {
-    Command::RemoveGroup { layer: 10, group }
-}
-
-/// An inbound group 2 of layer 10, for packets to port 80, or to 443 and above.
-pub fn add_web(alloc: Global) -> Result<Command, AllocError> {
-    let one = Item::Range { low: 80, high: 80 };
-    let more = Item::Range {
+/// The destination port is 80, or 443 and above.
+fn to_web(alloc: Global) -> Cond {
+    let mut items = Items::new(alloc);
+    let _ = items.push(Item::Range { low: 80, high: 80 });
+    let _ = items.push(Item::Range {
         low: 443,
         high: 0xffff,
-    };
-    let ports = Cond {
+    });
+    Cond {
         field: Field::DstPort,
-        items: Items::of(Vec::from_array(alloc, [one, more])?),
-    };
-    Ok(Command::AddGroup {
+        items,
+    }
+}
+
+fn add_web(alloc: Global) -> Command {
+    let mut when = Items::new(alloc);
+    let _ = when.push(to_web(alloc));
+    Command::AddGroup {
         layer: 10,
         group: 2,
         dir: Dir::In,
-        when: Items::of(Vec::from_array(alloc, [ports])?),
-    })
+        when,
+    }
 }
 
 /// A stateful rule that allows all packets.
@@ -70,25 +87,7 @@ pub fn rule(alloc: Global, number: u16, priority: u16) -> Rule {
     }
 }
 
-/// Adds a rule of this number and priority to group 1 of layer 10.
-pub fn add_rule(alloc: Global, number: u16, priority: u16) -> Command {
-    Command::AddRule {
-        layer: 10,
-        group: 1,
-        rule: rule(alloc, number, priority),
-    }
-}
-
-pub fn remove_rule(number: u16) -> Command {
-    Command::RemoveRule {
-        layer: 10,
-        group: 1,
-        number,
-    }
-}
-
-/// Puts rules of these numbers and priorities into group 1 of a layer.
-pub fn put_two(alloc: Global, layer: u16, first: (u16, u16), second: (u16, u16)) -> Command {
+fn put_two(alloc: Global, layer: u16, first: (u16, u16), second: (u16, u16)) -> Command {
     let mut rules = Items::new(alloc);
     let _ = rules.push(rule(alloc, first.0, first.1));
     let _ = rules.push(rule(alloc, second.0, second.1));
@@ -99,8 +98,7 @@ pub fn put_two(alloc: Global, layer: u16, first: (u16, u16), second: (u16, u16))
     }
 }
 
-/// Puts so many rules, numbered from 0, and then one of this number into group 1 of layer 10.
-pub fn put_many(alloc: Global, count: u16, last: u16) -> Command {
+fn put_many(alloc: Global, count: u16, last: u16) -> Command {
     let mut rules = Items::new(alloc);
     for number in 0..count {
         let _ = rules.push(rule(alloc, number, 10));
@@ -113,17 +111,36 @@ pub fn put_many(alloc: Global, count: u16, last: u16) -> Command {
     }
 }
 
-pub fn set_default(dir: Dir, allow: bool) -> Command {
-    Command::SetDefault {
-        layer: 10,
-        dir,
-        allow,
-    }
-}
-
-pub fn sweep() -> Command {
-    Command::Sweep {
-        layer: 10,
-        now: Moment::of(0),
+/// The command that asks this.
+pub fn command(alloc: Global, ask: &Ask) -> Command {
+    match *ask {
+        Ask::AddLayer(layer, order) => Command::AddLayer {
+            spec: spec(layer, order),
+        },
+        Ask::RemoveLayer(layer) => Command::RemoveLayer { layer },
+        Ask::AddGroup(group) => add_group(alloc, group),
+        Ask::AddWeb => add_web(alloc),
+        Ask::RemoveGroup(group) => Command::RemoveGroup { layer: 10, group },
+        Ask::AddRule(number, priority) => Command::AddRule {
+            layer: 10,
+            group: 1,
+            rule: rule(alloc, number, priority),
+        },
+        Ask::RemoveRule(number) => Command::RemoveRule {
+            layer: 10,
+            group: 1,
+            number,
+        },
+        Ask::PutTwo(layer, first, second) => put_two(alloc, layer, first, second),
+        Ask::PutMany(count, last) => put_many(alloc, count, last),
+        Ask::SetDefault(dir, allow) => Command::SetDefault {
+            layer: 10,
+            dir,
+            allow,
+        },
+        Ask::Sweep(layer, micros) => Command::Sweep {
+            layer,
+            now: Moment::of(micros),
+        },
     }
 }

@@ -3,12 +3,12 @@
 ghost use Rattle.std.specs.Prelude.{◌≡◌, ◌+◌};
 ghost use Rattle.vsw_layerflow.specs.Pairs.{AllBelow};
 
-use crate::commands::{put_two, remove_group, remove_rule, rule, spec};
-use crate::told::told_rules;
+use crate::commands::{Ask, command, rule, spec};
+use crate::told::{Rules, told_rules};
 use std::alloc::Global;
 use vsw_base::{Dir, Ip4, Items, LayerKey, Moment, Set, Track};
 use vsw_layerflow::{Flows, Pair};
-use vsw_policy::{Command, Groups, Layer, change};
+use vsw_policy::{Groups, Layer, change};
 use vsw_rule::Group;
 
 const UNSET: Set = Set {
@@ -111,19 +111,29 @@ fn group(alloc: Global, number: u16) -> Group {
     }
 }
 
-/// Layer 10 of controller 1, with such groups 1 and 2 and those pairs.
-fn layers(alloc: Global) -> Vec<Layer> {
+/// Such groups 1 and 2.
+fn groups(alloc: Global) -> Groups {
     let mut groups = Groups::new(alloc);
     let _ = groups.push(alloc, group(alloc, 1));
     let _ = groups.push(alloc, group(alloc, 2));
-    let mut layers = Vec::new(alloc);
-    let _ = layers.push(Layer {
+    groups
+}
+
+/// Layer 10 of controller 1, with those groups and pairs.
+fn layer(alloc: Global) -> Layer {
+    Layer {
         controller: 1,
         spec: spec(10, 10),
-        groups,
+        groups: groups(alloc),
         flows: flows(alloc),
         next_pair: 5,
-    });
+    }
+}
+
+/// That layer alone.
+fn layers(alloc: Global) -> Vec<Layer> {
+    let mut layers = Vec::new(alloc);
+    let _ = layers.push(layer(alloc));
     layers
 }
 
@@ -140,60 +150,87 @@ pub fn left(flows: &Flows) -> u32 {
     digits
 }
 
-/// Which pairs are left after a command of controller 1.
-fn left_after(alloc: Global, command: Command) -> u32 {
-    let mut layers = layers(alloc);
-    if change(alloc, &[1], &mut layers, 1, &command).is_err() {
-        return 0;
-    }
-    match layers.as_slice() {
+/// Does what controller 1 asks, and tells whether memory sufficed.
+fn does(alloc: Global, layers: &mut Vec<Layer>, ask: &Ask) -> bool {
+    change(alloc, &[1], layers, 1, &command(alloc, ask)).is_ok()
+}
+
+/// Which pairs are left in the only layer.
+fn left_in(layers: &[Layer]) -> u32 {
+    match layers {
         [layer] => left(&layer.flows),
         _ => 0,
     }
 }
 
-#[test]
-fn pairs_go_with_a_rule_that_goes_or_changes(rt: HostRuntime) {
-    let alloc = rt.alloc();
-    assert_eq!(rt; left(&flows(alloc)), 12_345);
-    // Rule 6 stays as it was, 5 changes, and 7 goes.
-    assert_eq!(rt; left_after(alloc, put_two(alloc, 10, (5, 20), (6, 10))), 25);
-    // Their places count for nothing.
-    assert_eq!(rt;
-        left_after(alloc, put_two(alloc, 10, (7, 10), (5, 10))),
-        1_345
-    );
-    assert_eq!(rt; left_after(alloc, put_two(alloc, 10, (8, 10), (9, 10))), 5);
-    // Layer 11 isn't there.
-    assert_eq!(rt;
-        left_after(alloc, put_two(alloc, 11, (8, 10), (9, 10))),
-        12_345
-    );
+/// Which pairs are left after a command of controller 1.
+fn left_after(alloc: Global, ask: &Ask) -> u32 {
+    let mut layers = layers(alloc);
+    if does(alloc, &mut layers, ask) {
+        left_in(layers.as_slice())
+    } else {
+        0
+    }
 }
 
-/// Which pairs a sweep of a layer leaves.
-fn left_at(alloc: Global, layer: u16, micros: u64) -> u32 {
-    let now = Moment::of(micros);
-    left_after(alloc, Command::Sweep { layer, now })
+/// What is asked, and the pairs that are left after it.
+type Case = (Ask, u32);
+
+/// The place of the first case after which others are left.
+fn first_other(alloc: Global, cases: &[Case]) -> Option<usize> {
+    for place in 0..cases.len() {
+        let (ask, digits) = cases[place];
+        if left_after(alloc, &ask) != digits {
+            return Some(place);
+        }
+    }
+    None
 }
+
+const RULES: [Case; 4] = [
+    // Rule 6 stays as it was, 5 changes, and 7 goes.
+    (Ask::PutTwo(10, (5, 20), (6, 10)), 25),
+    // Their places count for nothing.
+    (Ask::PutTwo(10, (7, 10), (5, 10)), 1_345),
+    (Ask::PutTwo(10, (8, 10), (9, 10)), 5),
+    // Layer 11 isn't there.
+    (Ask::PutTwo(11, (8, 10), (9, 10)), 12_345),
+];
+
+#[test]
+fn pairs_go_with_a_rule_that_goes_or_changes(rt: HostRuntime) {
+    assert!(&rt; left(&flows(rt.alloc())) == 12_345);
+    assert!(&rt; first_other(rt.alloc(), &RULES) == None);
+}
+
+const TIMES: [Case; 5] = [
+    (Ask::RemoveGroup(1), 5),
+    (Ask::RemoveRule(5), 235),
+    // They are open, and live for 240 seconds.
+    (Ask::Sweep(10, 242_999_999), 345),
+    (Ask::Sweep(10, 243_000_000), 45),
+    (Ask::Sweep(11, 243_000_000), 12_345),
+];
 
 #[test]
 fn pairs_go_with_their_group_their_rule_and_their_time(rt: HostRuntime) {
-    let alloc = rt.alloc();
-    assert_eq!(rt; left_after(alloc, remove_group(1)), 5);
-    assert_eq!(rt; left_after(alloc, remove_rule(5)), 235);
-    // They are open, and live for 240 seconds.
-    assert_eq!(rt; left_at(alloc, 10, 242_999_999), 345);
-    assert_eq!(rt; left_at(alloc, 10, 243_000_000), 45);
-    assert_eq!(rt; left_at(alloc, 11, 243_000_000), 12_345);
+    assert!(&rt; first_other(rt.alloc(), &TIMES) == None);
 }
+
+/// What is told of the rules of both groups after a command.
+fn rules_after(alloc: Global, ask: &Ask) -> [Option<Rules>; 2] {
+    let mut layers = layers(alloc);
+    if does(alloc, &mut layers, ask) {
+        [told_rules(&layers, 0), told_rules(&layers, 1)]
+    } else {
+        [None, None]
+    }
+}
+
+const OTHERS: [Option<Rules>; 2] = [Some((6, 20, 2)), Some((7, 10, 3))];
 
 #[test]
 fn other_rules_stand_in_place_of_all_of_one_group(rt: HostRuntime) {
-    let alloc = rt.alloc();
-    let mut layers = layers(alloc);
-    let command = put_two(alloc, 10, (9, 10), (6, 20));
-    assert!(rt; change(alloc, &[1], &mut layers, 1, &command).is_ok());
-    assert_eq!(rt; told_rules(&layers, 0), Some((6, 20, 2)));
-    assert_eq!(rt; told_rules(&layers, 1), Some((7, 10, 3)));
+    let ask = Ask::PutTwo(10, (9, 10), (6, 20));
+    assert!(&rt; rules_after(rt.alloc(), &ask) == OTHERS);
 }

@@ -5,9 +5,10 @@ ghost use Rattle.vsw_layerflow.specs.Pairs.{AllBelow};
 ghost use Rattle.vsw_policy.specs.Layer.{seen, CanTake};
 ghost use Rattle.vsw_policy.specs.Layers.{At};
 
-use crate::commands::add_layer;
+use crate::commands::Ask;
 use crate::pair_tests::{left, pair, there};
-use crate::trial::Trial;
+use crate::trial::{self, first_wrong};
+use std::alloc::Global;
 use vsw_base::{Dir, Moment, Track};
 use vsw_layerflow::Pair;
 use vsw_policy::{Layer, Policy};
@@ -117,35 +118,93 @@ fn open_three(policy: &mut Policy) -> bool {
     open_both(policy, 3, 1) && open(policy, 1, 2)
 }
 
-/// Two layers, with those pairs.
-fn trial(policy: Policy) -> Trial {
-    let mut trial = Trial::of(policy);
-    trial.done(1, add_layer(10, 10));
-    trial.done(1, add_layer(11, 20));
-    if open_three(&mut trial.policy) {
-        trial.passed = trial.passed.wrapping_add(1);
-    }
-    trial
+const LAYERS: [trial::Step; 2] = [
+    trial::Step::Done(1, Ask::AddLayer(10, 10)),
+    trial::Step::Done(1, Ask::AddLayer(11, 20)),
+];
+
+/// Makes two layers with those pairs, and tells whether it did.
+fn make(alloc: Global, policy: &mut Policy) -> bool {
+    first_wrong(alloc, policy, &LAYERS).is_none() && open_three(policy)
 }
+
+/// What is done to the pairs of the layer at a place, or told of them.
+#[derive(Clone, Copy)]
+enum Step {
+    /// The pair of a number is closed, or goes.
+    Close(usize, u32),
+    Remove(usize, u32),
+    /// No pair opens from this port.
+    Refused(usize, u16),
+    /// The ports that have a pair, and the next number.
+    Told(usize, (u32, u32)),
+    /// The state of the pair from a port, and when it was last used.
+    State(usize, u16, (Track, u64)),
+}
+
+fn comes_out(policy: &mut Policy, step: &Step) -> bool {
+    match *step {
+        Step::Close(place, number) => {
+            close(policy, place, number);
+            true
+        }
+        Step::Remove(place, number) => {
+            remove(policy, place, number);
+            true
+        }
+        Step::Refused(place, port) => !open(policy, place, port),
+        Step::Told(place, pairs) => told(policy, place) == Some(pairs),
+        Step::State(place, port, seen) => state(policy, place, port) == Some(seen),
+    }
+}
+
+/// The place of the first step that doesn't come out as it says.
+fn first_other(policy: &mut Policy, steps: &[Step]) -> Option<usize> {
+    for place in 0..steps.len() {
+        if !comes_out(policy, &steps[place]) {
+            return Some(place);
+        }
+    }
+    None
+}
+
+/// That of a policy which gets two layers with those pairs first.
+fn tried(alloc: Global, policy: Option<Policy>, steps: &[Step]) -> Option<Option<usize>> {
+    let mut policy = policy?;
+    if !make(alloc, &mut policy) {
+        return None;
+    }
+    Some(first_other(&mut policy, steps))
+}
+
+const OPENED: [Step; 4] = [
+    Step::Told(0, (3, 1)),
+    Step::Told(1, (12, 2)),
+    // Its keys are held there, and there is no third layer.
+    Step::Refused(1, 2),
+    Step::Refused(2, 4),
+];
 
 #[test]
 fn a_pair_opens_under_the_next_number_in_one_layer(rt: HostRuntime) {
-    let mut trial = trial(Policy::new(rt.alloc(), &[1]).expect(&rt, "memory"));
-    assert_eq!(rt; trial.passed, 3);
-    assert_eq!(rt; told(&trial.policy, 0), Some((3, 1)));
-    assert_eq!(rt; told(&trial.policy, 1), Some((12, 2)));
-    // Its keys are held there, and there is no third layer.
-    assert!(rt; !open(&mut trial.policy, 1, 2) && !open(&mut trial.policy, 2, 4));
+    let alloc = rt.alloc();
+    let policy = Policy::new(alloc, &[1]).ok();
+    assert!(&rt; tried(alloc, policy, &OPENED) == Some(None));
 }
+
+const CHANGED: [Step; 7] = [
+    Step::Close(1, 0),
+    Step::State(1, 1, (Track::Closed, 7)),
+    Step::State(1, 2, (Track::Open, 2_000_000)),
+    Step::State(0, 3, (Track::Open, 3_000_000)),
+    Step::Remove(1, 0),
+    Step::Told(0, (3, 1)),
+    Step::Told(1, (2, 2)),
+];
 
 #[test]
 fn a_pair_changes_and_goes_in_one_layer(rt: HostRuntime) {
-    let mut trial = trial(Policy::new(rt.alloc(), &[1]).expect(&rt, "memory"));
-    close(&mut trial.policy, 1, 0);
-    assert_eq!(rt; state(&trial.policy, 1, 1), Some((Track::Closed, 7)));
-    assert_eq!(rt; state(&trial.policy, 1, 2), Some((Track::Open, 2_000_000)));
-    assert_eq!(rt; state(&trial.policy, 0, 3), Some((Track::Open, 3_000_000)));
-    remove(&mut trial.policy, 1, 0);
-    assert_eq!(rt; told(&trial.policy, 0), Some((3, 1)));
-    assert_eq!(rt; told(&trial.policy, 1), Some((2, 2)));
+    let alloc = rt.alloc();
+    let policy = Policy::new(alloc, &[1]).ok();
+    assert!(&rt; tried(alloc, policy, &CHANGED) == Some(None));
 }

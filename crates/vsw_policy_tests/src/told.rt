@@ -4,18 +4,10 @@ use vsw_base::Dir;
 use vsw_policy::Layer;
 use vsw_rule::{Field, Group};
 
-/// Whether the layers stand as told, by controller and number.
-pub fn stand(layers: &[Layer], names: &[(u16, u16)]) -> bool {
-    if layers.len() != names.len() {
-        return false;
-    }
-    let mut all = true;
-    for (layer, name) in layers.iter().zip(names) {
-        if (layer.controller, layer.spec.layer) != *name {
-            all = false;
-        }
-    }
-    all
+/// The controller and the number of the layer at a place.
+pub fn named(layers: &[Layer], layer: usize) -> Option<(u16, u16)> {
+    let layer = layers.get(layer)?;
+    Some((layer.controller, layer.spec.layer))
 }
 
 /// The group at a place of the layer at a place.
@@ -28,9 +20,11 @@ pub fn count_groups(layers: &[Layer], layer: usize) -> Option<usize> {
     Some(layers.get(layer)?.groups.as_slice().len())
 }
 
-/// The number and direction of the group at a place of the first layer, and how many conditions and
-/// rules it has.
-pub fn told_group(layers: &[Layer], group: usize) -> Option<(u16, Dir, usize, usize)> {
+/// The number and direction of a group, and how many conditions and rules it has.
+pub type Told = (u16, Dir, usize, usize);
+
+/// What is told of the group at a place of the first layer.
+pub fn told_group(layers: &[Layer], group: usize) -> Option<Told> {
     let group = group_at(layers, 0, group)?;
     Some((group.number, group.dir, group.when.len(), group.rules.len()))
 }
@@ -41,9 +35,11 @@ pub fn told_items(layers: &[Layer], group: usize) -> Option<(Field, usize)> {
     Some((condition.field, condition.items.len()))
 }
 
-/// The number and priority of the last rule in the group at a place of the first layer, and how many
-/// rules that has.
-pub fn told_rules(layers: &[Layer], group: usize) -> Option<(u16, u16, usize)> {
+/// The number and priority of a group's last rule, and how many rules it has.
+pub type Rules = (u16, u16, usize);
+
+/// What is told of the rules in the group at a place of the first layer.
+pub fn told_rules(layers: &[Layer], group: usize) -> Option<Rules> {
     let rules = &group_at(layers, 0, group)?.rules;
     match rules.as_slice() {
         [] => Some((0, 0, 0)),

@@ -3,6 +3,7 @@
 ghost use Rattle.std.specs.Prelude.{◌≡◌, ◌+◌, [], None, IsTrue};
 ghost use Rattle.vsw_layerflow.specs.Pairs.{AllBelow, numbered, put_by_number};
 
+use crate::wrong::Wrong;
 use std::alloc::Global;
 use vsw_base::{Dir, Ip4, LayerKey, Moment, Set, Track};
 use vsw_layerflow::{Flows, Pair, due};
@@ -72,11 +73,12 @@ fn back_of(number: u32) -> LayerKey {
     key(0x0b00_0001, 0x0a00_0000 | number % MOST, 80, 40000)
 }
 
-/// Adds a pair whose keys are free, and tells whether it did.
-#[tactic(auto, using(vsw_layerflow::proofs::Order::below_new, vsw_layerflow::proofs::Order::below_next, vsw_layerflow::proofs::Order::below_push))]
-fn put(flows: &mut Flows, pair: Pair) -> bool
-    requires number_last { AllBelow pair.number flows.old.pairs }
-    ensures number_last { AllBelow (pair.number + 1) flows.new.pairs }
+/// Adds a pair of any new number, if its keys are free, and tells whether it did.
+#[tactic(auto, using(vsw_layerflow::proofs::Order::below_next, vsw_layerflow::proofs::Order::below_push))]
+fn put_new(flows: &mut Flows, pair: Pair) -> bool
+    requires number_new { numbered pair.number flows.old.pairs ≡ None }
+    ensures added { IsTrue result → flows.new.pairs ≡ put_by_number pair flows.old.pairs }
+    ensures last { AllBelow pair.number flows.old.pairs → AllBelow (pair.number + 1) flows.new.pairs }
 {
     if flows.find(pair.dir, &pair.forward).is_some() {
         return false;
@@ -89,6 +91,15 @@ fn put(flows: &mut Flows, pair: Pair) -> bool
     }
     flows.add(pair);
     true
+}
+
+/// Adds a pair whose number is the greatest.
+#[tactic(auto, using(vsw_layerflow::proofs::Order::below_new))]
+fn put(flows: &mut Flows, pair: Pair) -> bool
+    requires number_last { AllBelow pair.number flows.old.pairs }
+    ensures number_last { AllBelow (pair.number + 1) flows.new.pairs }
+{
+    put_new(flows, pair)
 }
 
 /// Adds a pair for each number below this.
@@ -205,6 +216,27 @@ enum Step {
     Number(u32, Found),
 }
 
+fn next_leads(flows: &Flows, pair: Found) -> bool {
+    found(flows, Dir::Out, &there_from_next()) == pair
+        && found(flows, Dir::In, &there_from_next()) == pair
+}
+
+fn number_leads(flows: &Flows, number: u32, pair: Found) -> bool {
+    found(flows, Dir::Out, &there_of(number)) == pair
+        && found(flows, Dir::In, &back_of(number)) == pair
+}
+
+fn is_seen(flows: &Flows, step: &Step) -> bool {
+    match step {
+        Step::Counts(count) => flows.len() == *count,
+        Step::CountsOpen(count) => count_open(flows, MOST) == *count,
+        Step::Both(all) => found_by_both(flows) == *all,
+        Step::Next(pair) => next_leads(flows, *pair),
+        Step::Number(number, pair) => number_leads(flows, *number, *pair),
+        _ => false,
+    }
+}
+
 fn comes_out(flows: &mut Flows, step: &Step) -> bool {
     match *step {
         Step::Touch(number, state, last) => {
@@ -223,28 +255,18 @@ fn comes_out(flows: &mut Flows, step: &Step) -> bool {
             flows.sweep(Moment::of(now), idle, linger) == count
         }
         Step::DropRule(group, rule, count) => flows.drop_rule(group, rule) == count,
-        Step::Counts(count) => flows.len() == count,
-        Step::CountsOpen(count) => count_open(flows, MOST) == count,
-        Step::Both(all) => found_by_both(flows) == all,
-        Step::Next(pair) => {
-            found(flows, Dir::Out, &there_from_next()) == pair
-                && found(flows, Dir::In, &there_from_next()) == pair
-        }
-        Step::Number(number, pair) => {
-            found(flows, Dir::Out, &there_of(number)) == pair
-                && found(flows, Dir::In, &back_of(number)) == pair
-        }
+        _ => is_seen(flows, step),
     }
 }
 
-/// The place of the first step that doesn't come out as it says.
-fn first_wrong(flows: &mut Flows, steps: &[Step]) -> Option<usize> {
+/// Tries one step after the other.
+fn try_steps(flows: &mut Flows, steps: &[Step]) -> Result<(), Wrong> {
     for place in 0..steps.len() {
         if !comes_out(flows, &steps[place]) {
-            return Some(place);
+            return Err(Wrong::Step(place));
         }
     }
-    None
+    Ok(())
 }
 
 /// The pairs that are there before the first step.
@@ -275,13 +297,18 @@ fn begin(flows: &mut Flows, first: First) -> bool
     }
 }
 
-/// The first step that doesn't come out as it says, where these pairs could be opened.
-fn tried(alloc: Global, first: First, steps: &[Step]) -> Option<Option<usize>> {
-    let mut flows = Flows::new(alloc);
-    if !begin(&mut flows, first) {
-        return None;
+/// Tries the steps where these pairs could be opened.
+fn try_behind(flows: &mut Flows, first: First, steps: &[Step]) -> Result<(), Wrong>
+    requires none { flows.old.pairs ≡ [] }
+{
+    if !begin(flows, first) {
+        return Err(Wrong::Start);
     }
-    Some(first_wrong(&mut flows, steps))
+    try_steps(flows, steps)
+}
+
+fn tried(alloc: Global, first: First, steps: &[Step]) -> Result<(), Wrong> {
+    try_behind(&mut Flows::new(alloc), first, steps)
 }
 
 // What `there` and `back` lead to: nothing, or pair 0, which goes out.
@@ -314,26 +341,8 @@ const ONE: [Step; 9] = [
 ];
 
 #[test]
-fn a_pair_is_found_either_way_until_it_goes(rt: HostRuntime) {
-    assert!(&rt; tried(rt.alloc(), First::One, &ONE) == Some(None));
-}
-
-/// Adds a pair of any new number, if its keys are free, and tells whether it did.
-fn put_new(flows: &mut Flows, pair: Pair) -> bool
-    requires number_new { numbered pair.number flows.old.pairs ≡ None }
-    ensures added { IsTrue result → flows.new.pairs ≡ put_by_number pair flows.old.pairs }
-{
-    if flows.find(pair.dir, &pair.forward).is_some() {
-        return false;
-    }
-    if flows.find(pair.back().dir, &pair.reverse).is_some() {
-        return false;
-    }
-    if flows.len() == u32::MAX || flows.reserve_one().is_err() {
-        return false;
-    }
-    flows.add(pair);
-    true
+fn a_pair_is_found_either_way_until_it_goes(rt: HostRuntime) -> Result<(), Wrong> {
+    tried(rt.alloc(), First::One, &ONE)
 }
 
 /// Adds pair 7 and then pair 3, and tells whether it did.
@@ -360,8 +369,8 @@ const BACKWARDS: [Step; 4] = [
 ];
 
 #[test]
-fn pairs_come_in_any_order_of_their_numbers(rt: HostRuntime) {
-    assert!(&rt; tried(rt.alloc(), First::Backwards, &BACKWARDS) == Some(None));
+fn pairs_come_in_any_order_of_their_numbers(rt: HostRuntime) -> Result<(), Wrong> {
+    tried(rt.alloc(), First::Backwards, &BACKWARDS)
 }
 
 /// Adds three pairs and tells whether it did: the second goes the other way with the keys of the first,
@@ -405,8 +414,8 @@ const TOUCHING: [Step; 5] = [
 ];
 
 #[test]
-fn pairs_whose_keys_touch_stay_apart(rt: HostRuntime) {
-    assert!(&rt; tried(rt.alloc(), First::Touching, &TOUCHING) == Some(None));
+fn pairs_whose_keys_touch_stay_apart(rt: HostRuntime) -> Result<(), Wrong> {
+    tried(rt.alloc(), First::Touching, &TOUCHING)
 }
 
 /// Half of the open pairs and all that were opened again are swept, and the others go with their rule.
@@ -428,8 +437,8 @@ const REOPENED: [Step; 12] = [
 ];
 
 #[test]
-fn a_full_layer_is_touched_opened_again_and_swept(rt: HostRuntime) {
-    assert!(&rt; tried(rt.alloc(), First::Reopened, &REOPENED) == Some(None));
+fn a_full_layer_is_touched_opened_again_and_swept(rt: HostRuntime) -> Result<(), Wrong> {
+    tried(rt.alloc(), First::Reopened, &REOPENED)
 }
 
 /// The state of a pair, the moment it was last used, and the last moment at which a sweep leaves it,
@@ -445,29 +454,30 @@ const LIVES: [Life; 6] = [
     (Track::Closed, u64::MAX - 10_000_000, u64::MAX - 1),
 ];
 
-/// Whether a sweep takes the only pair then, and not before.
-fn ends_then(flows: &mut Flows, life: &Life) -> bool {
+/// Tries whether a sweep takes the only pair then, and not before.
+fn ended(alloc: Global, life: &Life) -> Result<(), Wrong> {
     let (state, last, stays) = *life;
-    flows.touch(0, state, Moment::of(last));
-    flows.sweep(Moment::of(stays), 240, 10) == 0
-        && flows.sweep(Moment::of(stays.wrapping_add(1)), 240, 10) == 1
-        && flows.len() == 0
+    let steps = [
+        Step::Touch(0, state, last),
+        Step::Sweep(stays, 240, 10, 0),
+        Step::Sweep(stays.wrapping_add(1), 240, 10, 1),
+        Step::Counts(0),
+    ];
+    tried(alloc, First::Below(1), &steps)
 }
 
-/// The place of the first pair that doesn't live so long.
-fn first_other(alloc: Global, lives: &[Life]) -> Option<usize> {
+fn all_ended(alloc: Global, lives: &[Life]) -> Result<(), Wrong> {
     for place in 0..lives.len() {
-        let mut flows = Flows::new(alloc);
-        if !(fill(&mut flows, 1) && ends_then(&mut flows, &lives[place])) {
-            return Some(place);
+        if ended(alloc, &lives[place]).is_err() {
+            return Err(Wrong::Step(place));
         }
     }
-    None
+    Ok(())
 }
 
 #[test]
-fn a_sweep_takes_a_pair_at_the_end_of_its_life(rt: HostRuntime) {
-    assert!(&rt; first_other(rt.alloc(), &LIVES) == None);
+fn a_sweep_takes_a_pair_at_the_end_of_its_life(rt: HostRuntime) -> Result<(), Wrong> {
+    all_ended(rt.alloc(), &LIVES)
 }
 
 const GREATEST: [Step; 3] = [
@@ -477,23 +487,33 @@ const GREATEST: [Step; 3] = [
 ];
 
 #[test]
-fn a_sweep_at_the_greatest_moment_takes_every_pair(rt: HostRuntime) {
-    assert!(&rt; tried(rt.alloc(), First::Below(3), &GREATEST) == Some(None));
+fn a_sweep_at_the_greatest_moment_takes_every_pair(rt: HostRuntime) -> Result<(), Wrong> {
+    tried(rt.alloc(), First::Below(3), &GREATEST)
 }
 
 /// A last use, a state, the layer's idle and linger times, and the moment after which a packet is due.
-const DUES: [(u64, Track, u32, u32, u64); 4] = [
+type Due = (u64, Track, u32, u32, u64);
+
+const DUES: [Due; 4] = [
     (2_000_000, Track::Closed, 240, 10, 4_500_000),
     (2_000_000, Track::Half(Dir::Out), 240, 10, 62_000_000),
     (2_000_000, Track::Open, 1, 0, 2_250_000),
     (u64::MAX - 1, Track::Open, 240, 10, u64::MAX),
 ];
 
-#[test]
-fn a_packet_is_due_after_a_quarter_of_the_life(rt: HostRuntime) {
-    for (last, state, idle, linger, moment) in DUES {
-        assert!(&rt; due(Moment::of(last), state, idle, linger) == Moment::of(moment));
+fn are_due(dues: &[Due]) -> Result<(), Wrong> {
+    for place in 0..dues.len() {
+        let (last, state, idle, linger, moment) = dues[place];
+        if due(Moment::of(last), state, idle, linger) != Moment::of(moment) {
+            return Err(Wrong::Step(place));
+        }
     }
+    Ok(())
+}
+
+#[test]
+fn a_packet_is_due_after_a_quarter_of_the_life() -> Result<(), Wrong> {
+    are_due(&DUES)
 }
 
 /// A pair of this rule, with keys of its number's own.
@@ -529,6 +549,6 @@ const BY_RULES: [Step; 6] = [
 ];
 
 #[test]
-fn pairs_go_with_their_rule_alone(rt: HostRuntime) {
-    assert!(&rt; tried(rt.alloc(), First::ByRules, &BY_RULES) == Some(None));
+fn pairs_go_with_their_rule_alone(rt: HostRuntime) -> Result<(), Wrong> {
+    tried(rt.alloc(), First::ByRules, &BY_RULES)
 }

@@ -32,10 +32,14 @@ fn is_listed(controllers: &[u16], controller: u16) -> bool
     controllers.iter().any(|listed| controller == *listed)
 }
 
-/// Whether a command may be given, and was done.
-pub fn give(policy: &mut Policy, controller: u16, command: Command) -> bool {
-    if !is_listed(policy.controllers(), controller) || !is_good(&command) {
+fn gives(policy: &mut Policy, controller: u16, command: &Command) -> bool {
+    if !is_listed(policy.controllers(), controller) || !is_good(command) {
         return false;
     }
-    policy.command(controller, &command).is_ok()
+    policy.command(controller, command).is_ok()
+}
+
+/// Whether a command may be given, and was done.
+pub fn give(policy: &mut Policy, controller: u16, command: Command) -> bool {
+    gives(policy, controller, &command)
 }

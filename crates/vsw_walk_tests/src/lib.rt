@@ -21,3 +21,5 @@ mod trial;
 mod visit_tests;
 #[cfg(test)]
 mod walk_tests;
+#[cfg(test)]
+mod wrong;

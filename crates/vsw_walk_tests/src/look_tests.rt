@@ -3,6 +3,7 @@
 use crate::layers::{PUBLIC, two_layers};
 use crate::packets::Packet;
 use crate::trial::{Step, tried};
+use crate::wrong::Wrong;
 use vsw_base::{Dir, Verdict};
 
 /// One of the addresses behind the first layer, and one beyond the second.
@@ -21,9 +22,9 @@ const QUERY: [Step; 3] = [
 ];
 
 #[test]
-fn a_packet_looks_for_what_the_layers_before_made_of_it(rt: HostRuntime) {
+fn a_packet_looks_for_what_the_layers_before_made_of_it(rt: HostRuntime) -> Result<(), Wrong> {
     let alloc = rt.alloc();
-    assert!(&rt; tried(alloc, two_layers(alloc), &QUERY) == Some(None));
+    tried(alloc, two_layers(alloc), &QUERY)
 }
 
 const RECEIVED: [Step; 4] = [
@@ -38,9 +39,9 @@ const RECEIVED: [Step; 4] = [
 ];
 
 #[test]
-fn looks_stand_in_crossing_order(rt: HostRuntime) {
+fn looks_stand_in_crossing_order(rt: HostRuntime) -> Result<(), Wrong> {
     let alloc = rt.alloc();
-    assert!(&rt; tried(alloc, two_layers(alloc), &RECEIVED) == Some(None));
+    tried(alloc, two_layers(alloc), &RECEIVED)
 }
 
 const DROPPED: [Step; 3] = [
@@ -58,7 +59,7 @@ const DROPPED: [Step; 3] = [
 ];
 
 #[test]
-fn a_drop_by_default_leans_on_what_its_layer_missed(rt: HostRuntime) {
+fn a_drop_by_default_leans_on_what_its_layer_missed(rt: HostRuntime) -> Result<(), Wrong> {
     let alloc = rt.alloc();
-    assert!(&rt; tried(alloc, two_layers(alloc), &DROPPED) == Some(None));
+    tried(alloc, two_layers(alloc), &DROPPED)
 }

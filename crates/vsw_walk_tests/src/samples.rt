@@ -204,19 +204,6 @@ fn groups_of(alloc: Global, action: &Action) -> Groups {
     groups
 }
 
-/// The layer without rules and pairs.
-pub fn without_rules(alloc: Global, allow_out: bool, allow_in: bool) -> Layer {
-    let mut layer = layer(Groups::new(alloc), Flows::new(alloc));
-    layer.spec.allow_out = allow_out;
-    layer.spec.allow_in = allow_in;
-    layer
-}
-
-/// The layer without pairs.
-pub fn without_pairs(alloc: Global, action: &Action) -> Layer {
-    layer(groups_of(alloc, action), Flows::new(alloc))
-}
-
 /// One pair alone.
 fn flows_of(alloc: Global, pair: Pair) -> Flows {
     let mut flows = Flows::new(alloc);
@@ -226,10 +213,29 @@ fn flows_of(alloc: Global, pair: Pair) -> Flows {
     flows
 }
 
-/// The layer with pair 5 in this state.
-pub fn with_pair(alloc: Global, action: &Action, state: Track) -> Layer {
-    layer(
-        groups_of(alloc, action),
-        flows_of(alloc, pair(5, state, USED)),
-    )
+/// What the layer has.
+#[derive(Clone, Copy)]
+pub enum Has {
+    /// No rules and no pairs. Whether outbound and inbound packets go on.
+    Defaults(bool, bool),
+    /// A rule that does this, and no pairs.
+    Rule(Action),
+    /// Such a rule, and pair 5 in this state.
+    Pair(Action, Track),
+}
+
+pub fn layer_with(alloc: Global, has: &Has) -> Layer {
+    match has {
+        Has::Defaults(out, back) => {
+            let mut layer = layer(Groups::new(alloc), Flows::new(alloc));
+            layer.spec.allow_out = *out;
+            layer.spec.allow_in = *back;
+            layer
+        }
+        Has::Rule(action) => layer(groups_of(alloc, action), Flows::new(alloc)),
+        Has::Pair(action, state) => layer(
+            groups_of(alloc, action),
+            flows_of(alloc, pair(5, *state, USED)),
+        ),
+    }
 }

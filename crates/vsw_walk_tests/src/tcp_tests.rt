@@ -1,5 +1,6 @@
 //! The table of states, cell by cell.
 
+use crate::wrong::Wrong;
 use vsw_base::{Control, Dir, Track};
 use vsw_layerflow::{Tracked, opening, track};
 
@@ -26,7 +27,9 @@ const PLAIN: Tracked = Tracked::To(Track::Plain);
 
 /// A state of a pair that an outbound packet made, the direction of a packet, and what each control
 /// makes of the state.
-const ROWS: [(Track, Dir, [Tracked; 5]); 12] = [
+type Row = (Track, Dir, [Tracked; 5]);
+
+const ROWS: [Row; 12] = [
     (
         Track::Opening,
         Dir::Out,
@@ -73,48 +76,68 @@ const ROWS: [(Track, Dir, [Tracked; 5]); 12] = [
     (Track::Plain, Dir::In, [PLAIN, PLAIN, PLAIN, PLAIN, PLAIN]),
 ];
 
-/// What the controls make of a state, in the order of the columns.
-fn cells(now: Track, dir: Dir) -> [Tracked; 5] {
-    CONTROLS.map(|control| track(now, Dir::Out, control, dir))
-}
-
-/// The place of the first row that comes out otherwise.
-fn first_wrong(rows: &[(Track, Dir, [Tracked; 5])]) -> Option<usize> {
-    for place in 0..rows.len() {
-        let (now, dir, row) = rows[place];
-        if cells(now, dir) != row {
-            return Some(place);
+fn is_made(row: &Row) -> bool {
+    let (now, dir, cells) = row;
+    for column in 0..5 {
+        if track(*now, Dir::Out, CONTROLS[column], *dir) != cells[column] {
+            return false;
         }
     }
-    None
+    true
+}
+
+fn are_made(rows: &[Row]) -> Result<(), Wrong> {
+    for place in 0..rows.len() {
+        if !is_made(&rows[place]) {
+            return Err(Wrong::Step(place));
+        }
+    }
+    Ok(())
 }
 
 #[test]
-fn packets_move_a_pair(rt: HostRuntime) {
-    assert!(&rt; first_wrong(&ROWS) == None);
+fn packets_move_a_pair() -> Result<(), Wrong> {
+    are_made(&ROWS)
 }
 
 #[test]
 fn replies_open_a_pair_of_inbound_packets(rt: HostRuntime) {
-    assert!(&rt; track(Track::Opening, Dir::In, Control::SynAck, Dir::Out) == OPEN);
-    assert!(&rt; track(Track::Opening, Dir::In, Control::SynAck, Dir::In) == OPENING);
+    let made = [
+        track(Track::Opening, Dir::In, Control::SynAck, Dir::Out),
+        track(Track::Opening, Dir::In, Control::SynAck, Dir::In),
+    ];
+    assert!(rt; made == [OPEN, OPENING]);
 }
 
-/// What the controls make of no pair, in the order of the columns.
-fn openings(dir: Dir) -> [Track; 5] {
-    CONTROLS.map(|control| opening(control, dir))
+/// What each control makes of no pair.
+fn are_openings(dir: Dir, states: &[Track; 5]) -> Result<(), Wrong> {
+    for column in 0..5 {
+        if opening(CONTROLS[column], dir) != states[column] {
+            return Err(Wrong::Step(column));
+        }
+    }
+    Ok(())
 }
+
+/// What outbound packets make.
+const OPENINGS: [Track; 5] = [
+    Track::Closed,
+    Track::Half(Dir::Out),
+    Track::Open,
+    Track::Opening,
+    Track::Open,
+];
+
+const OPENINGS_IN: [Track; 5] = [
+    Track::Closed,
+    Track::Half(Dir::In),
+    Track::Open,
+    Track::Opening,
+    Track::Open,
+];
 
 #[test]
-fn packets_make_a_pair(rt: HostRuntime) {
-    for dir in [Dir::Out, Dir::In] {
-        let row = [
-            Track::Closed,
-            Track::Half(dir),
-            Track::Open,
-            Track::Opening,
-            Track::Open,
-        ];
-        assert!(&rt; openings(dir) == row);
-    }
+fn packets_make_a_pair() -> Result<(), Wrong> {
+    are_openings(Dir::Out, &OPENINGS)?;
+    are_openings(Dir::In, &OPENINGS_IN)
 }

@@ -1,6 +1,7 @@
 //! Packets that cross layers without pairs one after the other, by a table.
 
 use crate::packets::{Look, Packet, cross, looked, passes_as, places, stack_of, wanted};
+use crate::wrong::Wrong;
 use std::alloc::Global;
 use vsw_base::{Dir, Moment, Stack, Verdict};
 use vsw_policy::Policy;
@@ -40,37 +41,52 @@ fn meets(policy: &Policy, scratch: &mut Scratch, dir: Dir, stack: &Stack, wanted
 }
 
 fn comes_out(policy: &Policy, scratch: &mut Scratch, step: &Step) -> bool {
-    match *step {
-        Step::Passes(dir, came, made, kept) => match (stack_of(&came), stack_of(&made)) {
-            (Ok(stack), Ok(made)) => passes(policy, scratch, dir, &stack, &made, kept),
+    match step {
+        Step::Passes(dir, came, made, kept) => match (stack_of(came), stack_of(made)) {
+            (Ok(stack), Ok(made)) => passes(policy, scratch, *dir, &stack, &made, *kept),
             _ => false,
         },
-        Step::Meets(dir, came, verdict) => match stack_of(&came) {
-            Ok(stack) => meets(policy, scratch, dir, &stack, verdict),
+        Step::Meets(dir, came, verdict) => match stack_of(came) {
+            Ok(stack) => meets(policy, scratch, *dir, &stack, *verdict),
             Err(_) => false,
         },
+        _ => is_left(scratch, step),
+    }
+}
+
+/// Whether a step's changes or look are in the scratch.
+fn is_left(scratch: &Scratch, step: &Step) -> bool {
+    match *step {
         Step::WantsNothing => scratch.changes().is_empty(),
         Step::WantsOne(layer, number, rule) => wanted(scratch) == Some((layer, number, rule)),
         Step::WantsTwo(first, second) => places(scratch) == Some((first, second)),
         Step::Looks(met, look) => looked(scratch, met) == look,
+        _ => false,
     }
 }
 
-/// The place of the first step that doesn't come out as it says.
-fn first_wrong(policy: &Policy, scratch: &mut Scratch, steps: &[Step]) -> Option<usize> {
+/// Tries one step after the other.
+fn try_steps(policy: &Policy, scratch: &mut Scratch, steps: &[Step]) -> Result<(), Wrong> {
     for place in 0..steps.len() {
         if !comes_out(policy, scratch, &steps[place]) {
-            return Some(place);
+            return Err(Wrong::Step(place));
         }
     }
-    None
+    Ok(())
 }
 
-/// The first step that doesn't come out as it says, with layers that no packet has crossed yet.
-pub fn tried(alloc: Global, policy: Option<Policy>, steps: &[Step]) -> Option<Option<usize>> {
-    let policy = policy?;
-    let Ok(mut scratch) = Scratch::new(alloc) else {
-        return None;
-    };
-    Some(first_wrong(&policy, &mut scratch, steps))
+/// Tries them with a scratch that no packet has used yet.
+fn try_anew(alloc: Global, policy: &Policy, steps: &[Step]) -> Result<(), Wrong> {
+    match Scratch::new(alloc) {
+        Ok(mut scratch) => try_steps(policy, &mut scratch, steps),
+        Err(_) => Err(Wrong::Start),
+    }
+}
+
+/// Tries them with this policy, if it could be made.
+pub fn tried(alloc: Global, policy: Option<Policy>, steps: &[Step]) -> Result<(), Wrong> {
+    match policy {
+        Some(policy) => try_anew(alloc, &policy, steps),
+        None => Err(Wrong::Start),
+    }
 }

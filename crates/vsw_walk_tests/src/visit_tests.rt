@@ -1,9 +1,10 @@
 //! Packets at a layer: dropped, let through by default, translated, tracked and re-opening.
 
 use crate::samples::{
-    USED, edit, fragment, inwards, outwards, pair, pair_of_fragments, reply, reply_inside, request,
-    request_outside, with_pair, without_pairs, without_rules,
+    Has, USED, edit, fragment, inwards, layer_with, outwards, pair, pair_of_fragments, reply,
+    reply_inside, request, request_outside,
 };
+use crate::wrong::Wrong;
 use std::alloc::Global;
 use vsw_base::{BadShape, Control, Dir, Moment, Stack, Track, Verdict};
 use vsw_policy::Layer;
@@ -167,39 +168,30 @@ fn comes_out(layer: &Layer, step: &Step) -> bool {
     }
 }
 
-/// The place of the first step that doesn't come out as it says.
-fn first_wrong(layer: &Layer, steps: &[Step]) -> Option<usize> {
+/// Tries one step after the other.
+fn try_steps(layer: &Layer, steps: &[Step]) -> Result<(), Wrong> {
     for place in 0..steps.len() {
         if !comes_out(layer, &steps[place]) {
-            return Some(place);
+            return Err(Wrong::Step(place));
         }
     }
-    None
+    Ok(())
 }
 
-/// The first wrong step at the layer with this rule and no pairs.
-fn without(alloc: Global, action: &Action, steps: &[Step]) -> Option<usize> {
-    first_wrong(&without_pairs(alloc, action), steps)
-}
-
-/// The same with a pair in this state.
-fn with(alloc: Global, action: &Action, state: Track, steps: &[Step]) -> Option<usize> {
-    first_wrong(&with_pair(alloc, action, state), steps)
-}
-
-/// The same without a rule.
-fn by_default(alloc: Global, allow_out: bool, allow_in: bool, steps: &[Step]) -> Option<usize> {
-    first_wrong(&without_rules(alloc, allow_out, allow_in), steps)
+/// Tries them at the layer that has this.
+fn tried(alloc: Global, has: &Has, steps: &[Step]) -> Result<(), Wrong> {
+    try_steps(&layer_with(alloc, has), steps)
 }
 
 #[test]
-fn a_rule_drops_and_wants_nothing(rt: HostRuntime) {
-    assert!(&rt; without(rt.alloc(), &Action::Drop, &[Step::Drops]) == None);
+fn a_rule_drops_and_wants_nothing(rt: HostRuntime) -> Result<(), Wrong> {
+    tried(rt.alloc(), &Has::Rule(Action::Drop), &[Step::Drops])
 }
 
 #[test]
-fn a_closed_pair_stays_where_the_syn_is_dropped(rt: HostRuntime) {
-    assert!(&rt; with(rt.alloc(), &Action::Drop, Track::Closed, &[Step::Drops]) == None);
+fn a_closed_pair_stays_where_the_syn_is_dropped(rt: HostRuntime) -> Result<(), Wrong> {
+    let has = Has::Pair(Action::Drop, Track::Closed);
+    tried(rt.alloc(), &has, &[Step::Drops])
 }
 
 const OUT_ALONE: [Step; 2] = [Step::Goes(Dir::Out), Step::Stops(Dir::In)];
@@ -207,20 +199,24 @@ const OUT_ALONE: [Step; 2] = [Step::Goes(Dir::Out), Step::Stops(Dir::In)];
 const IN_ALONE: [Step; 2] = [Step::Stops(Dir::Out), Step::Goes(Dir::In)];
 
 #[test]
-fn the_default_of_the_direction_decides_where_no_rule_does(rt: HostRuntime) {
-    assert!(&rt; by_default(rt.alloc(), true, false, &OUT_ALONE) == None);
-    assert!(&rt; by_default(rt.alloc(), false, true, &IN_ALONE) == None);
+fn the_default_of_the_direction_decides_where_no_rule_does(rt: HostRuntime) -> Result<(), Wrong> {
+    tried(rt.alloc(), &Has::Defaults(true, false), &OUT_ALONE)?;
+    tried(rt.alloc(), &Has::Defaults(false, true), &IN_ALONE)
 }
 
 #[test]
-fn a_translated_request_wants_a_pair(rt: HostRuntime) {
-    assert!(&rt; without(rt.alloc(), &edit(outwards()), &[Step::Opens(None)]) == None);
+fn a_translated_request_wants_a_pair(rt: HostRuntime) -> Result<(), Wrong> {
+    tried(
+        rt.alloc(),
+        &Has::Rule(edit(outwards())),
+        &[Step::Opens(None)],
+    )
 }
 
 #[test]
-fn a_syn_opens_a_closed_pair_again(rt: HostRuntime) {
-    let action = edit(outwards());
-    assert!(&rt; with(rt.alloc(), &action, Track::Closed, &[Step::Opens(Some(5))]) == None);
+fn a_syn_opens_a_closed_pair_again(rt: HostRuntime) -> Result<(), Wrong> {
+    let has = Has::Pair(edit(outwards()), Track::Closed);
+    tried(rt.alloc(), &has, &[Step::Opens(Some(5))])
 }
 
 const BOTH_WAYS: [Step; 2] = [
@@ -229,43 +225,42 @@ const BOTH_WAYS: [Step; 2] = [
 ];
 
 #[test]
-fn a_request_and_its_reply_are_translated(rt: HostRuntime) {
-    assert!(&rt; with(rt.alloc(), &Action::Drop, Track::Opening, &BOTH_WAYS) == None);
+fn a_request_and_its_reply_are_translated(rt: HostRuntime) -> Result<(), Wrong> {
+    let has = Has::Pair(Action::Drop, Track::Opening);
+    tried(rt.alloc(), &has, &BOTH_WAYS)
 }
 
 #[test]
-fn a_translated_fragment_wants_a_pair_without_states(rt: HostRuntime) {
-    assert!(&rt; without(rt.alloc(), &edit(outwards()), &[Step::OpensByFragment]) == None);
+fn a_translated_fragment_wants_a_pair_without_states(rt: HostRuntime) -> Result<(), Wrong> {
+    let has = Has::Rule(edit(outwards()));
+    tried(rt.alloc(), &has, &[Step::OpensByFragment])
 }
 
 /// A pair in this state, the direction and the control of a packet, and the state to which it moves the
 /// pair, if to any.
 type Move = (Track, Dir, Control, Option<Track>);
 
-/// Whether a packet takes what the pair writes, though the rule drops, and moves it so.
-fn moves(alloc: Global, way: &Move) -> bool {
+/// Tries whether a packet takes what the pair writes, though the rule drops, and moves it so.
+fn moved(alloc: Global, way: &Move) -> Result<(), Wrong> {
     let (state, dir, control, to) = *way;
     let touched = match to {
         Some(next) => Some((next, USED)),
         None => None,
     };
-    keeps(
-        &with_pair(alloc, &Action::Drop, state),
-        dir,
-        control,
-        1,
-        touched,
+    tried(
+        alloc,
+        &Has::Pair(Action::Drop, state),
+        &[Step::Keeps(dir, control, 1, touched)],
     )
 }
 
-/// The place of the first packet that moves its pair otherwise.
-fn first_other(alloc: Global, ways: &[Move]) -> Option<usize> {
+fn all_moved(alloc: Global, ways: &[Move]) -> Result<(), Wrong> {
     for place in 0..ways.len() {
-        if !moves(alloc, &ways[place]) {
-            return Some(place);
+        if moved(alloc, &ways[place]).is_err() {
+            return Err(Wrong::Step(place));
         }
     }
-    None
+    Ok(())
 }
 
 const HANDSHAKE: [Move; 2] = [
@@ -274,8 +269,8 @@ const HANDSHAKE: [Move; 2] = [
 ];
 
 #[test]
-fn a_handshake_opens_a_pair(rt: HostRuntime) {
-    assert!(&rt; first_other(rt.alloc(), &HANDSHAKE) == None);
+fn a_handshake_opens_a_pair(rt: HostRuntime) -> Result<(), Wrong> {
+    all_moved(rt.alloc(), &HANDSHAKE)
 }
 
 const HALF: Track = Track::Half(Dir::Out);
@@ -287,8 +282,8 @@ const ENDS: [Move; 3] = [
 ];
 
 #[test]
-fn two_ends_close_a_pair(rt: HostRuntime) {
-    assert!(&rt; first_other(rt.alloc(), &ENDS) == None);
+fn two_ends_close_a_pair(rt: HostRuntime) -> Result<(), Wrong> {
+    all_moved(rt.alloc(), &ENDS)
 }
 
 const RENEWED: Touched = Some((Track::Open, USED + QUARTER + 1));
@@ -300,8 +295,9 @@ const QUARTERS: [Step; 3] = [
 ];
 
 #[test]
-fn a_packet_renews_the_last_use_after_a_quarter_of_the_life(rt: HostRuntime) {
-    assert!(&rt; with(rt.alloc(), &Action::Drop, Track::Open, &QUARTERS) == None);
+fn a_packet_renews_the_last_use_after_a_quarter_of_the_life(rt: HostRuntime) -> Result<(), Wrong> {
+    let has = Has::Pair(Action::Drop, Track::Open);
+    tried(rt.alloc(), &has, &QUARTERS)
 }
 
 const CLOSED: Touched = Some((Track::Closed, USED));
@@ -314,6 +310,7 @@ const CLOSED_QUARTERS: [Step; 2] = [
 ];
 
 #[test]
-fn the_life_is_that_of_the_new_state(rt: HostRuntime) {
-    assert!(&rt; with(rt.alloc(), &Action::Drop, Track::Open, &CLOSED_QUARTERS) == None);
+fn the_life_is_that_of_the_new_state(rt: HostRuntime) -> Result<(), Wrong> {
+    let has = Has::Pair(Action::Drop, Track::Open);
+    tried(rt.alloc(), &has, &CLOSED_QUARTERS)
 }

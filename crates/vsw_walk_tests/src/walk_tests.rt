@@ -3,6 +3,7 @@
 use crate::layers::{PUBLIC, two_layers};
 use crate::packets::{End, Packet};
 use crate::trial::{Step, tried};
+use crate::wrong::Wrong;
 use vsw_base::{Dir, Verdict};
 use vsw_policy::Policy;
 
@@ -27,9 +28,9 @@ const SEEN: [Step; 3] = [
 ];
 
 #[test]
-fn the_second_layer_sees_what_the_first_left(rt: HostRuntime) {
+fn the_second_layer_sees_what_the_first_left(rt: HostRuntime) -> Result<(), Wrong> {
     let alloc = rt.alloc();
-    assert!(&rt; tried(alloc, two_layers(alloc), &SEEN) == Some(None));
+    tried(alloc, two_layers(alloc), &SEEN)
 }
 
 const REVERSE: [Step; 2] = [
@@ -43,9 +44,9 @@ const REVERSE: [Step; 2] = [
 ];
 
 #[test]
-fn inbound_packets_cross_the_layers_in_reverse(rt: HostRuntime) {
+fn inbound_packets_cross_the_layers_in_reverse(rt: HostRuntime) -> Result<(), Wrong> {
     let alloc = rt.alloc();
-    assert!(&rt; tried(alloc, two_layers(alloc), &REVERSE) == Some(None));
+    tried(alloc, two_layers(alloc), &REVERSE)
 }
 
 const CHANGES: [Step; 4] = [
@@ -60,9 +61,9 @@ const CHANGES: [Step; 4] = [
 ];
 
 #[test]
-fn changes_stand_in_crossing_order(rt: HostRuntime) {
+fn changes_stand_in_crossing_order(rt: HostRuntime) -> Result<(), Wrong> {
     let alloc = rt.alloc();
-    assert!(&rt; tried(alloc, two_layers(alloc), &CHANGES) == Some(None));
+    tried(alloc, two_layers(alloc), &CHANGES)
 }
 
 const DROPPED: [Step; 2] = [
@@ -80,9 +81,9 @@ const DROPPED: [Step; 2] = [
 ];
 
 #[test]
-fn what_was_wanted_before_a_drop_is_told(rt: HostRuntime) {
+fn what_was_wanted_before_a_drop_is_told(rt: HostRuntime) -> Result<(), Wrong> {
     let alloc = rt.alloc();
-    assert!(&rt; tried(alloc, two_layers(alloc), &DROPPED) == Some(None));
+    tried(alloc, two_layers(alloc), &DROPPED)
 }
 
 /// From an address beyond the second layer to one behind the first.
@@ -112,9 +113,9 @@ const BY_DEFAULT: [Step; 4] = [
 ];
 
 #[test]
-fn the_first_layer_that_lets_no_packet_on_drops_it(rt: HostRuntime) {
+fn the_first_layer_that_lets_no_packet_on_drops_it(rt: HostRuntime) -> Result<(), Wrong> {
     let alloc = rt.alloc();
-    assert!(&rt; tried(alloc, two_layers(alloc), &BY_DEFAULT) == Some(None));
+    tried(alloc, two_layers(alloc), &BY_DEFAULT)
 }
 
 const RECEIVED: Packet = Packet::Covered((FAR, 53), PUBLIC_PORT);
@@ -126,7 +127,7 @@ const FREE: [Step; 3] = [
 ];
 
 #[test]
-fn a_packet_passes_where_there_are_no_layers(rt: HostRuntime) {
+fn a_packet_passes_where_there_are_no_layers(rt: HostRuntime) -> Result<(), Wrong> {
     let alloc = rt.alloc();
-    assert!(&rt; tried(alloc, Policy::new(alloc, &[1]).ok(), &FREE) == Some(None));
+    tried(alloc, Policy::new(alloc, &[1]).ok(), &FREE)
 }

@@ -2,8 +2,9 @@
 
 use crate::commands::Ask;
 use crate::trial::{Step, tried};
+use crate::wrong::Wrong;
 use vsw_base::Dir;
-use vsw_policy::{Policy, Refusal};
+use vsw_policy::Refusal;
 
 const ORDER: [Step; 13] = [
     Step::Done(3, Ask::AddLayer(5, 10)),
@@ -22,10 +23,8 @@ const ORDER: [Step; 13] = [
 ];
 
 #[test]
-fn layers_stand_by_order_then_controller_then_number(rt: HostRuntime) {
-    let alloc = rt.alloc();
-    let policy = Policy::new(alloc, &[7, 3]).ok();
-    assert!(&rt; tried(alloc, policy, &ORDER) == Some(None));
+fn layers_stand_by_order_then_controller_then_number(rt: HostRuntime) -> Result<(), Wrong> {
+    tried(rt.alloc(), &[7, 3], &ORDER)
 }
 
 const NUMBERS: [Step; 10] = [
@@ -42,29 +41,12 @@ const NUMBERS: [Step; 10] = [
 ];
 
 #[test]
-fn a_number_names_a_layer_of_its_controller_alone(rt: HostRuntime) {
-    let alloc = rt.alloc();
-    let policy = Policy::new(alloc, &[1, 2]).ok();
-    assert!(&rt; tried(alloc, policy, &NUMBERS) == Some(None));
+fn a_number_names_a_layer_of_its_controller_alone(rt: HostRuntime) -> Result<(), Wrong> {
+    tried(rt.alloc(), &[1, 2], &NUMBERS)
 }
 
-const SEVENTEEN: [Step; 20] = [
-    Step::Done(1, Ask::AddLayer(11, 10)),
-    Step::Done(1, Ask::AddLayer(12, 10)),
-    Step::Done(1, Ask::AddLayer(13, 10)),
-    Step::Done(1, Ask::AddLayer(14, 10)),
-    Step::Done(1, Ask::AddLayer(15, 10)),
-    Step::Done(1, Ask::AddLayer(16, 10)),
-    Step::Done(1, Ask::AddLayer(17, 10)),
-    Step::Done(1, Ask::AddLayer(18, 10)),
-    Step::Done(1, Ask::AddLayer(19, 10)),
-    Step::Done(1, Ask::AddLayer(20, 10)),
-    Step::Done(1, Ask::AddLayer(21, 10)),
-    Step::Done(1, Ask::AddLayer(22, 10)),
-    Step::Done(1, Ask::AddLayer(23, 10)),
-    Step::Done(1, Ask::AddLayer(24, 10)),
-    Step::Done(1, Ask::AddLayer(25, 10)),
-    Step::Done(1, Ask::AddLayer(26, 10)),
+const SEVENTEEN: [Step; 5] = [
+    Step::AddLayers(11, 27),
     Step::Refused(1, Ask::AddLayer(27, 10), Refusal::ManyLayers),
     Step::Refused(1, Ask::AddLayer(11, 10), Refusal::LayerExists),
     Step::Done(2, Ask::AddLayer(27, 10)),
@@ -72,10 +54,8 @@ const SEVENTEEN: [Step; 20] = [
 ];
 
 #[test]
-fn a_seventeenth_layer_and_a_layer_twice_are_refused(rt: HostRuntime) {
-    let alloc = rt.alloc();
-    let policy = Policy::new(alloc, &[1, 2]).ok();
-    assert!(&rt; tried(alloc, policy, &SEVENTEEN) == Some(None));
+fn a_seventeenth_layer_and_a_layer_twice_are_refused(rt: HostRuntime) -> Result<(), Wrong> {
+    tried(rt.alloc(), &[1, 2], &SEVENTEEN)
 }
 
 const ROOM: [Step; 11] = [
@@ -93,10 +73,8 @@ const ROOM: [Step; 11] = [
 ];
 
 #[test]
-fn a_layer_goes_alone_and_makes_room(rt: HostRuntime) {
-    let alloc = rt.alloc();
-    let policy = Policy::new(alloc, &[1, 2]).ok();
-    assert!(&rt; tried(alloc, policy, &ROOM) == Some(None));
+fn a_layer_goes_alone_and_makes_room(rt: HostRuntime) -> Result<(), Wrong> {
+    tried(rt.alloc(), &[1, 2], &ROOM)
 }
 
 const DEFAULTS: [Step; 8] = [
@@ -111,8 +89,6 @@ const DEFAULTS: [Step; 8] = [
 ];
 
 #[test]
-fn a_default_is_set_for_one_direction(rt: HostRuntime) {
-    let alloc = rt.alloc();
-    let policy = Policy::new(alloc, &[1]).ok();
-    assert!(&rt; tried(alloc, policy, &DEFAULTS) == Some(None));
+fn a_default_is_set_for_one_direction(rt: HostRuntime) -> Result<(), Wrong> {
+    tried(rt.alloc(), &[1], &DEFAULTS)
 }

@@ -18,3 +18,5 @@ mod rule_tests;
 mod told;
 #[cfg(test)]
 mod trial;
+#[cfg(test)]
+mod wrong;

@@ -5,6 +5,7 @@ ghost use Rattle.vsw_layerflow.specs.Pairs.{AllBelow};
 
 use crate::commands::{Ask, command, rule, spec};
 use crate::told::{Rules, told_rules};
+use crate::wrong::Wrong;
 use std::alloc::Global;
 use vsw_base::{Dir, Ip4, Items, LayerKey, Moment, Set, Track};
 use vsw_layerflow::{Flows, Pair};
@@ -176,15 +177,19 @@ fn left_after(alloc: Global, ask: &Ask) -> u32 {
 /// What is asked, and the pairs that are left after it.
 type Case = (Ask, u32);
 
-/// The place of the first case after which others are left.
-fn first_other(alloc: Global, cases: &[Case]) -> Option<usize> {
+fn are_left(alloc: Global, cases: &[Case]) -> Result<(), Wrong> {
     for place in 0..cases.len() {
-        let (ask, digits) = cases[place];
-        if left_after(alloc, &ask) != digits {
-            return Some(place);
+        let (ask, digits) = &cases[place];
+        if left_after(alloc, ask) != *digits {
+            return Err(Wrong::Step(place));
         }
     }
-    None
+    Ok(())
+}
+
+/// Which pairs there are before any command.
+fn left_first(alloc: Global) -> u32 {
+    left(&flows(alloc))
 }
 
 const RULES: [Case; 4] = [
@@ -198,9 +203,11 @@ const RULES: [Case; 4] = [
 ];
 
 #[test]
-fn pairs_go_with_a_rule_that_goes_or_changes(rt: HostRuntime) {
-    assert!(&rt; left(&flows(rt.alloc())) == 12_345);
-    assert!(&rt; first_other(rt.alloc(), &RULES) == None);
+fn pairs_go_with_a_rule_that_goes_or_changes(rt: HostRuntime) -> Result<(), Wrong> {
+    if left_first(rt.alloc()) != 12_345 {
+        return Err(Wrong::Start);
+    }
+    are_left(rt.alloc(), &RULES)
 }
 
 const TIMES: [Case; 5] = [
@@ -213,8 +220,8 @@ const TIMES: [Case; 5] = [
 ];
 
 #[test]
-fn pairs_go_with_their_group_their_rule_and_their_time(rt: HostRuntime) {
-    assert!(&rt; first_other(rt.alloc(), &TIMES) == None);
+fn pairs_go_with_their_group_their_rule_and_their_time(rt: HostRuntime) -> Result<(), Wrong> {
+    are_left(rt.alloc(), &TIMES)
 }
 
 /// What is told of the rules of both groups after a command.
@@ -232,5 +239,5 @@ const OTHERS: [Option<Rules>; 2] = [Some((6, 20, 2)), Some((7, 10, 3))];
 #[test]
 fn other_rules_stand_in_place_of_all_of_one_group(rt: HostRuntime) {
     let ask = Ask::PutTwo(10, (9, 10), (6, 20));
-    assert!(&rt; rules_after(rt.alloc(), &ask) == OTHERS);
+    assert!(rt; rules_after(rt.alloc(), &ask) == OTHERS);
 }

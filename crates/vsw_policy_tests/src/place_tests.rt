@@ -7,7 +7,8 @@ ghost use Rattle.vsw_policy.specs.Layers.{At};
 
 use crate::commands::Ask;
 use crate::pair_tests::{left, pair, there};
-use crate::trial::{self, first_wrong};
+use crate::trial;
+use crate::wrong::Wrong;
 use std::alloc::Global;
 use vsw_base::{Dir, Moment, Track};
 use vsw_layerflow::Pair;
@@ -123,11 +124,6 @@ const LAYERS: [trial::Step; 2] = [
     trial::Step::Done(1, Ask::AddLayer(11, 20)),
 ];
 
-/// Makes two layers with those pairs, and tells whether it did.
-fn make(alloc: Global, policy: &mut Policy) -> bool {
-    first_wrong(alloc, policy, &LAYERS).is_none() && open_three(policy)
-}
-
 /// What is done to the pairs of the layer at a place, or told of them.
 #[derive(Clone, Copy)]
 enum Step {
@@ -158,23 +154,29 @@ fn comes_out(policy: &mut Policy, step: &Step) -> bool {
     }
 }
 
-/// The place of the first step that doesn't come out as it says.
-fn first_other(policy: &mut Policy, steps: &[Step]) -> Option<usize> {
+/// Tries one step after the other.
+fn try_steps(policy: &mut Policy, steps: &[Step]) -> Result<(), Wrong> {
     for place in 0..steps.len() {
         if !comes_out(policy, &steps[place]) {
-            return Some(place);
+            return Err(Wrong::Step(place));
         }
     }
-    None
+    Ok(())
 }
 
-/// That of a policy which gets two layers with those pairs first.
-fn tried(alloc: Global, policy: Option<Policy>, steps: &[Step]) -> Option<Option<usize>> {
-    let mut policy = policy?;
-    if !make(alloc, &mut policy) {
-        return None;
+/// Tries them behind those two layers and three pairs.
+fn try_behind(alloc: Global, policy: &mut Policy, steps: &[Step]) -> Result<(), Wrong> {
+    if trial::try_steps(alloc, policy, &LAYERS).is_err() || !open_three(policy) {
+        return Err(Wrong::Start);
     }
-    Some(first_other(&mut policy, steps))
+    try_steps(policy, steps)
+}
+
+fn tried(alloc: Global, steps: &[Step]) -> Result<(), Wrong> {
+    match Policy::new(alloc, &[1]) {
+        Ok(mut policy) => try_behind(alloc, &mut policy, steps),
+        Err(_) => Err(Wrong::Start),
+    }
 }
 
 const OPENED: [Step; 4] = [
@@ -186,10 +188,8 @@ const OPENED: [Step; 4] = [
 ];
 
 #[test]
-fn a_pair_opens_under_the_next_number_in_one_layer(rt: HostRuntime) {
-    let alloc = rt.alloc();
-    let policy = Policy::new(alloc, &[1]).ok();
-    assert!(&rt; tried(alloc, policy, &OPENED) == Some(None));
+fn a_pair_opens_under_the_next_number_in_one_layer(rt: HostRuntime) -> Result<(), Wrong> {
+    tried(rt.alloc(), &OPENED)
 }
 
 const CHANGED: [Step; 7] = [
@@ -203,8 +203,6 @@ const CHANGED: [Step; 7] = [
 ];
 
 #[test]
-fn a_pair_changes_and_goes_in_one_layer(rt: HostRuntime) {
-    let alloc = rt.alloc();
-    let policy = Policy::new(alloc, &[1]).ok();
-    assert!(&rt; tried(alloc, policy, &CHANGED) == Some(None));
+fn a_pair_changes_and_goes_in_one_layer(rt: HostRuntime) -> Result<(), Wrong> {
+    tried(rt.alloc(), &CHANGED)
 }

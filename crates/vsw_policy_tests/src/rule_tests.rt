@@ -2,7 +2,8 @@
 
 use crate::commands::Ask;
 use crate::trial::{Step, tried};
-use vsw_policy::{Policy, Refusal};
+use crate::wrong::Wrong;
+use vsw_policy::Refusal;
 
 /// Two rules of one number.
 const TWICE: Ask = Ask::PutTwo(10, (5, 10), (5, 20));
@@ -18,10 +19,8 @@ const LEAST: [Step; 7] = [
 ];
 
 #[test]
-fn the_least_number_of_two_refusals_goes_first(rt: HostRuntime) {
-    let alloc = rt.alloc();
-    let policy = Policy::new(alloc, &[1]).ok();
-    assert!(&rt; tried(alloc, policy, &LEAST) == Some(None));
+fn the_least_number_of_two_refusals_goes_first(rt: HostRuntime) -> Result<(), Wrong> {
+    tried(rt.alloc(), &[1], &LEAST)
 }
 
 const LAST: [Step; 13] = [
@@ -41,10 +40,8 @@ const LAST: [Step; 13] = [
 ];
 
 #[test]
-fn a_rule_is_added_last_and_goes_by_its_number(rt: HostRuntime) {
-    let alloc = rt.alloc();
-    let policy = Policy::new(alloc, &[1]).ok();
-    assert!(&rt; tried(alloc, policy, &LAST) == Some(None));
+fn a_rule_is_added_last_and_goes_by_its_number(rt: HostRuntime) -> Result<(), Wrong> {
+    tried(rt.alloc(), &[1], &LAST)
 }
 
 /// A group of 1,024 rules, numbered from 0.
@@ -60,10 +57,8 @@ const MOST: [Step; 8] = [
 ];
 
 #[test]
-fn a_group_has_at_most_1024_rules(rt: HostRuntime) {
-    let alloc = rt.alloc();
-    let policy = Policy::new(alloc, &[1]).ok();
-    assert!(&rt; tried(alloc, policy, &MOST) == Some(None));
+fn a_group_has_at_most_1024_rules(rt: HostRuntime) -> Result<(), Wrong> {
+    tried(rt.alloc(), &[1], &MOST)
 }
 
 const ROOM: [Step; 8] = [
@@ -78,8 +73,6 @@ const ROOM: [Step; 8] = [
 ];
 
 #[test]
-fn a_full_group_has_room_for_a_rule_that_went_and_for_others(rt: HostRuntime) {
-    let alloc = rt.alloc();
-    let policy = Policy::new(alloc, &[1]).ok();
-    assert!(&rt; tried(alloc, policy, &ROOM) == Some(None));
+fn a_full_group_has_room_for_a_rule_that_went_and_for_others(rt: HostRuntime) -> Result<(), Wrong> {
+    tried(rt.alloc(), &[1], &ROOM)
 }

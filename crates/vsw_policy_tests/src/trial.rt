@@ -1,11 +1,12 @@
 //! Commands given to a policy one after the other, and what is seen of its layers, by a table.
 
-ghost use Rattle.std.specs.Prelude.{◌≡◌, IsTrue};
+ghost use Rattle.std.specs.Prelude.{◌≡◌, ◌≤◌, IsTrue, length};
 ghost use Rattle.vsw_policy.specs.Obey.{rules_given};
-ghost use Rattle.vsw_policy.specs.Sound.{Each, IsGoodRule, is_listed};
+ghost use Rattle.vsw_policy.specs.Sound.{Each, IsGoodRule, is_listed, are_distinct};
 
 use crate::commands::{Ask, command};
 use crate::told::{Rules, Told, count_groups, defaults, named, told_group, told_items, told_rules};
+use crate::wrong::Wrong;
 use std::alloc::Global;
 use vsw_policy::{Command, Layer, Policy, Refusal, Reply};
 use vsw_rule::{Field, Rule};
@@ -49,6 +50,10 @@ pub enum Step {
     /// What this controller asks is done.
     Done(u16, Ask),
     Refused(u16, Ask, Refusal),
+    /// Controller 1 adds layers of order 10, from this number up to below that one.
+    AddLayers(u16, u16),
+    /// It adds groups to its layer 10, from this number downwards, so many of them.
+    AddGroups(u16, u16),
     Layers(usize),
     /// The controller and the number of the layer at a place.
     Layer(usize, (u16, u16)),
@@ -74,31 +79,59 @@ fn is_seen(layers: &[Layer], step: &Step) -> bool {
     }
 }
 
+/// Whether what a controller asks has this reply.
+fn answers(alloc: Global, policy: &mut Policy, controller: u16, ask: &Ask, wanted: Reply) -> bool {
+    replies(policy, controller, &command(alloc, ask), wanted)
+}
+
+fn add_layers(alloc: Global, policy: &mut Policy, first: u16, end: u16) -> bool {
+    for number in first..end {
+        if !answers(alloc, policy, 1, &Ask::AddLayer(number, 10), Reply::Ok) {
+            return false;
+        }
+    }
+    true
+}
+
+fn add_groups(alloc: Global, policy: &mut Policy, first: u16, count: u16) -> bool {
+    for place in 0..count {
+        let ask = Ask::AddGroup(first.wrapping_sub(place));
+        if !answers(alloc, policy, 1, &ask, Reply::Ok) {
+            return false;
+        }
+    }
+    true
+}
+
 fn comes_out(alloc: Global, policy: &mut Policy, step: &Step) -> bool {
-    match *step {
-        Step::Done(controller, ask) => {
-            replies(policy, controller, &command(alloc, &ask), Reply::Ok)
-        }
+    match step {
+        Step::Done(controller, ask) => answers(alloc, policy, *controller, ask, Reply::Ok),
         Step::Refused(controller, ask, refusal) => {
-            let wanted = Reply::Refused(refusal);
-            replies(policy, controller, &command(alloc, &ask), wanted)
+            answers(alloc, policy, *controller, ask, Reply::Refused(*refusal))
         }
+        Step::AddLayers(first, end) => add_layers(alloc, policy, *first, *end),
+        Step::AddGroups(first, count) => add_groups(alloc, policy, *first, *count),
         _ => is_seen(policy.layers(), step),
     }
 }
 
-/// The place of the first step that doesn't come out as it says.
-pub fn first_wrong(alloc: Global, policy: &mut Policy, steps: &[Step]) -> Option<usize> {
+/// Tries one step after the other.
+pub fn try_steps(alloc: Global, policy: &mut Policy, steps: &[Step]) -> Result<(), Wrong> {
     for place in 0..steps.len() {
         if !comes_out(alloc, policy, &steps[place]) {
-            return Some(place);
+            return Err(Wrong::Step(place));
         }
     }
-    None
+    Ok(())
 }
 
-/// The first step that doesn't come out as it says, with a policy that was given nothing yet.
-pub fn tried(alloc: Global, policy: Option<Policy>, steps: &[Step]) -> Option<Option<usize>> {
-    let mut policy = policy?;
-    Some(first_wrong(alloc, &mut policy, steps))
+/// Tries them with a policy of these controllers that was given nothing yet.
+pub fn tried(alloc: Global, controllers: &[u16], steps: &[Step]) -> Result<(), Wrong>
+    requires few { length controllers.now ≤ 8 }
+    requires distinct { IsTrue (are_distinct controllers.now) }
+{
+    match Policy::new(alloc, controllers) {
+        Ok(mut policy) => try_steps(alloc, &mut policy, steps),
+        Err(_) => Err(Wrong::Start),
+    }
 }

@@ -1,127 +1,230 @@
 //! The choice among rules of one group and of two.
 
-use crate::samples::{condition, plain, prefix, range};
+use crate::samples::{asking, plain, prefix, range};
 use std::alloc::{AllocError, Global};
-use std::test::Fail;
-use vsw_base::{Dir, Items};
-use vsw_rule::{Action, Cond, Field, Group, Rule, choose};
+use vsw_base::{Dir, Items, Stack};
+use vsw_rule::{Action, Cond, Field, Group, Item, Rule, choose};
 
-/// A rule that packets to 10.0.0.0/24 meet.
-fn near(alloc: Global, number: u16, priority: u16, last: bool) -> Result<Rule, AllocError> {
-    let to = condition(alloc, Field::DstIp, prefix(0x0a00_0000, 24))?;
+/// Groups that a packet may meet.
+#[derive(Clone, Copy)]
+enum Groups {
+    /// Rule 5 in group 1, which allows the plain packet, and rule 7 in group 2, which drops it: which of
+    /// them are marked as last, and whether group 2 is for port 80 alone.
+    Two {
+        five_is_last: bool,
+        seven_is_last: bool,
+        is_web: bool,
+    },
+    /// Group 1, of two rules of these numbers and priorities, which allow the plain packet.
+    One {
+        rules: [(u16, u16); 2],
+    },
+}
+
+/// What the plain packet meets in this direction: the numbers of the group and of the rule, and the
+/// rule's action.
+#[derive(Clone, Copy)]
+struct Case {
+    groups: Groups,
+    dir: Dir,
+    met: Option<(u16, u16, Action)>,
+}
+
+/// A rule that packets to these addresses meet.
+fn toward(
+    alloc: Global,
+    to: Item,
+    number: u16,
+    priority: u16,
+    action: Action,
+    last: bool,
+) -> Result<Rule, AllocError> {
     Ok(Rule {
         number,
         priority,
-        when: Items::of(Vec::from_array(alloc, [to])?),
-        action: Action::Allow,
+        when: asking(alloc, Field::DstIp, to)?,
+        action,
         stateful: false,
         last,
     })
 }
 
-fn group(number: u16, when: Vec<Cond>, rules: Vec<Rule>) -> Group {
+/// A rule that packets to 10.0.0.0/24 meet.
+fn near(alloc: Global, number: u16, priority: u16, last: bool) -> Result<Rule, AllocError> {
+    let to = prefix(0x0a00_0000, 24);
+    toward(alloc, to, number, priority, Action::Allow, last)
+}
+
+fn one_rule(alloc: Global, rule: Rule) -> Result<Items<Rule>, AllocError> {
+    Ok(Items::of(Vec::from_array(alloc, [rule])?))
+}
+
+fn group(number: u16, when: Items<Cond>, rules: Items<Rule>) -> Group {
     Group {
         number,
         dir: Dir::Out,
-        when: Items::of(when),
-        rules: Items::of(rules),
+        when,
+        rules,
     }
 }
 
-/// What the plain packet meets: the numbers of the group and of the rule, and the rule's action.
+/// Group 2, whose rule packets to 10.0.0.9 meet.
+fn second_group(alloc: Global, is_web: bool, last: bool) -> Result<Group, AllocError> {
+    let to = prefix(0x0a00_0009, 32);
+    let rules = one_rule(alloc, toward(alloc, to, 7, 10, Action::Drop, last)?)?;
+    let when = if is_web {
+        asking(alloc, Field::DstPort, range(80, 80))?
+    } else {
+        Items::new(alloc)
+    };
+    Ok(group(2, when, rules))
+}
+
+fn two_groups(
+    alloc: Global,
+    five_is_last: bool,
+    seven_is_last: bool,
+    is_web: bool,
+) -> Result<Vec<Group>, AllocError> {
+    let second = second_group(alloc, is_web, seven_is_last)?;
+    let rules = one_rule(alloc, near(alloc, 5, 10, five_is_last)?)?;
+    let first = group(1, Items::new(alloc), rules);
+    Ok(Vec::from_array(alloc, [first, second])?)
+}
+
+fn one_group(alloc: Global, rules: [(u16, u16); 2]) -> Result<Vec<Group>, AllocError> {
+    let [first, second] = rules;
+    let first = near(alloc, first.0, first.1, false)?;
+    let second = near(alloc, second.0, second.1, false)?;
+    let rules = Items::of(Vec::from_array(alloc, [first, second])?);
+    Ok(Vec::from_array(alloc, [group(1, Items::new(alloc), rules)])?)
+}
+
+fn built(alloc: Global, groups: &Groups) -> Result<Vec<Group>, AllocError> {
+    match *groups {
+        Groups::Two {
+            five_is_last,
+            seven_is_last,
+            is_web,
+        } => two_groups(alloc, five_is_last, seven_is_last, is_web),
+        Groups::One { rules } => one_group(alloc, rules),
+    }
+}
+
 fn chosen(groups: &[Group], dir: Dir) -> Option<(u16, u16, Action)> {
-    let stack = plain().ok()?;
+    let stack = Stack::of(&plain()).ok()?;
     let choice = choose(dir, groups, &stack)?;
     Some((choice.group, choice.rule.number, choice.rule.action))
 }
 
-/// Rule 7, which drops packets to 10.0.0.9.
-fn dropping(alloc: Global, last: bool) -> Result<Rule, AllocError> {
-    let to = condition(alloc, Field::DstIp, prefix(0x0a00_0009, 32))?;
-    Ok(Rule {
-        number: 7,
-        priority: 10,
-        when: Items::of(Vec::from_array(alloc, [to])?),
-        action: Action::Drop,
-        stateful: false,
-        last,
-    })
+/// The place of the first case in which the packet meets another rule.
+fn wrong_case(alloc: Global, cases: &[Case]) -> Result<Option<usize>, AllocError> {
+    for place in 0..cases.len() {
+        let case = &cases[place];
+        if chosen(&built(alloc, &case.groups)?, case.dir) != case.met {
+            return Ok(Some(place));
+        }
+    }
+    Ok(None)
 }
 
-/// What the plain packet meets of rule 5 in group 1, which allows it, and rule 7 in group 2, which drops
-/// it, of these marks and with this condition of group 2.
-fn of_two(
-    alloc: Global,
-    five_is_last: bool,
-    seven_is_last: bool,
-    when: Vec<Cond>,
-) -> Result<Option<(u16, u16, Action)>, AllocError> {
-    let first = Vec::from_array(alloc, [near(alloc, 5, 10, five_is_last)?])?;
-    let second = Vec::from_array(alloc, [dropping(alloc, seven_is_last)?])?;
-    let groups = Vec::from_array(
-        alloc,
-        [group(1, Vec::new(alloc), first), group(2, when, second)],
-    )?;
-    Ok(chosen(&groups, Dir::Out))
-}
+const PASSES: Option<(u16, u16, Action)> = Some((1, 5, Action::Allow));
 
-#[test]
-fn the_last_group_decides_where_none_is_marked(rt: HostRuntime) -> Result<(), Fail> {
-    let alloc = rt.alloc();
-    let passes = Some((1, 5, Action::Allow));
-    let drops = Some((2, 7, Action::Drop));
-    assert_eq!(rt; of_two(alloc, false, false, Vec::new(alloc))?, drops);
-    let web = Vec::from_array(alloc, [condition(alloc, Field::DstPort, range(80, 80))?])?;
-    assert_eq!(rt; of_two(alloc, false, false, web)?, passes);
-    Ok(())
-}
+const DROPS: Option<(u16, u16, Action)> = Some((2, 7, Action::Drop));
+
+const UNMARKED: [Case; 2] = [
+    Case {
+        groups: Groups::Two {
+            five_is_last: false,
+            seven_is_last: false,
+            is_web: false,
+        },
+        dir: Dir::Out,
+        met: DROPS,
+    },
+    Case {
+        groups: Groups::Two {
+            five_is_last: false,
+            seven_is_last: false,
+            is_web: true,
+        },
+        dir: Dir::Out,
+        met: PASSES,
+    },
+];
 
 #[test]
-fn the_first_group_that_is_marked_decides(rt: HostRuntime) -> Result<(), Fail> {
-    let alloc = rt.alloc();
-    let passes = Some((1, 5, Action::Allow));
-    let drops = Some((2, 7, Action::Drop));
-    assert_eq!(rt; of_two(alloc, false, true, Vec::new(alloc))?, drops);
-    assert_eq!(rt; of_two(alloc, true, false, Vec::new(alloc))?, passes);
-    assert_eq!(rt; of_two(alloc, true, true, Vec::new(alloc))?, passes);
-    Ok(())
+fn the_last_group_decides_where_none_is_marked(rt: HostRuntime) {
+    assert!(rt; wrong_case(rt.alloc(), &UNMARKED) == Ok(None));
 }
 
-/// What the plain packet meets of two rules of one group.
-fn of_rules(
-    alloc: Global,
-    first: Rule,
-    second: Rule,
-    dir: Dir,
-) -> Result<Option<(u16, u16, Action)>, AllocError> {
-    let rules = Vec::from_array(alloc, [first, second])?;
-    let groups = Vec::from_array(alloc, [group(1, Vec::new(alloc), rules)])?;
-    Ok(chosen(&groups, dir))
-}
+const MARKED: [Case; 3] = [
+    Case {
+        groups: Groups::Two {
+            five_is_last: false,
+            seven_is_last: true,
+            is_web: false,
+        },
+        dir: Dir::Out,
+        met: DROPS,
+    },
+    Case {
+        groups: Groups::Two {
+            five_is_last: true,
+            seven_is_last: false,
+            is_web: false,
+        },
+        dir: Dir::Out,
+        met: PASSES,
+    },
+    Case {
+        groups: Groups::Two {
+            five_is_last: true,
+            seven_is_last: true,
+            is_web: false,
+        },
+        dir: Dir::Out,
+        met: PASSES,
+    },
+];
 
 #[test]
-fn the_least_priority_and_then_the_first_place_decides(rt: HostRuntime) -> Result<(), Fail> {
-    let alloc = rt.alloc();
-    let five = near(alloc, 5, 10, false)?;
-    let six = near(alloc, 6, 10, false)?;
-    assert_eq!(rt;
-        of_rules(alloc, five, six, Dir::Out)?,
-        Some((1, 5, Action::Allow))
-    );
-    let five = near(alloc, 5, 10, false)?;
-    let six = near(alloc, 6, 10, false)?;
-    assert_eq!(rt;
-        of_rules(alloc, six, five, Dir::Out)?,
-        Some((1, 6, Action::Allow))
-    );
-    let five = near(alloc, 5, 10, false)?;
-    let six = near(alloc, 6, 9, false)?;
-    assert_eq!(rt;
-        of_rules(alloc, five, six, Dir::Out)?,
-        Some((1, 6, Action::Allow))
-    );
-    let five = near(alloc, 5, 10, false)?;
-    let six = near(alloc, 6, 9, false)?;
-    assert_eq!(rt; of_rules(alloc, five, six, Dir::In)?, None);
-    Ok(())
+fn the_first_group_that_is_marked_decides(rt: HostRuntime) {
+    assert!(rt; wrong_case(rt.alloc(), &MARKED) == Ok(None));
+}
+
+const ORDERS: [Case; 4] = [
+    Case {
+        groups: Groups::One {
+            rules: [(5, 10), (6, 10)],
+        },
+        dir: Dir::Out,
+        met: PASSES,
+    },
+    Case {
+        groups: Groups::One {
+            rules: [(6, 10), (5, 10)],
+        },
+        dir: Dir::Out,
+        met: Some((1, 6, Action::Allow)),
+    },
+    Case {
+        groups: Groups::One {
+            rules: [(5, 10), (6, 9)],
+        },
+        dir: Dir::Out,
+        met: Some((1, 6, Action::Allow)),
+    },
+    Case {
+        groups: Groups::One {
+            rules: [(5, 10), (6, 9)],
+        },
+        dir: Dir::In,
+        met: None,
+    },
+];
+
+#[test]
+fn the_least_priority_and_then_the_first_place_decides(rt: HostRuntime) {
+    assert!(rt; wrong_case(rt.alloc(), &ORDERS) == Ok(None));
 }

@@ -4,12 +4,10 @@ ghost use Rattle.std.specs.Prelude.{◌<◌, ◌^◌, IsTrue};
 ghost use Rattle.vsw_rule.specs.Edit.{goes_on};
 ghost use Rattle.vsw_rule.specs.Match.{can_do};
 
-use crate::compose_samples::{IPV4, encap, ether, plain, ports, query, sent, udp};
-use vsw_base::{BadShape, Header, Ip4, Mac, Outer, Set, Stack};
+use crate::samples::{ARP, IPV4, encap, ether, kept, plain, ports, query, sent, udp};
+use vsw_base::{Header, Ip4, Mac, Outer, Set, Stack};
 use vsw_rule::{Action, act_of, compose};
 use vsw_transpose::{Act, Change, Transposition};
-
-const ARP: u16 = 0x0806;
 
 /// UDP from port 53 of 10.0.0.9, to this port of this address.
 fn answer(dst: u32, dst_port: u16) -> [Header; 3] {
@@ -21,16 +19,16 @@ fn answer(dst: u32, dst_port: u16) -> [Header; 3] {
 }
 
 /// The answer to port 40000 of 192.0.2.7, encapsulated from 172.16.0.2 to 172.16.0.1.
-fn received() -> Result<Stack, BadShape> {
+fn received() -> [Header; 6] {
     let [d, e, f] = answer(0xc000_0207, 40_000);
-    Stack::of(&[
+    [
         ether(0x0200_0000_0a01, 0x0200_0000_0a02, IPV4),
         udp(0xac10_0002, 0xac10_0001),
         Header::Vxlan { vni: 5001 },
         d,
         e,
         f,
-    ])
+    ]
 }
 
 fn nothing() -> Set {
@@ -108,37 +106,38 @@ fn is_possible(action: &Action, stack: &Stack) -> bool
     }
 }
 
-/// What two actions do, one after the other, if they can be done.
-fn in_turn(first: &Action, second: &Action, stack: &Stack) -> Option<Transposition> {
-    if !is_possible(first, stack) {
+/// What two actions do to a frame, one after the other, if they can be done.
+fn in_turn(first: &Action, second: &Action, headers: &[Header]) -> Option<(Stack, Transposition)> {
+    let stack = Stack::of(headers).ok()?;
+    if !is_possible(first, &stack) {
         return None;
     }
-    let one = act_of(first, stack);
-    let between = one.apply(stack);
+    let one = act_of(first, &stack);
+    let between = one.apply(&stack);
     if !is_possible(second, &between) {
         return None;
     }
     let two = act_of(second, &between);
-    Some(compose(&one, &two, stack))
+    let both = compose(&one, &two, &stack);
+    Some((stack, both))
 }
 
-fn makes(by: &Transposition, stack: &Stack, made: &Stack) -> bool {
-    by.fits(stack) && by.apply(stack).is_same(made)
+/// How many encapsulations two actions in turn keep, if they make the one frame of the other.
+fn kept_in_turn(first: &Action, second: &Action, from: &[Header], to: &[Header]) -> Option<u8> {
+    let (stack, by) = in_turn(first, second, from)?;
+    kept(&by, &stack, to)
 }
 
-#[test]
-fn a_query_is_edited_and_put_in_a_network(rt: HostRuntime) {
-    let plain = plain().expect(&rt, "it has the shape");
-    let by = in_turn(
-        &set_source(0xc000_0207, 40_000),
-        &put_in_network(5001),
-        &plain,
-    )
-    .expect(&rt, "both can be done");
-    assert!(rt; makes(&by, &plain, &sent().expect(&rt, "it has the shape")));
-    assert_eq!(rt; by.kept(), 0);
+/// Whether two actions in turn do these acts.
+fn acts_as(first: &Action, second: &Action, headers: &[Header], acts: &[Act]) -> Option<bool> {
+    let (_, by) = in_turn(first, second, headers)?;
+    Some(by.is_same(&Transposition::of(acts).ok()?))
+}
+
+/// The acts by which the query of port 1234 of 10.0.0.5 is sent.
+fn sending() -> [Act; 6] {
     let [a, b, c] = encap();
-    let acts = Transposition::of(&[
+    [
         Act::Push(a),
         Act::Push(b),
         Act::Push(c),
@@ -151,79 +150,72 @@ fn a_query_is_edited_and_put_in_a_network(rt: HostRuntime) {
             src: Some(40_000),
             dst: None,
         }),
-    ])
-    .expect(&rt, "it has the form");
-    assert!(rt; by.is_same(&acts));
+    ]
+}
+
+#[test]
+fn a_query_is_edited_and_put_in_a_network(rt: HostRuntime) {
+    let first = set_source(0xc000_0207, 40_000);
+    let second = put_in_network(5001);
+    let kept = kept_in_turn(&first, &second, &plain(), &sent());
+    let is_sent = acts_as(&first, &second, &plain(), &sending());
+    assert!(rt; (kept, is_sent) == (Some(0), Some(true)));
 }
 
 #[test]
 fn an_answer_is_taken_out_and_edited(rt: HostRuntime) {
-    let received = received().expect(&rt, "it has the shape");
-    let by = in_turn(&take_out(), &set_destination(), &received).expect(&rt, "both can be done");
-    let delivered = Stack::of(&answer(0x0a00_0005, 1234)).expect(&rt, "it has the shape");
-    assert!(rt; makes(&by, &received, &delivered));
-    assert_eq!(rt; by.kept(), 0);
-    assert!(rt; in_turn(&take_out(), &take_out(), &received).is_none());
+    let received = received();
+    let delivered = answer(0x0a00_0005, 1234);
+    let kept = kept_in_turn(&take_out(), &set_destination(), &received, &delivered);
+    let again = in_turn(&take_out(), &take_out(), &received);
+    assert!(rt; kept == Some(0) && again.is_none());
 }
 
 #[test]
 fn what_is_written_last_stands(rt: HostRuntime) {
-    let plain = plain().expect(&rt, "it has the shape");
-    let by = in_turn(
-        &set_source(0xc000_0208, 1),
-        &set_source(0xc000_0207, 40_000),
-        &plain,
-    )
-    .expect(&rt, "both can be done");
-    let edited = Stack::of(&query(0xc000_0207, 40_000)).expect(&rt, "it has the shape");
-    assert!(rt; makes(&by, &plain, &edited));
-    let sent = sent().expect(&rt, "it has the shape");
-    let by = in_turn(&set_source(0xc000_0208, 1), &take_out(), &sent).expect(
-        &rt,
-        "both can be done",
-    );
-    let taken = Stack::of(&query(0xc000_0208, 1)).expect(&rt, "it has the shape");
-    assert!(rt; makes(&by, &sent, &taken));
+    let first = set_source(0xc000_0208, 1);
+    let second = set_source(0xc000_0207, 40_000);
+    let edited = kept_in_turn(&first, &second, &plain(), &query(0xc000_0207, 40_000));
+    let taken = kept_in_turn(&first, &take_out(), &sent(), &query(0xc000_0208, 1));
+    assert!(rt; (edited, taken) == (Some(0), Some(0)));
+}
+
+/// Whether two actions in turn are the transposition that leaves the frame as it is.
+fn is_none(first: &Action, second: &Action, headers: &[Header]) -> Option<bool> {
+    let (stack, by) = in_turn(first, second, headers)?;
+    Some(by.is_same(&Transposition::none(&stack)))
 }
 
 #[test]
 fn what_was_pushed_is_popped_before_the_frames_own(rt: HostRuntime) {
-    let sent = sent().expect(&rt, "it has the shape");
-    let by = in_turn(&put_in_network(7), &take_out(), &sent).expect(&rt, "both can be done");
-    assert!(rt; makes(&by, &sent, &sent));
-    assert!(rt; by.is_same(&Transposition::none(&sent)));
-    assert_eq!(rt; by.kept(), 1);
-    let by = in_turn(&take_out(), &put_in_network(5001), &sent).expect(&rt, "both can be done");
-    assert!(rt; makes(&by, &sent, &sent));
-    assert_eq!(rt; by.kept(), 0);
+    let sent = sent();
+    let pushed = put_in_network(7);
+    let kept = kept_in_turn(&pushed, &take_out(), &sent, &sent);
+    let is_none = is_none(&pushed, &take_out(), &sent);
+    let other = kept_in_turn(&take_out(), &put_in_network(5001), &sent, &sent);
+    assert!(rt; (kept, is_none, other) == (Some(1), Some(true), Some(0)));
+}
+
+/// The query of port 1234 of 10.0.0.5 in network 7, and in network 5001 around it.
+fn twice() -> [Header; 9] {
+    let [a, b, c] = encap();
+    let [d, e, _] = encap();
+    let [f, g, h] = plain();
+    [a, b, c, d, e, Header::Vxlan { vni: 7 }, f, g, h]
 }
 
 #[test]
 fn the_last_network_stands_outside(rt: HostRuntime) {
-    let plain = plain().expect(&rt, "it has the shape");
-    let by = in_turn(&put_in_network(7), &put_in_network(5001), &plain).expect(
-        &rt,
-        "both can be done",
-    );
-    let [a, b, c] = encap();
-    let [d, e, _] = encap();
-    let [f, g, h] = query(0x0a00_0005, 1234);
-    let twice = Stack::of(&[a, b, c, d, e, Header::Vxlan { vni: 7 }, f, g, h]).expect(
-        &rt,
-        "it has the shape",
-    );
-    assert!(rt; makes(&by, &plain, &twice));
-    assert_eq!(rt; by.kept(), 0);
-    assert!(rt; in_turn(&put_in_network(7), &put_in_network(5001), &twice).is_none());
+    let twice = twice();
+    let first = put_in_network(7);
+    let second = put_in_network(5001);
+    let kept = kept_in_turn(&first, &second, &plain(), &twice);
+    assert!(rt; kept == Some(0) && in_turn(&first, &second, &twice).is_none());
 }
 
 #[test]
 fn what_a_frame_has_not_is_not_written(rt: HostRuntime) {
-    let arp = Stack::of(&[ether(0x0200_0000_0099, 0x0200_0000_0001, ARP)]).expect(
-        &rt,
-        "it has the shape",
-    );
-    let by = in_turn(&set_destination(), &Action::Allow, &arp).expect(&rt, "both can be done");
-    assert!(rt; makes(&by, &arp, &arp));
-    assert!(rt; in_turn(&Action::Allow, &Action::Drop, &arp).is_none());
+    let arp = [ether(0x0200_0000_0099, 0x0200_0000_0001, ARP)];
+    let kept = kept_in_turn(&set_destination(), &Action::Allow, &arp, &arp);
+    assert!(rt; kept == Some(0) && in_turn(&Action::Allow, &Action::Drop, &arp).is_none());
 }

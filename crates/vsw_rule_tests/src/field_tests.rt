@@ -1,10 +1,12 @@
 //! Every field on every kind of stack, and the edges of what a rule may ask of it.
 
-use crate::samples::{condition, encap, ether, plain, ports, prefix, range, rule, udp};
+ghost use Rattle.std.specs.Prelude.{◌<◌};
+
+use crate::samples::{
+    ARP, IPV4, asking, checked, encap, ether, holds, plain, prefix, query, range, sent, udp,
+};
 use std::alloc::{AllocError, Global};
-use std::process::Abort;
-use std::test::Fail;
-use vsw_base::{BadShape, Header, Ip4, Items, Mac, Stack};
+use vsw_base::{BadShape, Header, Ip4, Stack};
 use vsw_rule::{Action, BadRule, Field, Item};
 
 /// A field: whether its values are IPv4 addresses, the greatest that it can have, and its values on
@@ -17,8 +19,10 @@ struct Row {
     values: [Option<u64>; 5],
 }
 
-/// The greatest values of an Ethernet address and of 16 bits.
+/// The greatest values of an Ethernet address, of an IPv4 address and of 16 bits.
 const MAC: u64 = 0xffff_ffff_ffff;
+
+const ADDRESS: u64 = 0xffff_ffff;
 
 const WORD: u64 = 0xffff;
 
@@ -29,9 +33,9 @@ const DST: Option<u64> = Some(0x0200_0000_0099);
 
 const SRC: Option<u64> = Some(0x0200_0000_0001);
 
-const ARP: Option<u64> = Some(0x0806);
+const ARP_KIND: Option<u64> = Some(0x0806);
 
-const IPV4: Option<u64> = Some(0x0800);
+const IP_KIND: Option<u64> = Some(0x0800);
 
 // IPv4: 10.0.0.5, which is 192.0.2.7 where it is encapsulated, to 10.0.0.9, by UDP.
 const FIVE: Option<u64> = Some(0x0a00_0005);
@@ -55,124 +59,164 @@ const DNS: Option<u64> = Some(53);
 
 fn rows() -> [Row; 14] {
     [
-        number(Field::DstMac, MAC, [ALL, DST, DST, DST, DST]),
-        number(Field::SrcMac, MAC, [SRC, SRC, SRC, SRC, SRC]),
-        number(Field::Kind, WORD, [ARP, IPV4, IPV4, IPV4, IPV4]),
-        address(Field::SrcIp, [None, FIVE, FIVE, SEVEN, SEVEN]),
-        address(Field::DstIp, [None, NINE, NINE, NINE, NINE]),
-        number(Field::Proto, 255, [None, UDP, UDP, UDP, UDP]),
-        number(Field::Part, 1, [None, YES, NO, NO, NO]),
-        number(Field::SrcPort, WORD, [None, None, PLAIN, OTHER, OTHER]),
-        number(Field::DstPort, WORD, [None, None, DNS, DNS, DNS]),
-        number(
-            Field::OuterDstMac,
-            MAC,
-            outer(0x200_0000_0a02, 0x200_0000_0b02),
-        ),
-        number(
-            Field::OuterSrcMac,
-            MAC,
-            outer(0x200_0000_0a01, 0x200_0000_0b01),
-        ),
-        address(Field::OuterSrcIp, outer(0xac10_0001, 0xac10_0003)),
-        address(Field::OuterDstIp, outer(0xac10_0002, 0xac10_0004)),
-        number(Field::Vni, 0xff_ffff, outer(5001, 7)),
+        Row {
+            field: Field::DstMac,
+            is_address: false,
+            greatest: MAC,
+            values: [ALL, DST, DST, DST, DST],
+        },
+        Row {
+            field: Field::SrcMac,
+            is_address: false,
+            greatest: MAC,
+            values: [SRC, SRC, SRC, SRC, SRC],
+        },
+        Row {
+            field: Field::Kind,
+            is_address: false,
+            greatest: WORD,
+            values: [ARP_KIND, IP_KIND, IP_KIND, IP_KIND, IP_KIND],
+        },
+        Row {
+            field: Field::SrcIp,
+            is_address: true,
+            greatest: ADDRESS,
+            values: [None, FIVE, FIVE, SEVEN, SEVEN],
+        },
+        Row {
+            field: Field::DstIp,
+            is_address: true,
+            greatest: ADDRESS,
+            values: [None, NINE, NINE, NINE, NINE],
+        },
+        Row {
+            field: Field::Proto,
+            is_address: false,
+            greatest: 255,
+            values: [None, UDP, UDP, UDP, UDP],
+        },
+        Row {
+            field: Field::Part,
+            is_address: false,
+            greatest: 1,
+            values: [None, YES, NO, NO, NO],
+        },
+        Row {
+            field: Field::SrcPort,
+            is_address: false,
+            greatest: WORD,
+            values: [None, None, PLAIN, OTHER, OTHER],
+        },
+        Row {
+            field: Field::DstPort,
+            is_address: false,
+            greatest: WORD,
+            values: [None, None, DNS, DNS, DNS],
+        },
+        Row {
+            field: Field::OuterDstMac,
+            is_address: false,
+            greatest: MAC,
+            values: [
+                None,
+                None,
+                None,
+                Some(0x200_0000_0a02),
+                Some(0x200_0000_0b02),
+            ],
+        },
+        Row {
+            field: Field::OuterSrcMac,
+            is_address: false,
+            greatest: MAC,
+            values: [
+                None,
+                None,
+                None,
+                Some(0x200_0000_0a01),
+                Some(0x200_0000_0b01),
+            ],
+        },
+        Row {
+            field: Field::OuterSrcIp,
+            is_address: true,
+            greatest: ADDRESS,
+            values: [None, None, None, Some(0xac10_0001), Some(0xac10_0003)],
+        },
+        Row {
+            field: Field::OuterDstIp,
+            is_address: true,
+            greatest: ADDRESS,
+            values: [None, None, None, Some(0xac10_0002), Some(0xac10_0004)],
+        },
+        Row {
+            field: Field::Vni,
+            is_address: false,
+            greatest: 0xff_ffff,
+            values: [None, None, None, Some(5001), Some(7)],
+        },
     ]
 }
 
-fn number(field: Field, greatest: u64, values: [Option<u64>; 5]) -> Row {
-    Row {
-        field,
-        is_address: false,
-        greatest,
-        values,
-    }
-}
-
-fn address(field: Field, values: [Option<u64>; 5]) -> Row {
-    Row {
-        field,
-        is_address: true,
-        greatest: 0xffff_ffff,
-        values,
-    }
-}
-
-/// Of the first encapsulation from the outside: these values under one and under two.
-fn outer(once: u64, twice: u64) -> [Option<u64>; 5] {
-    [None, None, None, Some(once), Some(twice)]
-}
-
 /// ARP to all.
-fn arp() -> Result<Stack, BadShape> {
-    Stack::of(&[Header::Ether {
-        dst: Mac::of(0xffff_ffff_ffff),
-        src: Mac::of(0x0200_0000_0001),
-        kind: 0x0806,
-    }])
+fn arp() -> [Header; 1] {
+    [ether(0xffff_ffff_ffff, 0x0200_0000_0001, ARP)]
 }
 
 /// A fragment of UDP from 10.0.0.5 to 10.0.0.9.
-fn fragment() -> Result<Stack, BadShape> {
+fn fragment() -> [Header; 2] {
     let ip = Header::Ip {
         src: Ip4::of(0x0a00_0005),
         dst: Ip4::of(0x0a00_0009),
         proto: 17,
         part: true,
     };
-    Stack::of(&[ether(0x0800), ip])
+    [ether(0x0200_0000_0099, 0x0200_0000_0001, IPV4), ip]
 }
 
-/// UDP from port 40000 of 192.0.2.7 to port 53 of 10.0.0.9.
-fn translated() -> [Header; 3] {
-    [
-        ether(0x0800),
-        udp(0xc000_0207, 0x0a00_0009),
-        ports(40_000, 53),
-    ]
-}
-
-/// It under the encapsulation in network 5001.
-fn once() -> Result<Stack, BadShape> {
+/// The encapsulated query under an encapsulation in network 7, from 172.16.0.3 to 172.16.0.4.
+fn twice() -> [Header; 9] {
     let [a, b, c] = encap();
-    let [d, e, f] = translated();
-    Stack::of(&[a, b, c, d, e, f])
-}
-
-/// That under one in network 7, from 172.16.0.3 to 172.16.0.4.
-fn twice() -> Result<Stack, BadShape> {
-    let [a, b, c] = encap();
-    let [d, e, f] = translated();
-    let outer = Header::Ether {
-        dst: Mac::of(0x0200_0000_0b02),
-        src: Mac::of(0x0200_0000_0b01),
-        kind: 0x0800,
-    };
+    let [d, e, f] = query(0xc000_0207, 40_000);
+    let outer = ether(0x0200_0000_0b02, 0x0200_0000_0b01, IPV4);
     let far = udp(0xac10_0003, 0xac10_0004);
-    Stack::of(&[outer, far, Header::Vxlan { vni: 7 }, a, b, c, d, e, f])
+    [outer, far, Header::Vxlan { vni: 7 }, a, b, c, d, e, f]
 }
 
-fn holds(alloc: Global, field: Field, item: Item, stack: &Stack) -> Result<bool, AllocError> {
-    Ok(condition(alloc, field, item)?.holds(stack))
+/// A stack of the kind at this place of a row.
+fn stack(kind: usize) -> Result<Stack, BadShape> {
+    match kind {
+        0 => Stack::of(&arp()),
+        1 => Stack::of(&fragment()),
+        2 => Stack::of(&plain()),
+        3 => Stack::of(&sent()),
+        _ => Stack::of(&twice()),
+    }
 }
 
-/// A field that a stack hasn't: no range and no prefix holds.
-fn check_absent(rt: &impl Abort, alloc: Global, field: Field, stack: &Stack) -> Result<(), Fail> {
-    assert!(rt;
-        !holds(alloc, field, range(0, u64::MAX), stack)?,
-        "{field:?}"
-    );
-    assert!(rt; !holds(alloc, field, prefix(0, 0), stack)?, "{field:?}");
-    Ok(())
+/// Whether each item holds of a field, or doesn't, as it says.
+fn are_held(
+    alloc: Global,
+    field: Field,
+    items: &[(Item, bool)],
+    stack: &Stack,
+) -> Result<bool, AllocError> {
+    for (item, is_held) in items {
+        if holds(alloc, field, *item, stack)? != *is_held {
+            return Ok(false);
+        }
+    }
+    Ok(true)
 }
 
 /// Ranges and prefixes around a field's value, and whether they hold: those that end beside it don't.
-fn items_around(value: u64, is_address: bool) -> [(Item, bool); 10] {
+fn items_around(value: u64, is_address: bool) -> [(Item, bool); 11] {
     let near = (value % 0x1_0000_0000) as u32;
     [
         (range(value, value), true),
         (range(0, value), true),
         (range(value, u64::MAX), true),
+        (range(0, value.saturating_sub(1)), value == 0),
         (range(value.saturating_add(1), u64::MAX), false),
         (range(value.saturating_add(1), value), false),
         (prefix(near, 32), is_address),
@@ -183,54 +227,57 @@ fn items_around(value: u64, is_address: bool) -> [(Item, bool); 10] {
     ]
 }
 
-/// A field of this value, on a stack.
-fn check_value(
-    rt: &impl Abort,
+/// Whether a field has this value. Of one that a stack hasn't, no range and no prefix holds.
+fn has_value(
     alloc: Global,
     row: &Row,
+    value: Option<u64>,
     stack: &Stack,
-    value: u64,
-) -> Result<(), Fail> {
-    for (item, is_held) in items_around(value, row.is_address) {
-        assert_eq!(rt;
-            holds(alloc, row.field, item, stack)?,
-            is_held,
-            "{:?} {item:?}",
-            row.field
-        );
+) -> Result<bool, AllocError> {
+    match value {
+        None => {
+            let items = [(range(0, u64::MAX), false), (prefix(0, 0), false)];
+            are_held(alloc, row.field, &items, stack)
+        }
+        Some(value) => {
+            let items = items_around(value, row.is_address);
+            are_held(alloc, row.field, &items, stack)
+        }
     }
-    if value > 0 {
-        assert!(rt;
-            !holds(alloc, row.field, range(0, value - 1), stack)?,
-            "{:?}",
-            row.field
-        );
+}
+
+/// The place of the first field that has another value on a stack of this kind.
+fn wrong_field(
+    alloc: Global,
+    rows: &[Row],
+    kind: usize,
+    stack: &Stack,
+) -> Result<Option<usize>, AllocError>
+    requires { kind < 5 }
+{
+    for place in 0..rows.len() {
+        let row = &rows[place];
+        if !has_value(alloc, row, row.values[kind], stack)? {
+            return Ok(Some(place));
+        }
     }
-    Ok(())
+    Ok(None)
+}
+
+/// The first kind of stack with a field that has another value, and the field's place.
+fn wrong_value(alloc: Global, rows: &[Row]) -> Option<Option<(usize, usize)>> {
+    for kind in 0..5 {
+        let stack = stack(kind).ok()?;
+        if let Some(place) = wrong_field(alloc, rows, kind, &stack).ok()? {
+            return Some(Some((kind, place)));
+        }
+    }
+    Some(None)
 }
 
 #[test]
-fn every_field_has_its_value_on_every_kind_of_stack(rt: HostRuntime) -> Result<(), Fail> {
-    let alloc = rt.alloc();
-    let stacks = [arp(), fragment(), plain(), once(), twice()].map(|stack| stack.expect(
-        &rt,
-        "it has the shape",
-    ));
-    for row in &rows() {
-        for (value, stack) in row.values.iter().zip(&stacks) {
-            match value {
-                None => check_absent(&rt, alloc, row.field, stack)?,
-                Some(value) => check_value(&rt, alloc, row, stack, *value)?,
-            }
-        }
-    }
-    Ok(())
-}
-
-/// The answer to a rule that asks for this item of a field.
-fn answer(alloc: Global, field: Field, item: Item) -> Result<Result<(), BadRule>, AllocError> {
-    let when = Vec::from_array(alloc, [condition(alloc, field, item)?])?;
-    Ok(rule(Items::of(when), &Action::Allow, false).check())
+fn every_field_has_its_value_on_every_kind_of_stack(rt: HostRuntime) {
+    assert!(rt; wrong_value(rt.alloc(), &rows()) == Some(None));
 }
 
 /// Ranges and prefixes that a rule may ask of a field with this greatest value, and those that it may not.
@@ -260,18 +307,30 @@ fn answer_to(is_good: bool) -> Result<(), BadRule> {
     }
 }
 
-#[test]
-fn every_field_is_asked_for_values_that_it_can_have(rt: HostRuntime) -> Result<(), Fail> {
-    let alloc = rt.alloc();
-    for row in &rows() {
-        for (item, is_good) in items_up_to(row.greatest, row.is_address) {
-            assert_eq!(rt;
-                answer(alloc, row.field, item)?,
-                answer_to(is_good),
-                "{:?} {item:?}",
-                row.field
-            );
+/// The place of the first item of a field to which the check answers otherwise.
+fn wrong_item(alloc: Global, row: &Row) -> Result<Option<usize>, AllocError> {
+    let items = items_up_to(row.greatest, row.is_address);
+    for place in 0..11 {
+        let (item, is_good) = items[place];
+        let when = asking(alloc, row.field, item)?;
+        if checked(when, &Action::Allow, false) != (answer_to(is_good), true) {
+            return Ok(Some(place));
         }
     }
-    Ok(())
+    Ok(None)
+}
+
+/// The places of the first field and item to which the check answers otherwise.
+fn wrong_answer(alloc: Global, rows: &[Row]) -> Result<Option<(usize, usize)>, AllocError> {
+    for field in 0..rows.len() {
+        if let Some(item) = wrong_item(alloc, &rows[field])? {
+            return Ok(Some((field, item)));
+        }
+    }
+    Ok(None)
+}
+
+#[test]
+fn every_field_is_asked_for_values_that_it_can_have(rt: HostRuntime) {
+    assert!(rt; wrong_answer(rt.alloc(), &rows()) == Ok(None));
 }

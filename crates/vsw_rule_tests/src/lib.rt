@@ -4,8 +4,6 @@
 #[cfg(test)]
 mod choice_tests;
 #[cfg(test)]
-mod compose_samples;
-#[cfg(test)]
 mod composition_tests;
 #[cfg(test)]
 mod field_tests;

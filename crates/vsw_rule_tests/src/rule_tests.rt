@@ -1,28 +1,23 @@
 //! Conditions and rules on frames that were read by hand, and rules that are refused.
 
-use crate::samples::{condition, encap, ether, plain, ports, prefix, range, rule, udp};
-use std::test::Fail;
-use vsw_base::{BadShape, Ip4, Items, Mac, Outer, Set, Stack};
-use vsw_rule::{Action, BadRule, Field, Item};
+use crate::samples::{ARP, asking, checked, encap, ether, holds, plain, prefix, range, rule, sent};
+use std::alloc::{AllocError, Global};
+use vsw_base::{Header, Ip4, Items, Mac, Outer, Set, Stack};
+use vsw_rule::{Action, BadRule, Field, Item, Rule};
 
-/// UDP from port 40000 of 192.0.2.7 to port 53 of 10.0.0.9, under one encapsulation.
-fn once() -> Result<Stack, BadShape> {
+/// ARP under two encapsulations.
+fn twice() -> [Header; 7] {
     let [a, b, c] = encap();
-    Stack::of(&[
+    let [d, e, f] = encap();
+    [
         a,
         b,
         c,
-        ether(0x0800),
-        udp(0xc000_0207, 0x0a00_0009),
-        ports(40000, 53),
-    ])
-}
-
-/// ARP under two encapsulations.
-fn twice() -> Result<Stack, BadShape> {
-    let [a, b, c] = encap();
-    let [d, e, f] = encap();
-    Stack::of(&[a, b, c, d, e, f, ether(0x0806)])
+        d,
+        e,
+        f,
+        ether(0x0200_0000_0099, 0x0200_0000_0001, ARP),
+    ]
 }
 
 const SET_NONE: Set = Set {
@@ -66,14 +61,22 @@ fn edges() -> [(Field, Item, bool); 8] {
     ]
 }
 
-#[test]
-fn items_hold_up_to_their_edges(rt: HostRuntime) -> Result<(), Fail> {
-    let alloc = rt.alloc();
-    let plain = plain().expect(&rt, "it has the shape");
-    for (field, item, is_held) in edges() {
-        assert_eq!(rt; condition(alloc, field, item)?.holds(&plain), is_held);
+/// The place of the first edge at which a stack isn't as the plain packet.
+fn wrong_edge(alloc: Global, stack: &Stack) -> Result<Option<usize>, AllocError> {
+    let edges = edges();
+    for place in 0..8 {
+        let (field, item, is_held) = edges[place];
+        if holds(alloc, field, item, stack)? != is_held {
+            return Ok(Some(place));
+        }
     }
-    Ok(())
+    Ok(None)
+}
+
+#[test]
+fn items_hold_up_to_their_edges(rt: HostRuntime) {
+    let plain = Stack::of(&plain()).expect(&rt, "it has the shape");
+    assert!(rt; wrong_edge(rt.alloc(), &plain) == Ok(None));
 }
 
 /// Actions of rules that are stateful or not, and whether these match no, one and two encapsulations.
@@ -87,17 +90,33 @@ fn needs() -> [(Action, bool, [bool; 3]); 5] {
     ]
 }
 
+/// Whether a rule matches a frame, or doesn't, as told.
+fn is_matched(rule: &Rule, headers: &[Header], is_match: bool) -> bool {
+    match Stack::of(headers) {
+        Ok(stack) => rule.matches(&stack) == is_match,
+        Err(_) => false,
+    }
+}
+
+/// The place of the first action that asks for something else.
+fn wrong_need(alloc: Global) -> Option<usize> {
+    let needs = needs();
+    for place in 0..5 {
+        let (action, stateful, [plainly, once, doubly]) = &needs[place];
+        let rule = rule(Items::new(alloc), action, *stateful);
+        if !is_matched(&rule, &plain(), *plainly)
+            || !is_matched(&rule, &sent(), *once)
+            || !is_matched(&rule, &twice(), *doubly)
+        {
+            return Some(place);
+        }
+    }
+    None
+}
+
 #[test]
 fn actions_ask_for_what_they_need(rt: HostRuntime) {
-    let alloc = rt.alloc();
-    let plain = plain().expect(&rt, "it has the shape");
-    let once = once().expect(&rt, "it has the shape");
-    let twice = twice().expect(&rt, "it has the shape");
-    for (action, stateful, matched) in &needs() {
-        let rule = rule(Items::new(alloc), action, *stateful);
-        let found = [&plain, &once, &twice].map(|stack| rule.matches(stack));
-        assert_eq!(rt; &found, matched);
-    }
+    assert!(rt; wrong_need(rt.alloc()) == None);
 }
 
 /// Actions of rules that are stateful or not, an item of their condition, and what the check answers.
@@ -127,18 +146,21 @@ fn refused() -> [(Action, bool, Item, Result<(), BadRule>); 6] {
     ]
 }
 
-#[test]
-fn bad_rules_are_refused_in_order(rt: HostRuntime) -> Result<(), Fail> {
-    let alloc = rt.alloc();
-    for (action, stateful, item, answer) in &refused() {
-        let when = Vec::from_array(alloc, [condition(alloc, Field::DstPort, *item)?])?;
-        let rule = rule(Items::of(when), action, *stateful);
-        assert_eq!(rt; rule.check(), *answer);
-        assert!(rt; rule.same(&rule));
+/// The place of the first rule to which the check answers otherwise.
+fn wrong_answer(alloc: Global) -> Result<Option<usize>, AllocError> {
+    let refused = refused();
+    for place in 0..6 {
+        let (action, stateful, item, answer) = &refused[place];
+        let when = asking(alloc, Field::DstPort, *item)?;
+        if checked(when, action, *stateful) != (*answer, true) {
+            return Ok(Some(place));
+        }
     }
-    assert_eq!(rt;
-        (BadRule::BadRange.number(), BadRule::BadRange.name()),
-        (3, "BadRange")
-    );
-    Ok(())
+    Ok(None)
+}
+
+#[test]
+fn bad_rules_are_refused_in_order(rt: HostRuntime) {
+    assert!(rt; wrong_answer(rt.alloc()) == Ok(None));
+    assert!(rt; BadRule::BadRange.number() == 3 && BadRule::BadRange.name() == "BadRange");
 }

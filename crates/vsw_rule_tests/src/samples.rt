@@ -1,14 +1,23 @@
-//! Headers and a packet that were read by hand, conditions and rules.
+//! Headers and stacks of frames that were read by hand, conditions and rules.
+
+ghost use Rattle.std.specs.Prelude.{◌<◌, ◌^◌};
 
 use std::alloc::{AllocError, Global};
-use vsw_base::{BadShape, Header, Ip4, Items, Mac, Prefix, Stack};
-use vsw_rule::{Action, Cond, Field, Item, Rule};
+use vsw_base::{Header, Ip4, Items, Mac, Prefix, Stack};
+use vsw_rule::{Action, BadRule, Cond, Field, Item, Rule};
+use vsw_transpose::Transposition;
 
-/// Ethernet from 02:00:00:00:00:01 to 02:00:00:00:00:99.
-pub fn ether(kind: u16) -> Header {
+pub const IPV4: u16 = 0x0800;
+
+pub const ARP: u16 = 0x0806;
+
+pub fn ether(dst: u64, src: u64, kind: u16) -> Header
+    requires dst { dst < 2 ^ 48 }
+    requires src { src < 2 ^ 48 }
+{
     Header::Ether {
-        dst: Mac::of(0x0200_0000_0099),
-        src: Mac::of(0x0200_0000_0001),
+        dst: Mac::of(dst),
+        src: Mac::of(src),
         kind,
     }
 }
@@ -30,33 +39,34 @@ pub fn ports(src: u16, dst: u16) -> Header {
     }
 }
 
+/// UDP to port 53 of 10.0.0.9, from this port of this address.
+pub fn query(src: u32, src_port: u16) -> [Header; 3] {
+    [
+        ether(0x0200_0000_0099, 0x0200_0000_0001, IPV4),
+        udp(src, 0x0a00_0009),
+        ports(src_port, 53),
+    ]
+}
+
+/// The query of port 1234 of 10.0.0.5.
+pub fn plain() -> [Header; 3] {
+    query(0x0a00_0005, 1234)
+}
+
 /// An encapsulation in network 5001, from 172.16.0.1 to 172.16.0.2.
 pub fn encap() -> [Header; 3] {
     [
-        Header::Ether {
-            dst: Mac::of(0x0200_0000_0a02),
-            src: Mac::of(0x0200_0000_0a01),
-            kind: 0x0800,
-        },
+        ether(0x0200_0000_0a02, 0x0200_0000_0a01, IPV4),
         udp(0xac10_0001, 0xac10_0002),
         Header::Vxlan { vni: 5001 },
     ]
 }
 
-/// UDP from port 1234 of 10.0.0.5 to port 53 of 10.0.0.9.
-pub fn plain() -> Result<Stack, BadShape> {
-    Stack::of(&[
-        ether(0x0800),
-        udp(0x0a00_0005, 0x0a00_0009),
-        ports(1234, 53),
-    ])
-}
-
-pub fn condition(alloc: Global, field: Field, item: Item) -> Result<Cond, AllocError> {
-    Ok(Cond {
-        field,
-        items: Items::of(Vec::from_array(alloc, [item])?),
-    })
+/// The query of port 40000 of 192.0.2.7, encapsulated.
+pub fn sent() -> [Header; 6] {
+    let [a, b, c] = encap();
+    let [d, e, f] = query(0xc000_0207, 40_000);
+    [a, b, c, d, e, f]
 }
 
 pub fn range(low: u64, high: u64) -> Item {
@@ -70,6 +80,24 @@ pub fn prefix(value: u32, bits: u8) -> Item {
     })
 }
 
+pub fn condition(alloc: Global, field: Field, item: Item) -> Result<Cond, AllocError> {
+    Ok(Cond {
+        field,
+        items: Items::of(Vec::from_array(alloc, [item])?),
+    })
+}
+
+/// Whether a field of the stack is in this item.
+pub fn holds(alloc: Global, field: Field, item: Item, stack: &Stack) -> Result<bool, AllocError> {
+    Ok(condition(alloc, field, item)?.holds(stack))
+}
+
+/// The one condition that a field is in this item.
+pub fn asking(alloc: Global, field: Field, item: Item) -> Result<Items<Cond>, AllocError> {
+    let condition = condition(alloc, field, item)?;
+    Ok(Items::of(Vec::from_array(alloc, [condition])?))
+}
+
 pub fn rule(when: Items<Cond>, action: &Action, stateful: bool) -> Rule {
     Rule {
         number: 1,
@@ -78,5 +106,21 @@ pub fn rule(when: Items<Cond>, action: &Action, stateful: bool) -> Rule {
         action: *action,
         stateful,
         last: false,
+    }
+}
+
+/// What the check answers to a rule, and whether the rule is the same as itself.
+pub fn checked(when: Items<Cond>, action: &Action, stateful: bool) -> (Result<(), BadRule>, bool) {
+    let rule = rule(when, action, stateful);
+    (rule.check(), rule.same(&rule))
+}
+
+/// How many encapsulations of a frame are kept, if the transposition makes the other frame of it.
+pub fn kept(by: &Transposition, from: &Stack, to: &[Header]) -> Option<u8> {
+    let made = Stack::of(to).ok()?;
+    if by.fits(from) && by.apply(from).is_same(&made) {
+        Some(by.kept())
+    } else {
+        None
     }
 }

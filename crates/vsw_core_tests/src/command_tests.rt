@@ -1,56 +1,59 @@
 //! Commands at the end of a core's history.
 
-ghost use Rattle.std.specs.Prelude.{◌≡◌, ◌≤◌, []};
-ghost use Rattle.vsw_policy.specs.Obey.{rules_given};
+use crate::commands::Asked;
+use crate::packets::{FAR, OWN};
+use crate::policies::Made;
+use crate::steps::{RIGHT, Step, Way, tried};
+use vsw_base::Dir;
+use vsw_policy::{Refusal, Reply};
 
-use crate::trial::Trial;
-use std::alloc::Global;
-use vsw_policy::{Command, LayerSpec, Refusal, Reply};
-
-fn add_layer(layer: u16) -> Command
-    ensures { rules_given result ≡ [] }
-{
-    Command::AddLayer {
-        spec: LayerSpec {
-            layer,
-            order: layer,
-            allow_out: false,
-            allow_in: false,
-            pairs: 100,
-            idle: 100,
-            linger: 10,
-        },
-    }
-}
-
-/// The replies to a layer, the same layer again, and its removal.
-fn replies(trial: &mut Trial) -> [Reply; 3]
-    requires { 3 ≤ trial.old }
-{
-    [
-        trial.ask(7, &add_layer(10)),
-        trial.ask(8, &add_layer(10)),
-        trial.ask(9, &Command::RemoveLayer { layer: 10 }),
-    ]
-}
-
-fn lines(trial: &Trial) -> [Option<u32>; 4] {
-    [trial.line(0), trial.line(1), trial.line(2), trial.line(3)]
-}
-
-/// What three commands are told, the lines of the journal behind them, and the generation with the count of entries.
-fn told(alloc: Global) -> Option<([Reply; 3], [Option<u32>; 4], Option<(u32, u32)>)> {
-    let mut trial = Trial::new(alloc, 3)?;
-    let replies = replies(&mut trial);
-    Some((replies, lines(&trial), trial.looked()))
-}
-
-const REPLIES: [Reply; 3] = [Reply::Ok, Reply::Refused(Refusal::LayerExists), Reply::Ok];
-
-const LINES: [Option<u32>; 4] = [Some(7), Some(8), Some(9), None];
+/// A layer, the same layer again, and its removal.
+const ASKED: [Step; 3] = [
+    Step::Replies {
+        line: 7,
+        asked: Asked::AddLayer { idle: 100 },
+        reply: Reply::Ok,
+    },
+    Step::Replies {
+        line: 8,
+        asked: Asked::AddLayer { idle: 100 },
+        reply: Reply::Refused(Refusal::LayerExists),
+    },
+    Step::Replies {
+        line: 9,
+        asked: Asked::RemoveLayer,
+        reply: Reply::Ok,
+    },
+];
 
 /// Each is an entry, and the generation rises from 1 by those that are obeyed.
+const ENTERED: [Step; 5] = [
+    Step::IsEntry {
+        number: 0,
+        line: Some(7),
+    },
+    Step::IsEntry {
+        number: 1,
+        line: Some(8),
+    },
+    Step::IsEntry {
+        number: 2,
+        line: Some(9),
+    },
+    Step::IsEntry {
+        number: 3,
+        line: None,
+    },
+    Step::Counts {
+        generation: 3,
+        count: 3,
+    },
+];
+
+const WAYS: [Way; 1] = [(Dir::Out, OWN, FAR)];
+
 #[test]
 fn commands_are_entries_and_obeyed_ones_raise_the_generation(rt: HostRuntime) {
-    assert!(&rt; told(rt.alloc()) == Some((REPLIES, LINES, Some((3, 3)))));
+    let made = Made::BareOfTwo;
+    assert!(&rt; tried(rt.alloc(), made, 8, 3, &WAYS, &ASKED, &ENTERED) == RIGHT);
 }

@@ -5,6 +5,8 @@
 #[cfg(test)]
 mod command_tests;
 #[cfg(test)]
+mod commands;
+#[cfg(test)]
 mod desk;
 #[cfg(test)]
 mod given;
@@ -17,4 +19,4 @@ mod reconciling;
 #[cfg(test)]
 mod row_tests;
 #[cfg(test)]
-mod trial;
+mod steps;

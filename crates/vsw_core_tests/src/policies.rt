@@ -1,12 +1,39 @@
 //! Policies whose layers have made no pair.
 
-ghost use Rattle.std.specs.Prelude.{◌<◌, ◌^◌};
+ghost use Rattle.std.specs.Prelude.{◌<◌, ◌≤◌, ◌^◌, IsTrue, length};
+ghost use Rattle.vsw_policy.specs.Sound.{are_distinct};
 
 use crate::given::give;
 use std::alloc::Global;
 use vsw_base::{Dir, Ip4, Items, Set};
 use vsw_policy::{Command, LayerSpec, Policy};
 use vsw_rule::{Action, Cond, Field, Item, Rule};
+
+/// What becomes of packets that a rule matches.
+#[derive(Clone, Copy)]
+enum Does {
+    Allow,
+    /// They go to port 1234 of the own address.
+    Forward,
+    /// They come from port 40,000 of 192.0.2.7.
+    Hide,
+}
+
+/// A group of a layer, whose one rule matches all or what has a field between two values.
+#[derive(Clone, Copy)]
+struct Group {
+    controller: u16,
+    layer: u16,
+    group: u16,
+    dir: Dir,
+    rule: u16,
+    within: Option<(Field, u64, u64)>,
+    does: Does,
+    stateful: bool,
+}
+
+/// The controller of a layer, its number, and how many pairs it holds.
+type Pairs = (u16, u16, u32);
 
 const UNSET: Set = Set {
     dst_mac: None,
@@ -25,154 +52,187 @@ fn edit(set: Set) -> Action {
     }
 }
 
-/// A layer that drops by default, and holds so many pairs, which live for 240 seconds.
-fn add_layer(policy: &mut Policy, controller: u16, layer: u16, pairs: u32) -> bool {
-    let spec = LayerSpec {
-        layer,
-        order: layer,
-        allow_out: false,
-        allow_in: false,
-        pairs,
-        idle: 240,
-        linger: 10,
-    };
-    give(policy, controller, Command::AddLayer { spec })
+fn action_of(does: Does) -> Action {
+    match does {
+        Does::Allow => Action::Allow,
+        Does::Forward => edit(Set {
+            dst_ip: Some(Ip4::of(0x0a00_0005)),
+            dst_port: Some(1234),
+            ..UNSET
+        }),
+        Does::Hide => edit(Set {
+            src_ip: Some(Ip4::of(0xc000_0207)),
+            src_port: Some(40_000),
+            ..UNSET
+        }),
+    }
 }
 
-/// The condition that a field lies between two values.
-fn within(alloc: Global, field: Field, low: u64, high: u64) -> Items<Cond> {
-    let mut items = Items::new(alloc);
-    let _ = items.push(Item::Range { low, high });
+/// The conditions of a rule.
+fn conditions(alloc: Global, within: Option<(Field, u64, u64)>) -> Items<Cond> {
     let mut when = Items::new(alloc);
-    let _ = when.push(Cond { field, items });
+    if let Some((field, low, high)) = within {
+        let mut items = Items::new(alloc);
+        let _ = items.push(Item::Range { low, high });
+        let _ = when.push(Cond { field, items });
+    }
     when
 }
 
-fn add_group(
-    alloc: Global,
-    policy: &mut Policy,
-    controller: u16,
-    layer: u16,
-    group: u16,
-    dir: Dir,
-) -> bool {
-    let added = Command::AddGroup {
-        layer,
-        group,
-        dir,
+/// Adds layers that drop by default, and whose pairs live for 240 seconds.
+fn add_layers(policy: &mut Policy, layers: &[Pairs]) -> bool {
+    for place in 0..layers.len() {
+        let (controller, layer, pairs) = layers[place];
+        let spec = LayerSpec {
+            layer,
+            order: layer,
+            allow_out: false,
+            allow_in: false,
+            pairs,
+            idle: 240,
+            linger: 10,
+        };
+        if !give(policy, controller, Command::AddLayer { spec }) {
+            return false;
+        }
+    }
+    true
+}
+
+fn group_of(alloc: Global, group: &Group) -> Command {
+    Command::AddGroup {
+        layer: group.layer,
+        group: group.group,
+        dir: group.dir,
         when: Items::new(alloc),
-    };
-    give(policy, controller, added)
+    }
 }
 
-/// Adds a rule to a group of this number.
-fn add_rule(
-    policy: &mut Policy,
-    controller: u16,
-    layer: u16,
-    group: u16,
-    number: u16,
-    when: Items<Cond>,
-    action: Action,
-    stateful: bool,
-) -> bool {
-    let rule = Rule {
-        number,
-        priority: 10,
-        when,
-        action,
-        stateful,
-        last: false,
-    };
-    give(policy, controller, Command::AddRule { layer, group, rule })
+fn rule_of(alloc: Global, group: &Group) -> Command {
+    Command::AddRule {
+        layer: group.layer,
+        group: group.group,
+        rule: Rule {
+            number: group.rule,
+            priority: 10,
+            when: conditions(alloc, group.within),
+            action: action_of(group.does),
+            stateful: group.stateful,
+            last: false,
+        },
+    }
 }
 
-/// One layer, whose rule 5 lets out what goes to 10.0.0.0/24.
-pub fn plain(alloc: Global) -> Option<Policy> {
-    let Ok(mut policy) = Policy::new(alloc, &[1]) else {
-        return None;
-    };
-    let near = within(alloc, Field::DstIp, 0x0a00_0000, 0x0a00_00ff);
-    let made = add_layer(&mut policy, 1, 10, 100)
-        && add_group(alloc, &mut policy, 1, 10, 1, Dir::Out)
-        && add_rule(&mut policy, 1, 10, 1, 5, near, Action::Allow, false);
-    if made { Some(policy) } else { None }
+fn add_groups(alloc: Global, policy: &mut Policy, groups: &[Group]) -> bool {
+    for place in 0..groups.len() {
+        let added = &groups[place];
+        if !give(policy, added.controller, group_of(alloc, added))
+            || !give(policy, added.controller, rule_of(alloc, added))
+        {
+            return false;
+        }
+    }
+    true
 }
 
-/// A layer that lets all out, and takes what comes in to the public address to the own one, in pairs.
-pub fn published(alloc: Global) -> Option<Policy> {
-    let Ok(mut policy) = Policy::new(alloc, &[1]) else {
-        return None;
-    };
-    let public = within(alloc, Field::DstIp, 0xcb00_7104, 0xcb00_7104);
-    let own = edit(Set {
-        dst_ip: Some(Ip4::of(0x0a00_0005)),
-        dst_port: Some(1234),
-        ..UNSET
-    });
-    let made = add_layer(&mut policy, 1, 10, 100)
-        && add_group(alloc, &mut policy, 1, 10, 1, Dir::Out)
-        && add_rule(
-            &mut policy,
-            1,
-            10,
-            1,
-            1,
-            Items::new(alloc),
-            Action::Allow,
-            false,
-        )
-        && add_group(alloc, &mut policy, 1, 10, 2, Dir::In)
-        && add_rule(&mut policy, 1, 10, 2, 2, public, own, true);
-    if made { Some(policy) } else { None }
+/// Of these controllers, without layers.
+fn bare(alloc: Global, controllers: &[u16]) -> Option<Policy>
+    requires few { length controllers.now ≤ 8 }
+    requires distinct { IsTrue (are_distinct controllers.now) }
+{
+    match Policy::new(alloc, controllers) {
+        Ok(policy) => Some(policy),
+        Err(_) => None,
+    }
 }
 
-/// A layer that makes a pair of all that goes out, and holds so many.
-pub fn tracked(alloc: Global, pairs: u32) -> Option<Policy> {
-    let Ok(mut policy) = Policy::new(alloc, &[1]) else {
-        return None;
-    };
-    let made = add_layer(&mut policy, 1, 10, pairs)
-        && add_group(alloc, &mut policy, 1, 10, 1, Dir::Out)
-        && add_rule(
-            &mut policy,
-            1,
-            10,
-            1,
-            1,
-            Items::new(alloc),
-            Action::Allow,
-            true,
-        );
-    if made { Some(policy) } else { None }
+/// Of these layers and groups.
+fn given(alloc: Global, controllers: &[u16], layers: &[Pairs], groups: &[Group]) -> Option<Policy>
+    requires few { length controllers.now ≤ 8 }
+    requires distinct { IsTrue (are_distinct controllers.now) }
+{
+    let mut policy = bare(alloc, controllers)?;
+    if add_layers(&mut policy, layers) && add_groups(alloc, &mut policy, groups) {
+        Some(policy)
+    } else {
+        None
+    }
 }
 
-/// A layer that makes a pair of all that goes out, and one behind it that lets the own address alone go on, hidden
-/// behind 192.0.2.7.
-pub fn hiding(alloc: Global) -> Option<Policy> {
-    let Ok(mut policy) = Policy::new(alloc, &[1, 2]) else {
-        return None;
-    };
-    let own = within(alloc, Field::SrcIp, 0x0a00_0005, 0x0a00_0005);
-    let hidden = edit(Set {
-        src_ip: Some(Ip4::of(0xc000_0207)),
-        src_port: Some(40_000),
-        ..UNSET
-    });
-    let made = add_layer(&mut policy, 1, 10, 100)
-        && add_group(alloc, &mut policy, 1, 10, 1, Dir::Out)
-        && add_rule(
-            &mut policy,
-            1,
-            10,
-            1,
-            1,
-            Items::new(alloc),
-            Action::Allow,
-            true,
-        )
-        && add_layer(&mut policy, 2, 20, 100)
-        && add_group(alloc, &mut policy, 2, 20, 1, Dir::Out)
-        && add_rule(&mut policy, 2, 20, 1, 1, own, hidden, true);
-    if made { Some(policy) } else { None }
+/// All that goes out passes.
+const OUT: Group = Group {
+    controller: 1,
+    layer: 10,
+    group: 1,
+    dir: Dir::Out,
+    rule: 1,
+    within: None,
+    does: Does::Allow,
+    stateful: false,
+};
+
+/// The same in pairs.
+const OUT_IN_PAIRS: Group = Group {
+    stateful: true,
+    ..OUT
+};
+
+/// What goes to 10.0.0.0/24 passes, by rule 5.
+const NEAR: Group = Group {
+    rule: 5,
+    within: Some((Field::DstIp, 0x0a00_0000, 0x0a00_00ff)),
+    ..OUT
+};
+
+/// What comes in to the public address goes to the own one, in pairs.
+const PUBLISHED: Group = Group {
+    group: 2,
+    dir: Dir::In,
+    rule: 2,
+    within: Some((Field::DstIp, 0xcb00_7104, 0xcb00_7104)),
+    does: Does::Forward,
+    ..OUT_IN_PAIRS
+};
+
+/// The own address alone goes on, hidden.
+const HIDDEN: Group = Group {
+    controller: 2,
+    layer: 20,
+    within: Some((Field::SrcIp, 0x0a00_0005, 0x0a00_0005)),
+    does: Does::Hide,
+    ..OUT_IN_PAIRS
+};
+
+/// A policy that desks begin with.
+#[derive(Clone, Copy)]
+pub enum Made {
+    /// Of controller 1, without layers.
+    Bare,
+    /// Of controllers 1 and 2, without layers.
+    BareOfTwo,
+    /// One layer, whose rule 5 lets out what goes to 10.0.0.0/24.
+    Plain,
+    /// A layer that lets all out, and takes what comes in to the public address to the own one, in pairs.
+    Published,
+    /// A layer that makes a pair of all that goes out, and holds so many.
+    Tracked { pairs: u32 },
+    /// A layer that makes a pair of all that goes out, and one behind it that lets the own address alone go on, hidden
+    /// behind 192.0.2.7.
+    Hiding,
+}
+
+pub fn policy(alloc: Global, made: Made) -> Option<Policy> {
+    match made {
+        Made::Bare => bare(alloc, &[1]),
+        Made::BareOfTwo => bare(alloc, &[1, 2]),
+        Made::Plain => given(alloc, &[1], &[(1, 10, 100)], &[NEAR]),
+        Made::Published => given(alloc, &[1], &[(1, 10, 100)], &[OUT, PUBLISHED]),
+        Made::Tracked { pairs } => given(alloc, &[1], &[(1, 10, pairs)], &[OUT_IN_PAIRS]),
+        Made::Hiding => given(
+            alloc,
+            &[1, 2],
+            &[(1, 10, 100), (2, 20, 100)],
+            &[OUT_IN_PAIRS, HIDDEN],
+        ),
+    }
 }

@@ -1,7 +1,7 @@
 use Rattle.std.proofs.Common.{◌+◌, ◌∙◌, ap, ℕ}
 use Rattle.vsw_core.proofs.Begins.{pass_begins}
 use Rattle.vsw_rows.specs.Rows.{Writing}
-use Rattle.vsw_core_tests.proofs.trial.pass_of_first.Goals as goal
+use Rattle.vsw_core_tests.proofs.desk.controller_of.Goals as goal
 
 pub loop-number-preserved : goal.loop-number-preserved
 loop-number-preserved c =

@@ -1,7 +1,7 @@
 //! Each command, read to the value that it was written for.
 
 use crate::commandfile_samples::{FILE, lines_of};
-use std::test::Fail;
+use std::alloc::Global;
 use vsw_base::{Dir, Moment};
 use vsw_commandfile::Line;
 use vsw_policy::{Command, LayerSpec};
@@ -53,11 +53,16 @@ const FRONTS: [(u32, u32, bool, u16, u16); 10] = [
     (0, 0, false, 0, 0),
 ];
 
+fn fronts_read(alloc: Global) -> Option<[(u32, u32, bool, u16, u16); 10]> {
+    match lines_of(alloc, FILE.as_bytes()) {
+        Some(lines) => Some(fronts(lines.as_slice())),
+        None => None,
+    }
+}
+
 #[test]
-fn lines_say_who_asks_and_when(rt: HostRuntime) -> Result<(), Fail> {
-    let lines = lines_of(rt.alloc(), FILE.as_bytes())?;
-    assert!(rt; fronts(lines.as_slice()) == FRONTS);
-    Ok(())
+fn lines_say_who_asks_and_when(rt: HostRuntime) {
+    assert!(&rt; fronts_read(rt.alloc()) == Some(FRONTS));
 }
 
 const SPEC: LayerSpec = LayerSpec {
@@ -144,9 +149,14 @@ fn count_asked(lines: &[Line]) -> usize {
     lines.len()
 }
 
+fn asked(alloc: Global) -> Option<usize> {
+    match lines_of(alloc, FILE.as_bytes()) {
+        Some(lines) => Some(count_asked(lines.as_slice())),
+        None => None,
+    }
+}
+
 #[test]
-fn each_command_is_read(rt: HostRuntime) -> Result<(), Fail> {
-    let lines = lines_of(rt.alloc(), FILE.as_bytes())?;
-    assert_eq!(rt; count_asked(lines.as_slice()), 9);
-    Ok(())
+fn each_command_is_read(rt: HostRuntime) {
+    assert!(&rt; asked(rt.alloc()) == Some(9));
 }

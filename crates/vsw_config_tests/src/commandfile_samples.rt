@@ -1,8 +1,7 @@
 //! A commands file, its changes, and what is said of them.
 
-use crate::samples::{push_path, replaced};
+use crate::samples::{Text, put_path, replaced};
 use std::alloc::Global;
-use std::test::Fail;
 use vsw_base::Items;
 use vsw_commandfile::{CommandsFault, Line, read_commands};
 use vsw_config::{PolicyFile, read_policy};
@@ -42,74 +41,73 @@ pub const FILE: &str = concat!(
     r#"{"at":11,"when":"before","controller":1,"port":1,"do":"sweep","layer":10,"now":90000000}"#,
 );
 
-fn policy(alloc: Global) -> Result<PolicyFile, Fail> {
-    match read_policy(alloc, POLICY.as_bytes()) {
-        Ok(policy) => Ok(policy),
-        Err(_) => Err(Fail::from("no policy")),
-    }
+fn policy(alloc: Global) -> Option<PolicyFile> {
+    read_policy(alloc, POLICY.as_bytes()).ok()
 }
 
 /// The lines of a commands file.
-pub fn lines_of(alloc: Global, bytes: &[u8]) -> Result<Items<Line>, Fail> {
+pub fn lines_of(alloc: Global, bytes: &[u8]) -> Option<Items<Line>> {
     let policy = policy(alloc)?;
-    match read_commands(alloc, bytes, &policy) {
-        Ok(lines) => Ok(lines),
-        Err(_) => Err(Fail::from("refused")),
-    }
-}
-
-/// The file, changed so.
-pub fn changed(alloc: Global, old: &str, new: &[u8]) -> Result<Vec<u8>, Fail> {
-    replaced(alloc, FILE, old, new)
+    read_commands(alloc, bytes, &policy).ok()
 }
 
 /// Appends a fault as a complaint has it: the line, the kind and the path, or the limit.
-fn push_fault(alloc: Global, out: &mut Vec<u8>, fault: &CommandsFault) -> Result<(), Fail> {
+fn put_fault(alloc: Global, out: &mut Text, fault: &CommandsFault) {
     match fault {
         CommandsFault::Bad { line, kind, path } => {
-            let front = format!(in alloc; "{line} ")?;
-            out.extend_from_slice(front.as_bytes())?;
-            out.extend_from_slice(kind.name().as_bytes())?;
-            out.extend_from_slice(b" ")?;
-            push_path(alloc, out, path.as_slice())?;
+            out.put_number(alloc, *line as usize);
+            out.put(b" ");
+            out.put(kind.name().as_bytes());
+            out.put(b" ");
+            put_path(alloc, out, path.as_slice());
         }
-        CommandsFault::CommandsLimit => out.extend_from_slice(b"commands")?,
-        CommandsFault::LinesLimit => out.extend_from_slice(b"lines")?,
-        CommandsFault::Memory => out.extend_from_slice(b"memory")?,
+        CommandsFault::CommandsLimit => out.put(b"commands"),
+        CommandsFault::LinesLimit => out.put(b"lines"),
+        CommandsFault::Memory => out.put(b"memory"),
     }
-    Ok(())
-}
-
-fn push_count(alloc: Global, out: &mut Vec<u8>, count: usize) -> Result<(), Fail> {
-    let text = format!(in alloc; "read {count}")?;
-    out.extend_from_slice(text.as_bytes())?;
-    Ok(())
 }
 
 /// Appends what is said of a file: how many lines it gives, or the fault.
-fn push_said(alloc: Global, out: &mut Vec<u8>, bytes: &[u8]) -> Result<(), Fail> {
-    let policy = policy(alloc)?;
-    match read_commands(alloc, bytes, &policy) {
-        Ok(lines) => push_count(alloc, out, lines.len()),
-        Err(fault) => push_fault(alloc, out, &fault),
+fn put_said(alloc: Global, out: &mut Text, policy: &PolicyFile, bytes: &[u8]) {
+    match read_commands(alloc, bytes, policy) {
+        Ok(lines) => {
+            out.put(b"read ");
+            out.put_number(alloc, lines.len());
+        }
+        Err(fault) => put_fault(alloc, out, &fault),
     }
 }
 
 /// Whether this is what is said of a file.
-pub fn is_said(alloc: Global, bytes: &[u8], expected: &str) -> Result<bool, Fail> {
-    let mut out = Vec::new(alloc);
-    push_said(alloc, &mut out, bytes)?;
-    Ok(out.as_slice() == expected.as_bytes())
+pub fn is_said(alloc: Global, bytes: &[u8], expected: &str) -> bool {
+    let mut out = Text::new(alloc);
+    match policy(alloc) {
+        Some(policy) => put_said(alloc, &mut out, &policy, bytes),
+        None => out.put(b"no policy"),
+    }
+    out.is(expected.as_bytes())
 }
 
-/// The place of the first change of the file of which another thing is said, if there is one. A change
-/// is what goes, what comes, and what is said.
-pub fn first_wrong(alloc: Global, changes: &[[&str; 3]]) -> Result<Option<usize>, Fail> {
-    for (place, [old, new, expected]) in changes.iter().enumerate() {
-        let file = changed(alloc, *old, new.as_bytes())?;
-        if !is_said(alloc, file.as_slice(), *expected)? {
-            return Ok(Some(place));
+/// Whether this is what is said of a file that was put together.
+pub fn is_said_of(alloc: Global, file: &Text, expected: &str) -> bool {
+    match file.whole() {
+        Some(bytes) => is_said(alloc, bytes, expected),
+        None => false,
+    }
+}
+
+/// Whether a change makes what is said of it: what goes, what comes, and what is said.
+fn is_right(alloc: Global, change: &[&str; 3]) -> bool {
+    let file = replaced(alloc, FILE, change[0], change[1].as_bytes());
+    is_said_of(alloc, &file, change[2])
+}
+
+/// The place of the first change of the file of which another thing is said, if there is one.
+pub fn first_wrong(alloc: Global, changes: &[[&str; 3]]) -> Option<usize> {
+    for place in 0..changes.len() {
+        if !is_right(alloc, &changes[place]) {
+            return Some(place);
         }
     }
-    Ok(None)
+    None
 }

@@ -1,7 +1,6 @@
 //! Refusals of each kind, and values at their limits.
 
 use crate::commandfile_samples::first_wrong;
-use std::test::Fail;
 
 /// A refusal of each kind, on the first line and on later ones.
 const KINDS: [[&str; 3]; 9] = [
@@ -33,10 +32,8 @@ const KINDS: [[&str; 3]; 9] = [
 ];
 
 #[test]
-fn each_kind_is_told_with_its_line_and_path(rt: HostRuntime) -> Result<(), Fail> {
-    let wrong = first_wrong(rt.alloc(), &KINDS)?;
-    assert!(rt; wrong.is_none(), "{wrong:?}");
-    Ok(())
+fn each_kind_is_told_with_its_line_and_path(rt: HostRuntime) {
+    assert!(&rt; first_wrong(rt.alloc(), &KINDS) == None);
 }
 
 /// Members of each line: missing, unknown, and of another form.
@@ -67,10 +64,8 @@ const FRONTS: [[&str; 3]; 15] = [
 ];
 
 #[test]
-fn members_of_each_line_are_tested(rt: HostRuntime) -> Result<(), Fail> {
-    let wrong = first_wrong(rt.alloc(), &FRONTS)?;
-    assert!(rt; wrong.is_none(), "{wrong:?}");
-    Ok(())
+fn members_of_each_line_are_tested(rt: HostRuntime) {
+    assert!(&rt; first_wrong(rt.alloc(), &FRONTS) == None);
 }
 
 /// Members of each command that are missing, or of another command.
@@ -100,10 +95,8 @@ const MEMBERS: [[&str; 3]; 18] = [
 ];
 
 #[test]
-fn members_of_each_command_are_tested(rt: HostRuntime) -> Result<(), Fail> {
-    let wrong = first_wrong(rt.alloc(), &MEMBERS)?;
-    assert!(rt; wrong.is_none(), "{wrong:?}");
-    Ok(())
+fn members_of_each_command_are_tested(rt: HostRuntime) {
+    assert!(&rt; first_wrong(rt.alloc(), &MEMBERS) == None);
 }
 
 /// Values of the commands at their limits, past them, and of another form.
@@ -163,8 +156,6 @@ const VALUES: [[&str; 3]; 20] = [
 ];
 
 #[test]
-fn values_of_commands_are_tested(rt: HostRuntime) -> Result<(), Fail> {
-    let wrong = first_wrong(rt.alloc(), &VALUES)?;
-    assert!(rt; wrong.is_none(), "{wrong:?}");
-    Ok(())
+fn values_of_commands_are_tested(rt: HostRuntime) {
+    assert!(&rt; first_wrong(rt.alloc(), &VALUES) == None);
 }

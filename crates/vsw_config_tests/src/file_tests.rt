@@ -1,7 +1,6 @@
 //! Refusals of each kind, and values at their limits.
 
 use crate::samples::first_wrong;
-use std::test::Fail;
 
 /// A refusal of each kind, and of a limit.
 const KINDS: [[&str; 3]; 5] = [
@@ -35,10 +34,8 @@ const KINDS: [[&str; 3]; 5] = [
 ];
 
 #[test]
-fn each_kind_is_told_with_its_path(rt: HostRuntime) -> Result<(), Fail> {
-    let wrong = first_wrong(rt.alloc(), &KINDS)?;
-    assert!(rt; wrong.is_none(), "{wrong:?}");
-    Ok(())
+fn each_kind_is_told_with_its_path(rt: HostRuntime) {
+    assert!(&rt; first_wrong(rt.alloc(), &KINDS) == None);
 }
 
 /// Members that are missing or unknown: the object is of the wrong form.
@@ -77,10 +74,8 @@ const MEMBERS: [[&str; 3]; 11] = [
 ];
 
 #[test]
-fn missing_and_unknown_members_are_told_at_their_object(rt: HostRuntime) -> Result<(), Fail> {
-    let wrong = first_wrong(rt.alloc(), &MEMBERS)?;
-    assert!(rt; wrong.is_none(), "{wrong:?}");
-    Ok(())
+fn missing_and_unknown_members_are_told_at_their_object(rt: HostRuntime) {
+    assert!(&rt; first_wrong(rt.alloc(), &MEMBERS) == None);
 }
 
 /// Values of the wrong form, and numbers past their limits.
@@ -179,10 +174,8 @@ const VALUES: [[&str; 3]; 23] = [
 ];
 
 #[test]
-fn wrong_values_are_told_where_they_stand(rt: HostRuntime) -> Result<(), Fail> {
-    let wrong = first_wrong(rt.alloc(), &VALUES)?;
-    assert!(rt; wrong.is_none(), "{wrong:?}");
-    Ok(())
+fn wrong_values_are_told_where_they_stand(rt: HostRuntime) {
+    assert!(&rt; first_wrong(rt.alloc(), &VALUES) == None);
 }
 
 /// Values at their limits.
@@ -202,8 +195,6 @@ const FITTING: [[&str; 3]; 12] = [
 ];
 
 #[test]
-fn values_at_their_limits_are_read(rt: HostRuntime) -> Result<(), Fail> {
-    let wrong = first_wrong(rt.alloc(), &FITTING)?;
-    assert!(rt; wrong.is_none(), "{wrong:?}");
-    Ok(())
+fn values_at_their_limits_are_read(rt: HostRuntime) {
+    assert!(&rt; first_wrong(rt.alloc(), &FITTING) == None);
 }

@@ -1,7 +1,6 @@
 //! Conditions and actions.
 
 use crate::samples::first_wrong;
-use std::test::Fail;
 
 /// Items of all forms. The conditions of a group aren't judged.
 const ITEMS: [[&str; 3]; 12] = [
@@ -60,10 +59,8 @@ const ITEMS: [[&str; 3]; 12] = [
 ];
 
 #[test]
-fn items_of_all_forms_are_read(rt: HostRuntime) -> Result<(), Fail> {
-    let wrong = first_wrong(rt.alloc(), &ITEMS)?;
-    assert!(rt; wrong.is_none(), "{wrong:?}");
-    Ok(())
+fn items_of_all_forms_are_read(rt: HostRuntime) {
+    assert!(&rt; first_wrong(rt.alloc(), &ITEMS) == None);
 }
 
 /// Items of other forms.
@@ -141,10 +138,8 @@ const OTHER_ITEMS: [[&str; 3]; 14] = [
 ];
 
 #[test]
-fn items_of_other_forms_are_told(rt: HostRuntime) -> Result<(), Fail> {
-    let wrong = first_wrong(rt.alloc(), &OTHER_ITEMS)?;
-    assert!(rt; wrong.is_none(), "{wrong:?}");
-    Ok(())
+fn items_of_other_forms_are_told(rt: HostRuntime) {
+    assert!(&rt; first_wrong(rt.alloc(), &OTHER_ITEMS) == None);
 }
 
 /// Rules that are of the right form, and may not be so.
@@ -187,10 +182,8 @@ const JUDGED: [[&str; 3]; 7] = [
 ];
 
 #[test]
-fn rules_are_judged(rt: HostRuntime) -> Result<(), Fail> {
-    let wrong = first_wrong(rt.alloc(), &JUDGED)?;
-    assert!(rt; wrong.is_none(), "{wrong:?}");
-    Ok(())
+fn rules_are_judged(rt: HostRuntime) {
+    assert!(&rt; first_wrong(rt.alloc(), &JUDGED) == None);
 }
 
 /// Edits, and what isn't one.
@@ -280,8 +273,6 @@ const ACTIONS: [[&str; 3]; 14] = [
 ];
 
 #[test]
-fn edits_are_read_and_others_told(rt: HostRuntime) -> Result<(), Fail> {
-    let wrong = first_wrong(rt.alloc(), &ACTIONS)?;
-    assert!(rt; wrong.is_none(), "{wrong:?}");
-    Ok(())
+fn edits_are_read_and_others_told(rt: HostRuntime) {
+    assert!(&rt; first_wrong(rt.alloc(), &ACTIONS) == None);
 }

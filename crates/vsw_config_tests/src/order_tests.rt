@@ -1,7 +1,6 @@
 //! The order of the tests, and what stands twice.
 
 use crate::samples::first_wrong;
-use std::test::Fail;
 
 /// Two faults each, of which the first in the order of reading is told.
 const TWO_FAULTS: [[&str; 3]; 11] = [
@@ -61,10 +60,8 @@ const TWO_FAULTS: [[&str; 3]; 11] = [
 ];
 
 #[test]
-fn first_fault_is_told(rt: HostRuntime) -> Result<(), Fail> {
-    let wrong = first_wrong(rt.alloc(), &TWO_FAULTS)?;
-    assert!(rt; wrong.is_none(), "{wrong:?}");
-    Ok(())
+fn first_fault_is_told(rt: HostRuntime) {
+    assert!(&rt; first_wrong(rt.alloc(), &TWO_FAULTS) == None);
 }
 
 /// Numbers and addresses that stand twice, also in another spelling, and members of which the last counts.
@@ -122,8 +119,6 @@ const TWICE: [[&str; 3]; 9] = [
 ];
 
 #[test]
-fn what_stands_twice_is_told_at_the_second(rt: HostRuntime) -> Result<(), Fail> {
-    let wrong = first_wrong(rt.alloc(), &TWICE)?;
-    assert!(rt; wrong.is_none(), "{wrong:?}");
-    Ok(())
+fn what_stands_twice_is_told_at_the_second(rt: HostRuntime) {
+    assert!(&rt; first_wrong(rt.alloc(), &TWICE) == None);
 }

@@ -7,35 +7,39 @@ use vsw_config::{LayerFile, PolicyFile, PortFile, read_policy};
 use vsw_policy::LayerSpec;
 use vsw_rule::{Action, Cond, Field, Group, Item, Rule};
 
-fn one<T: Drop>(alloc: Global, item: T) -> Option<Items<T>> {
-    let mut items = Items::new(alloc);
-    items.push(item).ok()?;
-    Some(items)
+/// This item alone. Where memory is wanting an item is missing, and then the value is no file that is read.
+fn one<T: Drop>(alloc: Global, item: T) -> Items<T> {
+    and(Items::new(alloc), item)
 }
 
-fn and<T: Drop>(items: Items<T>, item: T) -> Option<Items<T>> {
+fn and<T: Drop>(items: Items<T>, item: T) -> Items<T> {
     let mut items = items;
-    items.push(item).ok()?;
-    Some(items)
+    let _ = items.push(item);
+    items
+}
+
+/// Whether a file is read to this value.
+fn is_read(alloc: Global, text: &str, expected: PolicyFile) -> bool {
+    read_policy(alloc, text.as_bytes()) == Ok(expected)
 }
 
 /// The one condition that the field is in this prefix.
-fn in_prefix(alloc: Global, field: Field, value: u32, bits: u8) -> Option<Items<Cond>> {
+fn in_prefix(alloc: Global, field: Field, value: u32, bits: u8) -> Items<Cond> {
     let prefix = Prefix {
         value: Ip4::of(value),
         bits,
     };
-    let items = one(alloc, Item::Prefix(prefix))?;
+    let items = one(alloc, Item::Prefix(prefix));
     one(alloc, Cond { field, items })
 }
 
 /// The one condition that the field has this value.
-fn is_value(alloc: Global, field: Field, value: u64) -> Option<Items<Cond>> {
+fn is_value(alloc: Global, field: Field, value: u64) -> Items<Cond> {
     let range = Item::Range {
         low: value,
         high: value,
     };
-    let items = one(alloc, range)?;
+    let items = one(alloc, range);
     one(alloc, Cond { field, items })
 }
 
@@ -51,14 +55,14 @@ fn rule(number: u16, when: Items<Cond>, action: Action, stateful: bool) -> Rule 
 }
 
 /// A group without conditions, of one rule.
-fn group(alloc: Global, number: u16, dir: Dir, rule: Rule) -> Option<Group> {
-    let rules = one(alloc, rule)?;
-    Some(Group {
+fn group(alloc: Global, number: u16, dir: Dir, rule: Rule) -> Group {
+    let rules = one(alloc, rule);
+    Group {
         number,
         dir,
         when: Items::new(alloc),
         rules,
-    })
+    }
 }
 
 fn layer(controller: u16, number: u16, order: u16, groups: Items<Group>) -> LayerFile {
@@ -78,15 +82,15 @@ fn layer(controller: u16, number: u16, order: u16, groups: Items<Group>) -> Laye
     }
 }
 
-fn file(alloc: Global, controllers: Items<u16>, layers: Items<LayerFile>) -> Option<PolicyFile> {
+fn file(alloc: Global, controllers: Items<u16>, layers: Items<LayerFile>) -> PolicyFile {
     let port = PortFile {
         port: 1,
         mac: Mac::of(0x0200_0000_0001),
         rows: 64,
         layers,
     };
-    let ports = one(alloc, port)?;
-    Some(PolicyFile { controllers, ports })
+    let ports = one(alloc, port);
+    PolicyFile { controllers, ports }
 }
 
 const NOTHING: Set = Set {
@@ -98,18 +102,17 @@ const NOTHING: Set = Set {
     dst_port: None,
 };
 
-fn first(alloc: Global) -> Option<PolicyFile> {
-    let when = in_prefix(alloc, Field::DstIp, 0x0a00_0000, 24)?;
-    let group = group(alloc, 1, Dir::Out, rule(5, when, Action::Allow, false))?;
-    let groups = one(alloc, group)?;
-    let layers = one(alloc, layer(1, 10, 1, groups))?;
-    file(alloc, one(alloc, 1)?, layers)
+fn first(alloc: Global) -> PolicyFile {
+    let when = in_prefix(alloc, Field::DstIp, 0x0a00_0000, 24);
+    let group = group(alloc, 1, Dir::Out, rule(5, when, Action::Allow, false));
+    let groups = one(alloc, group);
+    let layers = one(alloc, layer(1, 10, 1, groups));
+    file(alloc, one(alloc, 1), layers)
 }
 
 #[test]
 fn one_layer_is_read(rt: HostRuntime) {
-    let expected = first(rt.alloc()).expect(&rt, "memory");
-    assert!(rt; read_policy(rt.alloc(), ONE.as_bytes()) == Ok(expected));
+    assert!(&rt; is_read(rt.alloc(), ONE, first(rt.alloc())));
 }
 
 /// Three controllers, each with a layer: one that keeps the state of all flows, one that translates the
@@ -138,14 +141,14 @@ const THREE: &str = concat!(
     "]}]}",
 );
 
-fn stateful_layer(alloc: Global) -> Option<LayerFile> {
+fn stateful_layer(alloc: Global) -> LayerFile {
     let rule = rule(1, Items::new(alloc), Action::Allow, true);
-    let group = group(alloc, 1, Dir::Out, rule)?;
-    Some(layer(1, 10, 1, one(alloc, group)?))
+    let group = group(alloc, 1, Dir::Out, rule);
+    layer(1, 10, 1, one(alloc, group))
 }
 
-fn translating_layer(alloc: Global) -> Option<LayerFile> {
-    let when = in_prefix(alloc, Field::SrcIp, 0x0a00_0005, 32)?;
+fn translating_layer(alloc: Global) -> LayerFile {
+    let when = in_prefix(alloc, Field::SrcIp, 0x0a00_0005, 32);
     let action = Action::Edit {
         decap: false,
         set: Set {
@@ -158,8 +161,8 @@ fn translating_layer(alloc: Global) -> Option<LayerFile> {
         },
         encap: None,
     };
-    let group = group(alloc, 1, Dir::Out, rule(1, when, action, true))?;
-    Some(layer(2, 20, 2, one(alloc, group)?))
+    let group = group(alloc, 1, Dir::Out, rule(1, when, action, true));
+    layer(2, 20, 2, one(alloc, group))
 }
 
 fn encapsulation() -> Outer {
@@ -172,8 +175,8 @@ fn encapsulation() -> Outer {
     }
 }
 
-fn encapsulating_group(alloc: Global) -> Option<Group> {
-    let when = in_prefix(alloc, Field::DstIp, 0x0a00_0000, 16)?;
+fn encapsulating_group(alloc: Global) -> Group {
+    let when = in_prefix(alloc, Field::DstIp, 0x0a00_0000, 16);
     let action = Action::Edit {
         decap: false,
         set: NOTHING,
@@ -182,8 +185,8 @@ fn encapsulating_group(alloc: Global) -> Option<Group> {
     group(alloc, 1, Dir::Out, rule(1, when, action, false))
 }
 
-fn decapsulating_group(alloc: Global) -> Option<Group> {
-    let when = is_value(alloc, Field::Vni, 5001)?;
+fn decapsulating_group(alloc: Global) -> Group {
+    let when = is_value(alloc, Field::Vni, 5001);
     let action = Action::Edit {
         decap: true,
         set: NOTHING,
@@ -192,24 +195,23 @@ fn decapsulating_group(alloc: Global) -> Option<Group> {
     group(alloc, 2, Dir::In, rule(1, when, action, false))
 }
 
-fn tunnel_layer(alloc: Global) -> Option<LayerFile> {
-    let groups = one(alloc, encapsulating_group(alloc)?)?;
-    let groups = and(groups, decapsulating_group(alloc)?)?;
-    Some(layer(3, 30, 3, groups))
+fn tunnel_layer(alloc: Global) -> LayerFile {
+    let groups = one(alloc, encapsulating_group(alloc));
+    let groups = and(groups, decapsulating_group(alloc));
+    layer(3, 30, 3, groups)
 }
 
-fn three(alloc: Global) -> Option<PolicyFile> {
-    let controllers = and(and(one(alloc, 1)?, 2)?, 3)?;
-    let layers = one(alloc, stateful_layer(alloc)?)?;
-    let layers = and(layers, translating_layer(alloc)?)?;
-    let layers = and(layers, tunnel_layer(alloc)?)?;
+fn three(alloc: Global) -> PolicyFile {
+    let controllers = and(and(one(alloc, 1), 2), 3);
+    let layers = one(alloc, stateful_layer(alloc));
+    let layers = and(layers, translating_layer(alloc));
+    let layers = and(layers, tunnel_layer(alloc));
     file(alloc, controllers, layers)
 }
 
 #[test]
 fn three_layers_are_read(rt: HostRuntime) {
-    let expected = three(rt.alloc()).expect(&rt, "memory");
-    assert!(rt; read_policy(rt.alloc(), THREE.as_bytes()) == Ok(expected));
+    assert!(&rt; is_read(rt.alloc(), THREE, three(rt.alloc())));
 }
 
 /// What comes for 203.0.113.4 is sent on to 10.0.0.5, port 1234.
@@ -225,8 +227,8 @@ const FORWARDING: &str = concat!(
     r#""stateful":true,"last":false}]}]}]}]}"#,
 );
 
-fn forwarding_group(alloc: Global) -> Option<Group> {
-    let when = in_prefix(alloc, Field::DstIp, 0xcb00_7104, 32)?;
+fn forwarding_group(alloc: Global) -> Group {
+    let when = in_prefix(alloc, Field::DstIp, 0xcb00_7104, 32);
     let action = Action::Edit {
         decap: false,
         set: Set {
@@ -242,15 +244,14 @@ fn forwarding_group(alloc: Global) -> Option<Group> {
     group(alloc, 2, Dir::In, rule(2, when, action, true))
 }
 
-fn forwarding(alloc: Global) -> Option<PolicyFile> {
+fn forwarding(alloc: Global) -> PolicyFile {
     let rule = rule(1, Items::new(alloc), Action::Allow, false);
-    let groups = one(alloc, group(alloc, 1, Dir::Out, rule)?)?;
-    let groups = and(groups, forwarding_group(alloc)?)?;
-    file(alloc, one(alloc, 1)?, one(alloc, layer(1, 10, 1, groups))?)
+    let groups = one(alloc, group(alloc, 1, Dir::Out, rule));
+    let groups = and(groups, forwarding_group(alloc));
+    file(alloc, one(alloc, 1), one(alloc, layer(1, 10, 1, groups)))
 }
 
 #[test]
 fn two_groups_are_read(rt: HostRuntime) {
-    let expected = forwarding(rt.alloc()).expect(&rt, "memory");
-    assert!(rt; read_policy(rt.alloc(), FORWARDING.as_bytes()) == Ok(expected));
+    assert!(&rt; is_read(rt.alloc(), FORWARDING, forwarding(rt.alloc())));
 }

@@ -1,7 +1,6 @@
 //! Policy files, and what is said of them.
 
 use std::alloc::Global;
-use std::test::Fail;
 use vsw_config::{ConfigFault, Step, read_policy};
 
 /// A policy of one layer, whose one rule lets packets to 10.0.0.0/24 go out.
@@ -14,93 +13,153 @@ pub const ONE: &str = concat!(
     r#""last":false}]}]}]}]}"#,
 );
 
-/// A text with one piece in place of the first occurrence of another.
-pub fn replaced(alloc: Global, text: &str, old: &str, new: &[u8]) -> Result<Vec<u8>, Fail> {
-    let mut out = Vec::new(alloc);
-    match text.split_once(old) {
-        None => out.extend_from_slice(b"nothing to change")?,
-        Some((before, after)) => {
-            out.extend_from_slice(before.as_bytes())?;
-            out.extend_from_slice(new)?;
-            out.extend_from_slice(after.as_bytes())?;
+/// A text that is put together. Where memory is wanting it isn't whole, and then it is no file and is not what is said.
+#[derive(Drop)]
+pub struct Text {
+    bytes: Vec<u8>,
+    whole: bool,
+}
+
+impl Text {
+    pub fn new(alloc: Global) -> Text {
+        Text {
+            bytes: Vec::new(alloc),
+            whole: true,
         }
     }
-    Ok(out)
+
+    /// Appends bytes.
+    pub fn put(&mut self, bytes: &[u8]) {
+        if self.bytes.extend_from_slice(bytes).is_err() {
+            self.whole = false;
+        }
+    }
+
+    /// Appends a number in decimal digits.
+    pub fn put_number(&mut self, alloc: Global, number: usize) {
+        match format!(in alloc; "{number}") {
+            Ok(text) => self.put(text.as_bytes()),
+            Err(_) => self.whole = false,
+        }
+    }
+
+    /// Makes it so long, with this byte at its end.
+    pub fn fill(&mut self, len: usize, byte: u8) {
+        if self.bytes.resize(len, byte).is_err() {
+            self.whole = false;
+        }
+    }
+
+    /// All that was put, if it is whole.
+    pub fn whole(&self) -> Option<&[u8]> {
+        if self.whole { Some(&self.bytes) } else { None }
+    }
+
+    /// Whether it is whole, and these bytes.
+    pub fn is(&self, bytes: &[u8]) -> bool {
+        self.whole && self.bytes.as_slice() == bytes
+    }
 }
 
-/// The file of one layer, changed so.
-pub fn changed(alloc: Global, old: &str, new: &[u8]) -> Result<Vec<u8>, Fail> {
-    replaced(alloc, ONE, old, new)
+/// A text with one piece in place of the first occurrence of another.
+pub fn replaced(alloc: Global, text: &str, old: &str, new: &[u8]) -> Text {
+    let mut out = Text::new(alloc);
+    match text.split_once(old) {
+        None => out.put(b"nothing to change"),
+        Some((before, after)) => {
+            out.put(before.as_bytes());
+            out.put(new);
+            out.put(after.as_bytes());
+        }
+    }
+    out
 }
 
-/// A list of one item so many times.
-pub fn list_of(alloc: Global, count: usize, item: &str) -> Result<Vec<u8>, Fail> {
-    let mut out = Vec::new(alloc);
-    out.extend_from_slice(b"[")?;
+/// Appends a list of one item so many times.
+pub fn put_list(out: &mut Text, count: usize, item: &str) {
+    out.put(b"[");
     for place in 0..count {
         if place > 0 {
-            out.extend_from_slice(b",")?;
+            out.put(b",");
         }
-        out.extend_from_slice(item.as_bytes())?;
+        out.put(item.as_bytes());
     }
-    out.extend_from_slice(b"]")?;
-    Ok(out)
+    out.put(b"]");
+}
+
+/// A text with a list of one item so many times in place of the first occurrence of a piece.
+pub fn with_list(alloc: Global, text: &str, old: &str, count: usize, item: &str) -> Text {
+    let mut out = Text::new(alloc);
+    match text.split_once(old) {
+        None => out.put(b"nothing to change"),
+        Some((before, after)) => {
+            out.put(before.as_bytes());
+            put_list(&mut out, count, item);
+            out.put(after.as_bytes());
+        }
+    }
+    out
 }
 
 /// Appends a path as a complaint has it, whose innermost step stands first.
-pub fn push_path(alloc: Global, out: &mut Vec<u8>, path: &[Step]) -> Result<(), Fail> {
+pub fn put_path(alloc: Global, out: &mut Text, path: &[Step]) {
     if path.is_empty() {
-        out.extend_from_slice(b"/")?;
+        out.put(b"/");
     }
     for i in 0..path.len() {
+        out.put(b"/");
         match path[path.len() - 1 - i] {
-            Step::Member(word) => {
-                out.extend_from_slice(b"/")?;
-                out.extend_from_slice(word.text().as_bytes())?;
-            }
-            Step::Place(place) => {
-                let text = format!(in alloc; "/{place}")?;
-                out.extend_from_slice(text.as_bytes())?;
-            }
+            Step::Member(word) => out.put(word.text().as_bytes()),
+            Step::Place(place) => out.put_number(alloc, place),
         }
     }
-    Ok(())
 }
 
 /// Appends a fault as a complaint has it: its kind and path, or the limit.
-fn push_fault(alloc: Global, out: &mut Vec<u8>, fault: &ConfigFault) -> Result<(), Fail> {
+fn put_fault(alloc: Global, out: &mut Text, fault: &ConfigFault) {
     match fault {
         ConfigFault::Bad { kind, path } => {
-            out.extend_from_slice(kind.name().as_bytes())?;
-            out.extend_from_slice(b" ")?;
-            push_path(alloc, out, path.as_slice())?;
+            out.put(kind.name().as_bytes());
+            out.put(b" ");
+            put_path(alloc, out, path.as_slice());
         }
-        ConfigFault::PolicyLimit => out.extend_from_slice(b"policy")?,
-        ConfigFault::PortsLimit => out.extend_from_slice(b"ports")?,
-        ConfigFault::ControllersLimit => out.extend_from_slice(b"controllers")?,
-        ConfigFault::Memory => out.extend_from_slice(b"memory")?,
+        ConfigFault::PolicyLimit => out.put(b"policy"),
+        ConfigFault::PortsLimit => out.put(b"ports"),
+        ConfigFault::ControllersLimit => out.put(b"controllers"),
+        ConfigFault::Memory => out.put(b"memory"),
     }
-    Ok(())
 }
 
 /// Whether this is what is said of a file: `read`, or the fault.
-pub fn is_said(alloc: Global, bytes: &[u8], expected: &str) -> Result<bool, Fail> {
-    let mut out = Vec::new(alloc);
+pub fn is_said(alloc: Global, bytes: &[u8], expected: &str) -> bool {
+    let mut out = Text::new(alloc);
     match read_policy(alloc, bytes) {
-        Ok(_) => out.extend_from_slice(b"read")?,
-        Err(fault) => push_fault(alloc, &mut out, &fault)?,
+        Ok(_) => out.put(b"read"),
+        Err(fault) => put_fault(alloc, &mut out, &fault),
     }
-    Ok(out.as_slice() == expected.as_bytes())
+    out.is(expected.as_bytes())
 }
 
-/// The place of the first change of the file of which another thing is said, if there is one. A change
-/// is what goes, what comes, and what is said.
-pub fn first_wrong(alloc: Global, changes: &[[&str; 3]]) -> Result<Option<usize>, Fail> {
-    for (place, [old, new, expected]) in changes.iter().enumerate() {
-        let file = changed(alloc, *old, new.as_bytes())?;
-        if !is_said(alloc, file.as_slice(), *expected)? {
-            return Ok(Some(place));
+/// Whether this is what is said of a file that was put together.
+pub fn is_said_of(alloc: Global, file: &Text, expected: &str) -> bool {
+    match file.whole() {
+        Some(bytes) => is_said(alloc, bytes, expected),
+        None => false,
+    }
+}
+
+/// Whether a change makes what is said of it: what goes, what comes, and what is said.
+fn is_right(alloc: Global, change: &[&str; 3]) -> bool {
+    let file = replaced(alloc, ONE, change[0], change[1].as_bytes());
+    is_said_of(alloc, &file, change[2])
+}
+
+/// The place of the first change of the file of which another thing is said, if there is one.
+pub fn first_wrong(alloc: Global, changes: &[[&str; 3]]) -> Option<usize> {
+    for place in 0..changes.len() {
+        if !is_right(alloc, &changes[place]) {
+            return Some(place);
         }
     }
-    Ok(None)
+    None
 }

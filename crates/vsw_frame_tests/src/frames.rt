@@ -2,7 +2,6 @@
 
 ghost use Rattle.std.specs.Prelude.{◌≡◌, ◌<◌, length};
 
-use std::process::Abort;
 use vsw_base::{Header, Ip4, Mac};
 
 /// Bytes that `rewrite` asks for.
@@ -97,9 +96,17 @@ pub fn outer(place: u8, vni: u32) -> [Header; 3] {
     ]
 }
 
-/// These bytes were written at the front of `out`, and what stands behind them was left.
-pub fn begins(rt: &impl Abort, out: &[u8], expected: &[u8]) {
-    assert!(rt; expected.len() < out.len());
-    assert_eq!(rt; &out[..expected.len()], expected);
-    assert_eq!(rt; out[expected.len()], OLD);
+/// Whether these bytes were written at the front of `out`, and what stands behind them was left.
+pub fn begins(out: &[u8], expected: &[u8]) -> bool {
+    expected.len() < out.len() && &out[..expected.len()] == expected && out[expected.len()] == OLD
+}
+
+/// Writes bytes at a place of a frame.
+pub fn put(frame: &mut [u8], at: usize, bytes: &[u8]) {
+    for i in 0..bytes.len() {
+        let place = at.saturating_add(i);
+        if place < frame.len() {
+            frame[place] = bytes[i];
+        }
+    }
 }

@@ -5,7 +5,6 @@ ghost use Rattle.vsw_rule.specs.Edit.{goes_on};
 ghost use Rattle.vsw_rule.specs.Match.{can_do};
 
 use crate::frames::{DELIVERED, OLD, QUERY, REPLY, ROOM, SENT, begins};
-use std::process::Abort;
 use vsw_base::{Ip4, Mac, Outer, Set, Stack};
 use vsw_frame::{read_frame, rewrite};
 use vsw_rule::{Action, act_of, compose};
@@ -118,45 +117,19 @@ fn write(out: &mut [u8], bytes: &[u8], first: &Action, second: &Action) -> Optio
     }
 }
 
-/// The frame becomes these bytes at the front of `out`, no encapsulation of it is kept, and what stands
-/// behind them is left.
-fn compare(
-    rt: &impl Abort,
-    out: &mut [u8],
-    bytes: &[u8],
-    first: &Action,
-    second: &Action,
-    expected: &[u8],
-)
-    requires { 65700 ≤ length out.old }
-{
-    let written = write(out, bytes, first, second);
-    assert_eq!(rt; written, Some((expected.len(), 0)));
-    begins(rt, out, expected);
+/// Whether the frame becomes these bytes at the front of `out`, no encapsulation of it is kept, and what
+/// stands behind them is left.
+fn becomes(bytes: &[u8], first: &Action, second: &Action, expected: &[u8]) -> bool {
+    let mut out = [OLD; ROOM];
+    write(&mut out, bytes, first, second) == Some((expected.len(), 0)) && begins(&out, expected)
 }
 
 #[test]
 fn a_query_is_edited_by_one_layer_and_put_in_a_network_by_the_next(rt: HostRuntime) {
-    let mut out = [OLD; ROOM];
-    compare(
-        &rt,
-        &mut out,
-        &QUERY,
-        &hide_source(),
-        &put_in_network(),
-        &SENT,
-    );
+    assert!(rt; becomes(&QUERY, &hide_source(), &put_in_network(), &SENT));
 }
 
 #[test]
 fn the_answer_is_taken_out_by_one_layer_and_edited_by_the_next(rt: HostRuntime) {
-    let mut out = [OLD; ROOM];
-    compare(
-        &rt,
-        &mut out,
-        &REPLY,
-        &take_out(),
-        &restore_destination(),
-        &DELIVERED,
-    );
+    assert!(rt; becomes(&REPLY, &take_out(), &restore_destination(), &DELIVERED));
 }

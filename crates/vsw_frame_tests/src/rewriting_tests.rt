@@ -2,8 +2,7 @@
 
 ghost use Rattle.std.specs.Prelude.{◌≡◌, ◌≤◌, ◌<◌, length};
 
-use crate::frames::{DELIVERED, OLD, QUERY, REPLY, ROOM, SENT, begins, outer};
-use std::process::Abort;
+use crate::frames::{DELIVERED, OLD, QUERY, REPLY, ROOM, SENT, begins, outer, put};
 use vsw_base::{Ip4, Long, Mac};
 use vsw_frame::{read_frame, rewrite, rewrite_bytes};
 use vsw_transpose::{Act, Change, Transposition};
@@ -75,40 +74,43 @@ fn translation() -> [Act; 3] {
     ]
 }
 
-/// Rewrites a frame by these acts.
-fn written(rt: &impl Abort, bytes: &[u8], acts: &[Act], out: &mut [u8]) -> Result<usize, Long>
+/// Rewrites a frame by these acts, if they fit.
+fn written(bytes: &[u8], acts: &[Act], out: &mut [u8]) -> Option<Result<usize, Long>>
     requires { 65700 ≤ length out.old }
 {
-    let by = Transposition::of(acts).expect(rt, "the acts are of the form");
+    let by = Transposition::of(acts).ok()?;
     match read_frame(bytes) {
         Ok(frame) => {
-            assert!(rt; by.fits(frame.stack()));
-            rewrite(&frame, &by, out)
+            if by.fits(frame.stack()) {
+                Some(rewrite(&frame, &by, out))
+            } else {
+                None
+            }
         }
-        Err(fault) => panic!(rt; "it is no frame: {}", fault.name()),
+        Err(_) => None,
     }
 }
 
-/// A frame becomes these bytes at the front of `out`, and what stands behind them is left.
-fn compare(rt: &impl Abort, bytes: &[u8], acts: &[Act], expected: &[u8], out: &mut [u8])
+/// Whether a frame becomes these bytes at the front of `out`, and what stands behind them is left.
+fn compare(bytes: &[u8], acts: &[Act], expected: &[u8], out: &mut [u8]) -> bool
     requires { 65700 ≤ length out.old }
 {
-    let by = Transposition::of(acts).expect(rt, "the acts are of the form");
-    let len = rewrite_bytes(bytes, &by, out);
-    assert_eq!(rt; len, Some(expected.len()));
-    begins(rt, out, expected);
+    match Transposition::of(acts) {
+        Ok(by) => rewrite_bytes(bytes, &by, out) == Some(expected.len()) && begins(out, expected),
+        Err(_) => false,
+    }
 }
 
-fn becomes(rt: &impl Abort, bytes: &[u8], acts: &[Act], expected: &[u8]) {
+fn becomes(bytes: &[u8], acts: &[Act], expected: &[u8]) -> bool {
     let mut out = [OLD; ROOM];
-    compare(rt, bytes, acts, expected, &mut out);
+    compare(bytes, acts, expected, &mut out)
 }
 
 #[test]
 fn a_translated_query_leaves_in_a_network(rt: HostRuntime) {
     let [a, b, c] = encap(0, 5001);
     let [d, e, f] = translation();
-    becomes(&rt, &QUERY, &[a, b, c, d, e, f], &SENT);
+    assert!(rt; becomes(&QUERY, &[a, b, c, d, e, f], &SENT));
 }
 
 #[test]
@@ -127,7 +129,7 @@ fn an_answer_is_translated_back(rt: HostRuntime) {
             dst: Some(1234),
         }),
     ];
-    becomes(&rt, &REPLY, &acts, &DELIVERED);
+    assert!(rt; becomes(&REPLY, &acts, &DELIVERED));
 }
 
 #[test]
@@ -137,47 +139,51 @@ fn a_frame_in_two_networks_has_one_source_port(rt: HostRuntime) {
     let [g, h, i] = encap(1, 7);
     let acts = [g, h, i, a, b, c, d, e, f];
     let mut expected = [0; 144];
-    expected[..50].copy_from_slice(&[
-        0x02, 0x00, 0x00, 0x00, 0x0b, 0x02, 0x02, 0x00, 0x00, 0x00, 0x0b, 0x01, 0x08, 0x00, 0x45,
-        0x00, 0x00, 0x82, 0x00, 0x00, 0x40, 0x00, 0x40, 0x11, 0xe2, 0x45, 0xac, 0x11, 0x00, 0x01,
-        0xac, 0x11, 0x00, 0x02, 0xf5, 0x30, 0x12, 0xb5, 0x00, 0x6e, 0x00, 0x00, 0x08, 0x00, 0x00,
-        0x00, 0x00, 0x00, 0x07, 0x00,
-    ]);
-    expected[50..].copy_from_slice(&SENT);
-    becomes(&rt, &QUERY, &acts, &expected);
+    put(
+        &mut expected,
+        0,
+        &[
+            0x02, 0x00, 0x00, 0x00, 0x0b, 0x02, 0x02, 0x00, 0x00, 0x00, 0x0b, 0x01, 0x08, 0x00,
+            0x45, 0x00, 0x00, 0x82, 0x00, 0x00, 0x40, 0x00, 0x40, 0x11, 0xe2, 0x45, 0xac, 0x11,
+            0x00, 0x01, 0xac, 0x11, 0x00, 0x02, 0xf5, 0x30, 0x12, 0xb5, 0x00, 0x6e, 0x00, 0x00,
+            0x08, 0x00, 0x00, 0x00, 0x00, 0x00, 0x07, 0x00,
+        ],
+    );
+    put(&mut expected, 50, &SENT);
+    assert!(rt; becomes(&QUERY, &acts, &expected));
 }
 
 #[test]
 fn tcp_keeps_a_right_checksum(rt: HostRuntime) {
     let mut changed = TCP;
-    changed[24..30].copy_from_slice(&[0x6e, 0xbb, 0xc0, 0x00, 0x02, 0x07]);
-    changed[34..36].copy_from_slice(&[0x9c, 0x40]);
-    changed[50..52].copy_from_slice(&[0x03, 0x53]);
-    becomes(&rt, &TCP, &translation(), &changed);
+    put(&mut changed, 24, &[0x6e, 0xbb, 0xc0, 0x00, 0x02, 0x07]);
+    put(&mut changed, 34, &[0x9c, 0x40]);
+    put(&mut changed, 50, &[0x03, 0x53]);
+    assert!(rt; becomes(&TCP, &translation(), &changed));
 }
 
 #[test]
 fn an_odd_payload_behind_options_keeps_a_right_checksum(rt: HostRuntime) {
     let mut expected = OPTIONS;
-    expected[24..30].copy_from_slice(&[0x6b, 0xb8, 0xc0, 0x00, 0x02, 0x07]);
-    expected[38..40].copy_from_slice(&[0x9c, 0x40]);
-    expected[44..46].copy_from_slice(&[0xd2, 0xef]);
-    becomes(&rt, &OPTIONS, &translation(), &expected);
+    put(&mut expected, 24, &[0x6b, 0xb8, 0xc0, 0x00, 0x02, 0x07]);
+    put(&mut expected, 38, &[0x9c, 0x40]);
+    put(&mut expected, 44, &[0xd2, 0xef]);
+    assert!(rt; becomes(&OPTIONS, &translation(), &expected));
 }
 
 /// `QUERY` with this UDP checksum and this payload.
 fn datagram(checksum: [u8; 2], payload: [u8; 2]) -> [u8; 44] {
     let mut bytes = QUERY;
-    bytes[40..42].copy_from_slice(&checksum);
-    bytes[42..].copy_from_slice(&payload);
+    put(&mut bytes, 40, &checksum);
+    put(&mut bytes, 42, &payload);
     bytes
 }
 
 /// It, translated.
 fn translated(checksum: [u8; 2], payload: [u8; 2]) -> [u8; 44] {
     let mut bytes = datagram(checksum, payload);
-    bytes[24..30].copy_from_slice(&[0x6e, 0xbf, 0xc0, 0x00, 0x02, 0x07]);
-    bytes[34..36].copy_from_slice(&[0x9c, 0x40]);
+    put(&mut bytes, 24, &[0x6e, 0xbf, 0xc0, 0x00, 0x02, 0x07]);
+    put(&mut bytes, 34, &[0x9c, 0x40]);
     bytes
 }
 
@@ -185,13 +191,13 @@ fn translated(checksum: [u8; 2], payload: [u8; 2]) -> [u8; 44] {
 fn udp_checksums_of_zero(rt: HostRuntime) {
     // none stays none
     let (bytes, expected) = (datagram([0, 0], *b"hi"), translated([0, 0], *b"hi"));
-    becomes(&rt, &bytes, &translation(), &expected);
+    assert!(rt; becomes(&bytes, &translation(), &expected));
     // one that is 0 is written as 0xffff
     let (bytes, expected) = (
         datagram([0x4f, 0x71], [0x97, 0x54]),
         translated([0xff, 0xff], [0x97, 0x54]),
     );
-    becomes(&rt, &bytes, &translation(), &expected);
+    assert!(rt; becomes(&bytes, &translation(), &expected));
 }
 
 #[test]
@@ -201,9 +207,9 @@ fn the_payload_of_a_fragment_stays(rt: HostRuntime) {
     bytes[20] = 0x20;
     bytes[24] = 0x46;
     let mut expected = bytes;
-    expected[24..30].copy_from_slice(&[0x8e, 0xbf, 0xc0, 0x00, 0x02, 0x07]);
+    put(&mut expected, 24, &[0x8e, 0xbf, 0xc0, 0x00, 0x02, 0x07]);
     let [a, b, _] = translation();
-    becomes(&rt, &bytes, &[a, b], &expected);
+    assert!(rt; becomes(&bytes, &[a, b], &expected));
 }
 
 /// The acts that leave an encapsulation as it is.
@@ -215,11 +221,11 @@ fn kept(inner: [Act; 3]) -> [Act; 6] {
 #[test]
 fn a_kept_encapsulation_loses_its_checksum_alone(rt: HostRuntime) {
     let mut expected = ENDS;
-    expected[40..42].copy_from_slice(&[0, 0]);
-    expected[74..80].copy_from_slice(&[0x6e, 0xbd, 0xc0, 0x00, 0x02, 0x07]);
-    expected[84..86].copy_from_slice(&[0x9c, 0x40]);
-    expected[90..92].copy_from_slice(&[0x2e, 0xeb]);
-    becomes(&rt, &ENDS, &kept(translation()), &expected);
+    put(&mut expected, 40, &[0, 0]);
+    put(&mut expected, 74, &[0x6e, 0xbd, 0xc0, 0x00, 0x02, 0x07]);
+    put(&mut expected, 84, &[0x9c, 0x40]);
+    put(&mut expected, 90, &[0x2e, 0xeb]);
+    assert!(rt; becomes(&ENDS, &kept(translation()), &expected));
 }
 
 #[test]
@@ -233,9 +239,9 @@ fn an_address_of_ethernet_is_in_no_inner_checksum(rt: HostRuntime) {
         Act::Ignore,
     ];
     let mut expected = ENDS;
-    expected[40..42].copy_from_slice(&[0, 0]);
+    put(&mut expected, 40, &[0, 0]);
     expected[55] = 0x77;
-    becomes(&rt, &ENDS, &kept(acts), &expected);
+    assert!(rt; becomes(&ENDS, &kept(acts), &expected));
 }
 
 #[test]
@@ -248,7 +254,7 @@ fn what_is_not_edited_stays(rt: HostRuntime) {
         }),
         Act::Ignore,
     ];
-    becomes(&rt, &ENDS, &kept(acts), &ENDS);
+    assert!(rt; becomes(&ENDS, &kept(acts), &ENDS));
 }
 
 #[test]
@@ -261,7 +267,7 @@ fn a_dropped_encapsulation_goes_with_what_surrounds_its_frame(rt: HostRuntime) {
         Act::Ignore,
         Act::Ignore,
     ];
-    becomes(&rt, &ENDS, &acts, &ENDS[50..98]);
+    assert!(rt; becomes(&ENDS, &acts, &ENDS[50..98]));
 }
 
 /// The segment of `TCP` in network 5001, with IPv4 options, and in network 7 around it, with UDP checksums in
@@ -327,22 +333,22 @@ const MOVED: [u8; 159] = [
 fn two_kept_encapsulations_lose_their_checksums(rt: HostRuntime) {
     let mut expected = TWICE;
     // UDP of the encapsulations
-    expected[40..42].copy_from_slice(&[0, 0]);
-    expected[94..96].copy_from_slice(&[0, 0]);
+    put(&mut expected, 40, &[0, 0]);
+    put(&mut expected, 94, &[0, 0]);
     // IPv4, and TCP
-    expected[128..134].copy_from_slice(&[0x6e, 0xbb, 0xc0, 0x00, 0x02, 0x07]);
-    expected[138..140].copy_from_slice(&[0x9c, 0x40]);
-    expected[154..156].copy_from_slice(&[0x03, 0x53]);
+    put(&mut expected, 128, &[0x6e, 0xbb, 0xc0, 0x00, 0x02, 0x07]);
+    put(&mut expected, 138, &[0x9c, 0x40]);
+    put(&mut expected, 154, &[0x03, 0x53]);
     let [a, b, c, d, e, f] = kept(translation());
     let acts = [Act::Ignore, Act::Ignore, Act::Ignore, a, b, c, d, e, f];
-    becomes(&rt, &TWICE, &acts, &expected);
+    assert!(rt; becomes(&TWICE, &acts, &expected));
 }
 
 #[test]
 fn a_dropped_encapsulation_leaves_the_kept_one_as_it_was(rt: HostRuntime) {
     let [a, b, c, d, e, f] = kept([Act::Ignore, Act::Ignore, Act::Ignore]);
     let acts = [Act::Pop, Act::Pop, Act::Pop, a, b, c, d, e, f];
-    becomes(&rt, &TWICE, &acts, &TWICE[50..165]);
+    assert!(rt; becomes(&TWICE, &acts, &TWICE[50..165]));
 }
 
 #[test]
@@ -367,48 +373,37 @@ fn two_encapsulations_take_the_place_of_two(rt: HostRuntime) {
         h,
         i,
     ];
-    becomes(&rt, &TWICE, &acts, &MOVED);
+    assert!(rt; becomes(&TWICE, &acts, &MOVED));
 }
 
 /// Writes a frame of this IPv4 length, of a protocol without ports, behind one encapsulation.
-fn encapsulated(
-    rt: &impl Abort,
-    bytes: &mut [u8],
-    total: u16,
-    out: &mut [u8],
-) -> Result<usize, Long>
-    requires frame { 34 ≤ length bytes.old }
-    requires room { 65700 ≤ length out.old }
+fn encapsulated(bytes: &mut [u8], total: u16, out: &mut [u8]) -> Option<Result<usize, Long>>
+    requires { 65700 ≤ length out.old }
 {
-    bytes[..34].copy_from_slice(&QUERY[..34]);
-    bytes[16..18].copy_from_slice(&total.to_be_bytes());
-    bytes[23] = 47;
+    put(bytes, 0, &QUERY[..34]);
+    put(bytes, 16, &total.to_be_bytes());
+    put(bytes, 23, &[47]);
     let [a, b, c] = encap(0, 5001);
-    written(rt, bytes, &[a, b, c, Act::Ignore, Act::Ignore], out)
+    written(bytes, &[a, b, c, Act::Ignore, Act::Ignore], out)
 }
 
-/// The bytes have a total length of 65,535, and these behind the encapsulation.
-fn has(rt: &impl Abort, out: &[u8], bytes: &[u8]) {
-    assert!(rt; out.len() >= 65_549);
-    assert_eq!(rt; &out[16..18], [0xff, 0xff].as_slice());
-    assert_eq!(rt; &out[50..65_549], bytes);
+/// Whether the bytes have a total length of 65,535, and these behind the encapsulation.
+fn has(out: &[u8], bytes: &[u8]) -> bool {
+    out.len() >= 65_549 && out[16] == 0xff && out[17] == 0xff && &out[50..65_549] == bytes
 }
 
 #[test]
 fn a_total_length_of_65535_is_written(rt: HostRuntime) {
     let mut bytes = [0; 65_499];
     let mut out = [OLD; ROOM];
-    assert_eq!(rt; encapsulated(&rt, &mut bytes, 65_485, &mut out), Ok(65_549));
-    has(&rt, &out, &bytes);
+    let len = encapsulated(&mut bytes, 65_485, &mut out);
+    assert!(rt; len == Some(Ok(65_549)) && has(&out, &bytes));
 }
 
 #[test]
 fn a_total_length_of_65536_is_long(rt: HostRuntime) {
     let mut bytes = [0; 65_500];
     let mut out = [OLD; ROOM];
-    assert_eq!(rt;
-        encapsulated(&rt, &mut bytes, 65_486, &mut out),
-        Err(Long { total: 65_536 })
-    );
-    assert!(rt; out == [OLD; ROOM]);
+    let len = encapsulated(&mut bytes, 65_486, &mut out);
+    assert!(rt; len == Some(Err(Long { total: 65_536 })) && out == [OLD; ROOM]);
 }

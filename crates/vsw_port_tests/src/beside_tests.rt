@@ -2,76 +2,77 @@
 
 ghost use Rattle.std.specs.Prelude.{◌≤◌};
 
-use crate::sole_commands::{
-    add_group, add_layer, add_open_layer, edit, put_rule, set_default, sweep,
-};
-use crate::sole_packets::packet;
+use crate::commands::Asked;
+use crate::packets::of_flow;
 use crate::sole_trial::Trial;
 use std::alloc::Global;
-use std::process::Abort;
 use vsw_base::{Cause, Dir, Fate};
-use vsw_policy::{Command, Reply};
+use vsw_policy::Reply;
 use vsw_rule::Action;
 
-/// Both layers, still without groups.
-fn add_layers(trial: &mut Trial) -> Option<()> {
-    trial.ask(1, 1, &add_layer(10))?;
-    trial.ask(2, 2, &add_layer(20))?;
-    Some(())
-}
+/// Layer 10 of controller 1 lets out with a pair, and layer 20 of controller 2 edits: the line of each command, its
+/// controller, and what it asks.
+const LIGHT: [(u32, u16, Asked); 6] = [
+    (1, 1, Asked::AddOutLayer { layer: 10 }),
+    (2, 2, Asked::AddOutLayer { layer: 20 }),
+    (
+        3,
+        1,
+        Asked::AddGroup {
+            layer: 10,
+            group: 1,
+        },
+    ),
+    (
+        4,
+        2,
+        Asked::AddGroup {
+            layer: 20,
+            group: 1,
+        },
+    ),
+    (
+        5,
+        1,
+        Asked::PutRule {
+            layer: 10,
+            action: Action::Allow,
+            stateful: true,
+        },
+    ),
+    (
+        5,
+        2,
+        Asked::PutEdit {
+            layer: 20,
+            mac: 0x0200_0000_0077,
+            stateful: false,
+        },
+    ),
+];
 
-/// A group in each layer.
-fn add_groups(alloc: Global, trial: &mut Trial) -> Option<()> {
-    trial.ask(3, 1, &add_group(alloc, 10))?;
-    trial.ask(4, 2, &add_group(alloc, 20))?;
-    Some(())
-}
-
-/// The rule of a layer.
-fn rule(
-    alloc: Global,
-    trial: &mut Trial,
-    controller: u16,
-    layer: u16,
-    action: Action,
-    stateful: bool,
-) -> Option<Reply> {
-    match put_rule(alloc, layer, action, stateful) {
-        Ok(command) => trial.ask(5, controller, &command),
-        Err(_) => None,
+/// Whether both are told the same of each command.
+fn set_up(alloc: Global, trial: &mut Trial) -> bool {
+    for place in 0..LIGHT.len() {
+        let (line, controller, asked) = LIGHT[place];
+        if trial.ask(alloc, line, controller, asked).is_none() {
+            return false;
+        }
     }
+    true
 }
 
-/// Six layers more: a walk over all then costs more than a row's answer, so rows are looked for.
-fn add_open_layers(trial: &mut Trial) -> Option<()> {
-    for layer in 31..37 {
-        trial.ask(6, 1, &add_open_layer(layer))?;
+/// Layers more from 31 on: with six, a walk over all costs more than a row's answer, so rows are looked for.
+fn add_open_layers(alloc: Global, trial: &mut Trial, count: u16) -> bool {
+    for number in 0..count {
+        let asked = Asked::AddOpenLayer {
+            layer: number.wrapping_add(31),
+        };
+        if trial.ask(alloc, 6, 1, asked).is_none() {
+            return false;
+        }
     }
-    Some(())
-}
-
-/// Layer 10 lets out with a pair, and layer 20 edits: six entries.
-fn set_up(alloc: Global, trial: &mut Trial) -> Option<()> {
-    add_layers(trial)?;
-    add_groups(alloc, trial)?;
-    rule(alloc, trial, 1, 10, Action::Allow, true)?;
-    rule(alloc, trial, 2, 20, edit(0x0200_0000_0077), false)?;
-    Some(())
-}
-
-fn port(alloc: Global, rows: u32) -> Option<Trial>
-    requires { (8 ≤ rows) × (rows ≤ 16384) }
-{
-    let mut trial = Trial::new(alloc, rows)?;
-    set_up(alloc, &mut trial)?;
-    add_open_layers(&mut trial)?;
-    Some(trial)
-}
-
-fn light_port(alloc: Global) -> Option<Trial> {
-    let mut trial = Trial::new(alloc, 64)?;
-    set_up(alloc, &mut trial)?;
-    Some(trial)
+    true
 }
 
 /// The next word of a sequence that looks random.
@@ -94,107 +95,174 @@ fn dir_of(word: u32) -> Dir {
     }
 }
 
-/// The command of a step, which most often is obeyed.
-fn command_of(alloc: Global, step: u32, word: u32) -> Option<(u16, Command)> {
-    let (controller, made) = match word / 0x1000 % 6 {
+/// The controller's command of a step, which most often is obeyed.
+fn asked_at(step: u32, word: u32) -> (u16, Asked) {
+    let even = word / 0x10_0000 % 2 == 0;
+    match word / 0x1000 % 6 {
         0 => (
             1,
-            put_rule(alloc, 10, Action::Allow, word / 0x10_0000 % 2 == 0),
+            Asked::PutRule {
+                layer: 10,
+                action: Action::Allow,
+                stateful: even,
+            },
         ),
-        1 => (1, put_rule(alloc, 10, Action::Drop, false)),
-        2 => (2, put_rule(alloc, 20, edit(u64::from(word)), false)),
-        3 => (2, put_rule(alloc, 20, edit(u64::from(word)), true)),
-        4 => (1, Ok(sweep(u64::from(step) * 50_000))),
-        _ => (2, Ok(set_default(20, word / 0x10_0000 % 2 == 0))),
-    };
-    match made {
-        Ok(command) => Some((controller, command)),
-        Err(_) => None,
+        1 => (
+            1,
+            Asked::PutRule {
+                layer: 10,
+                action: Action::Drop,
+                stateful: false,
+            },
+        ),
+        2 => (
+            2,
+            Asked::PutEdit {
+                layer: 20,
+                mac: u64::from(word),
+                stateful: false,
+            },
+        ),
+        3 => (
+            2,
+            Asked::PutEdit {
+                layer: 20,
+                mac: u64::from(word),
+                stateful: true,
+            },
+        ),
+        4 => (
+            1,
+            Asked::Sweep {
+                now: u64::from(step) * 50_000,
+            },
+        ),
+        _ => (
+            2,
+            Asked::SetDefault {
+                layer: 20,
+                allow: even,
+            },
+        ),
     }
 }
 
 /// One packet, or a command once in forty steps. Answers whether both were told the same.
 fn goes(alloc: Global, trial: &mut Trial, step: u32, word: u32) -> bool {
     if step % 40 == 39 {
-        return match command_of(alloc, step, word) {
-            Some((controller, command)) => trial.ask(step, controller, &command).is_some(),
-            None => false,
-        };
+        let (controller, asked) = asked_at(step, word);
+        return trial.ask(alloc, step, controller, asked).is_some();
     }
     if step % 64 == 0 {
         trial.reconcile(8);
     }
-    match packet(step, flow_of(word), dir_of(word), word / 0x1_0000) {
+    match of_flow(step, flow_of(word), dir_of(word), word / 0x1_0000) {
         Some(crossing) => trial.send(&crossing).is_some(),
         None => false,
     }
 }
 
-/// So many steps.
-fn run(alloc: Global, trial: &mut Trial, steps: u32) -> bool {
+/// How many of so many steps come before the first of which both aren't told the same.
+fn run_at_random(alloc: Global, trial: &mut Trial, steps: u32) -> u32 {
     let mut word = 1;
     for step in 0..steps {
         word = next(word);
         if !goes(alloc, trial, step, word) {
-            return false;
+            return step;
         }
     }
-    true
-}
-
-fn check(rt: &impl Abort, alloc: Global, trial: &mut Trial) {
-    assert!(rt; run(alloc, trial, 4_000));
-    assert!(rt; trial.agrees(150));
-}
-
-#[test]
-fn many_rows_answer_as_the_layers_do(rt: HostRuntime) {
-    let mut trial = port(rt.alloc(), 1_024).expect(&rt, "memory");
-    check(&rt, rt.alloc(), &mut trial);
-}
-
-#[test]
-fn rows_that_are_full_answer_as_the_layers_do(rt: HostRuntime) {
-    let mut trial = port(rt.alloc(), 8).expect(&rt, "memory");
-    check(&rt, rt.alloc(), &mut trial);
-}
-
-#[test]
-fn light_layers_answer_without_rows(rt: HostRuntime) {
-    let mut trial = light_port(rt.alloc()).expect(&rt, "memory");
-    check(&rt, rt.alloc(), &mut trial);
+    steps
 }
 
 /// The fate of an outbound packet of flow 3.
 fn fate(trial: &mut Trial, number: u32) -> Option<Fate> {
-    let crossing = packet(number, 3, Dir::Out, 0)?;
+    let crossing = of_flow(number, 3, Dir::Out, 0)?;
     trial.send(&crossing)
 }
 
-fn drops(trial: &mut Trial, number: u32) -> bool {
-    let cause = Cause::Rule {
-        controller: 2,
-        layer: 20,
-        group: 1,
-        rule: 5,
-    };
-    fate(trial, number) == Some(Fate::Drop(cause))
+const DROP: Asked = Asked::PutRule {
+    layer: 20,
+    action: Action::Drop,
+    stateful: false,
+};
+
+const PASSED: Option<Fate> = Some(Fate::Pass { len: 44 });
+
+const DROPPED: Option<Fate> = Some(Fate::Drop(Cause::Rule {
+    controller: 2,
+    layer: 20,
+    group: 1,
+    rule: 5,
+}));
+
+/// How many of six steps come out as they must before one doesn't. The first packet makes a pair, the second leaves a
+/// row, and the third finds it. Two more follow the command, and are dropped.
+fn run_around_drop(alloc: Global, trial: &mut Trial) -> u32 {
+    for step in 0..6u32 {
+        let right = if step < 3 {
+            fate(trial, step) == PASSED
+        } else if step == 3 {
+            trial.ask(alloc, 7, 2, DROP) == Some(Reply::Ok)
+        } else {
+            fate(trial, step - 1) == DROPPED
+        };
+        if !right {
+            return step;
+        }
+    }
+    6
 }
 
-fn passes(trial: &mut Trial, number: u32) -> bool {
-    fate(trial, number) == Some(Fate::Pass { len: 44 })
+/// What is tried at a port.
+#[derive(Clone, Copy)]
+enum Run {
+    /// 4,000 steps at random.
+    Random,
+    /// A command that drops a flow, between its packets.
+    AroundDrop,
 }
 
-fn check_command(rt: &impl Abort, trial: &mut Trial, drop: &Command) {
-    // the first makes a pair, the second leaves a row, and the third finds it
-    assert!(rt; passes(trial, 0) && passes(trial, 1) && passes(trial, 2));
-    assert!(rt; trial.ask(7, 2, drop) == Some(Reply::Ok));
-    assert!(rt; drops(trial, 3) && drops(trial, 4));
+/// How many steps come out as they must before one doesn't, where the layers could be set up.
+fn ran(alloc: Global, trial: &mut Trial, open: u16, run: Run) -> Option<u32> {
+    if !set_up(alloc, trial) || !add_open_layers(alloc, trial, open) {
+        return None;
+    }
+    match run {
+        Run::Random => Some(run_at_random(alloc, trial, 4_000)),
+        Run::AroundDrop => Some(run_around_drop(alloc, trial)),
+    }
+}
+
+/// The same of a port with so many rows and so many open layers, and whether both have the same history then, of more
+/// than so many entries.
+fn tried(alloc: Global, rows: u32, open: u16, run: Run, least: usize) -> Option<(Option<u32>, bool)>
+    requires { (8 ≤ rows) × (rows ≤ 16384) }
+{
+    let mut trial = Trial::new(alloc, rows)?;
+    let steps = ran(alloc, &mut trial, open, run);
+    Some((steps, trial.agrees(least)))
+}
+
+const ALL: Option<(Option<u32>, bool)> = Some((Some(4_000), true));
+
+#[test]
+fn many_rows_answer_as_the_layers_do(rt: HostRuntime) {
+    assert!(&rt; tried(rt.alloc(), 1_024, 6, Run::Random, 150) == ALL);
 }
 
 #[test]
+fn rows_that_are_full_answer_as_the_layers_do(rt: HostRuntime) {
+    assert!(&rt; tried(rt.alloc(), 8, 6, Run::Random, 150) == ALL);
+}
+
+#[test]
+fn light_layers_answer_without_rows(rt: HostRuntime) {
+    assert!(&rt; tried(rt.alloc(), 64, 0, Run::Random, 150) == ALL);
+}
+
+const SIX: Option<(Option<u32>, bool)> = Some((Some(6), true));
+
+#[test]
 fn row_does_not_answer_after_a_command(rt: HostRuntime) {
-    let mut trial = port(rt.alloc(), 16).expect(&rt, "memory");
-    let drop = put_rule(rt.alloc(), 20, Action::Drop, false).expect(&rt, "memory");
-    check_command(&rt, &mut trial, &drop);
+    assert!(&rt; tried(rt.alloc(), 16, 6, Run::AroundDrop, 0) == SIX);
 }

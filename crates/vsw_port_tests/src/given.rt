@@ -1,4 +1,4 @@
-//! Commands that are given to a policy.
+//! Commands that may be given.
 
 ghost use Rattle.std.specs.Prelude.{◌≡◌, IsTrue};
 ghost use Rattle.vsw_policy.specs.Obey.{rules_given};
@@ -16,7 +16,7 @@ fn are_good(rules: &[Rule]) -> bool
     }
 }
 
-fn is_good(command: &Command) -> bool
+pub fn is_good(command: &Command) -> bool
     ensures { IsTrue result → Each IsGoodRule (rules_given command.now) }
 {
     match command {
@@ -26,7 +26,7 @@ fn is_good(command: &Command) -> bool
     }
 }
 
-fn is_listed(controllers: &[u16], controller: u16) -> bool
+pub fn is_listed(controllers: &[u16], controller: u16) -> bool
     ensures { result ≡ is_listed controllers.now controller }
 {
     controllers.iter().any(|listed| controller == *listed)

@@ -1,40 +1,75 @@
 //! Packets that get long under pushed encapsulations.
 
-use crate::commit_packets::{FAR, OWN, UDP};
-use crate::commit_trial::Trial;
-use crate::layers::{add_layer, put_in_network};
-use std::alloc::Global;
-use vsw_base::{Control, Dir};
+use crate::commit_trial::{RIGHT, Sent, Step, tried};
+use crate::layers::{BACK, Does, Given, OUT, Ruled};
 use vsw_port::Stop;
 
-/// Two layers that put packets in a network, or one.
-fn pushing(alloc: Global, both: bool) -> Option<Trial> {
-    let mut trial = Trial::new(alloc)?;
-    let action = put_in_network();
-    if !add_layer(alloc, &mut trial.policy, 10, 1, &action, false) {
-        return None;
-    }
-    if both && !add_layer(alloc, &mut trial.policy, 20, 1, &action, false) {
-        return None;
-    }
-    Some(trial)
-}
+/// Outbound packets of layer 10 are put in a network.
+const PUT_IN: Ruled = Ruled {
+    does: Does::PutIn,
+    stateful: false,
+    ..OUT
+};
 
-/// What becomes of an outbound packet of so many bytes.
-fn send(trial: &mut Trial, whole: u32) -> Option<Result<bool, Stop>> {
-    trial.cross(Dir::Out, UDP, (OWN, 1234), (FAR, 53), Control::None, whole)
-}
+const PUT_IN_20: Ruled = Ruled {
+    layer: 20,
+    ..PUT_IN
+};
+
+const BACK_20: Ruled = Ruled { layer: 20, ..BACK };
+
+const ONE: [Given; 3] = [
+    Given::Open {
+        layer: 10,
+        pairs: 1,
+    },
+    Given::Group(PUT_IN),
+    Given::Group(BACK),
+];
+
+const TWO: [Given; 6] = [
+    Given::Open {
+        layer: 10,
+        pairs: 1,
+    },
+    Given::Group(PUT_IN),
+    Given::Group(BACK),
+    Given::Open {
+        layer: 20,
+        pairs: 1,
+    },
+    Given::Group(PUT_IN_20),
+    Given::Group(BACK_20),
+];
+
+const ONE_PUSH: [Step; 2] = [
+    Step::Becomes {
+        sent: Sent::Long { whole: 65_499 },
+        becomes: Ok(false),
+    },
+    Step::Becomes {
+        sent: Sent::Long { whole: 65_500 },
+        becomes: Err(Stop::Long),
+    },
+];
 
 #[test]
 fn one_push_makes_a_packet_long(rt: HostRuntime) {
-    let mut trial = pushing(rt.alloc(), false).expect(&rt, "memory");
-    assert_eq!(rt; send(&mut trial, 65_499), Some(Ok(false)));
-    assert_eq!(rt; send(&mut trial, 65_500), Some(Err(Stop::Long)));
+    assert!(&rt; tried(rt.alloc(), &ONE, &ONE_PUSH) == RIGHT);
 }
+
+const TWO_PUSHES: [Step; 2] = [
+    Step::Becomes {
+        sent: Sent::Long { whole: 65_449 },
+        becomes: Ok(false),
+    },
+    Step::Becomes {
+        sent: Sent::Long { whole: 65_450 },
+        becomes: Err(Stop::Long),
+    },
+];
 
 #[test]
 fn two_pushes_make_a_packet_long(rt: HostRuntime) {
-    let mut trial = pushing(rt.alloc(), true).expect(&rt, "memory");
-    assert_eq!(rt; send(&mut trial, 65_449), Some(Ok(false)));
-    assert_eq!(rt; send(&mut trial, 65_450), Some(Err(Stop::Long)));
+    assert!(&rt; tried(rt.alloc(), &TWO, &TWO_PUSHES) == RIGHT);
 }

@@ -6,8 +6,6 @@ mod beside_tests;
 #[cfg(test)]
 mod commands;
 #[cfg(test)]
-mod commit_packets;
-#[cfg(test)]
 mod commit_trial;
 #[cfg(test)]
 mod given;
@@ -28,12 +26,6 @@ mod pair_tests;
 #[cfg(test)]
 mod refusal_tests;
 #[cfg(test)]
-mod sole_commands;
-#[cfg(test)]
-mod sole_packets;
-#[cfg(test)]
 mod sole_trial;
 #[cfg(test)]
 mod trial;
-#[cfg(test)]
-mod ways;

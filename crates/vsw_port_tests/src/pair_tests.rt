@@ -1,121 +1,284 @@
 //! Pairs that have a place, and that have none.
 
-use crate::commit_packets::{FAR, OTHER, OWN, TCP, UDP};
-use crate::commit_trial::Trial;
-use crate::layers::{PUBLIC, add_layer, hide_source};
-use std::alloc::Global;
-use vsw_base::{Control, Dir};
+use crate::commit_trial::{RIGHT, Sent, Step, tried};
+use crate::layers::{BACK, Does, Given, OUT, Ruled};
+use vsw_base::Control;
 use vsw_port::Stop;
-use vsw_rule::Action;
 
-/// Layer 10, whose outbound rule makes pairs.
-fn one_layer(alloc: Global, pairs: u32, action: &Action) -> Option<Trial> {
-    let mut trial = Trial::new(alloc)?;
-    if !add_layer(alloc, &mut trial.policy, 10, pairs, action, true) {
-        return None;
-    }
-    Some(trial)
-}
+/// Outbound packets of layer 10 come from the public address, in pairs.
+const HIDE: Ruled = Ruled {
+    does: Does::HideSource,
+    ..OUT
+};
 
-/// And layer 20, whose outbound rule is as this one, with room for one pair.
-fn two_layers(alloc: Global, second: &Action, stateful: bool) -> Option<Trial> {
-    let mut trial = one_layer(alloc, 16, &Action::Allow)?;
-    if !add_layer(alloc, &mut trial.policy, 20, 1, second, stateful) {
-        return None;
-    }
-    Some(trial)
-}
+const OUT_20: Ruled = Ruled { layer: 20, ..OUT };
 
-/// What becomes of outbound UDP from this port.
-fn send(trial: &mut Trial, src: u32, port: u16) -> Option<Result<bool, Stop>> {
-    trial.cross(Dir::Out, UDP, (src, port), (FAR, 53), Control::None, 44)
-}
+const DROP_20: Ruled = Ruled {
+    layer: 20,
+    does: Does::Drop,
+    stateful: false,
+    ..OUT
+};
 
-/// What becomes of outbound TCP from this port.
-fn connect(trial: &mut Trial, port: u16, control: Control) -> Option<Result<bool, Stop>> {
-    trial.cross(Dir::Out, TCP, (OWN, port), (FAR, 80), control, 60)
-}
+const BACK_20: Ruled = Ruled { layer: 20, ..BACK };
+
+const ONE_PAIR: [Given; 3] = [
+    Given::Open {
+        layer: 10,
+        pairs: 1,
+    },
+    Given::Group(OUT),
+    Given::Group(BACK),
+];
+
+const TWO_PAIRS: [Given; 3] = [
+    Given::Open {
+        layer: 10,
+        pairs: 2,
+    },
+    Given::Group(OUT),
+    Given::Group(BACK),
+];
+
+const HIDING: [Given; 3] = [
+    Given::Open {
+        layer: 10,
+        pairs: 16,
+    },
+    Given::Group(HIDE),
+    Given::Group(BACK),
+];
+
+const BOTH: [Given; 6] = [
+    Given::Open {
+        layer: 10,
+        pairs: 16,
+    },
+    Given::Group(OUT),
+    Given::Group(BACK),
+    Given::Open {
+        layer: 20,
+        pairs: 1,
+    },
+    Given::Group(OUT_20),
+    Given::Group(BACK_20),
+];
+
+const DROPPING: [Given; 6] = [
+    Given::Open {
+        layer: 10,
+        pairs: 16,
+    },
+    Given::Group(OUT),
+    Given::Group(BACK),
+    Given::Open {
+        layer: 20,
+        pairs: 1,
+    },
+    Given::Group(DROP_20),
+    Given::Group(BACK_20),
+];
+
+const FULL: Stop = Stop::Full {
+    controller: 1,
+    layer: 10,
+};
+
+const LIMIT: [Step; 4] = [
+    Step::Becomes {
+        sent: Sent::Out { port: 1 },
+        becomes: Ok(true),
+    },
+    Step::Becomes {
+        sent: Sent::Out { port: 2 },
+        becomes: Ok(true),
+    },
+    Step::Becomes {
+        sent: Sent::Out { port: 3 },
+        becomes: Err(FULL),
+    },
+    Step::Has {
+        place: 0,
+        pairs: 2,
+        next: 2,
+    },
+];
 
 #[test]
 fn a_layer_takes_pairs_up_to_its_limit(rt: HostRuntime) {
-    let mut trial = one_layer(rt.alloc(), 2, &Action::Allow).expect(&rt, "memory");
-    assert_eq!(rt; send(&mut trial, OWN, 1), Some(Ok(true)));
-    assert_eq!(rt; send(&mut trial, OWN, 2), Some(Ok(true)));
-    let full = Stop::Full {
-        controller: 1,
-        layer: 10,
-    };
-    assert_eq!(rt; send(&mut trial, OWN, 3), Some(Err(full)));
-    assert_eq!(rt; trial.told(0), Some((2, 2)));
+    assert!(&rt; tried(rt.alloc(), &TWO_PAIRS, &LIMIT) == RIGHT);
 }
+
+const REOPENED: [Step; 6] = [
+    Step::Becomes {
+        sent: Sent::Connect {
+            port: 1,
+            control: Control::Syn,
+        },
+        becomes: Ok(true),
+    },
+    // A touch, and then nothing to change.
+    Step::Becomes {
+        sent: Sent::Connect {
+            port: 1,
+            control: Control::Rst,
+        },
+        becomes: Ok(true),
+    },
+    Step::Becomes {
+        sent: Sent::Connect {
+            port: 1,
+            control: Control::Rst,
+        },
+        becomes: Ok(false),
+    },
+    Step::Has {
+        place: 0,
+        pairs: 1,
+        next: 1,
+    },
+    Step::Becomes {
+        sent: Sent::Connect {
+            port: 1,
+            control: Control::Syn,
+        },
+        becomes: Ok(true),
+    },
+    Step::Has {
+        place: 0,
+        pairs: 1,
+        next: 2,
+    },
+];
 
 #[test]
 fn a_pair_that_is_reopened_makes_room(rt: HostRuntime) {
-    let mut trial = one_layer(rt.alloc(), 1, &Action::Allow).expect(&rt, "memory");
-    assert_eq!(rt; connect(&mut trial, 1, Control::Syn), Some(Ok(true)));
-    // A touch, and then nothing to change.
-    assert_eq!(rt; connect(&mut trial, 1, Control::Rst), Some(Ok(true)));
-    assert_eq!(rt; connect(&mut trial, 1, Control::Rst), Some(Ok(false)));
-    assert_eq!(rt; trial.told(0), Some((1, 1)));
-    assert_eq!(rt; connect(&mut trial, 1, Control::Syn), Some(Ok(true)));
-    assert_eq!(rt; trial.told(0), Some((1, 2)));
+    assert!(&rt; tried(rt.alloc(), &ONE_PAIR, &REOPENED) == RIGHT);
 }
+
+const STAYS: [Step; 2] = [
+    Step::Becomes {
+        sent: Sent::Connect {
+            port: 1,
+            control: Control::Rst,
+        },
+        becomes: Ok(true),
+    },
+    Step::Becomes {
+        sent: Sent::Connect {
+            port: 2,
+            control: Control::Syn,
+        },
+        becomes: Err(FULL),
+    },
+];
 
 #[test]
 fn a_pair_that_stays_takes_a_place(rt: HostRuntime) {
-    let mut trial = one_layer(rt.alloc(), 1, &Action::Allow).expect(&rt, "memory");
-    assert_eq!(rt; connect(&mut trial, 1, Control::Rst), Some(Ok(true)));
-    let full = Stop::Full {
-        controller: 1,
-        layer: 10,
-    };
-    assert_eq!(rt; connect(&mut trial, 2, Control::Syn), Some(Err(full)));
+    assert!(&rt; tried(rt.alloc(), &ONE_PAIR, &STAYS) == RIGHT);
 }
+
+const TAKEN: Stop = Stop::Taken {
+    controller: 1,
+    layer: 10,
+    pair: 1,
+};
+
+const REPLIES: [Step; 4] = [
+    Step::Becomes {
+        sent: Sent::OfOther { port: 7 },
+        becomes: Ok(true),
+    },
+    Step::Becomes {
+        sent: Sent::OfOther { port: 8 },
+        becomes: Ok(true),
+    },
+    Step::Becomes {
+        sent: Sent::Out { port: 8 },
+        becomes: Err(TAKEN),
+    },
+    Step::Has {
+        place: 0,
+        pairs: 2,
+        next: 2,
+    },
+];
 
 #[test]
 fn replies_are_another_pairs_replies(rt: HostRuntime) {
-    let mut trial = one_layer(rt.alloc(), 16, &hide_source()).expect(&rt, "memory");
-    assert_eq!(rt; send(&mut trial, OTHER, 7), Some(Ok(true)));
-    assert_eq!(rt; send(&mut trial, OTHER, 8), Some(Ok(true)));
-    let taken = Stop::Taken {
-        controller: 1,
-        layer: 10,
-        pair: 1,
-    };
-    assert_eq!(rt; send(&mut trial, OWN, 8), Some(Err(taken)));
-    assert_eq!(rt; trial.told(0), Some((2, 2)));
+    assert!(&rt; tried(rt.alloc(), &HIDING, &REPLIES) == RIGHT);
 }
+
+const TAKEN_BY_FIRST: Stop = Stop::Taken {
+    controller: 1,
+    layer: 10,
+    pair: 0,
+};
+
+const PACKETS: [Step; 3] = [
+    Step::Becomes {
+        sent: Sent::In { port: 8 },
+        becomes: Ok(true),
+    },
+    Step::Becomes {
+        sent: Sent::Out { port: 8 },
+        becomes: Err(TAKEN_BY_FIRST),
+    },
+    Step::Becomes {
+        sent: Sent::Out { port: 9 },
+        becomes: Ok(true),
+    },
+];
 
 #[test]
 fn replies_are_another_pairs_packets(rt: HostRuntime) {
-    let mut trial = one_layer(rt.alloc(), 16, &hide_source()).expect(&rt, "memory");
-    let opened = trial.cross(Dir::In, UDP, (FAR, 53), (PUBLIC, 8), Control::None, 44);
-    assert_eq!(rt; opened, Some(Ok(true)));
-    let taken = Stop::Taken {
-        controller: 1,
-        layer: 10,
-        pair: 0,
-    };
-    assert_eq!(rt; send(&mut trial, OWN, 8), Some(Err(taken)));
-    assert_eq!(rt; send(&mut trial, OWN, 9), Some(Ok(true)));
+    assert!(&rt; tried(rt.alloc(), &HIDING, &PACKETS) == RIGHT);
 }
+
+const SECOND_FULL: Stop = Stop::Full {
+    controller: 1,
+    layer: 20,
+};
+
+const REFUSED: [Step; 4] = [
+    Step::Becomes {
+        sent: Sent::Out { port: 1 },
+        becomes: Ok(true),
+    },
+    Step::Becomes {
+        sent: Sent::Out { port: 2 },
+        becomes: Err(SECOND_FULL),
+    },
+    Step::Has {
+        place: 0,
+        pairs: 1,
+        next: 1,
+    },
+    Step::Has {
+        place: 1,
+        pairs: 1,
+        next: 1,
+    },
+];
 
 #[test]
 fn a_refusal_in_one_layer_leaves_the_other_as_it_was(rt: HostRuntime) {
-    let mut trial = two_layers(rt.alloc(), &Action::Allow, true).expect(&rt, "memory");
-    assert_eq!(rt; send(&mut trial, OWN, 1), Some(Ok(true)));
-    let full = Stop::Full {
-        controller: 1,
-        layer: 20,
-    };
-    assert_eq!(rt; send(&mut trial, OWN, 2), Some(Err(full)));
-    assert_eq!(rt; trial.told(0), Some((1, 1)));
-    assert_eq!(rt; trial.told(1), Some((1, 1)));
+    assert!(&rt; tried(rt.alloc(), &BOTH, &REFUSED) == RIGHT);
 }
+
+const DROPPED: [Step; 2] = [
+    Step::Becomes {
+        sent: Sent::Out { port: 1 },
+        becomes: Ok(false),
+    },
+    Step::Has {
+        place: 0,
+        pairs: 0,
+        next: 0,
+    },
+];
 
 #[test]
 fn a_drop_changes_nothing(rt: HostRuntime) {
-    let mut trial = two_layers(rt.alloc(), &Action::Drop, false).expect(&rt, "memory");
-    assert_eq!(rt; send(&mut trial, OWN, 1), Some(Ok(false)));
-    assert_eq!(rt; trial.told(0), Some((0, 0)));
+    assert!(&rt; tried(rt.alloc(), &DROPPING, &DROPPED) == RIGHT);
 }

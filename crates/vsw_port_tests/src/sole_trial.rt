@@ -1,42 +1,15 @@
 //! A port that answers by rows, and a ledger in which each packet is walked and settled. Both get the same packets and
 //! commands.
 
-ghost use Rattle.std.specs.Prelude.{◌≡◌, ◌≤◌, IsTrue};
-ghost use Rattle.vsw_policy.specs.Obey.{rules_given};
-ghost use Rattle.vsw_policy.specs.Sound.{Each, IsGoodRule, is_listed};
+ghost use Rattle.std.specs.Prelude.{◌≡◌, ◌≤◌};
 
+use crate::commands::{Asked, command};
+use crate::given::{is_good, is_listed};
 use std::alloc::Global;
 use vsw_base::{Crossing, Fate};
 use vsw_policy::{Command, Policy, Reply};
-use vsw_port::{Event, Ledger};
-use vsw_rule::Rule;
+use vsw_port::{Core, Event};
 use vsw_sole::SolePort;
-use vsw_walk::{Scratch, walk};
-
-fn are_good(rules: &[Rule]) -> bool
-    ensures { IsTrue result → Each IsGoodRule rules.now }
-{
-    match rules {
-        [] => true,
-        [first, rest @ ..] => first.check().is_ok() && are_good(rest),
-    }
-}
-
-fn is_good(command: &Command) -> bool
-    ensures { IsTrue result → Each IsGoodRule (rules_given command.now) }
-{
-    match command {
-        Command::PutRules { rules, .. } => are_good(rules.as_slice()),
-        Command::AddRule { rule, .. } => rule.check().is_ok(),
-        _ => true,
-    }
-}
-
-fn is_listed(controllers: &[u16], controller: u16) -> bool
-    ensures { result ≡ is_listed controllers.now controller }
-{
-    controllers.iter().any(|listed| controller == *listed)
-}
 
 /// Whether two entries are one: the same packet with the same fate, or the same line with the same reply.
 fn is_same(one: &Event, other: &Event) -> bool {
@@ -74,73 +47,93 @@ fn are_same(ones: &[Event], others: &[Event]) -> bool {
     true
 }
 
-/// A port of controllers 1 and 2, at first without layers, with workers 0 and 1.
+/// A port that answers by rows, of controllers 1 and 2, at first without layers, with workers 0 and 1.
+fn port(alloc: Global, rows: u32) -> Option<SolePort>
+    requires { (8 ≤ rows) × (rows ≤ 16384) }
+{
+    let Ok(policy) = Policy::new(alloc, &[1, 2]) else {
+        return None;
+    };
+    match SolePort::open(alloc, policy, rows, 2) {
+        Ok(port) => Some(port),
+        Err(_) => None,
+    }
+}
+
+/// The same in which each packet is walked and settled.
+fn plain(alloc: Global) -> Option<Core> {
+    let Ok(policy) = Policy::new(alloc, &[1, 2]) else {
+        return None;
+    };
+    match Core::open(alloc, policy) {
+        Ok(core) => Some(core),
+        Err(_) => None,
+    }
+}
+
+/// Both of them.
 #[derive(Drop)]
 pub struct Trial {
     port: SolePort,
-    ledger: Ledger,
-    scratch: Scratch,
+    plain: Core,
 }
 
 impl Trial {
     pub fn new(alloc: Global, rows: u32) -> Option<Trial>
         requires { (8 ≤ rows) × (rows ≤ 16384) }
     {
-        let Ok(policy) = Policy::new(alloc, &[1, 2]) else {
-            return None;
-        };
-        let Ok(same) = Policy::new(alloc, &[1, 2]) else {
-            return None;
-        };
-        let Ok(scratch) = Scratch::new(alloc) else {
-            return None;
-        };
-        match SolePort::open(alloc, policy, rows, 2) {
-            Ok(port) => Some(Trial {
-                port,
-                ledger: Ledger::open(alloc, same),
-                scratch,
-            }),
-            Err(_) => None,
+        let port = port(alloc, rows)?;
+        match plain(alloc) {
+            Some(plain) => Some(Trial { port, plain }),
+            None => None,
         }
     }
 
     /// The fate of a packet, where both are told the same: the outcome, and after a pass the headers.
     pub fn send(&mut self, crossing: &Crossing) -> Option<Fate> {
-        if self.ledger.journal().len() >= 100_000 || crossing.caller >= self.port.workers() {
+        if self.plain.journal().len() >= 100_000 || crossing.caller >= self.port.workers() {
             return None;
         }
-        if self.port.reserve(1).is_err() || self.ledger.reserve(1).is_err() {
+        if self.port.reserve(1).is_err() || self.plain.reserve(1).is_err() {
             return None;
         }
         let outcome = self.port.cross(crossing);
-        let walked = walk(self.ledger.policy(), crossing, &mut self.scratch);
-        let plain = self.ledger.settle(crossing, &walked, &self.scratch);
-        if outcome != plain {
+        if outcome != self.plain.slow(crossing) {
             return None;
         }
         if let Fate::Pass { .. } = outcome.fate {
-            if self.port.edited().headers() != self.scratch.stack().headers() {
+            if self.port.edited().headers() != self.plain.edited().headers() {
                 return None;
             }
         }
         Some(outcome.fate)
     }
 
-    /// The reply to a command, where both are told the same.
-    pub fn ask(&mut self, line: u32, controller: u16, command: &Command) -> Option<Reply> {
-        if !is_listed(self.ledger.policy().controllers(), controller) || !is_good(command) {
+    fn given(&mut self, line: u32, controller: u16, command: &Command) -> Option<Reply> {
+        if !is_listed(self.plain.policy().controllers(), controller) || !is_good(command) {
             return None;
         }
         if !is_listed(self.port.controllers(), controller) {
             return None;
         }
-        if self.port.reserve(1).is_err() || self.ledger.reserve(1).is_err() {
+        if self.port.reserve(1).is_err() || self.plain.reserve(1).is_err() {
             return None;
         }
         let answer = Reply::of(self.port.command(line, controller, command));
-        let plain = Reply::of(self.ledger.command(line, controller, command));
+        let plain = Reply::of(self.plain.command(line, controller, command));
         if answer == plain { Some(answer) } else { None }
+    }
+
+    /// The reply to a command, where both are told the same.
+    pub fn ask(
+        &mut self,
+        alloc: Global,
+        line: u32,
+        controller: u16,
+        asked: Asked,
+    ) -> Option<Reply> {
+        let command = command(alloc, asked)?;
+        self.given(line, controller, &command)
     }
 
     /// The next so many rows are reconciled.
@@ -150,6 +143,6 @@ impl Trial {
 
     /// Whether both have the same history, of more than so many entries.
     pub fn agrees(&self, least: usize) -> bool {
-        self.port.journal().len() > least && are_same(self.port.journal(), self.ledger.journal())
+        self.port.journal().len() > least && are_same(self.port.journal(), self.plain.journal())
     }
 }

@@ -153,13 +153,15 @@ fn found(flows: &Flows, dir: Dir, key: &LayerKey) -> Found {
 }
 
 /// What the keys of `there` and `back` lead to, each out and in.
-fn found_by_both(flows: &Flows) -> [Found; 4] {
-    [
+type Both = (Found, Found, Found, Found);
+
+fn found_by_both(flows: &Flows) -> Both {
+    (
         found(flows, Dir::Out, &there()),
         found(flows, Dir::In, &there()),
         found(flows, Dir::Out, &back()),
         found(flows, Dir::In, &back()),
-    ]
+    )
 }
 
 /// The key of `there` from the next port.
@@ -167,17 +169,21 @@ fn there_from_next() -> LayerKey {
     key(0x0a00_0005, 0x0a00_0009, 40001, 80)
 }
 
+/// Whether both keys of a number lead to this.
+fn number_leads(flows: &Flows, number: u32, pair: Found) -> bool {
+    found(flows, Dir::Out, &there_of(number)) == pair
+        && found(flows, Dir::In, &back_of(number)) == pair
+}
+
 /// How many of the numbers below this have a pair that is open, and that both of its keys lead to.
 fn count_open(flows: &Flows, count: u32) -> u32 {
-    let mut there = 0u32;
+    let mut open = 0u32;
     for number in 0..count {
-        let front = found(flows, Dir::Out, &there_of(number));
-        let back = found(flows, Dir::In, &back_of(number));
-        if front == Some((number, Track::Open)) && back == front {
-            there = there.wrapping_add(1);
+        if number_leads(flows, number, Some((number, Track::Open))) {
+            open = open.wrapping_add(1);
         }
     }
-    there
+    open
 }
 
 /// Opens the pairs of these numbers, each used a second later than the one before.
@@ -208,8 +214,7 @@ enum Step {
     Counts(u32),
     /// So many numbers below `MOST` have an open pair that both of its keys lead to.
     CountsOpen(u32),
-    /// What `there` and `back` lead to, each out and in.
-    Both([Found; 4]),
+    Both(Both),
     /// What `there_from_next` leads to, out and in alike.
     Next(Found),
     /// What the keys of a number lead to: that of its flow out, and that of the replies in.
@@ -219,11 +224,6 @@ enum Step {
 fn next_leads(flows: &Flows, pair: Found) -> bool {
     found(flows, Dir::Out, &there_from_next()) == pair
         && found(flows, Dir::In, &there_from_next()) == pair
-}
-
-fn number_leads(flows: &Flows, number: u32, pair: Found) -> bool {
-    found(flows, Dir::Out, &there_of(number)) == pair
-        && found(flows, Dir::In, &back_of(number)) == pair
 }
 
 fn is_seen(flows: &Flows, step: &Step) -> bool {
@@ -276,12 +276,20 @@ enum First {
     One,
     /// Pair 7 came before pair 3, whose keys are `there_from_next`.
     Backwards,
+    /// Three whose keys touch.
     Touching,
+    /// Four of three rules.
     ByRules,
     /// One for each number below this.
     Below(u32),
     /// A full layer, of which each third pair was opened again.
     Reopened,
+}
+
+fn reopened(flows: &mut Flows) -> bool
+    requires none { flows.old.pairs ≡ [] }
+{
+    fill(flows, MOST) && flows.len() == MOST && reopen_thirds(flows)
 }
 
 fn begin(flows: &mut Flows, first: First) -> bool
@@ -293,7 +301,7 @@ fn begin(flows: &mut Flows, first: First) -> bool
         First::Touching => open_touching(flows),
         First::ByRules => open_by_rules(flows),
         First::Below(count) => fill(flows, count),
-        First::Reopened => fill(flows, MOST) && flows.len() == MOST && reopen_thirds(flows),
+        First::Reopened => reopened(flows),
     }
 }
 
@@ -312,21 +320,21 @@ fn tried(alloc: Global, first: First, steps: &[Step]) -> Result<(), Wrong> {
 }
 
 // What `there` and `back` lead to: nothing, or pair 0, which goes out.
-const NOTHING: [Found; 4] = [None, None, None, None];
+const NOTHING: Both = (None, None, None, None);
 
-const OPENING: [Found; 4] = [
+const OPENING: Both = (
     Some((0, Track::Opening)),
     None,
     None,
     Some((0, Track::Opening)),
-];
+);
 
-const CLOSED: [Found; 4] = [
+const CLOSED: Both = (
     Some((0, Track::Closed)),
     None,
     None,
     Some((0, Track::Closed)),
-];
+);
 
 const ONE: [Step; 9] = [
     Step::Counts(1),
@@ -396,14 +404,14 @@ fn open_touching(flows: &mut Flows) -> bool
 }
 
 // What `there` and `back` lead to then, and once the second is open and the first has gone.
-const BOTH: [Found; 4] = [
+const BOTH: Both = (
     Some((0, Track::Opening)),
     Some((1, Track::Opening)),
     Some((1, Track::Opening)),
     Some((0, Track::Opening)),
-];
+);
 
-const SECOND: [Found; 4] = [None, Some((1, Track::Open)), Some((1, Track::Open)), None];
+const SECOND: Both = (None, Some((1, Track::Open)), Some((1, Track::Open)), None);
 
 const TOUCHING: [Step; 5] = [
     Step::Both(BOTH),
@@ -418,7 +426,8 @@ fn pairs_whose_keys_touch_stay_apart(rt: HostRuntime) -> Result<(), Wrong> {
     tried(rt.alloc(), First::Touching, &TOUCHING)
 }
 
-/// Half of the open pairs and all that were opened again are swept, and the others go with their rule.
+/// Half of the open pairs and all that were opened again are swept, and the others go with their
+/// rule.
 const REOPENED: [Step; 12] = [
     Step::Counts(65_536),
     Step::CountsOpen(0),
@@ -504,7 +513,7 @@ const DUES: [Due; 4] = [
 fn are_due(dues: &[Due]) -> Result<(), Wrong> {
     for place in 0..dues.len() {
         let (last, state, idle, linger, moment) = dues[place];
-        if due(Moment::of(last), state, idle, linger) != Moment::of(moment) {
+        if due(Moment::of(last), state, idle, linger).micros() != moment {
             return Err(Wrong::Step(place));
         }
     }

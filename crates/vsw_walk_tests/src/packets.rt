@@ -129,8 +129,8 @@ pub fn places(scratch: &Scratch) -> Option<(u32, u32)> {
     }
 }
 
-/// What a packet looked for in a layer: the layer's place, encapsulations, source address and source port of
-/// the key, and the pair.
+/// What a packet looked for in a layer: the layer's place, encapsulations, source address and
+/// source port of the key, and the pair.
 pub type Look = (u32, u8, u32, u16, Option<u32>);
 
 /// What the packet looked for in the layer that it met after so many others.

@@ -169,8 +169,8 @@ fn rule(alloc: Global, action: &Action) -> Rule {
     }
 }
 
-/// Layer 10 of controller 3. Outbound packets go on where no rule decides, and inbound ones don't. Pairs live
-/// for 240 or, closed, 10 seconds, and the next one has number 6.
+/// Layer 10 of controller 3. Outbound packets go on where no rule decides, and inbound ones don't.
+/// Pairs live for 240 or, closed, 10 seconds, and the next one has number 6.
 fn layer(groups: Groups, flows: Flows) -> Layer {
     Layer {
         controller: 3,

@@ -4,15 +4,6 @@ use crate::wrong::Wrong;
 use vsw_base::{Control, Dir, Track};
 use vsw_layerflow::{Tracked, opening, track};
 
-/// The columns of the table.
-const CONTROLS: [Control; 5] = [
-    Control::Rst,
-    Control::Fin,
-    Control::SynAck,
-    Control::Syn,
-    Control::None,
-];
-
 const CLOSED: Tracked = Tracked::To(Track::Closed);
 
 const HALF_OUT: Tracked = Tracked::To(Track::Half(Dir::Out));
@@ -25,65 +16,67 @@ const OPENING: Tracked = Tracked::To(Track::Opening);
 
 const PLAIN: Tracked = Tracked::To(Track::Plain);
 
+/// What the controls make of a state: RST, FIN, SYN and ACK, SYN, and none.
+type Cells = (Tracked, Tracked, Tracked, Tracked, Tracked);
+
 /// A state of a pair that an outbound packet made, the direction of a packet, and what each control
 /// makes of the state.
-type Row = (Track, Dir, [Tracked; 5]);
+type Row = (Track, Dir, Cells);
 
 const ROWS: [Row; 12] = [
     (
         Track::Opening,
         Dir::Out,
-        [CLOSED, HALF_OUT, OPENING, OPENING, OPENING],
+        (CLOSED, HALF_OUT, OPENING, OPENING, OPENING),
     ),
     (
         Track::Opening,
         Dir::In,
-        [CLOSED, HALF_IN, OPEN, OPENING, OPENING],
+        (CLOSED, HALF_IN, OPEN, OPENING, OPENING),
     ),
-    (Track::Open, Dir::Out, [CLOSED, HALF_OUT, OPEN, OPEN, OPEN]),
-    (Track::Open, Dir::In, [CLOSED, HALF_IN, OPEN, OPEN, OPEN]),
+    (Track::Open, Dir::Out, (CLOSED, HALF_OUT, OPEN, OPEN, OPEN)),
+    (Track::Open, Dir::In, (CLOSED, HALF_IN, OPEN, OPEN, OPEN)),
     (
         Track::Half(Dir::Out),
         Dir::Out,
-        [CLOSED, HALF_OUT, HALF_OUT, HALF_OUT, HALF_OUT],
+        (CLOSED, HALF_OUT, HALF_OUT, HALF_OUT, HALF_OUT),
     ),
     (
         Track::Half(Dir::Out),
         Dir::In,
-        [CLOSED, CLOSED, HALF_OUT, HALF_OUT, HALF_OUT],
+        (CLOSED, CLOSED, HALF_OUT, HALF_OUT, HALF_OUT),
     ),
     (
         Track::Half(Dir::In),
         Dir::Out,
-        [CLOSED, CLOSED, HALF_IN, HALF_IN, HALF_IN],
+        (CLOSED, CLOSED, HALF_IN, HALF_IN, HALF_IN),
     ),
     (
         Track::Half(Dir::In),
         Dir::In,
-        [CLOSED, HALF_IN, HALF_IN, HALF_IN, HALF_IN],
+        (CLOSED, HALF_IN, HALF_IN, HALF_IN, HALF_IN),
     ),
     (
         Track::Closed,
         Dir::Out,
-        [CLOSED, CLOSED, CLOSED, Tracked::Reopen, CLOSED],
+        (CLOSED, CLOSED, CLOSED, Tracked::Reopen, CLOSED),
     ),
     (
         Track::Closed,
         Dir::In,
-        [CLOSED, CLOSED, CLOSED, Tracked::Reopen, CLOSED],
+        (CLOSED, CLOSED, CLOSED, Tracked::Reopen, CLOSED),
     ),
-    (Track::Plain, Dir::Out, [PLAIN, PLAIN, PLAIN, PLAIN, PLAIN]),
-    (Track::Plain, Dir::In, [PLAIN, PLAIN, PLAIN, PLAIN, PLAIN]),
+    (Track::Plain, Dir::Out, (PLAIN, PLAIN, PLAIN, PLAIN, PLAIN)),
+    (Track::Plain, Dir::In, (PLAIN, PLAIN, PLAIN, PLAIN, PLAIN)),
 ];
 
 fn is_made(row: &Row) -> bool {
-    let (now, dir, cells) = row;
-    for column in 0..5 {
-        if track(*now, Dir::Out, CONTROLS[column], *dir) != cells[column] {
-            return false;
-        }
-    }
-    true
+    let (now, dir, (rst, fin, syn_ack, syn, none)) = *row;
+    track(now, Dir::Out, Control::Rst, dir) == rst
+        && track(now, Dir::Out, Control::Fin, dir) == fin
+        && track(now, Dir::Out, Control::SynAck, dir) == syn_ack
+        && track(now, Dir::Out, Control::Syn, dir) == syn
+        && track(now, Dir::Out, Control::None, dir) == none
 }
 
 fn are_made(rows: &[Row]) -> Result<(), Wrong> {
@@ -100,44 +93,49 @@ fn packets_move_a_pair() -> Result<(), Wrong> {
     are_made(&ROWS)
 }
 
-#[test]
-fn replies_open_a_pair_of_inbound_packets(rt: HostRuntime) {
-    let made = [
-        track(Track::Opening, Dir::In, Control::SynAck, Dir::Out),
-        track(Track::Opening, Dir::In, Control::SynAck, Dir::In),
-    ];
-    assert!(rt; made == [OPEN, OPENING]);
-}
+/// The direction of a packet that acknowledges a SYN, and what it makes of a pair that an inbound
+/// packet made.
+type Reply = (Dir, Tracked);
 
-/// What each control makes of no pair.
-fn are_openings(dir: Dir, states: &[Track; 5]) -> Result<(), Wrong> {
-    for column in 0..5 {
-        if opening(CONTROLS[column], dir) != states[column] {
-            return Err(Wrong::Step(column));
+const REPLIES: [Reply; 2] = [(Dir::Out, OPEN), (Dir::In, OPENING)];
+
+fn are_replies(rows: &[Reply]) -> Result<(), Wrong> {
+    for place in 0..rows.len() {
+        let (dir, made) = rows[place];
+        if track(Track::Opening, Dir::In, Control::SynAck, dir) != made {
+            return Err(Wrong::Step(place));
         }
     }
     Ok(())
 }
 
-/// What outbound packets make.
-const OPENINGS: [Track; 5] = [
-    Track::Closed,
-    Track::Half(Dir::Out),
-    Track::Open,
-    Track::Opening,
-    Track::Open,
+#[test]
+fn replies_open_a_pair_of_inbound_packets() -> Result<(), Wrong> {
+    are_replies(&REPLIES)
+}
+
+/// A control, and the state of the pair that an outbound and an inbound packet with it makes.
+type Opened = (Control, Track, Track);
+
+const OPENED: [Opened; 5] = [
+    (Control::Rst, Track::Closed, Track::Closed),
+    (Control::Fin, Track::Half(Dir::Out), Track::Half(Dir::In)),
+    (Control::SynAck, Track::Open, Track::Open),
+    (Control::Syn, Track::Opening, Track::Opening),
+    (Control::None, Track::Open, Track::Open),
 ];
 
-const OPENINGS_IN: [Track; 5] = [
-    Track::Closed,
-    Track::Half(Dir::In),
-    Track::Open,
-    Track::Opening,
-    Track::Open,
-];
+fn are_opened(rows: &[Opened]) -> Result<(), Wrong> {
+    for place in 0..rows.len() {
+        let (control, out, back) = rows[place];
+        if opening(control, Dir::Out) != out || opening(control, Dir::In) != back {
+            return Err(Wrong::Step(place));
+        }
+    }
+    Ok(())
+}
 
 #[test]
 fn packets_make_a_pair() -> Result<(), Wrong> {
-    are_openings(Dir::Out, &OPENINGS)?;
-    are_openings(Dir::In, &OPENINGS_IN)
+    are_opened(&OPENED)
 }

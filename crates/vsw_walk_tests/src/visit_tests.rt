@@ -236,8 +236,8 @@ fn a_translated_fragment_wants_a_pair_without_states(rt: HostRuntime) -> Result<
     tried(rt.alloc(), &has, &[Step::OpensByFragment])
 }
 
-/// A pair in this state, the direction and the control of a packet, and the state to which it moves the
-/// pair, if to any.
+/// A pair in this state, the direction and the control of a packet, and the state to which it moves
+/// the pair, if to any.
 type Move = (Track, Dir, Control, Option<Track>);
 
 /// Tries whether a packet takes what the pair writes, though the rule drops, and moves it so.

@@ -59,7 +59,8 @@ pub enum Step {
     Layer(usize, (u16, u16)),
     /// So many groups are in the layer at a place.
     Groups(usize, usize),
-    /// What is told of the group at a place of the first layer, of its first condition, and of its rules.
+    /// What is told of the group at a place of the first layer, of its first condition, and of its
+    /// rules.
     Group(usize, Told),
     Items(usize, (Field, usize)),
     Rules(usize, Rules),

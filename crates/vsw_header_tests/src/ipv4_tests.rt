@@ -22,7 +22,7 @@ fn options_are_skipped(rt: HostRuntime) {
         payload: &packet[28..],
         trailer: &[],
     };
-    assert_eq!(rt; read_ip(&packet), Ok(part));
+    assert!(rt; read_ip(&packet) == Ok(part));
 }
 
 #[test]
@@ -41,7 +41,7 @@ fn a_fragment_is_told(rt: HostRuntime) {
         payload: &[0x66; 32],
         trailer: &[0x66; 2],
     };
-    assert_eq!(rt; read_ip(&packet), Ok(part));
+    assert!(rt; read_ip(&packet) == Ok(part));
 }
 
 /// 30 bytes of UDP from 10.0.0.5 to 10.0.0.9.
@@ -50,36 +50,58 @@ const PACKET: [u8; 30] = [
     0x0a, 0x00, 0x00, 0x09, 0x04, 0xd2, 0x00, 0x35, 0x00, 0x0a, 0x7e, 0x5c, 0x68, 0x69,
 ];
 
+/// The fault of some bytes, if they have one.
+fn fault(bytes: &[u8]) -> Option<BadFrame> {
+    match read_ip(bytes) {
+        Ok(_) => None,
+        Err(fault) => Some(fault),
+    }
+}
+
+/// The fault of `PACKET` with this first byte and this lower byte of its length.
+fn fault_with(first: u8, len: u8) -> Option<BadFrame> {
+    let mut packet = PACKET;
+    packet[0] = first;
+    packet[3] = len;
+    fault(&packet)
+}
+
 #[test]
 fn faults_are_told(rt: HostRuntime) {
-    assert_eq!(rt; read_ip(&PACKET[..19]), Err(BadFrame::ShortIp));
-    let mut packet = PACKET;
-    packet[0] = 0x65;
-    assert_eq!(rt; read_ip(&packet), Err(BadFrame::IpVersion));
-    packet[0] = 0x44;
-    assert_eq!(rt; read_ip(&packet), Err(BadFrame::IpLength));
-    packet[0] = 0x45;
-    packet[3] = 31;
-    assert_eq!(rt; read_ip(&packet), Err(BadFrame::IpLength));
+    let found = [
+        fault(&PACKET[..19]),
+        fault_with(0x65, 30),
+        fault_with(0x44, 30),
+        fault_with(0x45, 31),
+    ];
+    assert!(rt;
+        found
+            == [
+                Some(BadFrame::ShortIp),
+                Some(BadFrame::IpVersion),
+                Some(BadFrame::IpLength),
+                Some(BadFrame::IpLength),
+            ]
+    );
 }
 
 #[test]
 fn a_header_is_written_at_the_front(rt: HostRuntime) {
     let mut out = [0xee; 22];
     write_ip(&mut out, Ip4::of(0x0a00_0005), Ip4::of(0x0a00_0009), 30);
-    assert_eq!(rt; &out[..20], &PACKET[..20]);
-    assert_eq!(rt; &out[20..], [0xee, 0xee].as_slice());
+    let is_written = &out[..20] == &PACKET[..20] && out[20] == 0xee && out[21] == 0xee;
     // 80 bytes from 172.16.0.1 to 172.16.0.2
     write_ip(&mut out, Ip4::of(0xac10_0001), Ip4::of(0xac10_0002), 80);
-    assert_eq!(rt; &out[10..12], [0xe2, 0x79].as_slice());
+    assert!(rt; is_written && out[10] == 0xe2 && out[11] == 0x79);
 }
 
 #[test]
 fn addresses_are_changed_in_place(rt: HostRuntime) {
     let mut packet = PACKET;
     change_ip(&mut packet, Ip4::of(0xc000_0207), Ip4::of(0x0a00_0009));
-    let mut changed = PACKET;
-    changed[10..16].copy_from_slice(&[0x6e, 0xbf, 0xc0, 0x00, 0x02, 0x07]);
-    assert_eq!(rt; packet, changed);
-    assert_eq!(rt; header_len(&packet), 20);
+    let changed = [
+        0x45, 0x00, 0x00, 0x1e, 0x00, 0x00, 0x40, 0x00, 0x40, 0x11, 0x6e, 0xbf, 0xc0, 0x00, 0x02,
+        0x07, 0x0a, 0x00, 0x00, 0x09, 0x04, 0xd2, 0x00, 0x35, 0x00, 0x0a, 0x7e, 0x5c, 0x68, 0x69,
+    ];
+    assert!(rt; packet == changed && header_len(&packet) == 20);
 }

@@ -1,60 +1,76 @@
 //! The choice by the indexes of groups that commands change, beside the choice over lists.
 
-use crate::samples::{Random, Tally, group, packet};
+use crate::samples::{Random, Tally, group, numbers, packet};
 use std::alloc::Global;
-use std::test::Fail;
-use vsw_base::Dir;
+use vsw_base::{Dir, Stack};
 use vsw_classify::{Groups, IndexedRules};
-use vsw_rule::choose;
+use vsw_rule::{Group, choose};
 
-/// Does to one of six groups what commands may do: it goes, it comes anew, it gets other rules, or one of them comes or goes.
-fn change(alloc: Global, groups: &mut Groups, random: &mut Random) -> Result<(), Fail> {
+fn put_rules(alloc: Global, groups: &mut Groups, drawn: Group) -> Option<()> {
+    let number = drawn.number;
+    let rules = IndexedRules::of(alloc, drawn.rules).ok()?;
+    groups.put_rules(number, rules);
+    Some(())
+}
+
+fn add_first_rule(alloc: Global, groups: &mut Groups, drawn: &Group) -> Option<()> {
+    match drawn.rules.as_slice().first() {
+        Some(rule) => groups.add_rule(alloc, drawn.number, rule).ok(),
+        None => Some(()),
+    }
+}
+
+fn put(alloc: Global, groups: &mut Groups, drawn: Group) -> Option<()> {
+    groups.remove(drawn.number);
+    groups.push(alloc, drawn).ok()
+}
+
+/// Does to one of six groups what commands may do: it goes, it comes anew, it gets other rules, or
+/// one of them comes or goes.
+fn change(alloc: Global, groups: &mut Groups, random: &mut Random) -> Option<()> {
     let number = (random.next() % 6) as u16;
     let drawn = group(alloc, number, random)?;
     match random.next() % 6 {
-        0 => groups.remove(number),
-        1 => groups.put_rules(number, IndexedRules::of(alloc, drawn.rules)?),
-        2 => {
-            if let Some(rule) = drawn.rules.as_slice().first() {
-                groups.add_rule(alloc, number, rule)?;
-            }
-        }
-        3 => groups.remove_rule(alloc, number, (random.next() % 16) as u16)?,
-        _ => {
+        0 => {
             groups.remove(number);
-            groups.push(alloc, drawn)?;
+            Some(())
         }
+        1 => put_rules(alloc, groups, drawn),
+        2 => add_first_rule(alloc, groups, &drawn),
+        3 => {
+            let rule = (random.next() % 16) as u16;
+            groups.remove_rule(alloc, number, rule).ok()
+        }
+        _ => put(alloc, groups, drawn),
     }
-    Ok(())
 }
 
-fn compare(
-    alloc: Global,
-    groups: &Groups,
-    random: &mut Random,
-    tally: &mut Tally,
-) -> Result<(), Fail> {
+fn compare(groups: &Groups, stack: &Stack, tally: &mut Tally) {
+    let by_list = numbers(choose(Dir::Out, groups.as_slice(), stack));
+    let by_index = numbers(groups.choose(Dir::Out, stack));
+    tally.note(by_list.is_some(), by_index != by_list);
+}
+
+fn compare_packets(groups: &Groups, random: &mut Random, tally: &mut Tally) -> Option<()> {
     for _ in 0..10u32 {
-        let stack = packet(alloc, random)?;
-        let by_list = choose(Dir::Out, groups.as_slice(), &stack).map(|c| (c.group, c.rule.number));
-        let by_index = groups
-            .choose(Dir::Out, &stack)
-            .map(|c| (c.group, c.rule.number));
-        tally.note(by_list.is_some(), by_index != by_list);
+        compare(groups, &packet(random)?, tally);
     }
-    Ok(())
+    Some(())
 }
 
-/// 100 changes, with 10 packets after each.
-#[test]
-fn indexes_follow_the_commands(rt: HostRuntime) -> Result<(), Fail> {
+/// Whether enough packets met a rule, and how many differ: 100 changes, with 10 packets after each.
+fn tallied(alloc: Global) -> Option<(bool, u32)> {
     let mut random = Random::new(3);
-    let mut tally = Tally { met: 0, differ: 0 };
-    let mut groups = Groups::new(rt.alloc());
+    let mut tally = Tally::new();
+    let mut groups = Groups::new(alloc);
     for _ in 0..100u32 {
-        change(rt.alloc(), &mut groups, &mut random)?;
-        compare(rt.alloc(), &groups, &mut random, &mut tally)?;
+        change(alloc, &mut groups, &mut random)?;
+        compare_packets(&groups, &mut random, &mut tally)?;
     }
-    assert_eq!(rt; (tally.met > 500, tally.differ), (true, 0));
-    Ok(())
+    Some((tally.met > 500, tally.differ))
+}
+
+#[test]
+fn indexes_follow_the_commands(rt: HostRuntime) {
+    assert!(rt; tallied(rt.alloc()) == Some((true, 0)));
 }

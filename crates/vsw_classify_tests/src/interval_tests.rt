@@ -1,7 +1,7 @@
 //! The index beside a walk over the list that it was built of.
 
+use crate::samples::stirred;
 use std::alloc::{AllocError, Global};
-use std::test::Fail;
 use vsw_index::{Interval, PlacedRange};
 
 fn placed(place: u32, low: u64, high: u64) -> PlacedRange {
@@ -12,10 +12,31 @@ const LAST_PLACE: u32 = 0xffff_ffff;
 
 const GREATEST: u64 = 0xffff_ffff_ffff_ffff;
 
+/// The place of the first row of a value, a place and the least place of an item from there on that
+/// holds the value, to which the answer is another.
+fn wrong_row(index: &Interval, rows: &[(u64, u32, Option<u32>)]) -> Option<usize> {
+    for place in 0..rows.len() {
+        let (value, from, least) = rows[place];
+        if index.least(value, from) != least {
+            return Some(place);
+        }
+    }
+    None
+}
+
+/// The first wrong row of these items.
+fn tried(
+    alloc: Global,
+    items: &[PlacedRange],
+    rows: &[(u64, u32, Option<u32>)],
+) -> Option<Option<usize>> {
+    let index = Interval::build(alloc, items).ok()?;
+    Some(wrong_row(&index, rows))
+}
+
 #[test]
 fn overlapping_ranges_answer_by_place(rt: HostRuntime) {
     let items = [placed(0, 10, 20), placed(1, 15, 15)];
-    let index = Interval::build(rt.alloc(), &items).expect(&rt, "there is memory");
     let rows = [
         (15, 0, Some(0)),
         (15, 1, Some(1)),
@@ -25,15 +46,12 @@ fn overlapping_ranges_answer_by_place(rt: HostRuntime) {
         (10, 0, Some(0)),
         (9, 0, None),
     ];
-    for (value, from, place) in rows {
-        assert_eq!(rt; index.least(value, from), place);
-    }
+    assert!(rt; tried(rt.alloc(), &items, &rows) == Some(None));
 }
 
 #[test]
 fn no_items_answer_none(rt: HostRuntime) {
-    let index = Interval::build(rt.alloc(), &[]).expect(&rt, "there is memory");
-    assert_eq!(rt; index.least(15, 0), None);
+    assert!(rt; tried(rt.alloc(), &[], &[(15, 0, None)]) == Some(None));
 }
 
 #[test]
@@ -44,7 +62,6 @@ fn greatest_values_and_repeated_places_answer(rt: HostRuntime) {
         placed(7, 0, 0),
         placed(3, 9, 8),
     ];
-    let index = Interval::build(rt.alloc(), &items).expect(&rt, "there is memory");
     let rows = [
         (GREATEST, 0, Some(7)),
         (GREATEST, 8, Some(LAST_PLACE)),
@@ -53,9 +70,7 @@ fn greatest_values_and_repeated_places_answer(rt: HostRuntime) {
         (4, 0, None),
         (9, 0, Some(7)),
     ];
-    for (value, from, place) in rows {
-        assert_eq!(rt; index.least(value, from), place);
-    }
+    assert!(rt; tried(rt.alloc(), &items, &rows) == Some(None));
 }
 
 fn walked(items: &[PlacedRange], value: u64, from: u32) -> Option<u32> {
@@ -66,13 +81,6 @@ fn walked(items: &[PlacedRange], value: u64, from: u32) -> Option<u32> {
         }
     }
     found
-}
-
-/// The next state of a linear congruential generator (Knuth's MMIX).
-fn stirred(state: u64) -> u64 {
-    state
-        .wrapping_mul(6_364_136_223_846_793_005)
-        .wrapping_add(1_442_695_040_888_963_407)
 }
 
 /// Narrow ranges, and every eighth one wide, at places that repeat.
@@ -92,17 +100,28 @@ fn many(alloc: Global) -> Result<Vec<PlacedRange>, AllocError> {
     Ok(items)
 }
 
-#[test]
-fn many_items_answer_as_their_list(rt: HostRuntime) -> Result<(), Fail> {
-    let items = many(rt.alloc())?;
-    let index = Interval::build(rt.alloc(), &items).expect(&rt, "there is memory");
-    assert_eq!(rt; index.items().len(), 200);
+/// The first of 2,000 look-ups that answers otherwise than the walk.
+fn wrong_lookup(index: &Interval, items: &[PlacedRange]) -> Option<u32> {
     let mut state = 2u64;
-    for _ in 0..2_000u32 {
+    for round in 0..2_000u32 {
         state = stirred(state);
         let value = (state >> 40) % 5200;
         let from = ((state >> 20) % 310) as u32;
-        assert_eq!(rt; index.least(value, from), walked(&items, value, from));
+        if index.least(value, from) != walked(items, value, from) {
+            return Some(round);
+        }
     }
-    Ok(())
+    None
+}
+
+/// How many items there are, and the first look-up that answers otherwise.
+fn looked_up(alloc: Global) -> Option<(usize, Option<u32>)> {
+    let items = many(alloc).ok()?;
+    let index = Interval::build(alloc, &items).ok()?;
+    Some((index.items().len(), wrong_lookup(&index, &items)))
+}
+
+#[test]
+fn many_items_answer_as_their_list(rt: HostRuntime) {
+    assert!(rt; looked_up(rt.alloc()) == Some((200, None)));
 }

@@ -1,9 +1,15 @@
 //! Groups and packets that look random. Values are few, so that conditions often hold.
 
 use std::alloc::Global;
-use std::test::Fail;
-use vsw_base::{Dir, Header, Ip4, Items, Mac, Prefix, Set, Stack};
-use vsw_rule::{Action, Cond, Field, Group, Item, Rule};
+use vsw_base::{Dir, Header, Headers, Ip4, Items, Mac, Prefix, Set, Stack};
+use vsw_rule::{Action, Choice, Cond, Field, Group, Item, Rule};
+
+/// The next state of a linear congruential generator (Knuth's MMIX).
+pub fn stirred(state: u64) -> u64 {
+    state
+        .wrapping_mul(6_364_136_223_846_793_005)
+        .wrapping_add(1_442_695_040_888_963_407)
+}
 
 /// Numbers that look random.
 #[derive(Drop)]
@@ -18,12 +24,9 @@ impl Random {
         Random { state: seed }
     }
 
-    /// The upper half of the next state of a linear congruential generator (Knuth's MMIX).
+    /// The upper half of the next state.
     pub fn next(&mut self) -> u32 {
-        self.state = self
-            .state
-            .wrapping_mul(6_364_136_223_846_793_005)
-            .wrapping_add(1_442_695_040_888_963_407);
+        self.state = stirred(self.state);
         (self.state >> 32) as u32
     }
 
@@ -88,24 +91,24 @@ fn item(field: Field, random: &mut Random) -> Item {
     }
 }
 
-fn condition(alloc: Global, random: &mut Random) -> Result<Cond, Fail> {
+fn condition(alloc: Global, random: &mut Random) -> Option<Cond> {
     let field = field(random);
     let mut items: Vec<Item> = Vec::new(alloc);
     for _ in 0..random.next() % 4 {
-        items.push(item(field, random))?;
+        items.push(item(field, random)).ok()?;
     }
-    Ok(Cond {
+    Some(Cond {
         field,
         items: Items::of(items),
     })
 }
 
-pub fn conditions(alloc: Global, most: u32, random: &mut Random) -> Result<Items<Cond>, Fail> {
+fn conditions(alloc: Global, most: u32, random: &mut Random) -> Option<Items<Cond>> {
     let mut conditions: Vec<Cond> = Vec::new(alloc);
     for _ in 0..random.next() % most.max(1) {
-        conditions.push(condition(alloc, random)?)?;
+        conditions.push(condition(alloc, random)?).ok()?;
     }
-    Ok(Items::of(conditions))
+    Some(Items::of(conditions))
 }
 
 fn unset() -> Set {
@@ -120,7 +123,7 @@ fn unset() -> Set {
 }
 
 /// A rule whose number is its place.
-fn rule(alloc: Global, place: u16, random: &mut Random) -> Result<Rule, Fail> {
+fn rule(alloc: Global, place: u16, random: &mut Random) -> Option<Rule> {
     let action = if random.chance(4) {
         Action::Edit {
             decap: true,
@@ -130,7 +133,7 @@ fn rule(alloc: Global, place: u16, random: &mut Random) -> Result<Rule, Fail> {
     } else {
         Action::Drop
     };
-    Ok(Rule {
+    Some(Rule {
         number: place,
         priority: (random.next() % 4) as u16,
         when: conditions(alloc, 4, random)?,
@@ -140,17 +143,23 @@ fn rule(alloc: Global, place: u16, random: &mut Random) -> Result<Rule, Fail> {
     })
 }
 
-pub fn group(alloc: Global, number: u16, random: &mut Random) -> Result<Group, Fail> {
+fn rules(alloc: Global, random: &mut Random) -> Option<Items<Rule>> {
     let mut rules: Vec<Rule> = Vec::new(alloc);
     let most = 1 + random.next() % 40;
     for place in 0..random.next() % most {
-        rules.push(rule(alloc, place as u16, random)?)?;
+        rules.push(rule(alloc, place as u16, random)?).ok()?;
     }
-    Ok(Group {
+    Some(Items::of(rules))
+}
+
+pub fn group(alloc: Global, number: u16, random: &mut Random) -> Option<Group> {
+    let rules = rules(alloc, random)?;
+    let dir = if random.chance(4) { Dir::In } else { Dir::Out };
+    Some(Group {
         number,
-        dir: if random.chance(4) { Dir::In } else { Dir::Out },
+        dir,
         when: conditions(alloc, 2, random)?,
-        rules: Items::of(rules),
+        rules,
     })
 }
 
@@ -171,32 +180,52 @@ fn ip(proto: u8, part: bool, random: &mut Random) -> Header {
     }
 }
 
-/// A packet in up to two encapsulations, of UDP, TCP, another protocol or none.
-pub fn packet(alloc: Global, random: &mut Random) -> Result<Stack, Fail> {
-    let mut headers: Vec<Header> = Vec::new(alloc);
-    for _ in 0..(random.next() % 5).saturating_sub(2) {
-        headers.push(ether(0x0800, random))?;
-        headers.push(ip(17, false, random))?;
-        headers.push(Header::Vxlan {
-            vni: random.next() % 16,
-        })?;
+fn add(headers: &mut Headers, header: Header) {
+    if headers.as_slice().len() < 9 {
+        headers.push(header);
     }
+}
+
+fn add_encap(headers: &mut Headers, random: &mut Random) {
+    add(headers, ether(0x0800, random));
+    add(headers, ip(17, false, random));
+    let vni = random.next() % 16;
+    add(headers, Header::Vxlan { vni });
+}
+
+/// The inner headers of UDP, TCP, another protocol or none.
+fn add_inner(headers: &mut Headers, random: &mut Random) {
     if random.chance(8) {
-        headers.push(ether(0x0806, random))?;
-        return Ok(Stack::of(&headers)?);
+        add(headers, ether(0x0806, random));
+        return;
     }
-    headers.push(ether(0x0800, random))?;
+    add(headers, ether(0x0800, random));
     let proto = [17u8, 17, 6, 1][random.next() as usize % 4];
     let part = random.chance(8);
-    headers.push(ip(proto, part, random))?;
+    add(headers, ip(proto, part, random));
     if !part && proto != 1 {
-        headers.push(Header::Ports {
-            proto,
-            src: random.port(),
-            dst: random.port(),
-        })?;
+        let src = random.port();
+        let dst = random.port();
+        add(headers, Header::Ports { proto, src, dst });
     }
-    Ok(Stack::of(&headers)?)
+}
+
+/// A packet in up to two encapsulations.
+pub fn packet(random: &mut Random) -> Option<Stack> {
+    let mut headers = Headers::new();
+    for _ in 0..(random.next() % 5).saturating_sub(2) {
+        add_encap(&mut headers, random);
+    }
+    add_inner(&mut headers, random);
+    Stack::of(headers.as_slice()).ok()
+}
+
+/// The numbers of the group and of the rule that a packet meets.
+pub fn numbers(choice: Option<Choice<'_>>) -> Option<(u16, u16)> {
+    match choice {
+        Some(choice) => Some((choice.group, choice.rule.number)),
+        None => None,
+    }
 }
 
 /// How many packets met a rule, and of how many index and list tell otherwise.
@@ -207,6 +236,10 @@ pub struct Tally {
 }
 
 impl Tally {
+    pub fn new() -> Tally {
+        Tally { met: 0, differ: 0 }
+    }
+
     pub fn note(&mut self, met: bool, differ: bool) {
         self.met = self.met.wrapping_add(u32::from(met));
         self.differ = self.differ.wrapping_add(u32::from(differ));

@@ -1,7 +1,7 @@
 //! The trie beside a walk over the list that it was built of.
 
+use crate::samples::stirred;
 use std::alloc::{AllocError, Global};
-use std::test::Fail;
 use vsw_base::{Ip4, Prefix};
 use vsw_index::{PlacedPrefix, Trie};
 
@@ -19,6 +19,28 @@ const NEAR: u32 = 0x0a00_0009;
 
 const ALL_ONES: u32 = 0xffff_ffff;
 
+/// The place of the first row of a value, a place and the least place of an item from there on that
+/// holds the value, to which the answer is another.
+fn wrong_row(trie: &Trie, rows: &[(u32, u32, Option<u32>)]) -> Option<usize> {
+    for place in 0..rows.len() {
+        let (value, from, least) = rows[place];
+        if trie.least(value, from) != least {
+            return Some(place);
+        }
+    }
+    None
+}
+
+/// The first wrong row of these items.
+fn tried(
+    alloc: Global,
+    items: &[PlacedPrefix],
+    rows: &[(u32, u32, Option<u32>)],
+) -> Option<Option<usize>> {
+    let trie = Trie::build(alloc, items).ok()?;
+    Some(wrong_row(&trie, rows))
+}
+
 #[test]
 fn nested_prefixes_answer_by_place(rt: HostRuntime) {
     let items = [
@@ -26,18 +48,19 @@ fn nested_prefixes_answer_by_place(rt: HostRuntime) {
         placed(1, 0x0a00_0000, 24),
         placed(2, 0, 0),
     ];
-    let trie = Trie::build(rt.alloc(), &items).expect(&rt, "there is memory");
-    let rows = [(0, Some(0)), (1, Some(1)), (2, Some(2)), (3, None)];
-    for (from, place) in rows {
-        assert_eq!(rt; trie.least(NEAR, from), place);
-    }
-    assert_eq!(rt; trie.least(0x0b00_0001, 0), Some(2));
+    let rows = [
+        (NEAR, 0, Some(0)),
+        (NEAR, 1, Some(1)),
+        (NEAR, 2, Some(2)),
+        (NEAR, 3, None),
+        (0x0b00_0001, 0, Some(2)),
+    ];
+    assert!(rt; tried(rt.alloc(), &items, &rows) == Some(None));
 }
 
 #[test]
 fn no_items_answer_none(rt: HostRuntime) {
-    let trie = Trie::build(rt.alloc(), &[]).expect(&rt, "there is memory");
-    assert_eq!(rt; trie.least(NEAR, 0), None);
+    assert!(rt; tried(rt.alloc(), &[], &[(NEAR, 0, None)]) == Some(None));
 }
 
 #[test]
@@ -49,7 +72,6 @@ fn greatest_values_and_repeated_places_answer(rt: HostRuntime) {
         placed(9, ALL_ONES, 32),
         placed(3, ALL_ONES, 33),
     ];
-    let trie = Trie::build(rt.alloc(), &items).expect(&rt, "there is memory");
     let rows = [
         (ALL_ONES, 0, Some(7)),
         (ALL_ONES, 8, Some(9)),
@@ -59,9 +81,7 @@ fn greatest_values_and_repeated_places_answer(rt: HostRuntime) {
         (0xffff_feff, 0, None),
         (0, 0, None),
     ];
-    for (value, from, place) in rows {
-        assert_eq!(rt; trie.least(value, from), place);
-    }
+    assert!(rt; tried(rt.alloc(), &items, &rows) == Some(None));
 }
 
 fn is_held(value: u32, prefix: &Prefix) -> bool {
@@ -82,13 +102,6 @@ fn walked(items: &[PlacedPrefix], value: u32, from: u32) -> Option<u32> {
     found
 }
 
-/// The next state of a linear congruential generator (Knuth's MMIX).
-fn stirred(state: u64) -> u64 {
-    state
-        .wrapping_mul(6_364_136_223_846_793_005)
-        .wrapping_add(1_442_695_040_888_963_407)
-}
-
 /// Prefixes of 8 to 39 bits whose values differ in few bits, at places that repeat.
 fn many(alloc: Global) -> Result<Vec<PlacedPrefix>, AllocError> {
     let mut items = Vec::new(alloc);
@@ -102,17 +115,28 @@ fn many(alloc: Global) -> Result<Vec<PlacedPrefix>, AllocError> {
     Ok(items)
 }
 
-#[test]
-fn many_items_answer_as_their_list(rt: HostRuntime) -> Result<(), Fail> {
-    let items = many(rt.alloc())?;
-    let trie = Trie::build(rt.alloc(), &items).expect(&rt, "there is memory");
-    assert_eq!(rt; trie.items().len(), 200);
+/// The first of 2,000 look-ups that answers otherwise than the walk.
+fn wrong_lookup(trie: &Trie, items: &[PlacedPrefix]) -> Option<u32> {
     let mut state = 2u64;
-    for _ in 0..2_000u32 {
+    for round in 0..2_000u32 {
         state = stirred(state);
         let value = (state >> 32) as u32 & 0x1010_0113;
         let from = ((state >> 20) % 80) as u32;
-        assert_eq!(rt; trie.least(value, from), walked(&items, value, from));
+        if trie.least(value, from) != walked(items, value, from) {
+            return Some(round);
+        }
     }
-    Ok(())
+    None
+}
+
+/// How many items there are, and the first look-up that answers otherwise.
+fn looked_up(alloc: Global) -> Option<(usize, Option<u32>)> {
+    let items = many(alloc).ok()?;
+    let trie = Trie::build(alloc, &items).ok()?;
+    Some((trie.items().len(), wrong_lookup(&trie, &items)))
+}
+
+#[test]
+fn many_items_answer_as_their_list(rt: HostRuntime) {
+    assert!(rt; looked_up(rt.alloc()) == Some((200, None)));
 }

@@ -8,8 +8,8 @@ use vsw_rule::{Action, Cond, Field, Group, Item, Rule, choose};
 /// Groups that a packet may meet.
 #[derive(Clone, Copy)]
 enum Groups {
-    /// Rule 5 in group 1, which allows the plain packet, and rule 7 in group 2, which drops it: which of
-    /// them are marked as last, and whether group 2 is for port 80 alone.
+    /// Rule 5 in group 1, which allows the plain packet, and rule 7 in group 2, which drops it: which
+    /// of them are marked as last, and whether group 2 is for port 80 alone.
     Two {
         five_is_last: bool,
         seven_is_last: bool,
@@ -55,60 +55,41 @@ fn near(alloc: Global, number: u16, priority: u16, last: bool) -> Result<Rule, A
     toward(alloc, to, number, priority, Action::Allow, last)
 }
 
-fn one_rule(alloc: Global, rule: Rule) -> Result<Items<Rule>, AllocError> {
-    Ok(Items::of(Vec::from_array(alloc, [rule])?))
-}
-
-fn group(number: u16, when: Items<Cond>, rules: Items<Rule>) -> Group {
+fn group(number: u16, when: Items<Cond>, rules: Vec<Rule>) -> Group {
     Group {
         number,
         dir: Dir::Out,
         when,
-        rules,
+        rules: Items::of(rules),
     }
 }
 
-/// Group 2, whose rule packets to 10.0.0.9 meet.
-fn second_group(alloc: Global, is_web: bool, last: bool) -> Result<Group, AllocError> {
-    let to = prefix(0x0a00_0009, 32);
-    let rules = one_rule(alloc, toward(alloc, to, 7, 10, Action::Drop, last)?)?;
-    let when = if is_web {
-        asking(alloc, Field::DstPort, range(80, 80))?
+/// Group 1, of rule 5.
+fn first_group(alloc: Global, last: bool) -> Result<Group, AllocError> {
+    let rules = Vec::from_array(alloc, [near(alloc, 5, 10, last)?])?;
+    Ok(group(1, Items::new(alloc), rules))
+}
+
+fn conditions(alloc: Global, is_web: bool) -> Result<Items<Cond>, AllocError> {
+    if is_web {
+        asking(alloc, Field::DstPort, range(80, 80))
     } else {
-        Items::new(alloc)
-    };
-    Ok(group(2, when, rules))
-}
-
-fn two_groups(
-    alloc: Global,
-    five_is_last: bool,
-    seven_is_last: bool,
-    is_web: bool,
-) -> Result<Vec<Group>, AllocError> {
-    let second = second_group(alloc, is_web, seven_is_last)?;
-    let rules = one_rule(alloc, near(alloc, 5, 10, five_is_last)?)?;
-    let first = group(1, Items::new(alloc), rules);
-    Ok(Vec::from_array(alloc, [first, second])?)
-}
-
-fn one_group(alloc: Global, rules: [(u16, u16); 2]) -> Result<Vec<Group>, AllocError> {
-    let [first, second] = rules;
-    let first = near(alloc, first.0, first.1, false)?;
-    let second = near(alloc, second.0, second.1, false)?;
-    let rules = Items::of(Vec::from_array(alloc, [first, second])?);
-    Ok(Vec::from_array(alloc, [group(1, Items::new(alloc), rules)])?)
-}
-
-fn built(alloc: Global, groups: &Groups) -> Result<Vec<Group>, AllocError> {
-    match *groups {
-        Groups::Two {
-            five_is_last,
-            seven_is_last,
-            is_web,
-        } => two_groups(alloc, five_is_last, seven_is_last, is_web),
-        Groups::One { rules } => one_group(alloc, rules),
+        Ok(Items::new(alloc))
     }
+}
+
+/// Group 2, of rule 7, which packets to 10.0.0.9 meet.
+fn second_group(alloc: Global, is_web: bool, last: bool) -> Result<Group, AllocError> {
+    let seven = toward(alloc, prefix(0x0a00_0009, 32), 7, 10, Action::Drop, last)?;
+    let rules = Vec::from_array(alloc, [seven])?;
+    Ok(group(2, conditions(alloc, is_web)?, rules))
+}
+
+fn rules(alloc: Global, rules: &[(u16, u16); 2]) -> Result<Vec<Rule>, AllocError> {
+    let [(first, first_priority), (second, second_priority)] = *rules;
+    let first = near(alloc, first, first_priority, false)?;
+    let second = near(alloc, second, second_priority, false)?;
+    Ok(Vec::from_array(alloc, [first, second])?)
 }
 
 fn chosen(groups: &[Group], dir: Dir) -> Option<(u16, u16, Action)> {
@@ -117,11 +98,29 @@ fn chosen(groups: &[Group], dir: Dir) -> Option<(u16, u16, Action)> {
     Some((choice.group, choice.rule.number, choice.rule.action))
 }
 
+fn met(alloc: Global, case: &Case) -> Result<Option<(u16, u16, Action)>, AllocError> {
+    match &case.groups {
+        Groups::Two {
+            five_is_last,
+            seven_is_last,
+            is_web,
+        } => {
+            let first = first_group(alloc, *five_is_last)?;
+            let second = second_group(alloc, *is_web, *seven_is_last)?;
+            Ok(chosen(&[first, second], case.dir))
+        }
+        Groups::One { rules: two } => {
+            let group = group(1, Items::new(alloc), rules(alloc, two)?);
+            Ok(chosen(&[group], case.dir))
+        }
+    }
+}
+
 /// The place of the first case in which the packet meets another rule.
 fn wrong_case(alloc: Global, cases: &[Case]) -> Result<Option<usize>, AllocError> {
     for place in 0..cases.len() {
         let case = &cases[place];
-        if chosen(&built(alloc, &case.groups)?, case.dir) != case.met {
+        if met(alloc, case)? != case.met {
             return Ok(Some(place));
         }
     }

@@ -209,7 +209,8 @@ fn are_held(
     Ok(true)
 }
 
-/// Ranges and prefixes around a field's value, and whether they hold: those that end beside it don't.
+/// Ranges and prefixes around a field's value, and whether they hold: those that end beside it
+/// don't.
 fn items_around(value: u64, is_address: bool) -> [(Item, bool); 11] {
     let near = (value % 0x1_0000_0000) as u32;
     [
@@ -280,7 +281,8 @@ fn every_field_has_its_value_on_every_kind_of_stack(rt: HostRuntime) {
     assert!(rt; wrong_value(rt.alloc(), &rows()) == Some(None));
 }
 
-/// Ranges and prefixes that a rule may ask of a field with this greatest value, and those that it may not.
+/// Ranges and prefixes that a rule may ask of a field with this greatest value, and those that it
+/// may not.
 fn items_up_to(greatest: u64, is_address: bool) -> [(Item, bool); 11] {
     let beyond = greatest.saturating_add(1);
     [

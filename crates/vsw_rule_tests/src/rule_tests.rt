@@ -79,7 +79,8 @@ fn items_hold_up_to_their_edges(rt: HostRuntime) {
     assert!(rt; wrong_edge(rt.alloc(), &plain) == Ok(None));
 }
 
-/// Actions of rules that are stateful or not, and whether these match no, one and two encapsulations.
+/// Actions of rules that are stateful or not, and whether these match no, one and two
+/// encapsulations.
 fn needs() -> [(Action, bool, [bool; 3]); 5] {
     [
         (edit(true, None), false, [false, true, true]),
@@ -98,16 +99,20 @@ fn is_matched(rule: &Rule, headers: &[Header], is_match: bool) -> bool {
     }
 }
 
+/// Whether a rule matches no, one and two encapsulations, as told.
+fn are_matched(rule: &Rule, matched: &[bool; 3]) -> bool {
+    let [plainly, once, doubly] = *matched;
+    is_matched(rule, &plain(), plainly)
+        && is_matched(rule, &sent(), once)
+        && is_matched(rule, &twice(), doubly)
+}
+
 /// The place of the first action that asks for something else.
 fn wrong_need(alloc: Global) -> Option<usize> {
     let needs = needs();
     for place in 0..5 {
-        let (action, stateful, [plainly, once, doubly]) = &needs[place];
-        let rule = rule(Items::new(alloc), action, *stateful);
-        if !is_matched(&rule, &plain(), *plainly)
-            || !is_matched(&rule, &sent(), *once)
-            || !is_matched(&rule, &twice(), *doubly)
-        {
+        let (action, stateful, matched) = &needs[place];
+        if !are_matched(&rule(Items::new(alloc), action, *stateful), matched) {
             return Some(place);
         }
     }
@@ -119,7 +124,8 @@ fn actions_ask_for_what_they_need(rt: HostRuntime) {
     assert!(rt; wrong_need(rt.alloc()) == None);
 }
 
-/// Actions of rules that are stateful or not, an item of their condition, and what the check answers.
+/// Actions of rules that are stateful or not, an item of their condition, and what the check
+/// answers.
 fn refused() -> [(Action, bool, Item, Result<(), BadRule>); 6] {
     [
         (

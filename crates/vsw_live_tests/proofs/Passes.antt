@@ -1,6 +1,6 @@
 -- Passes that are new, and that make calls.
-use Rattle.std.proofs.Common.{◌≡◌, ◌<◌, ◌≤◌, ◌+◌, ◌∙◌, ℕ, zero, suc, List, [], ◌∷◌, ◌++◌, length, take, drop, slice_index_or, true, false, Bool, refl, sym, ap, subst, arith}
-use Rattle.vsw_live.specs.Core.{IsOf, Looking}
+use Rattle.std.proofs.Common.{◌≡◌, ◌<◌, ◌≤◌, ◌+◌, ◌∙◌, ℕ, zero, suc, List, [], ◌∷◌, ◌++◌, length, take, drop, slice_index_or, true, false, Bool, ap, subst, arith}
+use Rattle.vsw_live.specs.Core.{Looking}
 use Rattle.vsw_port.specs.Calls.{Call}
 use Rattle.vsw_port.specs.History.{Opening}
 use Rattle.vsw_live.specs.Calls.{Crosses}
@@ -32,13 +32,8 @@ at_most_one : (b : Bool) → one_if b ≤ 1
 at_most_one true = omega arith
 at_most_one false = omega arith
 
-pub calls_once : (o : Opening) (p q : Writing) (c : Call) → Crosses o p q c → Calls p q
-calls_once o p q c crosses = record {
-  table = crosses.table;
-  opens = crosses.opens;
-  number = crosses.number;
-  permits = omega (arith, crosses.permits, at_most_one c.entry);
-}
+pub calls_once : (o : Opening) (p q : Writing) (c : Call) → Crosses o p q c → Calls c.entry p q
+calls_once o p q c crosses = record { table = crosses.table; opens = crosses.opens; number = crosses.number; permits = crosses.permits }
 
 -- a new pass that was given permits
 pub given : (l : Looking) (h : HeldSeen) (number more : ℕ) (p q : Writing) → IsNewPass l number p → Meets h more p q → Holds l number more q
@@ -49,9 +44,17 @@ given l h number more p q new meets = record {
 }
 
 -- a pass goes on with one permit fewer
-pub goes_on : (l : Looking) (number left less : ℕ) (p q : Writing) → Holds l number left p → Calls p q → left ≡ less + 1 → Holds l number less q
-goes_on l number left less p q holds calls fewer = record {
+pub goes_on : (l : Looking) (number left less : ℕ) (entry : Bool) (p q : Writing) → Holds l number left p → Calls entry p q → left ≡ less + 1 → Holds l number less q
+goes_on l number left less entry p q holds calls fewer = record {
   of = record { table = calls.table ∙ holds.of.table; opens = calls.opens ∙ holds.of.opens };
   number = calls.number ∙ holds.number;
-  enough = omega (arith, holds.enough, calls.permits, fewer);
+  enough = omega (arith, holds.enough, calls.permits, at_most_one entry, fewer);
+}
+
+-- a call that is no entry takes no permit
+pub stays : (l : Looking) (number left : ℕ) (entry : Bool) (p q : Writing) → Holds l number left p → Calls entry p q → entry ≡ false → Holds l number left q
+stays l number left entry p q holds calls read = record {
+  of = record { table = calls.table ∙ holds.of.table; opens = calls.opens ∙ holds.of.opens };
+  number = calls.number ∙ holds.number;
+  enough = (let e : one_if entry ≡ 0 = ap one_if read in omega (arith, holds.enough, calls.permits, e));
 }

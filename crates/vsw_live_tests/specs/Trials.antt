@@ -1,7 +1,8 @@
 -- What is tried: a port, and passes of it.
-use Rattle.std.specs.Prelude.{◌≡◌, ◌≤◌, ◌+◌, ℕ, [], ◌∷◌}
+use Rattle.std.specs.Prelude.{◌≡◌, ◌≤◌, ◌+◌, ℕ, Bool, [], ◌∷◌}
 use Rattle.vsw_live.specs.Core.{IsOf, Looking}
 use Rattle.vsw_live.specs.Ports.{AreNewPasses, OpenSeen}
+use Rattle.vsw_lookup.specs.Rules.{one_if}
 use Rattle.vsw_rows.specs.Rows.{Writing}
 
 -- a port of 64 rows, that began with a policy of controllers 1 and 2
@@ -25,9 +26,9 @@ pub record Asks (l : Looking) (left : ℕ) (p : Writing) : Type 0 where
   pub pass : Holds l 16 left p
   pub port : IsTried l
 
--- a pass after one call more
-pub record Calls (p q : Writing) : Type 0 where
+-- a pass after one call more, which takes a permit where it is an entry
+pub record Calls (entry : Bool) (p q : Writing) : Type 0 where
   pub table : q.table ≡ p.table
   pub opens : q.view.opening ≡ p.view.opening
   pub number : q.view.number ≡ p.view.number
-  pub permits : p.view.permits ≤ q.view.permits + 1
+  pub permits : p.view.permits ≡ q.view.permits + one_if entry

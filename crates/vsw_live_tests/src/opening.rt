@@ -12,7 +12,7 @@ use vsw_policy::Policy;
 use vsw_rows::PortStory;
 
 /// How many entries each pass may make.
-pub const PERMITS: u32 = 1_000;
+pub const PERMITS: u32 = 10_000;
 
 /// A port of controllers 1 and 2, at first without layers, with 64 rows and passes for 16 workers and both controllers.
 pub fn open(alloc: Global) -> Option<OpenPort>
@@ -54,7 +54,7 @@ fn grant<J: Naming, R: Wait>(
     number: u32,
 ) -> Option<Pass<PortStory>>
     requires new { IsNewPass port.now.looking number pass }
-    ensures pass { IfSome result (Holds port.now.looking number 1000) }
+    ensures pass { IfSome result (Holds port.now.looking number 10000) }
 {
     let mut given = pass;
     match port.grant(rt, &mut given, PERMITS) {
@@ -71,7 +71,7 @@ pub fn pass_of<J: Naming, R: Wait>(
     number: u32,
 ) -> Option<Pass<PortStory>>
     requires new { AreNewPasses port.now.looking 0 passes.old.items }
-    ensures pass { IfSome result (Holds port.now.looking number 1000) }
+    ensures pass { IfSome result (Holds port.now.looking number 10000) }
     ensures new { AreNewPasses port.now.looking 0 passes.new.items }
 {
     match take_pass(port, passes, number) {

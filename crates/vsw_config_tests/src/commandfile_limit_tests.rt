@@ -1,7 +1,7 @@
 //! Lists and files at their limits, and one above.
 
 use crate::commandfile_samples::{FILE, is_said_of};
-use crate::samples::{Text, with_list};
+use crate::samples::{Text, check_all, with_list};
 use std::alloc::Global;
 
 /// Whether this is said of a file of so many of this byte, and these behind them.
@@ -23,7 +23,7 @@ fn lines(alloc: Global) -> [bool; 4] {
 
 #[test]
 fn lines_are_counted_before_they_are_read(rt: HostRuntime) {
-    assert!(&rt; lines(rt.alloc()) == [true; 4]);
+    check_all(&rt, &lines(rt.alloc()));
 }
 
 fn bytes(alloc: Global) -> [bool; 3] {
@@ -36,7 +36,7 @@ fn bytes(alloc: Global) -> [bool; 3] {
 
 #[test]
 fn bytes_are_counted_before_lines(rt: HostRuntime) {
-    assert!(&rt; bytes(rt.alloc()) == [true; 3]);
+    check_all(&rt, &bytes(rt.alloc()));
 }
 
 /// Whether this is said of the file with a list of so many items in place of another list.
@@ -62,7 +62,7 @@ fn rules(alloc: Global) -> [bool; 4] {
 
 #[test]
 fn rules_are_neither_counted_nor_compared(rt: HostRuntime) {
-    assert!(&rt; rules(rt.alloc()) == [true; 4]);
+    check_all(&rt, &rules(rt.alloc()));
 }
 
 const CONDITION: &str = r#"{"field":"dst_port","any":[53]}"#;
@@ -79,5 +79,5 @@ fn conditions(alloc: Global) -> [bool; 3] {
 
 #[test]
 fn sixteen_conditions_are_read(rt: HostRuntime) {
-    assert!(&rt; conditions(rt.alloc()) == [true; 3]);
+    check_all(&rt, &conditions(rt.alloc()));
 }

@@ -1,6 +1,6 @@
 //! The order of the tests.
 
-use crate::commandfile_samples::first_wrong;
+use crate::commandfile_samples::check;
 
 /// Two faults of one line, of which the first in the order of reading is told.
 const TWO_FAULTS: [[&str; 3]; 12] = [
@@ -52,7 +52,7 @@ const TWO_FAULTS: [[&str; 3]; 12] = [
 
 #[test]
 fn first_fault_of_a_line_is_told(rt: HostRuntime) {
-    assert!(&rt; first_wrong(rt.alloc(), &TWO_FAULTS) == None);
+    check(&rt, rt.alloc(), &TWO_FAULTS);
 }
 
 /// Two lines with a fault, of which the first is told; and members that stand twice, of which the last
@@ -84,5 +84,5 @@ const TWO_LINES: [[&str; 3]; 6] = [
 
 #[test]
 fn first_line_with_a_fault_is_told(rt: HostRuntime) {
-    assert!(&rt; first_wrong(rt.alloc(), &TWO_LINES) == None);
+    check(&rt, rt.alloc(), &TWO_LINES);
 }

@@ -2,6 +2,7 @@
 
 use crate::samples::{Text, put_path, replaced};
 use std::alloc::Global;
+use std::process::Abort;
 use vsw_base::Items;
 use vsw_commandfile::{CommandsFault, Line, read_commands};
 use vsw_config::{PolicyFile, read_policy};
@@ -103,11 +104,17 @@ fn is_right(alloc: Global, change: &[&str; 3]) -> bool {
 }
 
 /// The place of the first change of the file of which another thing is said, if there is one.
-pub fn first_wrong(alloc: Global, changes: &[[&str; 3]]) -> Option<usize> {
+fn first_wrong(alloc: Global, changes: &[[&str; 3]]) -> Option<usize> {
     for place in 0..changes.len() {
         if !is_right(alloc, &changes[place]) {
             return Some(place);
         }
     }
     None
+}
+
+/// Fails where another thing is said of a change than it says.
+pub fn check(rt: &impl Abort, alloc: Global, changes: &[[&str; 3]]) {
+    let wrong = first_wrong(alloc, changes);
+    assert!(rt; wrong.is_none(), "{wrong:?}");
 }

@@ -1,6 +1,6 @@
 //! Refusals of each kind, and values at their limits.
 
-use crate::commandfile_samples::first_wrong;
+use crate::commandfile_samples::check;
 
 /// A refusal of each kind, on the first line and on later ones.
 const KINDS: [[&str; 3]; 9] = [
@@ -33,7 +33,7 @@ const KINDS: [[&str; 3]; 9] = [
 
 #[test]
 fn each_kind_is_told_with_its_line_and_path(rt: HostRuntime) {
-    assert!(&rt; first_wrong(rt.alloc(), &KINDS) == None);
+    check(&rt, rt.alloc(), &KINDS);
 }
 
 /// Members of each line: missing, unknown, and of another form.
@@ -65,7 +65,7 @@ const FRONTS: [[&str; 3]; 15] = [
 
 #[test]
 fn members_of_each_line_are_tested(rt: HostRuntime) {
-    assert!(&rt; first_wrong(rt.alloc(), &FRONTS) == None);
+    check(&rt, rt.alloc(), &FRONTS);
 }
 
 /// Members of each command that are missing, or of another command.
@@ -96,7 +96,7 @@ const MEMBERS: [[&str; 3]; 18] = [
 
 #[test]
 fn members_of_each_command_are_tested(rt: HostRuntime) {
-    assert!(&rt; first_wrong(rt.alloc(), &MEMBERS) == None);
+    check(&rt, rt.alloc(), &MEMBERS);
 }
 
 /// Values of the commands at their limits, past them, and of another form.
@@ -157,5 +157,5 @@ const VALUES: [[&str; 3]; 20] = [
 
 #[test]
 fn values_of_commands_are_tested(rt: HostRuntime) {
-    assert!(&rt; first_wrong(rt.alloc(), &VALUES) == None);
+    check(&rt, rt.alloc(), &VALUES);
 }

@@ -1,6 +1,6 @@
 //! Refusals of each kind, and values at their limits.
 
-use crate::samples::first_wrong;
+use crate::samples::check;
 
 /// A refusal of each kind, and of a limit.
 const KINDS: [[&str; 3]; 5] = [
@@ -35,7 +35,7 @@ const KINDS: [[&str; 3]; 5] = [
 
 #[test]
 fn each_kind_is_told_with_its_path(rt: HostRuntime) {
-    assert!(&rt; first_wrong(rt.alloc(), &KINDS) == None);
+    check(&rt, rt.alloc(), &KINDS);
 }
 
 /// Members that are missing or unknown: the object is of the wrong form.
@@ -75,7 +75,7 @@ const MEMBERS: [[&str; 3]; 11] = [
 
 #[test]
 fn missing_and_unknown_members_are_told_at_their_object(rt: HostRuntime) {
-    assert!(&rt; first_wrong(rt.alloc(), &MEMBERS) == None);
+    check(&rt, rt.alloc(), &MEMBERS);
 }
 
 /// Values of the wrong form, and numbers past their limits.
@@ -175,7 +175,7 @@ const VALUES: [[&str; 3]; 23] = [
 
 #[test]
 fn wrong_values_are_told_where_they_stand(rt: HostRuntime) {
-    assert!(&rt; first_wrong(rt.alloc(), &VALUES) == None);
+    check(&rt, rt.alloc(), &VALUES);
 }
 
 /// Values at their limits.
@@ -196,5 +196,5 @@ const FITTING: [[&str; 3]; 12] = [
 
 #[test]
 fn values_at_their_limits_are_read(rt: HostRuntime) {
-    assert!(&rt; first_wrong(rt.alloc(), &FITTING) == None);
+    check(&rt, rt.alloc(), &FITTING);
 }

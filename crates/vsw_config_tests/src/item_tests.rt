@@ -1,6 +1,6 @@
 //! Conditions and actions.
 
-use crate::samples::first_wrong;
+use crate::samples::check;
 
 /// Items of all forms. The conditions of a group aren't judged.
 const ITEMS: [[&str; 3]; 12] = [
@@ -60,7 +60,7 @@ const ITEMS: [[&str; 3]; 12] = [
 
 #[test]
 fn items_of_all_forms_are_read(rt: HostRuntime) {
-    assert!(&rt; first_wrong(rt.alloc(), &ITEMS) == None);
+    check(&rt, rt.alloc(), &ITEMS);
 }
 
 /// Items of other forms.
@@ -139,7 +139,7 @@ const OTHER_ITEMS: [[&str; 3]; 14] = [
 
 #[test]
 fn items_of_other_forms_are_told(rt: HostRuntime) {
-    assert!(&rt; first_wrong(rt.alloc(), &OTHER_ITEMS) == None);
+    check(&rt, rt.alloc(), &OTHER_ITEMS);
 }
 
 /// Rules that are of the right form, and may not be so.
@@ -183,7 +183,7 @@ const JUDGED: [[&str; 3]; 7] = [
 
 #[test]
 fn rules_are_judged(rt: HostRuntime) {
-    assert!(&rt; first_wrong(rt.alloc(), &JUDGED) == None);
+    check(&rt, rt.alloc(), &JUDGED);
 }
 
 /// Edits, and what isn't one.
@@ -274,5 +274,5 @@ const ACTIONS: [[&str; 3]; 14] = [
 
 #[test]
 fn edits_are_read_and_others_told(rt: HostRuntime) {
-    assert!(&rt; first_wrong(rt.alloc(), &ACTIONS) == None);
+    check(&rt, rt.alloc(), &ACTIONS);
 }

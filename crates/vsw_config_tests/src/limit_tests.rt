@@ -1,6 +1,6 @@
 //! Lists and files at their limits, and one above.
 
-use crate::samples::{ONE, Text, is_said, is_said_of, put_list, with_list};
+use crate::samples::{ONE, Text, check_all, is_said, is_said_of, put_list, with_list};
 use std::alloc::Global;
 
 /// Whether this is said of the first file with a list of so many items in place of another list.
@@ -24,7 +24,7 @@ fn conditions(alloc: Global) -> [bool; 3] {
 
 #[test]
 fn sixteen_conditions_are_read(rt: HostRuntime) {
-    assert!(&rt; conditions(rt.alloc()) == [true; 3]);
+    check_all(&rt, &conditions(rt.alloc()));
 }
 
 const ITEMS: &str = r#"["10.0.0.0/24"]"#;
@@ -39,7 +39,7 @@ fn items(alloc: Global) -> [bool; 2] {
 
 #[test]
 fn sixty_four_items_are_read(rt: HostRuntime) {
-    assert!(&rt; items(rt.alloc()) == [true; 2]);
+    check_all(&rt, &items(rt.alloc()));
 }
 
 const RULES: &str = concat!(
@@ -58,7 +58,7 @@ fn rules(alloc: Global) -> [bool; 2] {
 
 #[test]
 fn rules_are_counted_before_they_are_read(rt: HostRuntime) {
-    assert!(&rt; rules(rt.alloc()) == [true; 2]);
+    check_all(&rt, &rules(rt.alloc()));
 }
 
 const GROUPS: &str = concat!(
@@ -78,7 +78,7 @@ fn groups(alloc: Global) -> [bool; 2] {
 
 #[test]
 fn groups_are_counted_before_they_are_read(rt: HostRuntime) {
-    assert!(&rt; groups(rt.alloc()) == [true; 2]);
+    check_all(&rt, &groups(rt.alloc()));
 }
 
 /// Whether this is said of a file with so many ports that are none.
@@ -100,7 +100,7 @@ fn ports(alloc: Global) -> [bool; 3] {
 
 #[test]
 fn ports_are_counted_before_they_are_read(rt: HostRuntime) {
-    assert!(&rt; ports(rt.alloc()) == [true; 3]);
+    check_all(&rt, &ports(rt.alloc()));
 }
 
 /// Appends a layer without groups, whose number has these last two digits.
@@ -138,7 +138,7 @@ fn layers(alloc: Global) -> [bool; 2] {
 
 #[test]
 fn seventeenth_layer_of_a_controller_is_too_many(rt: HostRuntime) {
-    assert!(&rt; layers(rt.alloc()) == [true; 2]);
+    check_all(&rt, &layers(rt.alloc()));
 }
 
 /// Whether this is said of a file that is filled up with spaces.
@@ -160,7 +160,7 @@ fn bytes(alloc: Global) -> [bool; 4] {
 
 #[test]
 fn bytes_are_counted_before_they_are_read(rt: HostRuntime) {
-    assert!(&rt; bytes(rt.alloc()) == [true; 4]);
+    check_all(&rt, &bytes(rt.alloc()));
 }
 
 fn other_bytes(alloc: Global) -> [bool; 5] {
@@ -175,5 +175,5 @@ fn other_bytes(alloc: Global) -> [bool; 5] {
 
 #[test]
 fn other_bytes_are_no_json(rt: HostRuntime) {
-    assert!(&rt; other_bytes(rt.alloc()) == [true; 5]);
+    check_all(&rt, &other_bytes(rt.alloc()));
 }

@@ -1,6 +1,7 @@
 //! Lines that are blank, or no JSON object.
 
 use crate::commandfile_samples::is_said;
+use crate::samples::check_all;
 use std::alloc::Global;
 
 /// Files, and what is said of each.
@@ -38,7 +39,8 @@ fn first_wrong_file(alloc: Global, files: &[[&str; 2]]) -> Option<usize> {
 
 #[test]
 fn blank_lines_are_counted_and_others_are_objects(rt: HostRuntime) {
-    assert!(&rt; first_wrong_file(rt.alloc(), &FILES) == None);
+    let wrong = first_wrong_file(rt.alloc(), &FILES);
+    assert!(&rt; wrong.is_none(), "{wrong:?}");
 }
 
 fn other_bytes(alloc: Global) -> [bool; 2] {
@@ -50,5 +52,5 @@ fn other_bytes(alloc: Global) -> [bool; 2] {
 
 #[test]
 fn other_bytes_are_no_json(rt: HostRuntime) {
-    assert!(&rt; other_bytes(rt.alloc()) == [true; 2]);
+    check_all(&rt, &other_bytes(rt.alloc()));
 }

@@ -1,6 +1,6 @@
 //! The order of the tests, and what stands twice.
 
-use crate::samples::first_wrong;
+use crate::samples::check;
 
 /// Two faults each, of which the first in the order of reading is told.
 const TWO_FAULTS: [[&str; 3]; 11] = [
@@ -61,7 +61,7 @@ const TWO_FAULTS: [[&str; 3]; 11] = [
 
 #[test]
 fn first_fault_is_told(rt: HostRuntime) {
-    assert!(&rt; first_wrong(rt.alloc(), &TWO_FAULTS) == None);
+    check(&rt, rt.alloc(), &TWO_FAULTS);
 }
 
 /// Numbers and addresses that stand twice, also in another spelling, and members of which the last counts.
@@ -120,5 +120,5 @@ const TWICE: [[&str; 3]; 9] = [
 
 #[test]
 fn what_stands_twice_is_told_at_the_second(rt: HostRuntime) {
-    assert!(&rt; first_wrong(rt.alloc(), &TWICE) == None);
+    check(&rt, rt.alloc(), &TWICE);
 }

@@ -2,6 +2,7 @@
 
 use crate::samples::ONE;
 use std::alloc::Global;
+use std::process::Abort;
 use vsw_base::{Dir, Ip4, Items, Mac, Outer, Prefix, Set};
 use vsw_config::{LayerFile, PolicyFile, PortFile, read_policy};
 use vsw_policy::LayerSpec;
@@ -21,6 +22,11 @@ fn and<T: Drop>(items: Items<T>, item: T) -> Items<T> {
 /// Whether a file is read to this value.
 fn is_read(alloc: Global, text: &str, expected: PolicyFile) -> bool {
     read_policy(alloc, text.as_bytes()) == Ok(expected)
+}
+
+/// Fails where a file is read to another value.
+fn check(rt: &impl Abort, alloc: Global, text: &str, expected: PolicyFile) {
+    assert!(rt; is_read(alloc, text, expected));
 }
 
 /// The one condition that the field is in this prefix.
@@ -112,7 +118,7 @@ fn first(alloc: Global) -> PolicyFile {
 
 #[test]
 fn one_layer_is_read(rt: HostRuntime) {
-    assert!(&rt; is_read(rt.alloc(), ONE, first(rt.alloc())));
+    check(&rt, rt.alloc(), ONE, first(rt.alloc()));
 }
 
 /// Three controllers, each with a layer: one that keeps the state of all flows, one that translates the
@@ -211,7 +217,7 @@ fn three(alloc: Global) -> PolicyFile {
 
 #[test]
 fn three_layers_are_read(rt: HostRuntime) {
-    assert!(&rt; is_read(rt.alloc(), THREE, three(rt.alloc())));
+    check(&rt, rt.alloc(), THREE, three(rt.alloc()));
 }
 
 /// What comes for 203.0.113.4 is sent on to 10.0.0.5, port 1234.
@@ -253,5 +259,5 @@ fn forwarding(alloc: Global) -> PolicyFile {
 
 #[test]
 fn two_groups_are_read(rt: HostRuntime) {
-    assert!(&rt; is_read(rt.alloc(), FORWARDING, forwarding(rt.alloc())));
+    check(&rt, rt.alloc(), FORWARDING, forwarding(rt.alloc()));
 }

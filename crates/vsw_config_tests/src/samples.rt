@@ -1,6 +1,7 @@
 //! Policy files, and what is said of them.
 
 use std::alloc::Global;
+use std::process::Abort;
 use vsw_config::{ConfigFault, Step, read_policy};
 
 /// A policy of one layer, whose one rule lets packets to 10.0.0.0/24 go out.
@@ -155,11 +156,24 @@ fn is_right(alloc: Global, change: &[&str; 3]) -> bool {
 }
 
 /// The place of the first change of the file of which another thing is said, if there is one.
-pub fn first_wrong(alloc: Global, changes: &[[&str; 3]]) -> Option<usize> {
+fn first_wrong(alloc: Global, changes: &[[&str; 3]]) -> Option<usize> {
     for place in 0..changes.len() {
         if !is_right(alloc, &changes[place]) {
             return Some(place);
         }
     }
     None
+}
+
+/// Fails where another thing is said of a change than it says.
+pub fn check(rt: &impl Abort, alloc: Global, changes: &[[&str; 3]]) {
+    let wrong = first_wrong(alloc, changes);
+    assert!(rt; wrong.is_none(), "{wrong:?}");
+}
+
+/// Fails at the first place where something isn't as it should be.
+pub fn check_all(rt: &impl Abort, right: &[bool]) {
+    for place in 0..right.len() {
+        assert!(rt; right[place], "{place}");
+    }
 }

@@ -1,6 +1,5 @@
 //! A story whose rows name how many entries there are, and a machine of it.
 use std::alloc::Global;
-use std::process::Abort;
 use vsw_machine::{Machine, Step, Story, TestStory};
 
 /// Entries are numbers; a row is good where its word 0 is the number of entries.
@@ -46,6 +45,20 @@ pub fn make(machine: &mut Machine<Counted>, step: Step<u64>) -> bool {
 }
 
 /// A machine of eight rows.
-pub fn eight_rows(rt: &impl Abort, alloc: Global) -> Machine<Counted> {
-    Machine::new(alloc, 8).expect(rt, "eight rows fit")
+pub fn eight_rows(alloc: Global) -> Option<Machine<Counted>> {
+    Machine::new(alloc, 8).ok()
+}
+
+/// The place of the first of these steps that is made and should be refused, or the other way round.
+pub fn first_wrong(
+    machine: &mut Machine<Counted>,
+    steps: &[Step<u64>],
+    made: bool,
+) -> Option<usize> {
+    for place in 0..steps.len() {
+        if make(machine, steps[place]) != made {
+            return Some(place);
+        }
+    }
+    None
 }

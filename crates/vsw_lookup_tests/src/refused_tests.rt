@@ -1,6 +1,7 @@
 //! Each condition of a step, refused once.
-use crate::machine_counted::{Counted, eight_rows, make};
-use vsw_machine::{Machine, Step};
+use crate::machine_counted::{eight_rows, first_wrong};
+use std::alloc::Global;
+use vsw_machine::Step;
 
 /// Actor 1 is spent, actor 0 has loaded the stamp of row 1, row 0 is current, and row 2 isn't good.
 const BEFORE: [Step<u64>; 7] = [
@@ -81,51 +82,39 @@ const REFUSED: [Step<u64>; 22] = [
     },
 ];
 
-fn all_made(machine: &mut Machine<Counted>, steps: &[Step<u64>]) -> bool {
-    for step in steps {
-        if !make(machine, *step) {
-            return false;
+/// The first step that should be made and isn't, and the first that should be refused behind them and isn't.
+fn tried(
+    alloc: Global,
+    before: &[Step<u64>],
+    refused: &[Step<u64>],
+) -> Option<(Option<usize>, Option<usize>)> {
+    match eight_rows(alloc) {
+        Some(mut machine) => {
+            let missed = first_wrong(&mut machine, before, true);
+            let made = first_wrong(&mut machine, refused, false);
+            Some((missed, made))
         }
+        None => None,
     }
-    true
-}
-
-fn none_made(machine: &mut Machine<Counted>, steps: &[Step<u64>]) -> bool {
-    for step in steps {
-        if make(machine, *step) {
-            return false;
-        }
-    }
-    true
 }
 
 #[test]
 fn a_step_whose_condition_does_not_hold_is_refused(rt: HostRuntime) {
-    let mut machine = eight_rows(&rt, rt.alloc());
-    assert!(&rt; all_made(&mut machine, &BEFORE));
-    assert!(&rt; none_made(&mut machine, &REFUSED));
+    assert!(&rt; tried(rt.alloc(), &BEFORE, &REFUSED) == Some((None, None)));
 }
+
+const CLOSED: [Step<u64>; 2] = [
+    Step::LoadStamp { actor: 0, row: 1 },
+    Step::LoadGeneration { actor: 0 },
+];
+
+const WORD: [Step<u64>; 1] = [Step::LoadWord {
+    actor: 0,
+    row: 1,
+    word: 0,
+}];
 
 #[test]
 fn a_closed_record_takes_no_word(rt: HostRuntime) {
-    let mut machine = eight_rows(&rt, rt.alloc());
-    assert!(&rt;
-        all_made(
-            &mut machine,
-            &[
-                Step::LoadStamp { actor: 0, row: 1 },
-                Step::LoadGeneration { actor: 0 }
-            ]
-        )
-    );
-    assert!(&rt;
-        !make(
-            &mut machine,
-            Step::LoadWord {
-                actor: 0,
-                row: 1,
-                word: 0
-            }
-        )
-    );
+    assert!(&rt; tried(rt.alloc(), &CLOSED, &WORD) == Some((None, None)));
 }

@@ -3,6 +3,7 @@ ghost use Rattle.std.specs.Prelude.{◌≡◌, ◌<◌, ◌≤◌, ◌+◌, leng
 ghost use Rattle.vsw_lookup.specs.Rules.{IsRead, stamp_at};
 
 use crate::ends::{Ends, KEY, is_whole, row};
+use std::alloc::Global;
 use std::thread::{Threads, join};
 use vsw_lookup::{Look, Lookup, Opened, Pass, Writer};
 
@@ -99,21 +100,29 @@ fn read_twice<R: Threads + Sync>(
     first && second
 }
 
-#[test]
-fn rows_are_read_whole_beside_a_writer(rt: HostRuntime) {
-    let Opened { lookup, mut writer } = Lookup::<Ends>::open(rt.alloc(), 8, &()).expect(
-        &rt,
-        "eight rows fit",
-    );
+/// Whether each look of both readers was right, beside the writer.
+fn tried<R: Threads + Sync>(rt: &R, alloc: Global) -> bool {
+    let Ok(Opened { lookup, mut writer }) = Lookup::<Ends>::open(alloc, 8, &()) else {
+        return false;
+    };
     let mut own = writer.pass(&lookup);
     let one = writer.pass(&lookup);
     let two = writer.pass(&lookup);
     writer.meet(&lookup, &mut own, ROUNDS);
     let shared = &lookup;
     let (wrote, right) = join(
-        &rt,
+        rt,
         move || write(shared, writer, own),
-        || read_twice(&rt, shared, one, two),
+        move || -> bool
+            requires lookup { 3 < shared.now.2 }
+            requires one { (one.table ≡ shared.now.0) × (one.view.opening ≡ Some shared.now.1) }
+            requires two { (two.table ≡ shared.now.0) × (two.view.opening ≡ Some shared.now.1) }
+        { read_twice(rt, shared, one, two) },
     );
-    assert!(rt; wrote && right);
+    wrote && right
+}
+
+#[test]
+fn rows_are_read_whole_beside_a_writer(rt: HostRuntime) {
+    assert!(&rt; tried(&rt, rt.alloc()));
 }

@@ -7,15 +7,16 @@ use crate::layers::add_hiding;
 use crate::packets::{FAR, FIRST, OWN, PUBLIC, SECOND, id, packet};
 use crate::trial::{Change, Trial};
 use std::alloc::Global;
-use vsw_base::{Control, Dir, Ufid};
+use vsw_base::{Control, Crossing, Dir, Ufid};
 
 /// One layer, whose pairs live for 240 seconds, and for 10 once they are closed.
 fn hiding(alloc: Global) -> Option<Trial> {
     let mut trial = Trial::new(alloc)?;
-    if !add_hiding(alloc, &mut trial.policy, 10, (240, 10)) {
-        return None;
+    if add_hiding(alloc, &mut trial.policy, 10, (240, 10)) {
+        Some(trial)
+    } else {
+        None
     }
-    Some(trial)
 }
 
 /// What the first or the second host sends.
@@ -25,83 +26,116 @@ fn sent(host: u64) -> Option<Ufid>
     id(Dir::Out, host, (OWN, 1234), (FAR, 80)).ok()
 }
 
-/// What comes in to the public address.
-fn received() -> Option<Ufid> {
-    id(Dir::In, FIRST, (FAR, 80), (PUBLIC, 1234)).ok()
+/// Which packet crosses the layer.
+#[derive(Clone, Copy)]
+enum Met {
+    /// One that the first host sends.
+    First,
+    /// One that the second host sends, whose row is looked at.
+    Itself,
+    /// One that comes in to the public address.
+    Received,
 }
+
+fn identity(met: Met) -> Option<Ufid> {
+    match met {
+        Met::First => sent(FIRST),
+        Met::Itself => sent(SECOND),
+        Met::Received => id(Dir::In, FIRST, (FAR, 80), (PUBLIC, 1234)).ok(),
+    }
+}
+
+/// A packet, its control and its moment.
+type Step = (Met, Control, u64);
 
 /// Whether a packet shakes the row of this identity, the kind of its change, and whether the row is another
 /// one after it.
-fn shakes(
-    trial: &mut Trial,
-    row: &Ufid,
-    met: &Ufid,
-    control: Control,
-    moment: u64,
-) -> Option<(bool, Change, bool)> {
+type Shaken = (bool, Change, bool);
+
+fn shakes(trial: &mut Trial, row: &Ufid, met: &Crossing) -> Option<Shaken> {
     let before = trial.row(row);
     let look = trial.first_look()?;
-    let (shaken, change) = trial.meet(&packet(met, control, moment), &look)?;
+    let (shaken, change) = trial.meet(met, &look)?;
     let after = trial.row(row);
     Some((shaken, change, !before.is_same(&after)))
 }
 
-/// The row of what the second host sends, and a packet that comes in.
-fn by_received(trial: &mut Trial, control: Control, moment: u64) -> Option<(bool, Change, bool)> {
-    shakes(trial, &sent(SECOND)?, &received()?, control, moment)
+/// What a step does to the row of what the second host sends.
+fn step(trial: &mut Trial, step: &Step) -> Option<Shaken> {
+    match (sent(SECOND), identity(step.0)) {
+        (Some(row), Some(met)) => shakes(trial, &row, &packet(&met, step.1, step.2)),
+        _ => None,
+    }
 }
 
-/// The row of what the second host sends, and such a packet.
-fn by_itself(trial: &mut Trial, control: Control, moment: u64) -> Option<(bool, Change, bool)> {
-    let row = sent(SECOND)?;
-    shakes(trial, &row, &row, control, moment)
+/// What the last of these steps does.
+fn last_of(trial: &mut Trial, steps: &[Step]) -> Option<Shaken> {
+    let mut shaken = None;
+    for place in 0..steps.len() {
+        shaken = step(trial, &steps[place]);
+    }
+    shaken
 }
+
+/// What the last of these steps does at a new layer.
+fn last(alloc: Global, steps: &[Step]) -> Option<Shaken> {
+    match hiding(alloc) {
+        Some(mut trial) => last_of(&mut trial, steps),
+        None => None,
+    }
+}
+
+const MISSED: [Step; 1] = [(Met::First, Control::Syn, 1)];
 
 #[test]
 fn a_new_pair_holds_the_key_that_was_missed(rt: HostRuntime) {
-    let mut trial = hiding(rt.alloc()).expect(&rt, "memory");
-    let row = sent(SECOND).expect(&rt, "it has the shape");
-    let met = sent(FIRST).expect(&rt, "it has the shape");
-    let made = shakes(&mut trial, &row, &met, Control::Syn, 1);
-    assert_eq!(rt; made, Some((true, Change::Front, true)));
+    assert!(&rt; last(rt.alloc(), &MISSED) == Some((true, Change::Front, true)));
 }
+
+const REPLIES: [Step; 1] = [(Met::Received, Control::Syn, 1)];
 
 #[test]
 fn replies_of_a_new_pair_hold_the_key_that_was_missed(rt: HostRuntime) {
-    let mut trial = hiding(rt.alloc()).expect(&rt, "memory");
-    let made = by_received(&mut trial, Control::Syn, 1);
-    assert_eq!(rt; made, Some((true, Change::Back, true)));
+    assert!(&rt; last(rt.alloc(), &REPLIES) == Some((true, Change::Back, true)));
 }
+
+const USED: [Step; 2] = [
+    (Met::Received, Control::Syn, 1),
+    (Met::Received, Control::None, 60_000_002),
+];
 
 #[test]
 fn a_pair_is_used_later(rt: HostRuntime) {
-    let mut trial = hiding(rt.alloc()).expect(&rt, "memory");
-    let _ = by_received(&mut trial, Control::Syn, 1);
-    let used = by_received(&mut trial, Control::None, 60_000_002);
-    assert_eq!(rt; used, Some((true, Change::Used, true)));
+    assert!(&rt; last(rt.alloc(), &USED) == Some((true, Change::Used, true)));
 }
+
+const CLOSED: [Step; 2] = [
+    (Met::Received, Control::Syn, 1),
+    (Met::Received, Control::Rst, 2),
+];
 
 #[test]
 fn a_pair_gets_another_life(rt: HostRuntime) {
-    let mut trial = hiding(rt.alloc()).expect(&rt, "memory");
-    let _ = by_received(&mut trial, Control::Syn, 1);
-    let closed = by_received(&mut trial, Control::Rst, 2);
-    assert_eq!(rt; closed, Some((true, Change::Moved, true)));
+    assert!(&rt; last(rt.alloc(), &CLOSED) == Some((true, Change::Moved, true)));
 }
+
+const LEFT: [Step; 3] = [
+    (Met::Received, Control::Syn, 1),
+    (Met::Received, Control::Rst, 2),
+    (Met::Itself, Control::Syn, 3),
+];
 
 #[test]
 fn a_pair_leaves(rt: HostRuntime) {
-    let mut trial = hiding(rt.alloc()).expect(&rt, "memory");
-    let _ = by_received(&mut trial, Control::Syn, 1);
-    let _ = by_received(&mut trial, Control::Rst, 2);
-    let left = by_itself(&mut trial, Control::Syn, 3);
-    assert_eq!(rt; left, Some((true, Change::Left, true)));
+    assert!(&rt; last(rt.alloc(), &LEFT) == Some((true, Change::Left, true)));
 }
+
+const OPENED: [Step; 2] = [
+    (Met::Received, Control::Syn, 1),
+    (Met::Itself, Control::SynAck, 2),
+];
 
 #[test]
 fn another_state_of_one_life_shakes_no_row(rt: HostRuntime) {
-    let mut trial = hiding(rt.alloc()).expect(&rt, "memory");
-    let _ = by_received(&mut trial, Control::Syn, 1);
-    let opened = by_itself(&mut trial, Control::SynAck, 2);
-    assert_eq!(rt; opened, Some((false, Change::Moved, false)));
+    assert!(&rt; last(rt.alloc(), &OPENED) == Some((false, Change::Moved, false)));
 }

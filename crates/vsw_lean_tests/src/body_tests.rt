@@ -141,7 +141,7 @@ fn rows_are_those_of_the_table(rt: HostRuntime) {
         has_row(&OUT, &[], &by_out(), 20),
         has_row(&IN, &[], &by_in(), 20),
     ];
-    assert_eq!(rt; found, [true; 4]);
+    assert!(&rt; found == [true; 4]);
 }
 
 #[test]
@@ -152,7 +152,7 @@ fn bodies_are_read_back(rt: HostRuntime) {
         reads(&by_out(), &OUT, &[]),
         reads(&by_in(), &IN, &[]),
     ];
-    assert_eq!(rt; found, [true; 4]);
+    assert!(&rt; found == [true; 4]);
 }
 
 /// Words of the edit that make it no body.
@@ -178,11 +178,19 @@ const WRONG: [(usize, u64); 19] = [
     (56, 1), // the last word
 ];
 
+/// The place of the first of these words with which the edit is a body, if there is one.
+fn first_body(wrong: &[(usize, u64)]) -> Option<usize> {
+    for place in 0..wrong.len() {
+        if is_body_with(&edit_words(), wrong[place].0, wrong[place].1) {
+            return Some(place);
+        }
+    }
+    None
+}
+
 #[test]
 fn other_words_are_no_body(rt: HostRuntime) {
-    for (place, word) in &WRONG {
-        assert!(rt; !is_body_with(&edit_words(), *place, *word), "{place}");
-    }
+    assert!(&rt; first_body(&WRONG) == None);
 }
 
 #[test]
@@ -196,7 +204,7 @@ fn other_words_are_no_drop(rt: HostRuntime) {
         is_body_with(&by_rule(), 0, 4),
         is_body_with(&by_rule(), 0, 0),
     ];
-    assert_eq!(rt; found, [false; 7]);
+    assert!(&rt; found == [false; 7]);
     assert!(rt;
         is_body_with(&by_rule(), 0, 1) && is_body_with(&edit_words(), 1, 0xffff_ffff_ffff_ffff)
     );

@@ -33,9 +33,9 @@ fn is_listed(controllers: &[u16], controller: u16) -> bool
 }
 
 /// Whether a command may be given, and was done.
-pub fn give(policy: &mut Policy, controller: u16, command: Command) -> bool {
-    if !is_listed(policy.controllers(), controller) || !is_good(&command) {
+pub fn give(policy: &mut Policy, controller: u16, command: &Command) -> bool {
+    if !is_listed(policy.controllers(), controller) || !is_good(command) {
         return false;
     }
-    policy.command(controller, &command).is_ok()
+    policy.command(controller, command).is_ok()
 }

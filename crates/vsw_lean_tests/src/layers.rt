@@ -36,7 +36,37 @@ fn add_layer(policy: &mut Policy, layer: u16, idle: u32, linger: u32) -> bool {
         idle,
         linger,
     };
-    give(policy, 1, Command::AddLayer { spec })
+    give(policy, 1, &Command::AddLayer { spec })
+}
+
+/// Adds a group of this direction and number.
+fn add_group(alloc: Global, policy: &mut Policy, layer: u16, group: u16, dir: Dir) -> bool {
+    let added = Command::AddGroup {
+        layer,
+        group,
+        dir,
+        when: Items::new(alloc),
+    };
+    give(policy, 1, &added)
+}
+
+/// A rule that lets packets on in pairs that have this value of a field.
+fn rule(alloc: Global, number: u16, field: Field, value: u64, action: &Action) -> Rule {
+    let mut items = Items::new(alloc);
+    let _ = items.push(Item::Range {
+        low: value,
+        high: value,
+    });
+    let mut when = Items::new(alloc);
+    let _ = when.push(Cond { field, items });
+    Rule {
+        number,
+        priority: 10,
+        when,
+        action: *action,
+        stateful: true,
+        last: false,
+    }
 }
 
 /// Adds a group of this direction. Its one rule lets packets on in pairs that have this value of a field.
@@ -53,44 +83,43 @@ fn add_rule(
         Dir::Out => 1,
         Dir::In => 2,
     };
-    let added = Command::AddGroup {
-        layer,
-        group,
-        dir,
-        when: Items::new(alloc),
-    };
-    let mut items = Items::new(alloc);
-    let _ = items.push(Item::Range {
-        low: value,
-        high: value,
-    });
-    let mut when = Items::new(alloc);
-    let _ = when.push(Cond { field, items });
-    let rule = Rule {
-        number: group,
-        priority: 10,
-        when,
-        action: *action,
-        stateful: true,
-        last: false,
-    };
-    give(policy, 1, added) && give(policy, 1, Command::AddRule { layer, group, rule })
+    if !add_group(alloc, policy, layer, group, dir) {
+        return false;
+    }
+    let rule = rule(alloc, group, field, value, action);
+    give(policy, 1, &Command::AddRule { layer, group, rule })
+}
+
+/// What hides a source behind the public address.
+fn hide() -> Action {
+    edit(Set {
+        src_ip: Some(Ip4::of(PUBLIC)),
+        ..UNSET
+    })
+}
+
+/// What takes a destination to the own address.
+fn restore() -> Action {
+    edit(Set {
+        dst_ip: Some(Ip4::of(OWN)),
+        ..UNSET
+    })
 }
 
 /// A layer that hides what the first host sends behind the public address, and takes what comes in to that
 /// address to the own one, both in pairs. All else goes on as it came.
 pub fn add_hiding(alloc: Global, policy: &mut Policy, layer: u16, times: (u32, u32)) -> bool {
-    let hide = edit(Set {
-        src_ip: Some(Ip4::of(PUBLIC)),
-        ..UNSET
-    });
-    let restore = edit(Set {
-        dst_ip: Some(Ip4::of(OWN)),
-        ..UNSET
-    });
     let public = u64::from(PUBLIC);
     add_layer(policy, layer, times.0, times.1)
-        && add_rule(alloc, policy, layer, Dir::Out, Field::SrcMac, FIRST, &hide)
+        && add_rule(
+            alloc,
+            policy,
+            layer,
+            Dir::Out,
+            Field::SrcMac,
+            FIRST,
+            &hide(),
+        )
         && add_rule(
             alloc,
             policy,
@@ -98,7 +127,7 @@ pub fn add_hiding(alloc: Global, policy: &mut Policy, layer: u16, times: (u32, u
             Dir::In,
             Field::DstIp,
             public,
-            &restore,
+            &restore(),
         )
 }
 

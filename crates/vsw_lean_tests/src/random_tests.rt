@@ -9,6 +9,7 @@ use crate::rows::Rows;
 use crate::trial::Trial;
 use std::alloc::Global;
 use vsw_base::{BadShape, Control, Dir, Ufid};
+use vsw_policy::Policy;
 
 /// Draws of a linear congruential generator.
 #[derive(Drop)]
@@ -52,27 +53,24 @@ impl Draws {
     }
 }
 
-/// Three layers, whose pairs live for some seconds.
-fn three_layers(alloc: Global) -> Option<Trial> {
-    let mut trial = Trial::new(alloc)?;
-    let added = add_tracking(alloc, &mut trial.policy, 10, (4, 1))
-        && add_hiding(alloc, &mut trial.policy, 20, (8, 2))
-        && add_tracking(alloc, &mut trial.policy, 30, (6, 6));
-    if added { Some(trial) } else { None }
+/// Adds three layers, whose pairs live for some seconds.
+fn add_three(alloc: Global, policy: &mut Policy) -> bool {
+    add_tracking(alloc, policy, 10, (4, 1))
+        && add_hiding(alloc, policy, 20, (8, 2))
+        && add_tracking(alloc, policy, 30, (6, 6))
 }
 
-/// Rows of this many identities.
-fn some_rows(alloc: Global, trial: &mut Trial, draws: &mut Draws, count: u32) -> Option<Rows> {
-    let mut rows = Rows::new(alloc);
+/// Makes rows of this many identities.
+fn fill(rows: &mut Rows, trial: &mut Trial, draws: &mut Draws, count: u32) -> bool {
     for _ in 0..count {
         let Ok(id) = draws.id() else {
-            return None;
+            return false;
         };
         if !rows.add(id) {
-            return None;
+            return false;
         }
     }
-    if rows.renew(trial) { Some(rows) } else { None }
+    rows.renew(trial)
 }
 
 /// How many crossings changed the layers and shook no row, and how many shook one.
@@ -96,34 +94,22 @@ fn step(
     };
     let crossing = packet(&id, draws.control(), moment);
     let (changed, shaken) = trial.cross(&crossing, rows)?;
-    if !changed {
-        return if rows.are_right(trial) {
-            Some(counts)
-        } else {
-            None
-        };
-    }
-    if !shaken {
-        let quiet = counts.quiet.saturating_add(1);
-        return if rows.are_right(trial) {
-            Some(Counts { quiet, ..counts })
-        } else {
-            None
-        };
-    }
-    let shaken = counts.shaken.saturating_add(1);
-    if rows.renew(trial) {
-        Some(Counts { shaken, ..counts })
+    let stands = if changed && shaken {
+        rows.renew(trial)
     } else {
-        None
+        rows.are_right(trial)
+    };
+    if !stands {
+        return None;
     }
+    Some(Counts {
+        quiet: counts.quiet.saturating_add(u32::from(changed && !shaken)),
+        shaken: counts.shaken.saturating_add(u32::from(changed && shaken)),
+    })
 }
 
 /// So many crossings, at most 0.2 seconds apart.
-fn run(alloc: Global, crossings: u32) -> Option<Counts> {
-    let mut draws = Draws { last: 1 };
-    let mut trial = three_layers(alloc)?;
-    let mut rows = some_rows(alloc, &mut trial, &mut draws, 8)?;
+fn cross(trial: &mut Trial, rows: &mut Rows, draws: &mut Draws, crossings: u32) -> Option<Counts> {
     let mut moment = 0_u64;
     let mut counts = Counts {
         quiet: 0,
@@ -131,14 +117,34 @@ fn run(alloc: Global, crossings: u32) -> Option<Counts> {
     };
     for _ in 0..crossings {
         moment = moment.saturating_add(draws.next(200_000));
-        counts = step(&mut trial, &mut rows, &mut draws, moment, counts)?;
+        counts = step(trial, rows, draws, moment, counts)?;
     }
     Some(counts)
 }
 
+/// So many crossings of three layers, beside eight rows.
+fn try_rows(alloc: Global, trial: &mut Trial, crossings: u32) -> Option<Counts> {
+    let mut draws = Draws { last: 1 };
+    let mut rows = Rows::new(alloc);
+    if add_three(alloc, &mut trial.policy) && fill(&mut rows, trial, &mut draws, 8) {
+        cross(trial, &mut rows, &mut draws, crossings)
+    } else {
+        None
+    }
+}
+
+/// Whether each row was right, and enough crossings shook one and shook none.
+fn are_right(alloc: Global, crossings: u32) -> bool {
+    let Some(mut trial) = Trial::new(alloc) else {
+        return false;
+    };
+    match try_rows(alloc, &mut trial, crossings) {
+        Some(counts) => counts.shaken > 100 && counts.quiet > 100,
+        None => false,
+    }
+}
+
 #[test]
 fn rows_that_are_not_shaken_stay_right(rt: HostRuntime) {
-    let counts = run(rt.alloc(), 100_000).expect(&rt, "each row is right");
-    assert!(rt; counts.shaken > 100);
-    assert!(rt; counts.quiet > 100);
+    assert!(&rt; are_right(rt.alloc(), 100_000));
 }

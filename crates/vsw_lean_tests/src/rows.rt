@@ -18,6 +18,22 @@ pub struct Rows {
     pub leaning: Leaning,
 }
 
+/// Appends a row and what was looked for. Whether memory sufficed.
+fn push(rows: &mut Vec<Row>, looks: &mut Vec<Looked>, row: Row, looked: &[Looked]) -> bool {
+    rows.push(row).is_ok() && looks.extend_from_slice(looked).is_ok()
+}
+
+/// Appends the rows of these identities. Whether memory sufficed.
+fn walk_all(ids: &[Ufid], rows: &mut Vec<Row>, looks: &mut Vec<Looked>, trial: &mut Trial) -> bool {
+    for id in ids {
+        let row = trial.row(id);
+        if !push(rows, looks, row, trial.scratch.looked()) {
+            return false;
+        }
+    }
+    true
+}
+
 impl Rows {
     /// No rows.
     pub fn new(alloc: Global) -> Rows {
@@ -38,16 +54,8 @@ impl Rows {
     pub fn renew(&mut self, trial: &mut Trial) -> bool {
         self.rows.clear();
         self.looks.clear();
-        for id in &self.ids {
-            let row = trial.row(id);
-            if self.rows.push(row).is_err() {
-                return false;
-            }
-            for look in trial.scratch.looked() {
-                if self.looks.push(*look).is_err() {
-                    return false;
-                }
-            }
+        if !walk_all(&self.ids, &mut self.rows, &mut self.looks, trial) {
+            return false;
         }
         if self.leaning.reserve(self.looks.len()).is_err() {
             return false;

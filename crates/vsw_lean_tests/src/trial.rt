@@ -112,7 +112,7 @@ impl Trial {
 }
 
 /// The one change of a crossing.
-#[derive(Clone, Copy, Debug, PartialEq, Eq)]
+#[derive(Clone, Copy, PartialEq, Eq)]
 pub enum Change {
     /// A pair is made whose own packets are looked for, or whose replies are, or neither.
     Front,

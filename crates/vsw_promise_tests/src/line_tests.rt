@@ -1,31 +1,30 @@
 //! Lines of each kind, against texts that were written by hand.
 
-use crate::report_samples::{dropped, replied, round_of};
-use std::alloc::{AllocError, Global};
-use std::test::Fail;
+use crate::report_samples::{dropped, is_printed, list, replied, round_of};
+use std::alloc::Global;
 use vsw_base::{BadFrame, Cause, Dir, Fate, Items};
 use vsw_policy::{Refusal, Reply};
-use vsw_report::{By, HEAD_LINE, Loose, LooseCause, PortRound, Round, ToldLine, What, print_round};
+use vsw_report::{By, HEAD_LINE, Loose, LooseCause, PortRound, Round, ToldLine, What};
 
 /// A read at no entry.
 fn read(alloc: Global, why: Cause) -> ToldLine {
     dropped(alloc, By::Worker(1), 4, false, 0, why)
 }
 
-fn passed(alloc: Global, bytes: &[u8]) -> Result<ToldLine, AllocError> {
-    Ok(ToldLine {
+fn passed(bytes: Items<u8>) -> ToldLine {
+    ToldLine {
         by: By::Worker(0),
         item: 3,
         entry: true,
         count: 0,
         what: What::Fate {
             fate: Fate::Pass { len: 3 },
-            bytes: Items::of(bytes.to_vec(alloc)?),
+            bytes,
         },
-    })
+    }
 }
 
-fn fates(alloc: Global) -> Result<Items<ToldLine>, AllocError> {
+fn fates(alloc: Global) -> Items<ToldLine> {
     let rule = Cause::Rule {
         controller: 1,
         layer: 10,
@@ -52,7 +51,7 @@ fn fates(alloc: Global) -> Result<Items<ToldLine>, AllocError> {
         pair: 7,
     };
     let told = [
-        passed(alloc, b"\x0a\x00\xff")?,
+        passed(list(alloc, [0x0a, 0x00, 0xff])),
         read(alloc, rule),
         read(alloc, default_out),
         read(alloc, default_in),
@@ -61,7 +60,7 @@ fn fates(alloc: Global) -> Result<Items<ToldLine>, AllocError> {
         read(alloc, taken),
         read(alloc, Cause::Memory),
     ];
-    Ok(Items::of(Vec::from_array(alloc, told)?))
+    list(alloc, told)
 }
 
 const FATES: &[u8] = b"vsw report 1
@@ -78,13 +77,14 @@ w1 4 @0 drop memory
 loose
 ";
 
+fn fates_printed(alloc: Global) -> bool {
+    let round = round_of(alloc, fates(alloc), Items::new(alloc));
+    is_printed(alloc, HEAD_LINE, &round, FATES)
+}
+
 #[test]
-fn each_fate_has_its_line(rt: HostRuntime) -> Result<(), Fail> {
-    let mut out = HEAD_LINE.to_vec(rt.alloc())?;
-    let round = round_of(rt.alloc(), fates(rt.alloc())?, Items::new(rt.alloc()))?;
-    assert_eq!(rt; print_round(&round, &mut out), Ok(()));
-    assert_eq!(rt; out.as_slice(), FATES);
-    Ok(())
+fn each_fate_has_its_line(rt: HostRuntime) {
+    assert!(&rt; fates_printed(rt.alloc()));
 }
 
 /// An entry of a refused command.
@@ -92,7 +92,7 @@ fn refused(why: Refusal) -> ToldLine {
     replied(By::Controller(2), 7, true, 1, Reply::Refused(why))
 }
 
-fn replies(alloc: Global) -> Result<Items<ToldLine>, AllocError> {
+fn replies(alloc: Global) -> Items<ToldLine> {
     let told = [
         replied(By::Controller(2), 7, true, 0, Reply::Ok),
         refused(Refusal::NoLayer),
@@ -112,7 +112,7 @@ fn replies(alloc: Global) -> Result<Items<ToldLine>, AllocError> {
             Reply::Refused(Refusal::Memory),
         ),
     ];
-    Ok(Items::of(Vec::from_array(alloc, told)?))
+    list(alloc, told)
 }
 
 const REPLIES: &[u8] = b"round 3
@@ -131,13 +131,14 @@ c2 7 @2 refused 10 Memory
 loose
 ";
 
+fn replies_printed(alloc: Global) -> bool {
+    let round = round_of(alloc, replies(alloc), Items::new(alloc));
+    is_printed(alloc, &[], &round, REPLIES)
+}
+
 #[test]
-fn each_reply_has_its_line(rt: HostRuntime) -> Result<(), Fail> {
-    let mut out = Vec::new(rt.alloc());
-    let round = round_of(rt.alloc(), replies(rt.alloc())?, Items::new(rt.alloc()))?;
-    assert_eq!(rt; print_round(&round, &mut out), Ok(()));
-    assert_eq!(rt; out.as_slice(), REPLIES);
-    Ok(())
+fn each_reply_has_its_line(rt: HostRuntime) {
+    assert!(&rt; replies_printed(rt.alloc()));
 }
 
 /// A packet whose bytes aren't a frame.
@@ -148,7 +149,7 @@ fn malformed(why: BadFrame) -> Loose {
     }
 }
 
-fn loose_packets(alloc: Global) -> Result<Items<Loose>, AllocError> {
+fn loose_packets(alloc: Global) -> Items<Loose> {
     let loose = [
         Loose {
             packet: 6,
@@ -168,7 +169,7 @@ fn loose_packets(alloc: Global) -> Result<Items<Loose>, AllocError> {
             cause: LooseCause::NoPort,
         },
     ];
-    Ok(Items::of(Vec::from_array(alloc, loose)?))
+    list(alloc, loose)
 }
 
 const LOOSE: &[u8] = b"round 3
@@ -187,21 +188,18 @@ loose
 10 noport
 ";
 
+fn loose_printed(alloc: Global) -> bool {
+    let round = round_of(alloc, Items::new(alloc), loose_packets(alloc));
+    is_printed(alloc, &[], &round, LOOSE)
+}
+
 #[test]
-fn each_loose_packet_has_its_line(rt: HostRuntime) -> Result<(), Fail> {
-    let mut out = Vec::new(rt.alloc());
-    let round = round_of(
-        rt.alloc(),
-        Items::new(rt.alloc()),
-        loose_packets(rt.alloc())?,
-    )?;
-    assert_eq!(rt; print_round(&round, &mut out), Ok(()));
-    assert_eq!(rt; out.as_slice(), LOOSE);
-    Ok(())
+fn each_loose_packet_has_its_line(rt: HostRuntime) {
+    assert!(&rt; loose_printed(rt.alloc()));
 }
 
 /// The numbers of a port's round and of its lines at their least or greatest.
-fn port_at(alloc: Global, small: u16, great: u32) -> Result<PortRound, AllocError> {
+fn port_at(alloc: Global, small: u16, great: u32) -> PortRound {
     let taken = Cause::Taken {
         controller: small,
         layer: small,
@@ -218,25 +216,25 @@ fn port_at(alloc: Global, small: u16, great: u32) -> Result<PortRound, AllocErro
         dropped(alloc, By::Worker(great), great, false, great, rule),
         replied(By::Controller(small), great, true, great, Reply::Ok),
     ];
-    Ok(PortRound {
+    PortRound {
         port: small,
         before: great,
         after: great,
-        lines: Items::of(Vec::from_array(alloc, told)?),
-    })
+        lines: list(alloc, told),
+    }
 }
 
-fn numbers(alloc: Global) -> Result<Round, AllocError> {
-    let ports = [port_at(alloc, 0, 0)?, port_at(alloc, u16::MAX, u32::MAX)?];
+fn numbers(alloc: Global) -> Round {
+    let ports = [port_at(alloc, 0, 0), port_at(alloc, u16::MAX, u32::MAX)];
     let loose = [Loose {
         packet: u32::MAX,
         cause: LooseCause::NoPort,
     }];
-    Ok(Round {
+    Round {
         first: u32::MAX,
-        ports: Items::of(Vec::from_array(alloc, ports)?),
-        loose: Items::of(Vec::from_array(alloc, loose)?),
-    })
+        ports: list(alloc, ports),
+        loose: list(alloc, loose),
+    }
 }
 
 const NUMBERS: &[u8] = b"round 4294967295
@@ -252,11 +250,11 @@ loose
 4294967295 noport
 ";
 
+fn numbers_printed(alloc: Global) -> bool {
+    is_printed(alloc, &[], &numbers(alloc), NUMBERS)
+}
+
 #[test]
-fn numbers_are_whole_at_both_ends(rt: HostRuntime) -> Result<(), Fail> {
-    let mut out = Vec::new(rt.alloc());
-    let round = numbers(rt.alloc())?;
-    assert_eq!(rt; print_round(&round, &mut out), Ok(()));
-    assert_eq!(rt; out.as_slice(), NUMBERS);
-    Ok(())
+fn numbers_are_whole_at_both_ends(rt: HostRuntime) {
+    assert!(&rt; numbers_printed(rt.alloc()));
 }

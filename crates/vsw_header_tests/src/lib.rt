@@ -1,4 +1,4 @@
-//! Tests of `vsw_base` and of the crates of headers and flows, kept apart from them: with tests of its own, a crate is proved once more.
+//! Tests of headers and of whole frames, kept apart from `vsw_base`, `vsw_header` and `vsw_frame`: with tests of its own, a crate is proved once more.
 #![tactic(auto)]
 
 #[cfg(test)]
@@ -11,10 +11,20 @@ mod ipv4_tests;
 #[cfg(test)]
 mod l4_tests;
 #[cfg(test)]
+mod layers_tests;
+#[cfg(test)]
+mod plain_reader;
+#[cfg(test)]
+mod reading_tests;
+#[cfg(test)]
+mod rewriting_tests;
+#[cfg(test)]
 mod spelling_tests;
 #[cfg(test)]
 mod stack_tests;
 #[cfg(test)]
 mod sum_tests;
+#[cfg(test)]
+mod whole_frames;
 
 pub use frames::vectors;

@@ -1,4 +1,4 @@
-//! Tests of rules, and of actions as transpositions, kept apart from `vsw_transpose` and `vsw_rule`: with tests of its own, a crate is proved once more.
+//! Tests of transpositions, of rules and of their indexes, kept apart from `vsw_transpose`, `vsw_rule`, `vsw_index` and `vsw_classify`: with tests of its own, a crate is proved once more.
 #![tactic(auto)]
 
 #[cfg(test)]
@@ -8,8 +8,18 @@ mod composition_tests;
 #[cfg(test)]
 mod field_tests;
 #[cfg(test)]
+mod groups_tests;
+#[cfg(test)]
+mod index_choice_tests;
+#[cfg(test)]
+mod index_samples;
+#[cfg(test)]
+mod interval_tests;
+#[cfg(test)]
 mod rule_tests;
 #[cfg(test)]
 mod samples;
 #[cfg(test)]
 mod transposition_tests;
+#[cfg(test)]
+mod trie_tests;

@@ -1,6 +1,6 @@
 //! The index beside a walk over the list that it was built of.
 
-use crate::samples::stirred;
+use crate::index_samples::stirred;
 use std::alloc::{AllocError, Global};
 use vsw_index::{Interval, PlacedRange};
 

@@ -1,6 +1,6 @@
 //! The trie beside a walk over the list that it was built of.
 
-use crate::samples::stirred;
+use crate::index_samples::stirred;
 use std::alloc::{AllocError, Global};
 use vsw_base::{Ip4, Prefix};
 use vsw_index::{PlacedPrefix, Trie};

@@ -3,7 +3,7 @@
 ghost use Rattle.std.specs.Prelude.{◌≡◌};
 ghost use Rattle.vsw_classify.specs.Place.{AreBuiltOf};
 
-use crate::samples::{Random, Tally, group, numbers, packet};
+use crate::index_samples::{Random, Tally, group, numbers, packet};
 use std::alloc::Global;
 use vsw_base::{BadShape, Dir, Header, Ip4, Items, Mac, Prefix, Stack};
 use vsw_classify::{GroupIndex, build_layer, pick_layer};

@@ -1,6 +1,6 @@
 //! The choice by the indexes of groups that commands change, beside the choice over lists.
 
-use crate::samples::{Random, Tally, group, numbers, packet};
+use crate::index_samples::{Random, Tally, group, numbers, packet};
 use std::alloc::Global;
 use vsw_base::{Dir, Stack};
 use vsw_classify::{Groups, IndexedRules};

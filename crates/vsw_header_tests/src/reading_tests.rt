@@ -1,6 +1,6 @@
 //! Frames that were written and read by hand.
 
-use crate::frames::{DELIVERED, QUERY, REPLY, SENT, nested, outer};
+use crate::whole_frames::{DELIVERED, QUERY, REPLY, SENT, nested, outer};
 use vsw_base::{BadFrame, Control, Header, Ip4, Mac, Sizes};
 use vsw_frame::{Frame, read_frame};
 

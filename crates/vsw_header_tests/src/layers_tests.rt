@@ -4,7 +4,7 @@ ghost use Rattle.std.specs.Prelude.{◌≤◌, ◌<◌, ◌^◌, IsTrue, length}
 ghost use Rattle.vsw_rule.specs.Edit.{goes_on};
 ghost use Rattle.vsw_rule.specs.Match.{can_do};
 
-use crate::frames::{DELIVERED, OLD, QUERY, REPLY, ROOM, SENT, begins};
+use crate::whole_frames::{DELIVERED, OLD, QUERY, REPLY, ROOM, SENT, begins};
 use vsw_base::{Ip4, Mac, Outer, Set, Stack};
 use vsw_frame::{read_frame, rewrite};
 use vsw_rule::{Action, act_of, compose};

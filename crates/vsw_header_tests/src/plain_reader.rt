@@ -3,7 +3,7 @@
 
 ghost use Rattle.std.specs.Prelude.{◌≤◌, ◌<◌};
 
-use crate::frames::{REPLY, nested};
+use crate::whole_frames::{REPLY, nested};
 use std::alloc::{AllocError, Global};
 use vsw_base::{Control, Header, Headers, Ip4, Mac, Sizes};
 use vsw_frame::{Frame, read_frame};

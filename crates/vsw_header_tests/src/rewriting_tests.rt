@@ -2,7 +2,7 @@
 
 ghost use Rattle.std.specs.Prelude.{◌≡◌, ◌≤◌, ◌<◌, length};
 
-use crate::frames::{DELIVERED, OLD, QUERY, REPLY, ROOM, SENT, begins, outer, put};
+use crate::whole_frames::{DELIVERED, OLD, QUERY, REPLY, ROOM, SENT, begins, outer, put};
 use vsw_base::{Ip4, Long, Mac};
 use vsw_frame::{read_frame, rewrite, rewrite_bytes};
 use vsw_transpose::{Act, Change, Transposition};

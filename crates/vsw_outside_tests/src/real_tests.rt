@@ -2,25 +2,39 @@
 
 use std::test::Fail;
 use std::{fs, process};
-use vsw_host::{Host, RealHost};
+use vsw_host::{Failed, Host, RealHost};
+
+/// What two reads answer, and the buffer of the first one.
+type Reads = ([Result<usize, Failed>; 2], [u8; 8]);
+
+fn read_twice(host: &mut RealHost, path: &str) -> Option<Reads> {
+    let file = host.open(path).ok()?;
+    let mut buffer = [0; 8];
+    let counts = [host.read(file, &mut buffer), host.read(file, &mut [0])];
+    Some((counts, buffer))
+}
+
+/// Which calls succeed when the file is gone.
+fn call_without(host: &mut RealHost, path: &str) -> [bool; 3] {
+    [
+        host.open(path).is_ok(),
+        host.put(b"put\n").is_ok(),
+        host.complain(b"complained\n").is_ok(),
+    ]
+}
+
+fn seen(rt: &HostRuntime, host: &mut RealHost, path: &str) -> Option<(Reads, [bool; 3])> {
+    fs::write(rt, path, b"12345").ok()?;
+    let reads = read_twice(host, path)?;
+    fs::remove_file(rt, path).ok()?;
+    Some((reads, call_without(host, path)))
+}
 
 #[test]
 fn a_file_is_read_and_a_missing_one_refused(rt: HostRuntime) -> Result<(), Fail> {
-    let alloc = rt.alloc();
-    let path = format!(in alloc; "/tmp/vsw_host_{}", process::id(rt.process()))?;
-    fs::write(&rt, path.as_str(), b"12345")?;
-    let mut host = RealHost::new(alloc, rt.clone()?);
-    let file = host.open(path.as_str()).expect(&rt, "it was written");
-    let mut buffer = [0; 8];
-    let counts = [host.read(file, &mut buffer), host.read(file, &mut [0])];
-    fs::remove_file(&rt, path.as_str())?;
-    assert_eq!(rt; counts, [Ok(5), Ok(0)]);
-    assert_eq!(rt; buffer, *b"12345\0\0\0");
-    let answers = [
-        host.open(path.as_str()).is_ok(),
-        host.put(b"put\n").is_ok(),
-        host.complain(b"complained\n").is_ok(),
-    ];
-    assert_eq!(rt; answers, [false, true, true]);
+    let path = format!(in rt.alloc(); "/tmp/vsw_host_{}", process::id(rt.process()))?;
+    let mut host = RealHost::new(rt.alloc(), rt.clone()?);
+    let reads = ([Ok(5), Ok(0)], *b"12345\0\0\0");
+    assert!(rt; seen(&rt, &mut host, path.as_str()) == Some((reads, [false, true, true])));
     Ok(())
 }

@@ -3,14 +3,12 @@
 ghost use Rattle.std.specs.Prelude.{◌<◌};
 ghost use Rattle.vsw_host.specs.Memory.{outside};
 
-use std::alloc::Global;
-use std::process::Abort;
-use std::test::Fail;
+use std::alloc::{AllocError, Global};
 use vsw_base::{Items, Text};
 use vsw_host::{MemoryFile, MemoryHost, Source, Unopened, are_distinct};
 
 /// So many bytes, no two pieces of which are alike.
-fn bytes_of(alloc: Global, count: u32) -> Result<Vec<u8>, Fail> {
+fn bytes_of(alloc: Global, count: u32) -> Result<Vec<u8>, AllocError> {
     let mut bytes = Vec::with_capacity(alloc, count as usize)?;
     for place in 0..count {
         bytes.push((place % 251) as u8)?;
@@ -18,64 +16,96 @@ fn bytes_of(alloc: Global, count: u32) -> Result<Vec<u8>, Fail> {
     Ok(bytes)
 }
 
-/// A host of one file of so many bytes, which fails in the call of this number.
-fn host_of(rt: &impl Abort, alloc: Global, count: u32, failing: u64) -> Result<MemoryHost, Fail> {
+fn files_of(alloc: Global, count: u32) -> Result<Vec<MemoryFile>, AllocError> {
     let mut files = Vec::new(alloc);
     files.push(MemoryFile {
         name: Text::of("file".to_string(alloc)?),
         bytes: Items::of(bytes_of(alloc, count)?),
     })?;
-    assert!(rt; are_distinct(&files));
-    Ok(MemoryHost::new(alloc, files, 0, vec![in alloc; failing; 1]?)?)
+    Ok(files)
+}
+
+/// A host of one file of so many bytes, which fails in the call of this number.
+fn host_of(alloc: Global, count: u32, failing: u64) -> Option<MemoryHost> {
+    let files = files_of(alloc, count).ok()?;
+    if !are_distinct(&files) {
+        return None;
+    }
+    let failing = vec![in alloc; failing; 1].ok()?;
+    MemoryHost::new(alloc, files, 0, failing).ok()
 }
 
 /// The lengths of the next four pieces, whose bytes go to the end of `got`. A fault counts as no byte.
-fn read_four(
-    host: &mut MemoryHost,
-    source: &mut Source,
-    got: &mut Vec<u8>,
-) -> Result<[usize; 4], Fail>
+fn read_four(host: &mut MemoryHost, source: &mut Source, got: &mut Vec<u8>) -> Option<[usize; 4]>
     requires open { source.old.file < (outside host.old).opens }
 {
     let mut lens = [0; 4];
     for turn in 0..4 {
         let _ = source.next(host);
-        got.extend_from_slice(source.piece())?;
+        got.extend_from_slice(source.piece()).ok()?;
         lens[turn] = source.piece().len();
     }
-    Ok(lens)
+    Some(lens)
+}
+
+/// The lengths of the first four pieces of the host's file, if it has these bytes.
+fn lens_of(alloc: Global, host: &mut MemoryHost, bytes: &[u8]) -> Option<[usize; 4]> {
+    let mut source = Source::open(alloc, host, "file").ok()?;
+    let mut got = Vec::new(alloc);
+    match read_four(host, &mut source, &mut got) {
+        Some(lens) if got.as_slice() == bytes => Some(lens),
+        _ => None,
+    }
+}
+
+/// The length of a file, the call that fails, and the lengths of the first four pieces.
+type Pieces = (u32, u64, [usize; 4]);
+
+const PIECES: [Pieces; 6] = [
+    (0, 0, [0; 4]),
+    (1, 0, [1, 0, 0, 0]),
+    (65_536, 0, [65_536, 0, 0, 0]),
+    (70_000, 0, [65_536, 4_464, 0, 0]),
+    (70_000, 2, [0, 65_536, 4_464, 0]),
+    (70_000, 3, [65_536, 0, 4_464, 0]),
+];
+
+fn comes_in(alloc: Global, pieces: &Pieces) -> bool {
+    let (count, failing, lens) = *pieces;
+    match (host_of(alloc, count, failing), bytes_of(alloc, count)) {
+        (Some(mut host), Ok(bytes)) => lens_of(alloc, &mut host, &bytes) == Some(lens),
+        _ => false,
+    }
+}
+
+/// The place of the first of them that comes in otherwise.
+fn first_otherwise(alloc: Global) -> Option<usize> {
+    for place in 0..PIECES.len() {
+        if !comes_in(alloc, &PIECES[place]) {
+            return Some(place);
+        }
+    }
+    None
 }
 
 #[test]
-fn a_file_is_read_by_pieces(rt: HostRuntime) -> Result<(), Fail> {
-    let alloc = rt.alloc();
-    for (count, failing, lens) in [
-        (0, 0, [0; 4]),
-        (1, 0, [1, 0, 0, 0]),
-        (65_536, 0, [65_536, 0, 0, 0]),
-        (70_000, 0, [65_536, 4_464, 0, 0]),
-        (70_000, 2, [0, 65_536, 4_464, 0]),
-        (70_000, 3, [65_536, 0, 4_464, 0]),
-    ] {
-        let mut host = host_of(&rt, alloc, count, failing)?;
-        let mut source = Source::open(alloc, &mut host, "file").expect(&rt, "it is held");
-        let mut got = Vec::new(alloc);
-        assert_eq!(rt;
-            read_four(&mut host, &mut source, &mut got)?,
-            lens,
-            "{count} {failing}"
-        );
-        assert!(rt; got == bytes_of(alloc, count)?, "{count} {failing}");
-    }
-    Ok(())
+fn a_file_is_read_by_pieces(rt: HostRuntime) {
+    assert_eq!(rt; first_otherwise(rt.alloc()), None);
+}
+
+fn faults(alloc: Global, host: &mut MemoryHost, name: &str) -> bool {
+    matches!(Source::open(alloc, host, name), Err(Unopened::Fault))
+}
+
+fn both_fault(alloc: Global) -> Option<[bool; 2]> {
+    let mut host = host_of(alloc, 1, 2)?;
+    Some([
+        faults(alloc, &mut host, "other"),
+        faults(alloc, &mut host, "file"),
+    ])
 }
 
 #[test]
-fn a_missing_file_is_not_opened(rt: HostRuntime) -> Result<(), Fail> {
-    let mut host = host_of(&rt, rt.alloc(), 1, 2)?;
-    for name in ["other", "file"] {
-        let opened = Source::open(rt.alloc(), &mut host, name);
-        assert!(rt; matches!(opened, Err(Unopened::Fault)), "{name}");
-    }
-    Ok(())
+fn a_missing_file_is_not_opened(rt: HostRuntime) {
+    assert!(rt; both_fault(rt.alloc()) == Some([true, true]));
 }

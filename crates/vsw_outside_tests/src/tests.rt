@@ -3,7 +3,6 @@
 ghost use Rattle.std.specs.Prelude.{◌≡◌, ◌<◌};
 
 use std::alloc::Global;
-use std::test::Fail;
 use vsw_base::Moment;
 use vsw_pcap::{BadTrace, Batch, Captured, Found, Next, Reader, Record};
 
@@ -37,19 +36,19 @@ struct Transcript {
 }
 
 /// Takes the records that are in hand, and answers what comes instead of the next one.
-fn drain(reader: &mut Reader, records: &mut Vec<Record>) -> Result<Next, Fail>
+fn drain(reader: &mut Reader, records: &mut Vec<Record>) -> Option<Next>
     ensures finished { reader.new.finished ≡ reader.old.finished }
 {
     loop {
-        match reader.next()? {
-            Next::Record(record) => records.push(record)?,
-            other => return Ok(other),
+        match reader.next().ok()? {
+            Next::Record(record) => records.push(record).ok()?,
+            other => return Some(other),
         }
     }
 }
 
 /// Reads a capture that is fed in pieces of so many bytes.
-fn read_by(alloc: Global, size: usize, capture: &[u8]) -> Result<Transcript, Fail>
+fn read_by(alloc: Global, size: usize, capture: &[u8]) -> Option<Transcript>
     requires { 0 < size }
 {
     let mut reader = Reader::new(alloc);
@@ -57,7 +56,7 @@ fn read_by(alloc: Global, size: usize, capture: &[u8]) -> Result<Transcript, Fai
     let mut at = 0;
     while at < capture.len() {
         let end = at + size.min(capture.len() - at);
-        reader.feed(&capture[at..end])?;
+        reader.feed(&capture[at..end]).ok()?;
         at = end;
         drain(&mut reader, &mut records)?;
     }
@@ -66,16 +65,16 @@ fn read_by(alloc: Global, size: usize, capture: &[u8]) -> Result<Transcript, Fai
         Next::Bad(bad) => Some(bad),
         _ => None,
     };
-    Ok(Transcript { records, fault })
+    Some(Transcript { records, fault })
 }
 
 /// One slice after the other.
-fn joined(alloc: Global, parts: &[&[u8]]) -> Result<Vec<u8>, Fail> {
+fn joined(alloc: Global, parts: &[&[u8]]) -> Option<Vec<u8>> {
     let mut whole = Vec::new(alloc);
     for part in parts {
-        whole.extend_from_slice(part)?;
+        whole.extend_from_slice(part).ok()?;
     }
-    Ok(whole)
+    Some(whole)
 }
 
 fn is_record(record: &Record, micros: u64, original: u32, bytes: &[u8]) -> bool {
@@ -84,41 +83,65 @@ fn is_record(record: &Record, micros: u64, original: u32, bytes: &[u8]) -> bool 
         && record.bytes.as_slice() == bytes
 }
 
-#[test]
-fn two_records_are_read_however_they_are_fed(rt: HostRuntime) -> Result<(), Fail> {
-    let alloc = rt.alloc();
-    let capture = joined(alloc, &[LITTLE, AT_START, QUERY, SNAPPED, &QUERY[..12]])?;
-    for size in [1, 7, 60, 4_096] {
-        let read = read_by(alloc, size, &capture)?;
-        assert!(rt; read.fault.is_none());
-        assert_eq!(rt; read.records.len(), 2);
-        assert!(rt; is_record(&read.records[0], 0, 44, QUERY));
-        assert!(rt; is_record(&read.records[1], 1_000, 94, &QUERY[..12]));
+fn are_both(records: &[Record]) -> bool {
+    match records {
+        [first, second] => {
+            is_record(first, 0, 44, QUERY) && is_record(second, 1_000, 94, &QUERY[..12])
+        }
+        _ => false,
     }
-    Ok(())
+}
+
+fn reads_both(alloc: Global, size: usize, capture: &[u8]) -> bool
+    requires { 0 < size }
+{
+    match read_by(alloc, size, capture) {
+        Some(read) => read.fault.is_none() && are_both(&read.records),
+        None => false,
+    }
+}
+
+/// The first size of the pieces with which both records aren't read.
+fn first_unread_of(alloc: Global, capture: &[u8]) -> Option<usize> {
+    for size in [1, 7, 60, 4_096] {
+        if !reads_both(alloc, size, capture) {
+            return Some(size);
+        }
+    }
+    None
+}
+
+fn first_unread(alloc: Global) -> Option<Option<usize>> {
+    let capture = joined(alloc, &[LITTLE, AT_START, QUERY, SNAPPED, &QUERY[..12]])?;
+    Some(first_unread_of(alloc, &capture))
+}
+
+#[test]
+fn two_records_are_read_however_they_are_fed(rt: HostRuntime) {
+    assert_eq!(rt; first_unread(rt.alloc()), Some(None));
 }
 
 /// Takes the records that are in hand into a batch, and answers what comes instead of the next one.
-fn drain_into(reader: &mut Reader, batch: &mut Batch) -> Result<Found, Fail>
+fn drain_into(reader: &mut Reader, batch: &mut Batch) -> Option<Found>
     ensures finished { reader.new.finished ≡ reader.old.finished }
 {
     loop {
-        match reader.read_into(batch)? {
+        match reader.read_into(batch).ok()? {
             Found::Record => {}
-            other => return Ok(other),
+            other => return Some(other),
         }
     }
 }
 
 /// Reads a capture that is fed in pieces of so many bytes into a batch, and answers what comes after its records.
-fn batch_by(alloc: Global, size: usize, capture: &[u8], batch: &mut Batch) -> Result<Found, Fail>
+fn batch_by(alloc: Global, size: usize, capture: &[u8], batch: &mut Batch) -> Option<Found>
     requires { 0 < size }
 {
     let mut reader = Reader::new(alloc);
     let mut at = 0;
     while at < capture.len() {
         let end = at + size.min(capture.len() - at);
-        reader.feed(&capture[at..end])?;
+        reader.feed(&capture[at..end]).ok()?;
         at = end;
         drain_into(&mut reader, batch)?;
     }
@@ -130,42 +153,71 @@ fn lends(record: &Captured<'_>, micros: u64, original: u32, bytes: &[u8]) -> boo
     record.moment.micros() == micros && record.original == original && record.bytes == bytes
 }
 
-#[test]
-fn a_batch_lends_each_record_before_and_after_it_is_cleared(rt: HostRuntime) -> Result<(), Fail> {
-    let alloc = rt.alloc();
-    let capture = joined(
-        alloc,
-        &[
-            LITTLE,
-            AT_START,
-            QUERY,
-            SNAPPED,
-            &QUERY[..12],
-            &SNAPPED[..3],
-        ],
-    )?;
+fn lends_both(batch: &Batch) -> bool {
+    batch.len() == 2
+        && lends(&batch.at(0), 0, 44, QUERY)
+        && lends(&batch.at(1), 1_000, 94, &QUERY[..12])
+}
+
+/// Whether a capture of two records and a cut one is lent by a batch, which is cleared after that.
+fn is_lent(alloc: Global, size: usize, capture: &[u8], batch: &mut Batch) -> bool
+    requires { 0 < size }
+{
+    let Some(Found::Bad(BadTrace::Cut { at: 112 })) = batch_by(alloc, size, capture, batch) else {
+        return false;
+    };
+    if !lends_both(batch) {
+        return false;
+    }
+    batch.clear();
+    batch.len() == 0
+}
+
+/// The first size of the pieces with which it isn't lent.
+fn first_unlent_of(alloc: Global, capture: &[u8]) -> Option<usize> {
     let mut batch = Batch::new(alloc);
     for size in [1, 7, 64] {
-        let end = batch_by(alloc, size, &capture, &mut batch)?;
-        assert!(rt; matches!(end, Found::Bad(BadTrace::Cut { at: 112 })));
-        assert_eq!(rt; batch.len(), 2);
-        assert!(rt; lends(&batch.at(0), 0, 44, QUERY));
-        assert!(rt; lends(&batch.at(1), 1_000, 94, &QUERY[..12]));
-        batch.clear();
-        assert_eq!(rt; batch.len(), 0);
+        if !is_lent(alloc, size, capture, &mut batch) {
+            return Some(size);
+        }
     }
-    Ok(())
+    None
+}
+
+fn first_unlent(alloc: Global) -> Option<Option<usize>> {
+    let parts: [&[u8]; 6] = [
+        LITTLE,
+        AT_START,
+        QUERY,
+        SNAPPED,
+        &QUERY[..12],
+        &SNAPPED[..3],
+    ];
+    let capture = joined(alloc, &parts)?;
+    Some(first_unlent_of(alloc, &capture))
 }
 
 #[test]
-fn nanoseconds_in_the_other_order_are_rounded_down(rt: HostRuntime) -> Result<(), Fail> {
-    let alloc = rt.alloc();
+fn a_batch_lends_each_record_before_and_after_it_is_cleared(rt: HostRuntime) {
+    assert_eq!(rt; first_unlent(rt.alloc()), Some(None));
+}
+
+fn is_later(records: &[Record]) -> bool {
+    match records {
+        [only] => is_record(only, 1_999_999, 44, QUERY),
+        _ => false,
+    }
+}
+
+fn reads_later(alloc: Global) -> Option<bool> {
     let capture = joined(alloc, &[BIG_NANOS, LATER_NANOS, QUERY])?;
     let read = read_by(alloc, 1, &capture)?;
-    assert!(rt; read.fault.is_none());
-    assert_eq!(rt; read.records.len(), 1);
-    assert!(rt; is_record(&read.records[0], 1_999_999, 44, QUERY));
-    Ok(())
+    Some(read.fault.is_none() && is_later(&read.records))
+}
+
+#[test]
+fn nanoseconds_in_the_other_order_are_rounded_down(rt: HostRuntime) {
+    assert_eq!(rt; reads_later(rt.alloc()), Some(true));
 }
 
 /// A header in little-endian order with another version, or another link type.
@@ -180,35 +232,58 @@ const LONGEST: &[u8; 16] = b"\x00\x00\x00\x00\x00\x00\x00\x00\x00\x00\x04\x00\x0
 
 const TOO_LONG: &[u8; 16] = b"\x00\x00\x00\x00\x00\x00\x00\x00\x01\x00\x04\x00\x01\x00\x04\x00";
 
-/// Whether a capture in these parts comes to this end or fault, fed whole and byte by byte.
-fn comes_to(alloc: Global, parts: &[&[u8]], fault: Option<BadTrace>) -> Result<bool, Fail> {
-    let capture = joined(alloc, parts)?;
-    let whole = read_by(alloc, 4_096, &capture)?;
-    let by_bytes = read_by(alloc, 1, &capture)?;
-    Ok(whole.fault == fault && by_bytes.fault == fault)
+/// Whether a capture comes to this end or fault, fed in pieces of so many bytes.
+fn comes_by(alloc: Global, size: usize, capture: &[u8], fault: Option<BadTrace>) -> bool
+    requires { 0 < size }
+{
+    match read_by(alloc, size, capture) {
+        Some(read) => read.fault == fault,
+        None => false,
+    }
+}
+
+/// Whether a capture in these parts comes to it fed whole and byte by byte.
+fn comes_to(alloc: Global, parts: &[&[u8]], fault: Option<BadTrace>) -> bool {
+    match joined(alloc, parts) {
+        Some(capture) => {
+            comes_by(alloc, 4_096, &capture, fault) && comes_by(alloc, 1, &capture, fault)
+        }
+        None => false,
+    }
+}
+
+fn refused(alloc: Global) -> [bool; 5] {
+    [
+        comes_to(alloc, &[LITTLE], None),
+        comes_to(alloc, &[&LITTLE[..23]], Some(BadTrace::NotPcap)),
+        comes_to(alloc, &[QUERY], Some(BadTrace::NotPcap)),
+        comes_to(alloc, &[OLDER], Some(BadTrace::Version)),
+        comes_to(alloc, &[RAW_IP], Some(BadTrace::LinkType)),
+    ]
 }
 
 #[test]
-fn headers_are_refused(rt: HostRuntime) -> Result<(), Fail> {
-    let alloc = rt.alloc();
-    assert!(rt; comes_to(alloc, &[LITTLE], None)?);
-    assert!(rt; comes_to(alloc, &[&LITTLE[..23]], Some(BadTrace::NotPcap))?);
-    assert!(rt; comes_to(alloc, &[QUERY], Some(BadTrace::NotPcap))?);
-    assert!(rt; comes_to(alloc, &[OLDER], Some(BadTrace::Version))?);
-    assert!(rt; comes_to(alloc, &[RAW_IP], Some(BadTrace::LinkType))?);
-    Ok(())
+fn headers_are_refused(rt: HostRuntime) {
+    assert_eq!(rt; refused(rt.alloc()), [true; 5]);
+}
+
+const CUT: BadTrace = BadTrace::Cut { at: 84 };
+
+const LONG: BadTrace = BadTrace::Cut { at: 24 };
+
+const HUGE: BadTrace = BadTrace::Huge { at: 24 };
+
+fn told(alloc: Global) -> [bool; 5] {
+    [
+        comes_to(alloc, &[LITTLE, AT_START, QUERY, &SNAPPED[..3]], Some(CUT)),
+        comes_to(alloc, &[LITTLE, LONGEST, QUERY], Some(LONG)),
+        comes_to(alloc, &[LITTLE, TOO_LONG], Some(HUGE)),
+        CUT.number() == 4,
+        HUGE.name() == "Huge",
+    ]
 }
 
 #[test]
-fn cut_and_huge_records_are_told_by_their_byte(rt: HostRuntime) -> Result<(), Fail> {
-    let alloc = rt.alloc();
-    let cut = BadTrace::Cut { at: 84 };
-    let long = BadTrace::Cut { at: 24 };
-    let huge = BadTrace::Huge { at: 24 };
-    assert!(rt; comes_to(alloc, &[LITTLE, AT_START, QUERY, &SNAPPED[..3]], Some(cut))?);
-    assert!(rt; comes_to(alloc, &[LITTLE, LONGEST, QUERY], Some(long))?);
-    assert!(rt; comes_to(alloc, &[LITTLE, TOO_LONG], Some(huge))?);
-    assert_eq!(rt; cut.number(), 4);
-    assert_eq!(rt; huge.name(), "Huge");
-    Ok(())
+fn cut_and_huge_records_are_told_by_their_byte(rt: HostRuntime) {
+    assert_eq!(rt; told(rt.alloc()), [true; 5]);
 }

@@ -115,19 +115,19 @@ fn ends_so(alloc: Global, reading: &Reading) -> bool {
     }
 }
 
-/// The place of the first reading that ends otherwise.
-fn first_otherwise(alloc: Global) -> Option<usize> {
+/// The place of the first reading that ends otherwise is the error.
+fn all_end_so(alloc: Global) -> Result<(), usize> {
     for place in 0..READINGS.len() {
         if !ends_so(alloc, &READINGS[place]) {
-            return Some(place);
+            return Err(place);
         }
     }
-    None
+    Ok(())
 }
 
 #[test]
-fn files_are_read_whole_or_as_far_as_told(rt: HostRuntime) {
-    assert_eq!(rt; first_otherwise(rt.alloc()), None);
+fn files_are_read_whole_or_as_far_as_told(rt: HostRuntime) -> Result<(), usize> {
+    all_end_so(rt.alloc())
 }
 
 /// Whether the short file is read whole, as it is.
@@ -149,17 +149,17 @@ fn reads_short_by(alloc: Global, most: usize) -> bool
     }
 }
 
-/// The first bound of a read under which the file isn't read so.
-fn first_wrong_most(alloc: Global) -> Option<usize> {
+/// The first bound of a read under which the file isn't read so is the error.
+fn reads_short_by_all(alloc: Global) -> Result<(), usize> {
     for most in [1, 2, 7, 4_096] {
         if !reads_short_by(alloc, most) {
-            return Some(most);
+            return Err(most);
         }
     }
-    None
+    Ok(())
 }
 
 #[test]
-fn small_reads_give_the_same_bytes(rt: HostRuntime) {
-    assert_eq!(rt; first_wrong_most(rt.alloc()), None);
+fn small_reads_give_the_same_bytes(rt: HostRuntime) -> Result<(), usize> {
+    reads_short_by_all(rt.alloc())
 }

@@ -58,6 +58,12 @@ fn lens_of(alloc: Global, host: &mut MemoryHost, bytes: &[u8]) -> Option<[usize;
     }
 }
 
+/// The same for a host of a file of so many bytes.
+fn lens_from(alloc: Global, count: u32, failing: u64, bytes: &[u8]) -> Option<[usize; 4]> {
+    let mut host = host_of(alloc, count, failing)?;
+    lens_of(alloc, &mut host, bytes)
+}
+
 /// The length of a file, the call that fails, and the lengths of the first four pieces.
 type Pieces = (u32, u64, [usize; 4]);
 
@@ -72,40 +78,41 @@ const PIECES: [Pieces; 6] = [
 
 fn comes_in(alloc: Global, pieces: &Pieces) -> bool {
     let (count, failing, lens) = *pieces;
-    match (host_of(alloc, count, failing), bytes_of(alloc, count)) {
-        (Some(mut host), Ok(bytes)) => lens_of(alloc, &mut host, &bytes) == Some(lens),
-        _ => false,
+    match bytes_of(alloc, count) {
+        Ok(bytes) => lens_from(alloc, count, failing, &bytes) == Some(lens),
+        Err(_) => false,
     }
 }
 
-/// The place of the first of them that comes in otherwise.
-fn first_otherwise(alloc: Global) -> Option<usize> {
+/// The place of the first of them that come in otherwise is the error.
+fn all_come_in(alloc: Global) -> Result<(), usize> {
     for place in 0..PIECES.len() {
         if !comes_in(alloc, &PIECES[place]) {
-            return Some(place);
+            return Err(place);
         }
     }
-    None
+    Ok(())
 }
 
 #[test]
-fn a_file_is_read_by_pieces(rt: HostRuntime) {
-    assert_eq!(rt; first_otherwise(rt.alloc()), None);
+fn a_file_is_read_by_pieces(rt: HostRuntime) -> Result<(), usize> {
+    all_come_in(rt.alloc())
 }
 
 fn faults(alloc: Global, host: &mut MemoryHost, name: &str) -> bool {
     matches!(Source::open(alloc, host, name), Err(Unopened::Fault))
 }
 
-fn both_fault(alloc: Global) -> Option<[bool; 2]> {
+fn both_fault(alloc: Global, host: &mut MemoryHost) -> [bool; 2] {
+    [faults(alloc, host, "other"), faults(alloc, host, "file")]
+}
+
+fn refused(alloc: Global) -> Option<[bool; 2]> {
     let mut host = host_of(alloc, 1, 2)?;
-    Some([
-        faults(alloc, &mut host, "other"),
-        faults(alloc, &mut host, "file"),
-    ])
+    Some(both_fault(alloc, &mut host))
 }
 
 #[test]
 fn a_missing_file_is_not_opened(rt: HostRuntime) {
-    assert!(rt; both_fault(rt.alloc()) == Some([true, true]));
+    assert!(rt; refused(rt.alloc()) == Some([true, true]));
 }

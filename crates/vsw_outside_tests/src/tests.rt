@@ -101,24 +101,27 @@ fn reads_both(alloc: Global, size: usize, capture: &[u8]) -> bool
     }
 }
 
-/// The first size of the pieces with which both records aren't read.
-fn first_unread_of(alloc: Global, capture: &[u8]) -> Option<usize> {
+/// Reads a capture in pieces of each size. The first one with which both records aren't read is the
+/// error.
+fn reads_both_by_all(alloc: Global, capture: &[u8]) -> Result<(), usize> {
     for size in [1, 7, 60, 4_096] {
         if !reads_both(alloc, size, capture) {
-            return Some(size);
+            return Err(size);
         }
     }
-    None
+    Ok(())
 }
 
-fn first_unread(alloc: Global) -> Option<Option<usize>> {
-    let capture = joined(alloc, &[LITTLE, AT_START, QUERY, SNAPPED, &QUERY[..12]])?;
-    Some(first_unread_of(alloc, &capture))
-}
+/// The error of a test that has no capture to read.
+const NO_CAPTURE: usize = 0;
 
 #[test]
-fn two_records_are_read_however_they_are_fed(rt: HostRuntime) {
-    assert_eq!(rt; first_unread(rt.alloc()), Some(None));
+fn two_records_are_read_however_they_are_fed(rt: HostRuntime) -> Result<(), usize> {
+    let alloc = rt.alloc();
+    match joined(alloc, &[LITTLE, AT_START, QUERY, SNAPPED, &QUERY[..12]]) {
+        Some(capture) => reads_both_by_all(alloc, &capture),
+        None => Err(NO_CAPTURE),
+    }
 }
 
 /// Takes the records that are in hand into a batch, and answers what comes instead of the next one.
@@ -173,18 +176,20 @@ fn is_lent(alloc: Global, size: usize, capture: &[u8], batch: &mut Batch) -> boo
     batch.len() == 0
 }
 
-/// The first size of the pieces with which it isn't lent.
-fn first_unlent_of(alloc: Global, capture: &[u8]) -> Option<usize> {
+/// Lends a capture in pieces of each size. The first one with which it isn't lent is the error.
+fn is_lent_by_all(alloc: Global, capture: &[u8]) -> Result<(), usize> {
     let mut batch = Batch::new(alloc);
     for size in [1, 7, 64] {
         if !is_lent(alloc, size, capture, &mut batch) {
-            return Some(size);
+            return Err(size);
         }
     }
-    None
+    Ok(())
 }
 
-fn first_unlent(alloc: Global) -> Option<Option<usize>> {
+#[test]
+fn a_batch_lends_each_record_before_and_after_it_is_cleared(rt: HostRuntime) -> Result<(), usize> {
+    let alloc = rt.alloc();
     let parts: [&[u8]; 6] = [
         LITTLE,
         AT_START,
@@ -193,13 +198,10 @@ fn first_unlent(alloc: Global) -> Option<Option<usize>> {
         &QUERY[..12],
         &SNAPPED[..3],
     ];
-    let capture = joined(alloc, &parts)?;
-    Some(first_unlent_of(alloc, &capture))
-}
-
-#[test]
-fn a_batch_lends_each_record_before_and_after_it_is_cleared(rt: HostRuntime) {
-    assert_eq!(rt; first_unlent(rt.alloc()), Some(None));
+    match joined(alloc, &parts) {
+        Some(capture) => is_lent_by_all(alloc, &capture),
+        None => Err(NO_CAPTURE),
+    }
 }
 
 fn is_later(records: &[Record]) -> bool {
@@ -252,6 +254,14 @@ fn comes_to(alloc: Global, parts: &[&[u8]], fault: Option<BadTrace>) -> bool {
     }
 }
 
+/// The place of the first one that is false is the error.
+fn are_true(answers: &[bool]) -> Result<(), usize> {
+    match answers.iter().position(|answer| !*answer) {
+        Some(place) => Err(place),
+        None => Ok(()),
+    }
+}
+
 fn refused(alloc: Global) -> [bool; 5] {
     [
         comes_to(alloc, &[LITTLE], None),
@@ -263,8 +273,8 @@ fn refused(alloc: Global) -> [bool; 5] {
 }
 
 #[test]
-fn headers_are_refused(rt: HostRuntime) {
-    assert_eq!(rt; refused(rt.alloc()), [true; 5]);
+fn headers_are_refused(rt: HostRuntime) -> Result<(), usize> {
+    are_true(&refused(rt.alloc()))
 }
 
 const CUT: BadTrace = BadTrace::Cut { at: 84 };
@@ -284,6 +294,6 @@ fn told(alloc: Global) -> [bool; 5] {
 }
 
 #[test]
-fn cut_and_huge_records_are_told_by_their_byte(rt: HostRuntime) {
-    assert_eq!(rt; told(rt.alloc()), [true; 5]);
+fn cut_and_huge_records_are_told_by_their_byte(rt: HostRuntime) -> Result<(), usize> {
+    are_true(&told(rt.alloc()))
 }

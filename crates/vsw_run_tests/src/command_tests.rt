@@ -2,13 +2,10 @@
 
 use crate::frames::{FIN_IN, FIN_OUT, LAST_ACK, QUERY, SYN, SYN_ACK, SYN_AGAIN, TEXT};
 use crate::policies::{ALLOWING, END, IDLE_100, LAYER, LAYER_END, PORT, STATEFUL};
-use crate::running::{host_of, joined, trace_of, words};
+use crate::running::{FORWARD, Wrong, host_over, tried};
 use std::alloc::Global;
-use std::process::Abort;
 use std::sync::Wait;
-use std::test::Fail;
 use std::thread::Threads;
-use vsw_app::{Open, run_words};
 use vsw_promise::Status;
 
 /// The policy of one layer, number 10 of controller 1, whose rule 5 of group 1 allows 10.0.0.0/24.
@@ -27,29 +24,21 @@ const POLICY_OF_TWO: &[&str] = &[
 const DROP_5: &str =
     r#"{"rule":5,"priority":10,"when":[{"field":"dst_ip","any":["10.0.0.0/24"]}],"action":"drop","stateful":false,"last":false}"#;
 
-/// Runs over this policy, these commands and these frames, and compares what is put and how the run ends.
-fn check<R: Abort + Threads + Wait + Sync>(
+/// Runs over this policy, these commands and these frames, and compares what is put.
+fn check<R: Threads + Wait + Sync>(
     rt: &R,
     alloc: Global,
     policy: &[&str],
     commands: &[&str],
     frames: &[&str],
-    failing: Vec<u64>,
-    wanted: (Status, &[&str]),
-) -> Result<(), Fail> {
-    let trace = trace_of(alloc, frames)?;
-    let mut host = host_of(rt, alloc, policy, commands, trace, failing)?;
-    let words = words(alloc)?;
-    let status = run_words(rt, alloc, &words, &mut host, &Open);
-    let report = joined(alloc, wanted.1)?;
-    assert!(rt; status == wanted.0);
-    assert!(rt; host.written() == report.as_slice());
-    Ok(())
+    report: &[&str],
+) -> Result<(), Wrong> {
+    let host = host_over(alloc, policy, commands, frames, &[]);
+    tried(rt, alloc, FORWARD, host, Status::Done, report, "")
 }
 
 #[test]
-fn rules_that_are_put_decide_from_their_packet_on(rt: HostRuntime) -> Result<(), Fail> {
-    let alloc = rt.alloc();
+fn rules_that_are_put_decide_from_their_packet_on(rt: HostRuntime) -> Result<(), Wrong> {
     let commands = &[
         r#"{"at":1,"when":"before","controller":1,"port":1,"do":"put_rules","layer":10,"group":1,"rules":["#,
         DROP_5,
@@ -60,20 +49,11 @@ fn rules_that_are_put_decide_from_their_packet_on(rt: HostRuntime) -> Result<(),
         QUERY,
         "\nloose\nround 1\nport 1 0 1\nc1 1 +0 ok\nw0 1 @1 drop rule 1/10/1/5\nloose\n",
     ];
-    check(
-        &rt,
-        alloc,
-        POLICY,
-        commands,
-        &[QUERY, QUERY],
-        Vec::new(alloc),
-        (Status::Done, report),
-    )
+    check(&rt, rt.alloc(), POLICY, commands, &[QUERY, QUERY], report)
 }
 
 #[test]
-fn rules_for_the_other_direction_leave_a_packet_alone(rt: HostRuntime) -> Result<(), Fail> {
-    let alloc = rt.alloc();
+fn rules_for_the_other_direction_leave_a_packet_alone(rt: HostRuntime) -> Result<(), Wrong> {
     let commands = &[
         r#"{"at":1,"when":"before","controller":1,"port":1,"do":"add_group","layer":10,"group":2,"dir":"in","when_all":[]}"#,
         "\n",
@@ -88,20 +68,11 @@ fn rules_for_the_other_direction_leave_a_packet_alone(rt: HostRuntime) -> Result
         QUERY,
         "\nloose\n",
     ];
-    check(
-        &rt,
-        alloc,
-        POLICY,
-        commands,
-        &[QUERY, QUERY],
-        Vec::new(alloc),
-        (Status::Done, report),
-    )
+    check(&rt, rt.alloc(), POLICY, commands, &[QUERY, QUERY], report)
 }
 
 #[test]
-fn a_sweep_takes_a_closed_connection_away(rt: HostRuntime) -> Result<(), Fail> {
-    let alloc = rt.alloc();
+fn a_sweep_takes_a_closed_connection_away(rt: HostRuntime) -> Result<(), Wrong> {
     let policy = &[PORT, IDLE_100, STATEFUL, LAYER_END, END];
     let commands = &[
         "\n",
@@ -126,20 +97,11 @@ fn a_sweep_takes_a_closed_connection_away(rt: HostRuntime) -> Result<(), Fail> {
         SYN_AGAIN,
         "\nloose\n",
     ];
-    check(
-        &rt,
-        alloc,
-        policy,
-        commands,
-        frames,
-        Vec::new(alloc),
-        (Status::Done, report),
-    )
+    check(&rt, rt.alloc(), policy, commands, frames, report)
 }
 
 #[test]
-fn commands_are_refused_by_number_and_name(rt: HostRuntime) -> Result<(), Fail> {
-    let alloc = rt.alloc();
+fn commands_are_refused_by_number_and_name(rt: HostRuntime) -> Result<(), Wrong> {
     let commands = &[
         r#"{"at":0,"when":"during","controller":1,"port":1,"do":"add_rule","layer":10,"group":1,"rule":"#,
         DROP_5,
@@ -155,20 +117,11 @@ fn commands_are_refused_by_number_and_name(rt: HostRuntime) -> Result<(), Fail> 
     let report = &[
         "vsw report 1\nround 0\nport 1 0 4\nc1 2 +0 refused 2 LayerExists\nc1 3 +1 refused 3 NoGroup\nc2 4 +2 ok\nc1 1 +3 refused 6 RuleExists\nw0 0 @4 drop default 2/10 out\nloose\n",
     ];
-    check(
-        &rt,
-        alloc,
-        POLICY_OF_TWO,
-        commands,
-        &[QUERY],
-        Vec::new(alloc),
-        (Status::Done, report),
-    )
+    check(&rt, rt.alloc(), POLICY_OF_TWO, commands, &[QUERY], report)
 }
 
 #[test]
-fn commands_of_rounds_that_never_begin_do_not_run(rt: HostRuntime) -> Result<(), Fail> {
-    let alloc = rt.alloc();
+fn commands_of_rounds_that_never_begin_do_not_run(rt: HostRuntime) -> Result<(), Wrong> {
     let commands = &[
         r#"{"at":5,"when":"before","controller":1,"port":1,"do":"remove_layer","layer":10}"#,
         "\n",
@@ -184,15 +137,15 @@ fn commands_of_rounds_that_never_begin_do_not_run(rt: HostRuntime) -> Result<(),
     ];
     // The files take three calls each, the trace its opening and one piece, then the head line and the first round are put: the
     // next call reads on.
-    let mut failing = Vec::new(alloc);
-    failing.push(11)?;
-    check(
+    let host = host_over(rt.alloc(), POLICY, commands, &[QUERY, QUERY], &[11]);
+    let complaint = "vsw: read fault\n";
+    tried(
         &rt,
-        alloc,
-        POLICY,
-        commands,
-        &[QUERY, QUERY],
-        failing,
-        (Status::ReadFault, report),
+        rt.alloc(),
+        FORWARD,
+        host,
+        Status::ReadFault,
+        report,
+        complaint,
     )
 }

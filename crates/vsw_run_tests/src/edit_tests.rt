@@ -5,17 +5,16 @@ use crate::frames::{
     UNFLAGGED, WRAPPED,
 };
 use crate::policies::{END, LAYER, LAYER_END, PORT, SETTING, THREE_LAYERS, TURNING, UNWRAPPING};
-use crate::running::check;
-use std::test::Fail;
+use crate::running::{Wrong, check};
 
 #[test]
-fn three_layers_edit_a_query_one_after_another(rt: HostRuntime) -> Result<(), Fail> {
+fn three_layers_edit_a_query_one_after_another(rt: HostRuntime) -> Result<(), Wrong> {
     let line = &["w0 0 +0 pass 94 ", SENT_QUERY, "\n"];
     check(&rt, rt.alloc(), THREE_LAYERS, &[QUERY], "1", line)
 }
 
 #[test]
-fn its_reply_crosses_them_in_reverse(rt: HostRuntime) -> Result<(), Fail> {
+fn its_reply_crosses_them_in_reverse(rt: HostRuntime) -> Result<(), Wrong> {
     let lines = &[
         "w0 0 +0 pass 94 ",
         SENT_QUERY,
@@ -34,7 +33,7 @@ fn its_reply_crosses_them_in_reverse(rt: HostRuntime) -> Result<(), Fail> {
 }
 
 #[test]
-fn a_flow_from_outside_edits_the_replies_too(rt: HostRuntime) -> Result<(), Fail> {
+fn a_flow_from_outside_edits_the_replies_too(rt: HostRuntime) -> Result<(), Wrong> {
     let policy = &[PORT, LAYER, TURNING, LAYER_END, END];
     let lines = &[
         "w0 0 @0 pass 44 ",
@@ -56,7 +55,7 @@ fn a_flow_from_outside_edits_the_replies_too(rt: HostRuntime) -> Result<(), Fail
 }
 
 #[test]
-fn a_third_encapsulation_is_plain_udp(rt: HostRuntime) -> Result<(), Fail> {
+fn a_third_encapsulation_is_plain_udp(rt: HostRuntime) -> Result<(), Wrong> {
     let line = &["w0 0 @0 pass 94 ", WRAPPED, "\n"];
     check(
         &rt,
@@ -69,7 +68,7 @@ fn a_third_encapsulation_is_plain_udp(rt: HostRuntime) -> Result<(), Fail> {
 }
 
 #[test]
-fn nothing_is_decapped_without_the_flag(rt: HostRuntime) -> Result<(), Fail> {
+fn nothing_is_decapped_without_the_flag(rt: HostRuntime) -> Result<(), Wrong> {
     let line = &["w0 0 @0 drop default 1/20 in\n"];
     check(
         &rt,
@@ -82,7 +81,7 @@ fn nothing_is_decapped_without_the_flag(rt: HostRuntime) -> Result<(), Fail> {
 }
 
 #[test]
-fn of_a_fragment_only_the_address_is_set(rt: HostRuntime) -> Result<(), Fail> {
+fn of_a_fragment_only_the_address_is_set(rt: HostRuntime) -> Result<(), Wrong> {
     let policy = &[PORT, LAYER, SETTING, LAYER_END, END];
     let line = &["w0 0 @0 pass 44 ", SENT_FRAGMENT, "\n"];
     check(&rt, rt.alloc(), policy, &[FRAGMENT], "0", line)

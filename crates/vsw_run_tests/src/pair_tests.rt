@@ -4,13 +4,12 @@ use crate::frames::{
     FIN_IN, FIN_OUT, LAST_ACK, OTHER_QUERY, QUERY, SENT_QUERY, SYN, SYN_ACK, SYN_AGAIN, TEXT,
 };
 use crate::policies::{END, IDLE_100, LAYER_END, ONE_PAIR, PORT, STATEFUL, THREE_LAYERS};
-use crate::running::check;
-use std::test::Fail;
+use crate::running::{Wrong, check};
 
 const QUERIES: &[&str] = &[QUERY, OTHER_QUERY, QUERY];
 
 #[test]
-fn a_full_layer_takes_no_further_flow(rt: HostRuntime) -> Result<(), Fail> {
+fn a_full_layer_takes_no_further_flow(rt: HostRuntime) -> Result<(), Wrong> {
     let lines = &[
         "w0 0 +0 pass 94 ",
         SENT_QUERY,
@@ -22,7 +21,7 @@ fn a_full_layer_takes_no_further_flow(rt: HostRuntime) -> Result<(), Fail> {
 }
 
 #[test]
-fn two_flows_have_no_common_reply(rt: HostRuntime) -> Result<(), Fail> {
+fn two_flows_have_no_common_reply(rt: HostRuntime) -> Result<(), Wrong> {
     let lines = &[
         "w0 0 +0 pass 94 ",
         SENT_QUERY,
@@ -34,7 +33,7 @@ fn two_flows_have_no_common_reply(rt: HostRuntime) -> Result<(), Fail> {
 }
 
 #[test]
-fn a_connection_opens_closes_and_opens_again(rt: HostRuntime) -> Result<(), Fail> {
+fn a_connection_opens_closes_and_opens_again(rt: HostRuntime) -> Result<(), Wrong> {
     let policy = &[PORT, IDLE_100, STATEFUL, LAYER_END, END];
     let frames = &[SYN, SYN_ACK, TEXT, FIN_OUT, FIN_IN, LAST_ACK, SYN_AGAIN];
     let lines = &[

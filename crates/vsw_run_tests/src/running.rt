@@ -1,21 +1,30 @@
 //! Runs over files in memory.
 
 use std::alloc::{AllocError, Global};
-use std::process::Abort;
 use std::sync::Wait;
-use std::test::Fail;
 use std::thread::Threads;
 use vsw_app::{Open, run_words};
 use vsw_base::{Items, Text};
 use vsw_host::{MemoryFile, MemoryHost, are_distinct};
 use vsw_promise::{Status, Word};
 
+/// How a run comes out otherwise.
+#[derive(Clone, Copy, Debug)]
+pub enum Wrong {
+    /// The host or the words couldn't be made.
+    Start,
+    Status,
+    Complaint,
+    /// Something else is put.
+    Report,
+}
+
 /// A capture's header: little-endian, microseconds, version 2.4, Ethernet (libpcap file format 2.4).
 const HEADER: &[u8] =
     b"\xd4\xc3\xb2\xa1\x02\x00\x04\x00\x00\x00\x00\x00\x00\x00\x00\x00\x00\x00\x04\x00\x01\x00\x00\x00";
 
 /// These pieces, one after another.
-pub fn joined(alloc: Global, pieces: &[&str]) -> Result<Vec<u8>, AllocError> {
+fn joined(alloc: Global, pieces: &[&str]) -> Result<Vec<u8>, AllocError> {
     let mut bytes = Vec::new(alloc);
     for piece in pieces {
         bytes.extend_from_slice(piece.as_bytes())?;
@@ -30,25 +39,35 @@ pub fn empty_trace(alloc: Global) -> Result<Vec<u8>, AllocError> {
 
 /// Appends the record of a packet of this number, 1,000 microseconds after the one before it. It had
 /// so many bytes more than were captured.
-pub fn add(trace: &mut Vec<u8>, number: u16, packet: &[u8], lost: u16) -> Result<(), Fail> {
+pub fn add(trace: &mut Vec<u8>, number: u16, packet: &[u8], lost: u16) -> Option<()> {
     let moment = u32::from(number) * 1_000;
-    let captured = u32::try_from(packet.len())?;
+    let captured = u32::try_from(packet.len()).ok()?;
     let original = captured.saturating_add(u32::from(lost));
     for word in [0, moment, captured, original] {
-        trace.extend_from_slice(&word.to_le_bytes())?;
+        trace.extend_from_slice(&word.to_le_bytes()).ok()?;
     }
-    trace.extend_from_slice(packet)?;
-    Ok(())
+    trace.extend_from_slice(packet).ok()
+}
+
+/// Appends the record of a frame, a text of hexadecimal digits.
+fn add_frame(alloc: Global, trace: &mut Vec<u8>, number: usize, frame: &str) -> Option<()> {
+    let number = u16::try_from(number).ok()?;
+    let packet = hex::decode(alloc, frame.as_bytes()).ok()?;
+    add(trace, number, &packet, 0)
+}
+
+fn add_frames(alloc: Global, trace: &mut Vec<u8>, frames: &[&str]) -> Option<()> {
+    for (number, frame) in frames.iter().enumerate() {
+        add_frame(alloc, trace, number, frame)?;
+    }
+    Some(())
 }
 
 /// A capture of these frames, each a text of hexadecimal digits.
-pub fn trace_of(alloc: Global, frames: &[&str]) -> Result<Vec<u8>, Fail> {
-    let mut trace = empty_trace(alloc)?;
-    for (number, frame) in frames.iter().enumerate() {
-        let packet = hex::decode(alloc, frame.as_bytes())?;
-        add(&mut trace, u16::try_from(number)?, &packet, 0)?;
-    }
-    Ok(trace)
+fn trace_of(alloc: Global, frames: &[&str]) -> Option<Vec<u8>> {
+    let mut trace = empty_trace(alloc).ok()?;
+    add_frames(alloc, &mut trace, frames)?;
+    Some(trace)
 }
 
 fn file(alloc: Global, name: &str, bytes: Vec<u8>) -> Result<MemoryFile, AllocError> {
@@ -58,60 +77,182 @@ fn file(alloc: Global, name: &str, bytes: Vec<u8>) -> Result<MemoryFile, AllocEr
     })
 }
 
+fn add_file(
+    alloc: Global,
+    files: &mut Vec<MemoryFile>,
+    name: &str,
+    bytes: Vec<u8>,
+) -> Result<(), AllocError> {
+    files.push(file(alloc, name, bytes)?)?;
+    Ok(())
+}
+
+/// Appends the files of a policy and commands, each in pieces.
+fn add_texts(
+    alloc: Global,
+    files: &mut Vec<MemoryFile>,
+    policy: &[&str],
+    commands: &[&str],
+) -> Result<(), AllocError> {
+    add_file(alloc, files, "policy", joined(alloc, policy)?)?;
+    add_file(alloc, files, "commands", joined(alloc, commands)?)
+}
+
+/// A host of these files, of whose calls these fail.
+fn host_with(alloc: Global, files: Vec<MemoryFile>, failing: &[u64]) -> Option<MemoryHost> {
+    if !are_distinct(&files) {
+        return None;
+    }
+    MemoryHost::new(alloc, files, 262_144, failing.to_vec(alloc).ok()?).ok()
+}
+
 /// A host of three files, of whose calls these fail.
 pub fn host_of(
-    rt: &impl Abort,
     alloc: Global,
     policy: &[&str],
     commands: &[&str],
     trace: Vec<u8>,
-    failing: Vec<u64>,
-) -> Result<MemoryHost, Fail> {
-    let mut held = Vec::new(alloc);
-    held.push(file(alloc, "policy", joined(alloc, policy)?)?)?;
-    held.push(file(alloc, "commands", joined(alloc, commands)?)?)?;
-    held.push(file(alloc, "trace", trace)?)?;
-    assert!(rt; are_distinct(&held));
-    Ok(MemoryHost::new(alloc, held, 262_144, failing)?)
+    failing: &[u64],
+) -> Option<MemoryHost> {
+    let mut files = Vec::new(alloc);
+    add_file(alloc, &mut files, "trace", trace).ok()?;
+    add_texts(alloc, &mut files, policy, commands).ok()?;
+    host_with(alloc, files, failing)
 }
 
-pub fn words(alloc: Global) -> Result<Vec<Word>, AllocError> {
+/// The same, whose trace is of these frames.
+pub fn host_over(
+    alloc: Global,
+    policy: &[&str],
+    commands: &[&str],
+    frames: &[&str],
+    failing: &[u64],
+) -> Option<MemoryHost> {
+    let trace = trace_of(alloc, frames)?;
+    host_of(alloc, policy, commands, trace, failing)
+}
+
+/// The words of a run over such a host.
+pub const FORWARD: &[&str] = &["vsw", "forward", "policy", "commands", "trace"];
+
+fn words_of(alloc: Global, texts: &[&str]) -> Result<Vec<Word>, AllocError> {
     let mut words = Vec::new(alloc);
-    for text in ["vsw", "forward", "policy", "commands", "trace"] {
+    for text in texts {
         words.push(Word::of(text.to_string(alloc)?))?;
     }
     Ok(words)
 }
 
-/// What is put of a run over this policy, whose pieces stand one after another, and this trace.
-pub fn report_of<R: Abort + Threads + Wait + Sync>(
+fn run<R: Threads + Wait + Sync>(
     rt: &R,
     alloc: Global,
-    policy: &[&str],
-    trace: Vec<u8>,
-) -> Result<Vec<u8>, Fail> {
-    let mut host = host_of(rt, alloc, policy, &[], trace, Vec::new(alloc))?;
-    let words = words(alloc)?;
-    let status = run_words(rt, alloc, &words, &mut host, &Open);
-    assert!(rt; status == Status::Done && host.complained().is_empty());
-    Ok(host.written().to_vec(alloc)?)
+    texts: &[&str],
+    host: &mut MemoryHost,
+) -> Option<Status> {
+    let words = words_of(alloc, texts).ok()?;
+    Some(run_words(rt, alloc, &words, host, &Open))
+}
+
+/// Runs by these words, and compares how the run ends and what it complains.
+pub fn end<R: Threads + Wait + Sync>(
+    rt: &R,
+    alloc: Global,
+    texts: &[&str],
+    host: &mut MemoryHost,
+    status: Status,
+    complaint: &str,
+) -> Result<(), Wrong> {
+    match run(rt, alloc, texts, host) {
+        None => Err(Wrong::Start),
+        Some(seen) if seen != status => Err(Wrong::Status),
+        Some(_) if host.complained() != complaint.as_bytes() => Err(Wrong::Complaint),
+        Some(_) => Ok(()),
+    }
+}
+
+/// What follows these pieces, where the bytes begin with them.
+fn after<'a>(bytes: &'a [u8], pieces: &[&str]) -> Option<&'a [u8]> {
+    let mut rest = bytes;
+    for piece in pieces {
+        if !rest.starts_with(piece.as_bytes()) {
+            return None;
+        }
+        rest = rest.get(piece.len()..)?;
+    }
+    Some(rest)
+}
+
+/// Compares what was put with these pieces, one after another.
+fn compare(put: &[u8], report: &[&str]) -> Result<(), Wrong> {
+    match after(put, report) {
+        Some(rest) if rest.is_empty() => Ok(()),
+        _ => Err(Wrong::Report),
+    }
+}
+
+fn try_run<R: Threads + Wait + Sync>(
+    rt: &R,
+    alloc: Global,
+    texts: &[&str],
+    host: &mut MemoryHost,
+    status: Status,
+    report: &[&str],
+    complaint: &str,
+) -> Result<(), Wrong> {
+    end(rt, alloc, texts, host, status, complaint)?;
+    compare(host.written(), report)
+}
+
+/// Runs by these words over this host, if it could be made, and compares how the run ends, what it
+/// puts, in pieces, and what it complains.
+pub fn tried<R: Threads + Wait + Sync>(
+    rt: &R,
+    alloc: Global,
+    texts: &[&str],
+    host: Option<MemoryHost>,
+    status: Status,
+    report: &[&str],
+    complaint: &str,
+) -> Result<(), Wrong> {
+    match host {
+        Some(mut host) => try_run(rt, alloc, texts, &mut host, status, report, complaint),
+        None => Err(Wrong::Start),
+    }
+}
+
+/// What follows port 1's lines in a report's first round, where it has so many entries and these
+/// lines.
+fn after_lines<'a>(put: &'a [u8], entries: &str, lines: &[&str]) -> Option<&'a [u8]> {
+    let front = after(put, &["vsw report 1\nround 0\nport 1 0 ", entries, "\n"])?;
+    after(front, lines)
+}
+
+fn try_round<R: Threads + Wait + Sync>(
+    rt: &R,
+    alloc: Global,
+    host: &mut MemoryHost,
+    entries: &str,
+    lines: &[&str],
+) -> Result<(), Wrong> {
+    end(rt, alloc, FORWARD, host, Status::Done, "")?;
+    match after_lines(host.written(), entries, lines) {
+        Some(rest) => compare(rest, &["loose\n"]),
+        None => Err(Wrong::Report),
+    }
 }
 
 /// Runs over this policy and these frames, and compares the report: port 1 has so many entries of history
 /// and these lines, and no packet is loose.
-pub fn check<R: Abort + Threads + Wait + Sync>(
+pub fn check<R: Threads + Wait + Sync>(
     rt: &R,
     alloc: Global,
     policy: &[&str],
     frames: &[&str],
     entries: &str,
     lines: &[&str],
-) -> Result<(), Fail> {
-    let report = report_of(rt, alloc, policy, trace_of(alloc, frames)?)?;
-    let lines = joined(alloc, lines)?;
-    let mut wanted = joined(alloc, &["vsw report 1\nround 0\nport 1 0 ", entries, "\n"])?;
-    wanted.extend_from_slice(&lines)?;
-    wanted.extend_from_slice(b"loose\n")?;
-    assert!(rt; report.as_slice() == wanted.as_slice());
-    Ok(())
+) -> Result<(), Wrong> {
+    match host_over(alloc, policy, &[], frames, &[]) {
+        Some(mut host) => try_round(rt, alloc, &mut host, entries, lines),
+        None => Err(Wrong::Start),
+    }
 }

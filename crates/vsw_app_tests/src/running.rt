@@ -1,9 +1,7 @@
 //! Runs over files in memory.
 
 use std::alloc::{AllocError, Global};
-use std::process::Abort;
 use std::sync::Wait;
-use std::test::Fail;
 use std::thread::Threads;
 use vsw_app::{Open, run_words};
 use vsw_base::{Items, Text};
@@ -53,7 +51,7 @@ pub fn joined(alloc: Global, pieces: &[&[u8]]) -> Result<Vec<u8>, AllocError> {
     Ok(bytes)
 }
 
-pub fn file(alloc: Global, name: &str, pieces: &[&[u8]]) -> Result<MemoryFile, AllocError> {
+fn file(alloc: Global, name: &str, pieces: &[&[u8]]) -> Result<MemoryFile, AllocError> {
     Ok(MemoryFile {
         name: Text::of(name.to_string(alloc)?),
         bytes: Items::of(joined(alloc, pieces)?),
@@ -63,24 +61,58 @@ pub fn file(alloc: Global, name: &str, pieces: &[&[u8]]) -> Result<MemoryFile, A
 /// The three files of a run.
 #[derive(Drop)]
 pub struct Files<'a> {
-    pub rules: &'a [&'a [u8]],
+    pub policy: &'a [&'a [u8]],
     pub commands: &'a [u8],
     pub trace: &'a [&'a [u8]],
 }
 
-pub fn host_of(
-    rt: &impl Abort,
-    alloc: Global,
-    files: &Files<'_>,
-    failing: &[u64],
-) -> Result<MemoryHost, Fail> {
-    let rules = joined(alloc, files.rules)?;
+fn held(alloc: Global, files: &Files<'_>) -> Result<Vec<MemoryFile>, AllocError> {
     let mut held = Vec::new(alloc);
-    held.push(file(alloc, "policy", &[POLICY_START, &rules, POLICY_END])?)?;
+    held.push(file(alloc, "policy", files.policy)?)?;
     held.push(file(alloc, "commands", &[files.commands])?)?;
     held.push(file(alloc, "trace", files.trace)?)?;
-    assert!(rt; are_distinct(&held));
-    Ok(MemoryHost::new(alloc, held, 262_144, failing.to_vec(alloc)?)?)
+    Ok(held)
+}
+
+/// A host that holds these files, no two of one name, and of whose calls these fail.
+fn holding(
+    alloc: Global,
+    held: Vec<MemoryFile>,
+    room: usize,
+    failing: &[u64],
+) -> Result<MemoryHost, Wrong> {
+    match failing.to_vec(alloc) {
+        Ok(failing) if are_distinct(&held) => {
+            MemoryHost::new(alloc, held, room, failing).map_err(|_| Wrong::Start)
+        }
+        _ => Err(Wrong::Start),
+    }
+}
+
+pub fn host_of(
+    alloc: Global,
+    files: &Files<'_>,
+    room: usize,
+    failing: &[u64],
+) -> Result<MemoryHost, Wrong> {
+    match held(alloc, files) {
+        Ok(held) => holding(alloc, held, room, failing),
+        Err(_) => Err(Wrong::Start),
+    }
+}
+
+fn held_policy(alloc: Global, policy: &[&[u8]]) -> Result<Vec<MemoryFile>, AllocError> {
+    let mut held = Vec::new(alloc);
+    held.push(file(alloc, "policy", policy)?)?;
+    Ok(held)
+}
+
+/// A host that holds no file but this policy.
+pub fn host_of_policy(alloc: Global, policy: &[&[u8]]) -> Result<MemoryHost, Wrong> {
+    match held_policy(alloc, policy) {
+        Ok(held) => holding(alloc, held, 4_096, &[]),
+        Err(_) => Err(Wrong::Start),
+    }
 }
 
 pub fn words_of(alloc: Global, texts: &[&str]) -> Result<Vec<Word>, AllocError> {
@@ -91,44 +123,104 @@ pub fn words_of(alloc: Global, texts: &[&str]) -> Result<Vec<Word>, AllocError> 
     Ok(words)
 }
 
-/// Runs, and compares the status, what is put and what is complained.
-pub fn check<R: Abort + Threads + Wait + Sync>(
+/// What came out otherwise.
+#[derive(Clone, Copy, Debug)]
+pub enum Wrong {
+    /// What a run needs couldn't be made.
+    Start,
+    /// The run ended so.
+    Status(Status),
+    Put,
+    Complaint,
+    /// The run at this place of a table, or with this length.
+    Run(usize),
+    /// The run of which this call fails.
+    Call(u64),
+}
+
+/// How a run ends: its status, the pieces of what is put, and what is complained.
+pub type Ending<'a> = (Status, &'a [&'a [u8]], &'a [u8]);
+
+fn is_joined(alloc: Global, bytes: &[u8], pieces: &[&[u8]]) -> bool {
+    match joined(alloc, pieces) {
+        Ok(wanted) => bytes == wanted.as_slice(),
+        Err(_) => false,
+    }
+}
+
+/// Runs, and compares how the run ends.
+fn check_words<R: Threads + Wait + Sync>(
     rt: &R,
     alloc: Global,
-    host: MemoryHost,
+    host: &mut MemoryHost,
+    words: &[Word],
+    wanted: Ending<'_>,
+) -> Result<(), Wrong> {
+    let status = run_words(rt, alloc, words, host, &Open);
+    if status != wanted.0 {
+        Err(Wrong::Status(status))
+    } else if !is_joined(alloc, host.written(), wanted.1) {
+        Err(Wrong::Put)
+    } else if host.complained() != wanted.2 {
+        Err(Wrong::Complaint)
+    } else {
+        Ok(())
+    }
+}
+
+pub fn check<R: Threads + Wait + Sync>(
+    rt: &R,
+    alloc: Global,
+    host: &mut MemoryHost,
     words: &[&str],
-    wanted: (Status, &[&[u8]], &[u8]),
-) -> Result<(), Fail> {
-    let mut host = host;
-    let words = words_of(alloc, words)?;
-    let status = run_words(rt, alloc, &words, &mut host, &Open);
-    assert_eq!(rt; status, wanted.0);
-    assert_eq!(rt; host.written(), joined(alloc, wanted.1)?.as_slice());
-    assert_eq!(rt; host.complained(), wanted.2);
-    Ok(())
+    wanted: Ending<'_>,
+) -> Result<(), Wrong> {
+    match words_of(alloc, words) {
+        Ok(words) => check_words(rt, alloc, host, &words, wanted),
+        Err(_) => Err(Wrong::Start),
+    }
+}
+
+/// Runs over these files, with these calls failing.
+pub fn check_files<R: Threads + Wait + Sync>(
+    rt: &R,
+    alloc: Global,
+    files: &Files<'_>,
+    failing: &[u64],
+    wanted: Ending<'_>,
+) -> Result<(), Wrong> {
+    match host_of(alloc, files, ROOM, failing) {
+        Ok(mut host) => check(rt, alloc, &mut host, FORWARD, wanted),
+        Err(wrong) => Err(wrong),
+    }
 }
 
 /// Runs over a trace of these pieces, with these calls failing.
-pub fn check_trace<R: Abort + Threads + Wait + Sync>(
+pub fn check_trace<R: Threads + Wait + Sync>(
     rt: &R,
     alloc: Global,
     trace: &[&[u8]],
     failing: &[u64],
-    wanted: (Status, &[&[u8]], &[u8]),
-) -> Result<(), Fail> {
+    wanted: Ending<'_>,
+) -> Result<(), Wrong> {
     let files = Files {
-        rules: &[ALLOW],
+        policy: POLICY,
         commands: b"",
         trace,
     };
-    check(
-        rt,
-        alloc,
-        host_of(rt, alloc, &files, failing)?,
-        FORWARD,
-        wanted,
-    )
+    check_files(rt, alloc, &files, failing, wanted)
 }
+
+/// The room for what is put, and for what is complained.
+pub const ROOM: usize = 262_144;
+
+/// The policy of the rule that allows.
+pub const POLICY: &[&[u8]] = &[POLICY_START, ALLOW, POLICY_END];
+
+/// A trace of the query, and its report.
+pub const TRACE: &[&[u8]] = &[HEADER, RECORD, QUERY];
+
+pub const REPORT: &[&[u8]] = &[HEAD, ROUND, QUERY_LINE, b"loose\n"];
 
 pub const HEAD: &[u8] = b"vsw report 1\n";
 

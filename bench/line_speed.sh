@@ -23,7 +23,7 @@ rm -rf BUILD.bazel crates/line_speed/BUILD.bazel crates/line_speed/src/*
 mkdir -p crates/line_speed/proofs crates/line_speed/specs
 : > crates/line_speed/specs/Lib.antt
 : > crates/line_speed/proofs/Lib.antt
-grep -E '^vsw_(base|rule|least|trie|interval|classify|layerflow|policy|report):' "$root/crates.txt" > crates.txt
+grep -E '^vsw_(base|transpose|rule|index|classify|layerflow|policy|report):' "$root/crates.txt" > crates.txt
 echo 'line_speed: vsw_base vsw_report' >> crates.txt
 cd crates/line_speed
 cat > src/main.rt << 'END'

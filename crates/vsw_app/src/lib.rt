@@ -1,13 +1,15 @@
-//! The program: its words, its run and how that ends.
+//! The program: its words, its run, how that ends, and what the process ends with.
 #![tactic(auto)]
 
 mod complaint;
 mod ending;
 mod files;
 mod open;
+mod process;
 mod run;
 mod through;
 
 pub use open::Open;
+pub use process::{exit_code, run_process, status_without};
 pub use run::run_words;
 pub use vsw_replay::{Answer, Watch, Why};

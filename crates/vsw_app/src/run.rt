@@ -70,7 +70,7 @@ fn run_drawn<H: Host>(
     run_workload(alloc, host, &mut switch, start, packets)
 }
 
-/// Runs over so many generated packets, drawn from this number. Their policy is good (`vsw_generate_tests`), so only want of memory keeps it
+/// Runs over so many generated packets, drawn from this number. Their policy is good (`vsw_config_tests`), so only want of memory keeps it
 /// from being read.
 fn generate<H: Host>(alloc: Global, host: &mut H, start: u32, packets: u32) -> Ending
     requires start { start < 2 ^ 31 }

@@ -1,4 +1,5 @@
-//! Tests of the readers of the policy file and of the commands file, kept apart from them: with tests of its own, a crate is proved once more.
+//! Tests of the readers of the policy file and of the commands file, kept apart from them (with tests of its own, a crate is proved once more), and the law of the
+//! generated workload: its policy is one that the switch takes, and its packets are those of their numbers.
 #![tactic(auto)]
 
 #[cfg(test)]
@@ -15,6 +16,7 @@ mod fault_tests;
 mod file_tests;
 #[cfg(test)]
 mod item_tests;
+mod law;
 #[cfg(test)]
 mod limit_tests;
 #[cfg(test)]
@@ -25,3 +27,7 @@ mod order_tests;
 mod policy_tests;
 #[cfg(test)]
 mod samples;
+#[cfg(test)]
+mod workload_tests;
+
+pub use law::laws;

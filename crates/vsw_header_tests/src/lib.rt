@@ -1,6 +1,8 @@
-//! Tests of headers and of whole frames, kept apart from `vsw_base`, `vsw_header` and `vsw_frame`: with tests of its own, a crate is proved once more.
+//! Tests of hosts and captures, of headers and of whole frames, kept apart from the crates that they try: with tests of its own, a crate is proved once more.
 #![tactic(auto)]
 
+#[cfg(test)]
+mod capture_tests;
 #[cfg(test)]
 mod ether_tests;
 #[cfg(test)]
@@ -13,11 +15,17 @@ mod l4_tests;
 #[cfg(test)]
 mod layers_tests;
 #[cfg(test)]
+mod memory_host_tests;
+#[cfg(test)]
 mod plain_reader;
 #[cfg(test)]
 mod reading_tests;
 #[cfg(test)]
+mod real_host_tests;
+#[cfg(test)]
 mod rewriting_tests;
+#[cfg(test)]
+mod source_tests;
 #[cfg(test)]
 mod spelling_tests;
 #[cfg(test)]

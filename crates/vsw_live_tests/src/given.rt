@@ -1,10 +1,10 @@
-//! Commands that may be given.
+//! Commands that are given to a policy.
 
-ghost use Rattle.std.specs.Prelude.{IsTrue};
+ghost use Rattle.std.specs.Prelude.{◌≡◌, IsTrue};
 ghost use Rattle.vsw_policy.specs.Obey.{rules_given};
-ghost use Rattle.vsw_policy.specs.Sound.{Each, IsGoodRule};
+ghost use Rattle.vsw_policy.specs.Sound.{Each, IsGoodRule, is_listed};
 
-use vsw_policy::Command;
+use vsw_policy::{Command, Policy};
 use vsw_rule::Rule;
 
 fn are_good(rules: &[Rule]) -> bool
@@ -24,4 +24,18 @@ pub fn is_good(command: &Command) -> bool
         Command::AddRule { rule, .. } => rule.check().is_ok(),
         _ => true,
     }
+}
+
+fn is_listed(controllers: &[u16], controller: u16) -> bool
+    ensures { result ≡ is_listed controllers.now controller }
+{
+    controllers.iter().any(|listed| controller == *listed)
+}
+
+/// Whether a command may be given, and was done.
+pub fn give(policy: &mut Policy, controller: u16, command: Command) -> bool {
+    if !is_listed(policy.controllers(), controller) || !is_good(&command) {
+        return false;
+    }
+    policy.command(controller, &command).is_ok()
 }

@@ -1,10 +1,11 @@
-//! Commands that may be given.
+//! Commands and packets that a policy may be given.
 
-ghost use Rattle.std.specs.Prelude.{◌≡◌, IsTrue};
+ghost use Rattle.std.specs.Prelude.{◌≡◌, ◌<◌, ◌-◌, ◌^◌, IsTrue, map};
+ghost use Rattle.vsw_policy.specs.Layer.{seen};
 ghost use Rattle.vsw_policy.specs.Obey.{rules_given};
 ghost use Rattle.vsw_policy.specs.Sound.{Each, IsGoodRule, is_listed};
 
-use vsw_policy::{Command, Policy};
+use vsw_policy::{Command, Layer, Policy};
 use vsw_rule::Rule;
 
 fn are_good(rules: &[Rule]) -> bool
@@ -38,4 +39,14 @@ pub fn give(policy: &mut Policy, controller: u16, command: Command) -> bool {
         return false;
     }
     policy.command(controller, &command).is_ok()
+}
+
+/// Whether each layer has a number for one more pair.
+pub fn have_numbers(layers: &[Layer]) -> bool
+    ensures { IsTrue result → Each (λ l. l.next_pair < 2 ^ 32 - 1) (map seen layers.now) }
+{
+    match layers {
+        [] => true,
+        [first, rest @ ..] => first.next_pair < u32::MAX && have_numbers(rest),
+    }
 }

@@ -1,22 +1,11 @@
-//! Runs of the program over whole policies and packets made by hand, kept apart from `vsw_app_tests` for
-//! their time.
+//! Tests of the program over files in memory: its words, files and endings, runs over whole policies, and runs with many workers.
 #![tactic(auto)]
 
 #[cfg(test)]
-mod command_tests;
+mod app;
 #[cfg(test)]
-mod edit_tests;
+mod memory;
 #[cfg(test)]
-mod frames;
+mod whole;
 #[cfg(test)]
-mod length_tests;
-#[cfg(test)]
-mod pair_tests;
-#[cfg(test)]
-mod policies;
-#[cfg(test)]
-mod rule_tests;
-#[cfg(test)]
-mod running;
-#[cfg(test)]
-mod workload_tests;
+mod workers;

@@ -16,7 +16,8 @@ fn are_good(rules: &[Rule]) -> bool
     }
 }
 
-fn is_good(command: &Command) -> bool
+/// Whether the rules that a command brings are good.
+pub fn is_good(command: &Command) -> bool
     ensures { IsTrue result → Each IsGoodRule (rules_given command.now) }
 {
     match command {
@@ -26,7 +27,8 @@ fn is_good(command: &Command) -> bool
     }
 }
 
-fn is_listed(controllers: &[u16], controller: u16) -> bool
+/// Whether a controller is one of these.
+pub fn is_listed(controllers: &[u16], controller: u16) -> bool
     ensures { result ≡ is_listed controllers.now controller }
 {
     controllers.iter().any(|listed| controller == *listed)

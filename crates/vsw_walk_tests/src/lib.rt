@@ -1,25 +1,11 @@
-//! Tests of pairs, of visits and of walks, kept apart from `vsw_layerflow` and `vsw_walk`: with tests of its own, a crate is proved once more.
+//! Tests of rules and their indexes, of policies, of pairs and of walks, kept apart from the crates that they try: with tests of its own, a crate is proved once more.
 #![tactic(auto)]
 
 #[cfg(test)]
-mod flow_tests;
-#[cfg(test)]
 mod given;
 #[cfg(test)]
-mod layers;
+mod policy;
 #[cfg(test)]
-mod look_tests;
+mod rule;
 #[cfg(test)]
-mod packets;
-#[cfg(test)]
-mod samples;
-#[cfg(test)]
-mod tcp_tests;
-#[cfg(test)]
-mod trial;
-#[cfg(test)]
-mod visit_tests;
-#[cfg(test)]
-mod walk_tests;
-#[cfg(test)]
-mod wrong;
+mod walk;

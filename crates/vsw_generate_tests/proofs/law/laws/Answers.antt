@@ -1,5 +1,0 @@
-use Rattle.vsw_generate_tests.proofs.Reading.{is_read}
-use Rattle.vsw_generate_tests.proofs.law.laws.Goals as goal
-
-pub returns : goal.returns
-returns c = is_read

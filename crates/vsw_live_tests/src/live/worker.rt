@@ -1,0 +1,207 @@
+//! A worker, which remembers what it was answered.
+
+ghost use Rattle.std.specs.Prelude.{◌≡◌, ◌<◌, IfSome};
+ghost use Rattle.vsw_live.specs.Core.{IsOf};
+ghost use Rattle.vsw_live.specs.Ports.{AreNewPasses};
+ghost use Rattle.vsw_live_tests.specs.Trials.{Calls};
+
+use crate::live::opening::{PERMITS, pass_of};
+use crate::live::packets::{Packet, QUERY, crossing, packet_of, query};
+use std::alloc::Global;
+use std::marker::Model;
+use std::sync::Wait;
+use vsw_base::{Control, Dir, Fate};
+use vsw_frame::read_frame;
+use vsw_live::{Answer, Desk, Fast, LivePort, Naming, Room, Unit, Why};
+use vsw_lookup::Pass;
+use vsw_rows::PortStory;
+
+/// What a packet was told: its fate, its count, whether it is an entry, and why no row answered.
+#[derive(Clone, Copy)]
+pub struct Answered {
+    pub fate: Fate,
+    pub count: u32,
+    pub entry: bool,
+    pub why: Option<Why>,
+}
+
+fn told_of(answer: &Answer) -> Answered
+    ensures entry { result.entry ≡ answer.now.entry }
+{
+    Answered {
+        fate: answer.fate(),
+        count: answer.count(),
+        entry: answer.entry(),
+        why: answer.why(),
+    }
+}
+
+/// Whom a packet asks: `fast`, and `slow` where that didn't answer; or both by `forward`.
+#[derive(Clone, Copy)]
+pub enum By {
+    Two,
+    One,
+}
+
+/// A packet crosses the port by `fast`, and only then by `slow`.
+fn by_two<J: Naming, R: Wait>(
+    rt: &R,
+    port: &LivePort<J>,
+    pass: &mut Pass<PortStory>,
+    unit: &Unit<'_>,
+    desk: &mut Desk,
+    room: &mut Room,
+) -> Answer
+    requires pass { IsOf port.now.looking pass.old }
+    requires caller { unit.now.crossing.caller ≡ pass.old.view.number }
+    requires permit { 0 < pass.old.view.permits }
+    ensures calls { Calls result.entry pass.old pass.new }
+{
+    match port.fast(pass, unit, desk, room) {
+        Fast::Done(answer) => answer,
+        Fast::Slow(ticket) => port.slow(rt, pass, ticket, desk, room),
+    }
+}
+
+/// A packet crosses the port.
+fn cross<J: Naming, R: Wait>(
+    rt: &R,
+    port: &LivePort<J>,
+    pass: &mut Pass<PortStory>,
+    unit: &Unit<'_>,
+    desk: &mut Desk,
+    room: &mut Room,
+    by: By,
+) -> Answered
+    requires pass { IsOf port.now.looking pass.old }
+    requires caller { unit.now.crossing.caller ≡ pass.old.view.number }
+    requires permit { 0 < pass.old.view.permits }
+    ensures calls { Calls result.entry pass.old pass.new }
+{
+    match by {
+        By::Two => told_of(&by_two(rt, port, pass, unit, desk, room)),
+        By::One => told_of(&port.forward(rt, pass, unit, desk, room)),
+    }
+}
+
+/// A worker with its pass. Contracts see how many entries it may make.
+#[derive(Drop)]
+pub struct Worker<'a, J: Naming> {
+    port: &'a LivePort<J>,
+    pass: Pass<PortStory>,
+    number: u32,
+    left: u32,
+    sent: u32,
+    desk: Desk,
+    room: Room,
+    notes: Vec<Answered>,
+}
+
+impl<'a, J: Naming> Model for Worker<'a, J> {
+    ghost use Rattle.std.specs.Prelude.{ℕ};
+    ghost use Rattle.vsw_live_tests.specs.Trials.{Holds};
+
+    ghost Value = { ℕ };
+
+    ghost view = { λ w. w.left };
+
+    ghost invariant = { λ w. Holds w.port.now.looking w.number w.left w.pass };
+}
+
+/// Room to write into, and room for so many answers.
+fn rooms(alloc: Global, answers: usize) -> Option<(Room, Vec<Answered>)> {
+    match (Room::new(alloc), Vec::with_capacity(alloc, answers)) {
+        (Ok(room), Ok(notes)) => Some((room, notes)),
+        _ => None,
+    }
+}
+
+impl<'a, J: Naming> Worker<'a, J> {
+    /// The worker of this number, which remembers so many answers. The passes behind its own are gone.
+    pub fn new<R: Wait>(
+        rt: &R,
+        alloc: Global,
+        port: &'a LivePort<J>,
+        passes: &mut Vec<Pass<PortStory>>,
+        number: u32,
+        answers: usize,
+    ) -> Option<Worker<'a, J>>
+        requires new { AreNewPasses port.now.looking 0 passes.old.items }
+        ensures new { AreNewPasses port.now.looking 0 passes.new.items }
+    {
+        let Some(pass) = pass_of(rt, port, passes, number) else {
+            return None;
+        };
+        match rooms(alloc, answers) {
+            Some((room, notes)) => Some(Worker {
+                port,
+                pass,
+                number,
+                left: PERMITS,
+                sent: 0,
+                desk: Desk::new(),
+                room,
+                notes,
+            }),
+            None => None,
+        }
+    }
+
+    /// Sends a packet, where it has a permit.
+    pub fn send<R: Wait>(&mut self, rt: &R, by: By, packet: &Packet) -> Option<Answered> {
+        if self.left == 0 {
+            return None;
+        }
+        let Ok(frame) = read_frame(&packet.bytes) else {
+            return None;
+        };
+        let crossing = crossing(&frame, self.number, packet);
+        let unit = Unit::of(&crossing, &frame);
+        let answered = cross(
+            rt,
+            self.port,
+            &mut self.pass,
+            &unit,
+            &mut self.desk,
+            &mut self.room,
+            by,
+        );
+        if answered.entry {
+            self.left -= 1;
+        }
+        Some(answered)
+    }
+
+    /// Its next packet of a flow, or the query once more.
+    fn next(&self, flows: bool) -> Packet {
+        if flows {
+            packet_of(self.number, self.sent)
+        } else {
+            query(Dir::Out, Control::None, 0)
+        }
+    }
+
+    /// Sends its next packet, and remembers the answer. Whether it did.
+    pub fn go<R: Wait>(&mut self, rt: &R, flows: bool) -> bool {
+        let packet = self.next(flows);
+        let Some(answered) = self.send(rt, By::One, &packet) else {
+            return false;
+        };
+        self.sent = self.sent.wrapping_add(1);
+        self.notes.push(answered).is_ok()
+    }
+
+    pub fn number(&self) -> u32 {
+        self.number
+    }
+
+    /// What it was answered, packet by packet.
+    pub fn notes(&self) -> &[Answered] {
+        &self.notes
+    }
+
+    /// Whether the last frame that left is the query itself.
+    pub fn left_as_it_came(&self) -> bool {
+        self.room.bytes(44) == &QUERY[..]
+    }
+}

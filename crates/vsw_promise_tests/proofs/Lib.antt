@@ -1,4 +1,0 @@
-pub mod Answered
-pub mod Lives
-pub mod Obeyed
-pub mod Passed

@@ -1,5 +1,0 @@
-use Rattle.vsw_promise_tests.proofs.Lives.{life_of_a_pair}
-use Rattle.vsw_promise_tests.proofs.samples.life.Goals as goal
-
-pub returns : goal.returns
-returns c = record { swept = life_of_a_pair }

@@ -1,5 +1,0 @@
-use Rattle.vsw_promise_tests.proofs.Answered.{replies}
-use Rattle.vsw_promise_tests.proofs.samples.replies.Goals as goal
-
-pub returns : goal.returns
-returns c = record { found = replies }

@@ -1,5 +1,0 @@
-pub mod Commands
-pub mod Life
-pub mod OnePacket
-pub mod Replies
-pub mod Statuses

@@ -1,0 +1,31 @@
+//! Reports that were worked out by hand, beside the definitions of vsw_promise, each evaluated where it is proved; tests of ports, of the order
+//! of commands, and of the report's text; and of actors, over ports that have memory for no command.
+#![tactic(auto)]
+
+mod carrying;
+#[cfg(test)]
+mod hex_tests;
+#[cfg(test)]
+mod job_tests;
+#[cfg(test)]
+mod line_tests;
+#[cfg(test)]
+mod order_tests;
+#[cfg(test)]
+mod ports_samples;
+#[cfg(test)]
+mod ports_tests;
+mod refusing;
+#[cfg(test)]
+mod report_samples;
+#[cfg(test)]
+mod round_tests;
+mod samples;
+#[cfg(test)]
+mod schedule_tests;
+#[cfg(test)]
+mod workers_tests;
+
+pub use carrying::{Load, Packet};
+pub use refusing::{Notes, Refusing};
+pub use samples::{commands, life, packets, replies, statuses};

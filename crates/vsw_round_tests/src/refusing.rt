@@ -1,0 +1,74 @@
+//! Ports that have memory for no command.
+
+use std::alloc::Global;
+use std::sync::Wait;
+use std::sync::atomic::{AtomicU64, Ordering};
+use vsw_actors::{Port, RowPort};
+
+/// A port that has memory for no command. Any thread may use it. It counts how many rows were reconciled, and keeps the last one's
+/// number; each is one step on an atomic word.
+#[derive(Drop)]
+pub struct Refusing {
+    pub number: u16,
+    pub rows: u32,
+    pub reconciled: AtomicU64,
+    pub last: AtomicU64,
+}
+
+impl Refusing {
+    pub fn new(number: u16, rows: u32) -> Refusing {
+        Refusing {
+            number,
+            rows,
+            reconciled: AtomicU64::new(0),
+            last: AtomicU64::new(0),
+        }
+    }
+}
+
+impl RowPort for Refusing {
+    ghost row_count = { λ p. p.rows };
+
+    fn rows(&self) -> u32 {
+        self.rows
+    }
+
+    fn reconcile<R: Wait>(&self, _rt: &R, row: u32) {
+        self.reconciled.fetch_add(1, Ordering::SeqCst);
+        self.last.store(u64::from(row), Ordering::SeqCst);
+    }
+}
+
+/// The numbers of the first four lines that an actor asked there.
+#[derive(Drop)]
+pub struct Notes {
+    pub asked: [u32; 4],
+    pub count: usize,
+}
+
+impl Port<u32> for Refusing {
+    ghost use Rattle.vsw_round_tests.specs.Refusing.{asked, is_of, pass, permits, port, takes, tells};
+
+    type Station = Notes;
+
+    ghost port_in = { port };
+
+    ghost pass_in = { pass };
+
+    ghost job_in = { asked };
+
+    ghost tells = { tells };
+
+    ghost is_of = { is_of };
+
+    ghost permits = { permits };
+
+    ghost takes = { takes };
+
+    fn work<R: Wait>(&self, _rt: &R, _alloc: Global, station: &mut Notes, job: &u32) {
+        if station.count < 4 {
+            station.asked[station.count] = *job;
+            station.count += 1;
+        }
+    }
+}

@@ -1,0 +1,7 @@
+//! Tests of the program's words, files and endings.
+
+mod ending_tests;
+mod policy_tests;
+mod report_tests;
+mod request_tests;
+mod running;

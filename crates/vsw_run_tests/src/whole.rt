@@ -1,0 +1,11 @@
+//! Runs over whole policies and packets made by hand.
+
+mod command_tests;
+mod edit_tests;
+mod frames;
+mod length_tests;
+mod pair_tests;
+mod policies;
+mod rule_tests;
+mod running;
+mod workload_tests;

@@ -1,0 +1,13 @@
+//! Runs with many workers: what a gate and a watch see of them, and whether their reports are legal.
+
+mod counts;
+mod files;
+mod flows;
+mod gate_tests;
+mod judge;
+mod line;
+mod meeting;
+mod notes;
+mod report_tests;
+mod running;
+mod watch_tests;

@@ -1,0 +1,27 @@
+//! What gates are told: two workers of a run are at work at once, and each actor has its own jobs.
+
+use crate::workers::counts::Counts;
+use crate::workers::files::REMOVES;
+use crate::workers::meeting::Meeting;
+use crate::workers::running::report_of_flows;
+use std::test::Fail;
+
+#[test]
+fn two_workers_see_each_other_in_their_first_jobs(rt: HostRuntime) -> Result<(), Fail> {
+    let meeting = Meeting::new();
+    report_of_flows(&rt, rt.alloc(), "2", REMOVES, &meeting)?;
+    assert_eq!(rt; meeting.saw(), [1, 1]);
+    Ok(())
+}
+
+/// What is told of a round of 400 packets, half of them each worker's, of the command of the first of three controllers, and of the 64
+/// rows of the port, which are the jobs of the actor behind the controllers: each job is entered and left.
+const TOLD: [u64; 7] = [200_000_200, 200_000_200, 1_000_001, 0, 0, 64_000_064, 0];
+
+#[test]
+fn rows_are_reconciled_by_the_actor_behind_the_controllers(rt: HostRuntime) -> Result<(), Fail> {
+    let counts = Counts::new();
+    report_of_flows(&rt, rt.alloc(), "2", REMOVES, &counts)?;
+    assert_eq!(rt; counts.told(), TOLD);
+    Ok(())
+}

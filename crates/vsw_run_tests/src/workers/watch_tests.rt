@@ -1,0 +1,75 @@
+//! What a watch is told: each packet's answer once, by its worker.
+
+use crate::memory::empty_trace;
+use crate::workers::files::{ONE_LAYER, REMOVES};
+use crate::workers::flows::{PACKETS, flow_of, worker_of};
+use crate::workers::notes::Notes;
+use crate::workers::running::{add, files, report_of, report_of_flows};
+use std::alloc::Global;
+use std::process::Abort;
+use std::sync::Wait;
+use std::test::Fail;
+use std::thread::Threads;
+
+/// UDP from 10.0.0.5:1234 to 10.0.0.9:53 with the text "hi", from port 1.
+const QUERY: &str =
+    "02000000009902000000000108004500001e00004000401126c20a0000050a00000904d20035000a7e5c6869";
+
+/// What worker 0 tells of it, at count 0: it passes with 44 bytes and is no entry. No row had it first, and then one answers.
+const TOLD: [u64; 3] = [4_400_021, 4_400_001, 4_400_001];
+
+fn queries(alloc: Global) -> Result<Vec<u8>, Fail> {
+    let mut trace = empty_trace(alloc)?;
+    let query = hex::decode(alloc, QUERY.as_bytes())?;
+    for packet in 0..3u32 {
+        add(&mut trace, packet, &query)?;
+    }
+    Ok(trace)
+}
+
+fn tell_queries<R: Abort + Threads + Wait + Sync>(
+    rt: &R,
+    alloc: Global,
+    notes: &Notes,
+) -> Result<(), Fail> {
+    let held = files(alloc, ONE_LAYER, "", queries(alloc)?)?;
+    report_of(rt, alloc, "2", held, notes)?;
+    Ok(())
+}
+
+fn check_queries(rt: &impl Abort, notes: &Notes) {
+    let told = [notes.told(0), notes.told(1), notes.told(2)];
+    assert_eq!(rt; told, TOLD);
+    assert!(rt; notes.is_whole());
+}
+
+#[test]
+fn the_first_packet_misses_and_rows_answer_the_next(rt: HostRuntime) -> Result<(), Fail> {
+    let notes = Notes::new(rt.alloc(), 3)?;
+    tell_queries(&rt, rt.alloc(), &notes)?;
+    check_queries(&rt, &notes);
+    Ok(())
+}
+
+/// Whether a packet that left with 94 bytes was told once, by its worker.
+fn is_told(notes: &Notes, packet: u32, workers: u32) -> bool {
+    let told = notes.told(packet);
+    told % 10 == 1
+        && told / 1_000 % 100 == u64::from(worker_of(flow_of(packet), workers))
+        && told / 100_000 % 100_000 == 94
+}
+
+fn check_flows(rt: &impl Abort, notes: &Notes, workers: u32) {
+    for packet in 0..PACKETS {
+        assert!(rt; is_told(notes, packet, workers));
+    }
+    assert!(rt; notes.is_whole());
+}
+
+#[test]
+fn each_packet_of_four_workers_is_told_once(rt: HostRuntime) -> Result<(), Fail> {
+    let notes = Notes::new(rt.alloc(), PACKETS)?;
+    report_of_flows(&rt, rt.alloc(), "4", REMOVES, &notes)?;
+    check_flows(&rt, &notes, 4);
+    Ok(())
+}

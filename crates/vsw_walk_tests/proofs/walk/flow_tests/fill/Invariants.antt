@@ -1,0 +1,5 @@
+use Rattle.vsw_layerflow.specs.Pairs.{AllBelow}
+use Rattle.vsw_walk_tests.proofs.walk.flow_tests.fill.Given as goal
+
+abbrev pub invariant-loop-number : goal.invariant-loop-number
+invariant-loop-number l = AllBelow l.number l.flows.pairs

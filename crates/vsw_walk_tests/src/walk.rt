@@ -1,0 +1,12 @@
+//! Tests of pairs, of visits and of walks.
+
+mod flow_tests;
+mod layers;
+mod look_tests;
+mod packets;
+mod samples;
+mod tcp_tests;
+mod trial;
+mod visit_tests;
+mod walk_tests;
+mod wrong;

@@ -8,7 +8,7 @@ ghost use Rattle.vsw_harbour.specs.Opening.{ArePortsFor, IsOpenFor};
 ghost use Rattle.vsw_config.specs.Good.{IsGoodPolicy};
 ghost use Rattle.vsw_config.specs.declared.file.PolicyFile.{PolicyFile};
 
-use crate::lists::{ascending, callers_of, copied, needs_of};
+use crate::lists::{callers_of, copied, needs_of};
 use crate::{
     Dock, Harbour, Lane, Naming, OpenDocks, OpenPort, Station, dock_all, name_all, open_ports,
     rows_of,
@@ -17,6 +17,7 @@ use std::alloc::Global;
 use std::marker::Model;
 use vsw_base::{Items, Mac, NoMemory};
 use vsw_config::PolicyFile;
+use vsw_port::ascending;
 use vsw_promise::ports_of;
 
 /// The ports of a policy file with a pass for each caller, opened and still without names.

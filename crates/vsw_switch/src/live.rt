@@ -12,13 +12,14 @@ ghost use Rattle.vsw_switch.specs.Stay.{CanOpen, port_at_first, standing};
 ghost use Rattle.vsw_sole.specs.Transit.{IsOfFrame};
 
 use crate::callers::{callers, tell_packet, tell_reply};
-use crate::numbers::{ascending, place_of};
+use crate::numbers::place_of;
 use crate::tally::Tally;
 use std::alloc::Global;
 use std::marker::Model;
 use vsw_base::{Crossing, Mac, NoMemory};
 use vsw_commandfile::Line;
 use vsw_frame::Frame;
+use vsw_port::ascending;
 use vsw_promise::Port;
 use vsw_report::{Caller, merge, port_line};
 use vsw_sole::{Room, SolePort, transit};

@@ -5,7 +5,8 @@
 
 Runs `rt ci` with its output in the file LOG and looks at its processes once a second. Prints the last line,
 the wall time, and for each crate the processor seconds of its proof, of its tests with their proof, and of
-its planted bugs, and the greatest resident memory of one process.
+its planted bugs, and the greatest resident memory of one process; and how many proofs of vsw_base the whole is, since
+machines and days differ by more than two.
 """
 import os
 import subprocess
@@ -64,7 +65,8 @@ def table(seen):
         row = rows[crate]
         yield (f"{crate:20}{sum(row.values()):8.0f}" + "".join(f"{row[kind]:8.0f}" for kind in KINDS)
                + f"{most[crate] >> 20:8}")
-    yield f"{'all':20}{sum(sum(row.values()) for row in rows.values()):8.0f}"
+    whole, base = sum(sum(row.values()) for row in rows.values()), rows.get("vsw_base", {}).get("proof")
+    yield f"{'all':20}{whole:8.0f}" + (f", {whole / base:.0f} times the proof of vsw_base" if base else "")
 
 
 def main():

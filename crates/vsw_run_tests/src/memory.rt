@@ -26,6 +26,7 @@ pub fn text_of(alloc: Global, pieces: &[&str]) -> Result<Vec<u8>, AllocError> {
     Ok(bytes)
 }
 
+/// A file of this name with these bytes.
 pub fn file(alloc: Global, name: &str, bytes: Vec<u8>) -> Result<MemoryFile, AllocError> {
     Ok(MemoryFile {
         name: Text::of(name.to_string(alloc)?),
@@ -33,6 +34,7 @@ pub fn file(alloc: Global, name: &str, bytes: Vec<u8>) -> Result<MemoryFile, All
     })
 }
 
+/// These words of a command line.
 pub fn words_of(alloc: Global, texts: &[&str]) -> Result<Vec<Word>, AllocError> {
     let mut words = Vec::new(alloc);
     for text in texts {

@@ -1,4 +1,4 @@
-//! A port that answers by rows, and a ledger in which each packet is walked and settled. Both get the same packets and
+//! A port that answers by rows, and a core in which each packet is walked and settled. Both get the same packets and
 //! commands.
 
 ghost use Rattle.std.specs.Prelude.{◌≡◌, ◌≤◌};

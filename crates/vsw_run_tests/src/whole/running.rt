@@ -187,8 +187,8 @@ pub fn tried<R: Threads + Wait + Sync>(
 /// What follows port 1's lines in a report's first round, where it has so many entries and these
 /// lines.
 fn after_lines<'a>(put: &'a [u8], entries: &str, lines: &[&str]) -> Option<&'a [u8]> {
-    let front = after(put, &["vsw report 1\nround 0\nport 1 0 ", entries, "\n"])?;
-    after(front, lines)
+    let rest = after(put, &["vsw report 1\nround 0\nport 1 0 ", entries, "\n"])?;
+    after(rest, lines)
 }
 
 fn try_round<R: Threads + Wait + Sync>(

@@ -1,7 +1,9 @@
-//! Tests of the readers of the policy file and of the commands file, kept apart from them (with tests of its own, a crate is proved once more), and the law of the
-//! generated workload: its policy is one that the switch takes, and its packets are those of their numbers.
+//! Tests of hosts and captures, and of the readers of the policy file and of the commands file, kept apart from them (with tests of its own, a crate is proved once more); and the
+//! law of the generated workload: its policy is one that the switch takes, and its packets are those of their numbers.
 #![tactic(auto)]
 
+#[cfg(test)]
+mod capture_tests;
 #[cfg(test)]
 mod command_tests;
 #[cfg(test)]
@@ -22,11 +24,17 @@ mod limit_tests;
 #[cfg(test)]
 mod line_tests;
 #[cfg(test)]
+mod memory_host_tests;
+#[cfg(test)]
 mod order_tests;
 #[cfg(test)]
 mod policy_tests;
 #[cfg(test)]
+mod real_host_tests;
+#[cfg(test)]
 mod samples;
+#[cfg(test)]
+mod source_tests;
 #[cfg(test)]
 mod workload_tests;
 

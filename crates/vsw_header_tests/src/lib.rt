@@ -1,8 +1,6 @@
-//! Tests of hosts and captures, of headers and of whole frames, kept apart from the crates that they try: with tests of its own, a crate is proved once more.
+//! Tests of headers, of whole frames, and of rules and their indexes, kept apart from the crates that they try: with tests of its own, a crate is proved once more.
 #![tactic(auto)]
 
-#[cfg(test)]
-mod capture_tests;
 #[cfg(test)]
 mod ether_tests;
 #[cfg(test)]
@@ -15,17 +13,13 @@ mod l4_tests;
 #[cfg(test)]
 mod layers_tests;
 #[cfg(test)]
-mod memory_host_tests;
-#[cfg(test)]
 mod plain_reader;
 #[cfg(test)]
 mod reading_tests;
 #[cfg(test)]
-mod real_host_tests;
-#[cfg(test)]
 mod rewriting_tests;
 #[cfg(test)]
-mod source_tests;
+mod rule;
 #[cfg(test)]
 mod spelling_tests;
 #[cfg(test)]

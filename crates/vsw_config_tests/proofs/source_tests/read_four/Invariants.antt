@@ -1,6 +1,6 @@
 use Rattle.std.proofs.Common.{◌<◌}
 use Rattle.vsw_host.specs.Memory.{outside}
-use Rattle.vsw_header_tests.proofs.source_tests.read_four.Given as goal
+use Rattle.vsw_config_tests.proofs.source_tests.read_four.Given as goal
 
 abbrev pub invariant-loop-turn : goal.invariant-loop-turn
 invariant-loop-turn l = l.source.file < (outside l.host).opens

@@ -1,5 +1,5 @@
 use Rattle.std.proofs.Common.{◌≡◌, ◌≤◌, ◌-◌, length, false}
-use Rattle.vsw_header_tests.proofs.capture_tests.batch_by.Given as goal
+use Rattle.vsw_config_tests.proofs.capture_tests.read_by.Given as goal
 
 abbrev pub invariant-loop-at : goal.invariant-loop-at
 invariant-loop-at l = record {

@@ -3,9 +3,10 @@
 
     examples/make_traces.py
 
-The machine behind port 1 is 10.0.0.5, the one behind port 2 is 10.0.0.6. They ask a name server, fetch a page and log in
-elsewhere, as a virtual machine does; every checksum is right. `tcpdump -nn -r` shows each capture.
+The machine behind port 1 is 10.0.0.5 and fd00:0:0:1::5, the one behind port 2 is 10.0.0.6. They ask a name server, fetch a page
+and log in elsewhere, as a virtual machine does; every checksum is right. `tcpdump -nn -r` shows each capture.
 """
+import ipaddress
 import os
 import struct
 import sys
@@ -13,22 +14,24 @@ import sys
 HERE = os.path.dirname(os.path.abspath(__file__))
 sys.path.insert(0, os.path.join(os.path.dirname(HERE), "tools"))
 
-from packets import ether, ipv4, tcp, udp, vxlan, write_capture  # noqa: E402
+from packets import IPV6, ether, icmpv6, ipv4, ipv6, mac_bytes, tcp, udp, vxlan, write_capture  # noqa: E402
 
 ONE, TWO = ("02:00:00:00:00:01", "10.0.0.5"), ("02:00:00:00:00:02", "10.0.0.6")
 GATEWAY = "02:00:00:00:00:99"
 NAMES, NEAR_NAMES = "9.9.9.9", "10.0.0.53"
 WEB, LOGIN, STRANGER = "10.0.0.80", "10.0.0.22", "198.51.100.7"
+INSIDE6, OUTSIDE6, ROUTER6 = "fd00:0:0:1::5", "2001:db8:0:7::77", "fe80::1"
+NAMES6, WEB6, STRANGER6 = "2001:db8:0:53::53", "2001:db8:0:80::80", "2001:db8:0:666::7"
 SYN, ACK, FIN, PSH = 0x02, 0x10, 0x01, 0x08
 PAGE_PORT = 49_210
 QUERY_PORT = 53_124
 MILLISECOND, SECOND = 1_000, 1_000_000
-HTTP, SSH = 80, 22
+HTTP, HTTPS, SSH = 80, 443, 22
 
 
-def query(number=0x1A2B):
-    """A DNS query for the address of example.com (RFC 1035, section 4)."""
-    return struct.pack(">6H", number, 0x0100, 1, 0, 0, 0) + b"\x07example\x03com\0" + struct.pack(">2H", 1, 1)
+def query(number=0x1A2B, kind=1):
+    """A DNS query for the address of example.com (RFC 1035, section 4), of IPv6 where the kind is 28 (RFC 3596)."""
+    return struct.pack(">6H", number, 0x0100, 1, 0, 0, 0) + b"\x07example\x03com\0" + struct.pack(">2H", kind, 1)
 
 
 def answer(number=0x1A2B):
@@ -178,6 +181,75 @@ def commanded():
     ]
 
 
+def query6(server):
+    return going6(server, 17, udp(INSIDE6, server, QUERY_PORT, 53, query(kind=28)))
+
+
+def answer6():
+    """The answer 2001:db8:0:80::80, for an hour, to the machine's outer address."""
+    record = struct.pack(">3HIH", 0xC00C, 28, 1, 3_600, 16) + ipaddress.ip_address(WEB6).packed
+    message = struct.pack(">6H", 0x1A2B, 0x8180, 1, 1, 0, 0) + query(kind=28)[12:] + record
+    return coming6(NAMES6, OUTSIDE6, 17, udp(NAMES6, OUTSIDE6, 53, QUERY_PORT, message))
+
+
+def going6(server, proto, rest):
+    return ether(GATEWAY, ONE[0], IPV6, ipv6(INSIDE6, server, proto, rest))
+
+
+def coming6(src, dst, proto, rest, hop_limit=64):
+    return ether(ONE[0], GATEWAY, IPV6, ipv6(src, dst, proto, rest, hop_limit))
+
+
+def who_has6(address):
+    """A neighbour solicitation to the address's group of nodes (RFC 4861, section 4.3; RFC 2464, section 7)."""
+    target = ipaddress.ip_address(address).packed
+    group = str(ipaddress.ip_address(ipaddress.ip_address("ff02::1:ff00:0").packed[:13] + target[13:]))
+    rest = bytes(4) + target + b"\x01\x01" + mac_bytes(ONE[0])
+    packet = ipv6(INSIDE6, group, 58, icmpv6(INSIDE6, group, 135, 0, rest), 255)
+    return ether("33:33:ff:" + target[13:].hex(":"), ONE[0], IPV6, packet)
+
+
+def is_at6(address):
+    """The advertisement in which the gateway answers it (RFC 4861, section 4.4): a router, asked, to be written over."""
+    rest = struct.pack(">I", 0xE000_0000) + ipaddress.ip_address(address).packed + b"\x02\x01" + mac_bytes(GATEWAY)
+    return coming6(address, INSIDE6, 58, icmpv6(address, INSIDE6, 136, 0, rest), 255)
+
+
+def security6():
+    syn = tcp(INSIDE6, WEB6, PAGE_PORT, HTTPS, SYN, 1_000, 0)
+    options = bytes([6, 0, 1, 4, 0, 0, 0, 0])  # destination options: TCP follows, 8 bytes, four of padding (RFC 8200, section 4.6)
+    asked = query6(NAMES6)
+    return [
+        who_has6(ROUTER6),
+        is_at6(ROUTER6),
+        asked,
+        answer6(),
+        going6(WEB6, 6, syn),
+        coming6(WEB6, OUTSIDE6, 6, tcp(WEB6, OUTSIDE6, HTTPS, PAGE_PORT, SYN | ACK, 5_000, 1_001)),
+        going6(WEB6, 6, tcp(INSIDE6, WEB6, PAGE_PORT, HTTPS, ACK, 1_001, 5_001)),
+        query6("2001:db8:bad::53"),
+        going6(WEB6, 58, icmpv6(INSIDE6, WEB6, 128, 0, struct.pack(">HH", 1, 1) + b"ping")),
+        coming6(STRANGER6, OUTSIDE6, 6, tcp(STRANGER6, OUTSIDE6, 40_022, SSH, SYN, 7_000, 0)),
+        going6(WEB6, 60, options + syn),
+        ask(NAMES),
+        asked[:18] + (len(asked) - 53).to_bytes(2, "big") + asked[20:],
+    ]
+
+
+def roll_out():
+    service, old, new = "10.0.0.100", "10.0.0.80", "10.0.0.81"
+    page = b"GET / HTTP/1.1\r\nHost: service\r\n\r\n"
+    return [
+        connect(service, HTTP),
+        segment_in(old, HTTP, SYN | ACK, 5_000, 1_001),
+        segment_out(service, HTTP, PSH | ACK, 1_001, 5_001, page),
+        segment_in(old, HTTP, ACK, 5_001, 1_001 + len(page)),
+        segment_in(old, HTTP, ACK, 5_001, 1_001 + len(page)),
+        connect(service, HTTP, src_port=PAGE_PORT + 1),
+        segment_in(new, HTTP, SYN | ACK, 5_000, 1_001, dst_port=PAGE_PORT + 1),
+    ]
+
+
 def flows():
     """Four datagrams of each of a hundred flows."""
     ends = [f"10.0.1.{number}" for number in range(1, 101)]
@@ -193,6 +265,8 @@ TRACES = {
     "6-drops": drops,
     "7-commands": commanded,
     "8-bad-files": lambda: [ask(NAMES)],
+    "10-ipv6": security6,
+    "11-roll-out": roll_out,
     "flows": flows,
 }
 

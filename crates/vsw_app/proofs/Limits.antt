@@ -63,17 +63,17 @@ controllers_inside : (o : Data) → IsInside (controllers_in o)
 unfolding controllers_in
 controllers_inside o = inside_then (few_in policy.ControllersLimit 8 word.Controllers o) _ (few_inside policy.ControllersLimit 8 word.Controllers o tt) (λ ds. part_inside (under (Member word.Controllers) (items_after fresh_number [] ds)))
 
-ports_inside : (known : List ℕ) (o : Data) → IsInside (ports_in known o)
+ports_inside : (version : ℕ) (known : List ℕ) (o : Data) → IsInside (ports_in version known o)
 unfolding ports_in
-ports_inside known o = inside_then (few_in policy.PortsLimit 16 word.Ports o) _ (few_inside policy.PortsLimit 16 word.Ports o tt) (λ ds. part_inside (under (Member word.Ports) (items_after (port_of known) [] ds)))
+ports_inside version known o = inside_then (few_in policy.PortsLimit 16 word.Ports o) _ (few_inside policy.PortsLimit 16 word.Ports o tt) (λ ds. part_inside (under (Member word.Ports) (items_after (port_of version known) [] ds)))
 
 policy_inside : (d : Data) → IsInside (policy_of d)
 unfolding policy_of
 policy_inside d =
     inside_then (of_part (object_among file_words d)) _ (part_inside (object_among file_words d)) (λ o.
-    inside_then (of_part (read_in word.Version o (number_from 1 1))) _ (part_inside (read_in word.Version o (number_from 1 1))) (λ version.
+    inside_then (of_part (read_in word.Version o (number_from 1 2))) _ (part_inside (read_in word.Version o (number_from 1 2))) (λ version.
     inside_then (controllers_in o) _ (controllers_inside o) (λ controllers.
-    inside_then (ports_in controllers o) _ (ports_inside controllers o) (λ ports. tt))))
+    inside_then (ports_in version controllers o) _ (ports_inside version controllers o) (λ ports. tt))))
 
 over_limit : {A : Type 0} (b : Bool) (r : Result A ConfigFault) → IsInside r → (if b then Err policy.PolicyLimit else r) ≡ Err policy.PolicyLimit → b ≡ true
 over_limit true r i e = refl

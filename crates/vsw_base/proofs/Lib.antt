@@ -5,3 +5,4 @@ pub mod Numbers
 pub mod Readings
 pub mod Dropped
 pub mod Octets
+pub mod Colons

@@ -1,6 +1,6 @@
 //! Room for the headers of a stack.
 
-ghost use Rattle.std.specs.Prelude.{◌≡◌, ◌<◌, ◌≤◌, ◌++◌, ◌∷◌, [], length};
+ghost use Rattle.std.specs.Prelude.{◌≡◌, ◌<◌, ◌≤◌, ◌++◌, ◌∷◌, [], length, take};
 
 use crate::header::Header;
 use std::marker::Model;
@@ -46,6 +46,19 @@ impl Headers {
         self.len = 0;
     }
 
+    /// They become the others. A copy of known length is quickest, so places behind the last are copied too.
+    #[inline(always)]
+    pub fn copy_from(&mut self, other: &Headers)
+        ensures { self.new ≡ other.now }
+    {
+        self.len = other.len;
+        if other.len <= 3 {
+            copy_front(&mut self.items, &other.items);
+        } else {
+            self.items.copy_from_slice(&other.items);
+        }
+    }
+
     /// The headers, outermost first.
     #[inline(always)]
     pub fn as_slice(&self) -> &[Header]
@@ -64,4 +77,12 @@ impl Headers {
         self.items[usize::from(self.len)] = header;
         self.len += 1;
     }
+}
+
+/// The first three places become the others'.
+#[inline(always)]
+fn copy_front(items: &mut [Header; 9], others: &[Header; 9])
+    ensures { take 3 items.new ≡ take 3 others.now }
+{
+    items[..3].copy_from_slice(&others[..3]);
 }

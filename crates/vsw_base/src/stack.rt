@@ -15,8 +15,8 @@ use std::marker::Model;
 pub struct BadShape;
 
 /// The headers of a frame, outermost first: at most two VXLAN encapsulations of three headers each
-/// (Ethernet, IPv4, VXLAN), then Ethernet, IPv4 where the type says so, and ports where the packet is
-/// unfragmented TCP or UDP.
+/// (Ethernet, IPv4, VXLAN), then Ethernet, IPv4 or IPv6 where the type says so, and ports where the packet
+/// is unfragmented TCP or UDP.
 #[derive(Drop)]
 pub struct Stack {
     headers: Headers,
@@ -47,23 +47,6 @@ pub trait Writes {
         ensures { out.new ≡ gives self.now };
 }
 
-/// Writes these headers.
-#[derive(Drop)]
-struct Given<'a> {
-    headers: &'a [Header],
-}
-
-impl Writes for Given<'_> {
-    ghost gives = { λ s. s.headers.now };
-
-    ghost is_ready = { λ s. Unit {0} };
-
-    #[inline(always)]
-    fn write(&self, out: &mut Headers) {
-        fill(out, self.headers);
-    }
-}
-
 fn is_shape(headers: &[Header]) -> bool
     ensures { result ≡ is_stack headers.now }
 {
@@ -79,6 +62,7 @@ fn is_plain(headers: &[Header]) -> bool
 {
     match headers {
         [Header::Ether { kind: 0x0800, .. }, rest @ ..] => is_packet(rest),
+        [Header::Ether { kind: 0x86dd, .. }, rest @ ..] => is_packet6(rest),
         [Header::Ether { .. }] => true,
         _ => false,
     }
@@ -99,6 +83,18 @@ fn is_packet(headers: &[Header]) -> bool
             matches!(rest, [Header::Ports { proto: p, .. }] if p == proto)
         }
         [Header::Ip { .. }] => true,
+        _ => false,
+    }
+}
+
+fn is_packet6(headers: &[Header]) -> bool
+    ensures { result ≡ shape.is_packet6 headers.now }
+{
+    match headers {
+        [Header::Six { proto, .. }, rest @ ..] if *proto == 6 || *proto == 17 => {
+            matches!(rest, [Header::Ports { proto: p, .. }] if p == proto)
+        }
+        [Header::Six { .. }] => true,
         _ => false,
     }
 }
@@ -216,9 +212,7 @@ impl Stack {
     pub fn copy_from(&mut self, other: &Stack)
         ensures { self.new ≡ other.now }
     {
-        self.rewrite(&Given {
-            headers: other.headers(),
-        });
+        self.headers.copy_from(&other.headers);
     }
 
     /// The same stack once more. It is for what is kept: on a packet's way, write into a room.
@@ -250,7 +244,7 @@ impl Stack {
         count(self.headers())
     }
 
-    /// The inner headers, which stand behind the encapsulations: Ethernet, IPv4 and ports, or as many
+    /// The inner headers, which stand behind the encapsulations: Ethernet, IPv4 or IPv6, and ports, or as many
     /// of these as there are.
     pub fn inner(&self) -> &[Header]
         ensures { result.now ≡ inner self.now }

@@ -49,6 +49,7 @@ offers entries index e v (item.Prefix p) is x has holds small =
     let below : v < 2 ^ 32 = small ip in
     let same : v % 4294967296 ≡ v = omega (arith, below) in
     inl (record { prefix = prefix; is_one = subst (λ (prefixes : List PlacedPrefix). Contains prefixes prefix) (sym x.prefixes) (contains_made (prefix_in e.field) entries has.0 e prefix has.1 has.2 made); at = refl; holds = ap (in_prefix p) same ∙ parts.1 })
+offers entries index e v (item.Prefix6 p) is x has holds small = absurd (grind (arith, holds))
 
 -- a value that is there
 record IsThere (f : Field) (o : Option ℕ) (i : Item) : Type 0 where

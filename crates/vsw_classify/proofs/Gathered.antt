@@ -1,5 +1,5 @@
 -- What is gathered of a group's rules covers each of them.
-use Rattle.std.proofs.Common.{◌≡◌, ◌≤◌, ◌<◌, ◌+◌, ◌++◌, ◌&&◌, ◌||◌, ℕ, Bool, true, false, suc, zero, List, [], ◌∷◌, length, get_or, map, Option, Some, None, Result, Ok, Err, OnOk, refl, sym, ap, subst, ◌∙◌, inl, inr, arith}
+use Rattle.std.proofs.Common.{◌≡◌, ◌≤◌, ◌<◌, ◌+◌, ◌++◌, ◌&&◌, ◌||◌, ℕ, Bool, true, false, not, suc, zero, List, [], ◌∷◌, length, get_or, map, Option, Some, None, Result, Ok, Err, OnOk, refl, sym, ap, subst, ◌∙◌, inl, inr, arith}
 use Rattle.std.specs.List.{All, Contains, list_any, slice_get}
 use Rattle.std.specs.List.Sorted.{IsNonDecreasing}
 use Rattle.std.specs.Option.{IfSome}
@@ -13,11 +13,12 @@ use Rattle.vsw_rule.specs.declared.field.Field.{Field}
 use Rattle.vsw_rule.specs.declared.rule.Item.{Item}
 use Rattle.vsw_rule.specs.declared.rule.Cond.{Cond}
 use Rattle.vsw_rule.specs.declared.rule.Rule.{Rule}
-use Rattle.vsw_rule.specs.Field.{value_of}
+use Rattle.vsw_rule.specs.declared.field.Field.TheVariants as field
+use Rattle.vsw_rule.specs.Field.{value_of, address_of, is_ip6}
 use Rattle.vsw_rule.specs.Match.{all_hold, holds, in_item, in_items, matches}
 use Rattle.vsw_classify.specs.declared.entry.Entry.{Entry}
 use Rattle.vsw_classify.specs.declared.field_index.FieldIndex.{FieldIndex}
-use Rattle.vsw_classify.specs.Private.Entry.{Enters, HasField, IsHeld, IsIndexOf, Serves, Steps, entries_of, entry_of}
+use Rattle.vsw_classify.specs.Private.Entry.{Enters, HasField, IsHeld, IsIndexOf, Serves, Steps, entries_of, entry_of, may_enter}
 use Rattle.vsw_classify.specs.Private.Rank.{is_met, meets_at, rule_at}
 use Rattle.vsw_classify.proofs.Ranked.{contains_head, contains_tail, none_some, some_same}
 
@@ -41,6 +42,32 @@ one_in : (rank : ℕ) (f : Field) (value : Option ℕ) (items : List Item) → i
 one_in rank f None items h = absurd (grind (arith, h))
 one_in rank f (Some v) items h = one_of rank f v items h
 
+-- a condition on no IPv6 address holds by the field's value
+no_address : (f : Field) (hs : List Header) → not (is_ip6 f) ≡ true → address_of f hs ≡ None
+no_address field.DstMac hs may = refl
+no_address field.SrcMac hs may = refl
+no_address field.Kind hs may = refl
+no_address field.SrcIp hs may = refl
+no_address field.DstIp hs may = refl
+no_address field.Proto hs may = refl
+no_address field.Part hs may = refl
+no_address field.SrcPort hs may = refl
+no_address field.DstPort hs may = refl
+no_address field.OuterDstMac hs may = refl
+no_address field.OuterSrcMac hs may = refl
+no_address field.OuterSrcIp hs may = refl
+no_address field.OuterDstIp hs may = refl
+no_address field.Vni hs may = refl
+no_address field.SrcIp6 hs may = absurd (grind (arith, may))
+no_address field.DstIp6 hs may = absurd (grind (arith, may))
+
+by_value : (c : Cond) (hs : List Header) → not (is_ip6 c.field) ≡ true → holds c hs ≡ true → in_items c.field (value_of c.field hs) c.items ≡ true
+by_value c hs may h = first (in_items c.field (value_of c.field hs) c.items) (rw (no_address c.field hs may) at h)
+  where
+    first : (b : Bool) → (b || false) ≡ true → b ≡ true
+    first true h = refl
+    first false h = h
+
 -- each condition of a rule that matches holds
 held_at : (cs : List Cond) (hs : List Header) (at : ℕ) (c : Cond) → all_hold cs hs ≡ true → slice_get cs at ≡ Some c → holds c hs ≡ true
 held_at [] hs at c h e = none_some c e
@@ -56,10 +83,10 @@ there (x ∷ xs) zero u e = none_some x (sym e)
 there (x ∷ xs) (suc i) u e = there xs i (omega (arith, u)) e
 
 -- the entry of a condition that holds
-entered_at : (rank : ℕ) (hs : List Header) (entries : List Entry) (when : List Cond) (at : ℕ) (o : Option Cond) → at < length when → slice_get when at ≡ o → all_hold when hs ≡ true → IsHeld (entries ++ entries_of rank o) hs rank
-entered_at rank hs entries when at None within e h = there when at within e
-entered_at rank hs entries when at (Some c) within e h =
-    let o = one_in rank c.field (value_of c.field hs) c.items (held_at when hs at c h e) in
+entered_at : (rank : ℕ) (hs : List Header) (entries : List Entry) (when : List Cond) (at : ℕ) (o : Option Cond) → at < length when → may_enter o ≡ true → slice_get when at ≡ o → all_hold when hs ≡ true → IsHeld (entries ++ entries_of rank o) hs rank
+entered_at rank hs entries when at None within may e h = there when at within e
+entered_at rank hs entries when at (Some c) within may e h =
+    let o = one_in rank c.field (value_of c.field hs) c.items (by_value c hs may (held_at when hs at c h e)) in
     record { entry = entry_of rank c.field o.item; is_one = Contains-append_right entries (entries_of rank (Some c)) (entry_of rank c.field o.item) o.is_one; at = refl; holds = o.holds }
 
 held_more : (entries more : List Entry) (hs : List Header) (rank : ℕ) → IsHeld entries hs rank → IsHeld (entries ++ more) hs rank
@@ -120,17 +147,17 @@ steps_listed rules keys rank listed entries = record {
 }
 
 -- a rule that is entered under a condition
-steps_under : (rules : List Rule) (keys : List ℕ) (rank : ℕ) (listed : List ℕ) (entries : List Entry) (r : Rule) (at : ℕ) → rule_at rules keys rank ≡ Some r → at < length r.when → Steps rules keys rank listed entries listed (entries ++ entries_of rank (slice_get r.when at))
-steps_under rules keys rank listed entries r at e within = record {
+steps_under : (rules : List Rule) (keys : List ℕ) (rank : ℕ) (listed : List ℕ) (entries : List Entry) (r : Rule) (at : ℕ) → rule_at rules keys rank ≡ Some r → at < length r.when → may_enter (slice_get r.when at) ≡ true → Steps rules keys rank listed entries listed (entries ++ entries_of rank (slice_get r.when at))
+steps_under rules keys rank listed entries r at e within may = record {
   kept = λ k covered hs m. elim (covered hs m) [ inl c ↦ inl c | inr h ↦ inr (held_more entries (entries_of rank (slice_get r.when at)) hs k h) ];
-  covers = λ hs m. inr (entered_at rank hs entries r.when at (slice_get r.when at) within refl (conditions (all_hold r.when hs) _ _ (matched rules keys hs rank r e m)));
+  covers = λ hs m. inr (entered_at rank hs entries r.when at (slice_get r.when at) within may refl (conditions (all_hold r.when hs) _ _ (matched rules keys hs rank r e m)));
   rises = λ all rises. rises;
   below = below_more rank listed;
 }
 
-pub steps : (under : Option ℕ) (rules : List Rule) (keys : List ℕ) (rank : ℕ) (r : Rule) (listed : List ℕ) (entries : List Entry) (then_listed : List ℕ) (then_entries : List Entry) → rule_at rules keys rank ≡ Some r → IfSome under (λ at. at < length r.when) → Enters under r rank listed entries then_listed then_entries → Steps rules keys rank listed entries then_listed then_entries
-steps None rules keys rank r listed entries then_listed then_entries e within s = rw (s.0, s.1) (steps_listed rules keys rank listed entries)
-steps (Some at) rules keys rank r listed entries then_listed then_entries e within s = rw (s.0, s.1) (steps_under rules keys rank listed entries r at e within)
+pub steps : (under : Option ℕ) (rules : List Rule) (keys : List ℕ) (rank : ℕ) (r : Rule) (listed : List ℕ) (entries : List Entry) (then_listed : List ℕ) (then_entries : List Entry) → rule_at rules keys rank ≡ Some r → IfSome under (λ at. at < length r.when) → IfSome under (λ at. may_enter (slice_get r.when at) ≡ true) → Enters under r rank listed entries then_listed then_entries → Steps rules keys rank listed entries then_listed then_entries
+steps None rules keys rank r listed entries then_listed then_entries e within may s = rw (s.0, s.1) (steps_listed rules keys rank listed entries)
+steps (Some at) rules keys rank r listed entries then_listed then_entries e within may s = rw (s.0, s.1) (steps_under rules keys rank listed entries r at e within may)
 
 -- a field that has an index is served
 pub serves_same : (entries : List Entry) (f : Field) (fields : List FieldIndex) → HasField fields f → Serves entries f fields fields

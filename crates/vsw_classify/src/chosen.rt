@@ -1,7 +1,8 @@
 //! The condition that a rule is entered under. Each would do; the fewer other rules stand near it, the fewer
 //! are tried in vain.
 
-ghost use Rattle.std.specs.Prelude.{◌≡◌, ◌<◌, IfSome, length};
+ghost use Rattle.std.specs.Prelude.{◌≡◌, ◌<◌, true, IfSome, length, slice_get};
+ghost use Rattle.vsw_classify.specs.Private.Entry as entered;
 
 use vsw_base::Prefix;
 use vsw_rule::{Cond, Item, Rule};
@@ -48,6 +49,11 @@ fn item_hull(item: &Item) -> Hull {
             high: *high,
         },
         Item::Prefix(prefix) => prefix_hull(prefix),
+        // `may_enter` leaves these out, so it is of no matter which values they are near.
+        Item::Prefix6(_) => Hull {
+            low: 0,
+            high: u64::MAX,
+        },
     }
 }
 
@@ -77,6 +83,14 @@ fn is_near(condition: &Cond, hull: Hull, rule: &Rule) -> bool {
     false
 }
 
+/// Whether a rule may be entered under the condition at this place: the indexes hold no IPv6 addresses.
+fn may_enter(conditions: &[Cond], at: usize) -> bool
+    requires { at < length conditions.now }
+    ensures { result ≡ entered.may_enter (slice_get conditions.now at) }
+{
+    !conditions[at].field.is_ip6()
+}
+
 impl<'a> Sample<'a> {
     pub fn of(rules: &'a [Rule]) -> Sample<'a> {
         Sample { rules }
@@ -96,9 +110,10 @@ impl<'a> Sample<'a> {
     }
 
     /// The place of the condition that the fewest sampled rules are near. None where the rule has no
-    /// conditions, or the group few rules.
+    /// conditions but on IPv6 addresses, or the group few rules.
     pub fn chosen(&self, rule: &Rule) -> Option<usize>
-        ensures { IfSome result (λ at. at < length rule.now.when) }
+        ensures within { IfSome result (λ at. at < length rule.now.when) }
+        ensures may { IfSome result (λ at. entered.may_enter (slice_get rule.now.when at) ≡ true) }
     {
         if self.rules.len() < FEW {
             return None;
@@ -107,11 +122,15 @@ impl<'a> Sample<'a> {
     }
 
     fn least_crowded(&self, conditions: &[Cond]) -> Option<usize>
-        ensures { IfSome result (λ at. at < length conditions.now) }
+        ensures within { IfSome result (λ at. at < length conditions.now) }
+        ensures may { IfSome result (λ at. entered.may_enter (slice_get conditions.now at) ≡ true) }
     {
         let mut found = None;
         let mut least = usize::MAX;
         for at in 0..conditions.len() {
+            if !may_enter(conditions, at) {
+                continue;
+            }
             let crowd = self.crowd(&conditions[at]);
             if crowd < least {
                 least = crowd;

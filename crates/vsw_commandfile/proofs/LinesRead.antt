@@ -18,7 +18,7 @@ use Rattle.vsw_config.specs.Layer.{listed_number}
 use Rattle.vsw_config.specs.declared.file.PortFile.{PortFile}
 use Rattle.vsw_config.specs.declared.file.PolicyFile.{PolicyFile}
 use Rattle.vsw_commandfile.specs.declared.line.Line.{Line}
-use Rattle.vsw_commandfile.specs.Verb.{verb_of, names_of}
+use Rattle.vsw_commandfile.specs.Verb.{verb_for, verb_of, names_of}
 use Rattle.vsw_commandfile.specs.Command.{command_of}
 use Rattle.vsw_commandfile.specs.Line.{packet_of, during_of, is_port, port_number, line_of}
 use Rattle.vsw_commandfile.specs.declared.fault.CommandsFault.{CommandsFault}
@@ -28,7 +28,7 @@ use Rattle.vsw_commandfile.specs.Commands.{of_line, line_in, line_at, lines_from
 use Rattle.vsw_config.proofs.Steps.{taken, same_value, read, passed}
 use Rattle.vsw_config.proofs.ListsRead.{no_pairs}
 use Rattle.vsw_config.proofs.Layers.{known_listed}
-use Rattle.vsw_commandfile.specs.Good.{CanAsk, EachIsGood}
+use Rattle.vsw_commandfile.specs.Good.{CanAsk, EachIsGood, FirstIsOld}
 use Rattle.vsw_commandfile.proofs.Commands.{command_good}
 
 flip : (a b : ℕ) → (a == b) ≡ (b == a)
@@ -55,14 +55,14 @@ line_good policy n d l h =
     taken (read_in word.When d during_of) _ l h (λ during e h.
     taken (read_in word.Controller d (listed_number policy.controllers)) _ l h (λ controller here h.
     taken (read_in word.Port d (port_number policy.ports)) _ l h (λ port there h.
-    taken (read_in word.Do d verb_of) _ l h (λ verb e h.
+    taken (read_in word.Do d (verb_of policy.version)) _ l h (λ verb e h.
     taken (object_among (names_of verb) d) _ l h (λ o e h.
-    taken (command_of verb o) _ l h (λ command asked h.
+    taken (command_of policy.version verb o) _ l h (λ command asked h.
     read word.Controller d (listed_number policy.controllers) controller here (λ place number.
     read word.Port d (port_number policy.ports) port there (λ place_of_port number_of_port.
     let who = listed policy.controllers controller (known_listed policy.controllers place controller number) in
     let whose = port_there policy.ports place_of_port port number_of_port in
-    let may = command_good verb o command asked in
+    let may = command_good policy.version verb o command asked in
     subst (Asks policy n) (same_value _ l h) (refl, (who, whose, may.0, may.1)))))))))))
 
 from_line : {A : Type 0} (n : ℕ) (r : Result A Fault) (x : A) → of_line n r ≡ Ok x → r ≡ Ok x
@@ -148,3 +148,7 @@ each_is_good policy bytes lines h =
       in_order = good.in_order;
       can_ask = good.can_ask;
     }
+
+pub first_is_old : FirstIsOld
+unfolding verb_for
+first_is_old name = refl

@@ -1,13 +1,15 @@
 -- The command of a line, by what it is to do.
-use Rattle.std.specs.Prelude.{List, [], Result, Ok}
+use Rattle.std.specs.Prelude.{ℕ, List, [], ◌∷◌, Result, Ok}
 use Rattle.serde_json.specs.Data.{Data}
 use Rattle.vsw_rule.specs.declared.rule.Rule.{Rule}
 use Rattle.vsw_policy.specs.declared.command.Command.{Command}
 use Rattle.vsw_policy.specs.declared.command.Command.TheVariants as command
+use Rattle.vsw_policy.specs.declared.command.Part.{Part}
 use Rattle.vsw_config.specs.declared.fault.Fault.{Fault}
+use Rattle.vsw_config.specs.declared.word.Word.{Word}
 use Rattle.vsw_config.specs.declared.word.Word.TheVariants as word
 use Rattle.vsw_config.specs.Fault.{◌>>=◌}
-use Rattle.vsw_config.specs.Object.{read_in}
+use Rattle.vsw_config.specs.Object.{object_among, read_in}
 use Rattle.vsw_config.specs.Value.{short_of, whole_of}
 use Rattle.vsw_config.specs.List.{items_in, items_after}
 use Rattle.vsw_config.specs.Condition.{conds_of}
@@ -17,8 +19,8 @@ use Rattle.vsw_commandfile.specs.declared.verb.Verb.{Verb}
 use Rattle.vsw_commandfile.specs.declared.verb.Verb.TheVariants as verb
 
 -- rules, each read as if it stood alone: they may be any number, and have one number
-unfoldable pub rules_of : Data → Result (List Rule) Fault
-rules_of d = items_in d >>= items_after (λ done. rule_of []) []
+unfoldable pub rules_of : ℕ → Data → Result (List Rule) Fault
+rules_of version d = items_in d >>= items_after (λ done. rule_of version []) []
 
 unfoldable pub add_layer : Data → Result Command Fault
 add_layer o = do
@@ -31,12 +33,12 @@ remove_layer o = do
   layer ← read_in word.Layer o short_of
   Ok (command.RemoveLayer layer)
 
-unfoldable pub add_group : Data → Result Command Fault
-add_group o = do
+unfoldable pub add_group : ℕ → Data → Result Command Fault
+add_group version o = do
   layer ← read_in word.Layer o short_of
   group ← read_in word.Group o short_of
   dir ← read_in word.Dir o dir_of
-  when ← read_in word.WhenAll o conds_of
+  when ← read_in word.WhenAll o (conds_of version)
   Ok (command.AddGroup layer group dir when)
 
 unfoldable pub remove_group : Data → Result Command Fault
@@ -45,18 +47,39 @@ remove_group o = do
   group ← read_in word.Group o short_of
   Ok (command.RemoveGroup layer group)
 
-unfoldable pub put_rules : Data → Result Command Fault
-put_rules o = do
+unfoldable pub put_rules : ℕ → Data → Result Command Fault
+put_rules version o = do
   layer ← read_in word.Layer o short_of
   group ← read_in word.Group o short_of
-  rules ← read_in word.Rules o rules_of
+  rules ← read_in word.Rules o (rules_of version)
   Ok (command.PutRules layer group rules)
 
-unfoldable pub add_rule : Data → Result Command Fault
-add_rule o = do
+abbrev pub part_words : List Word
+part_words = word.Layer ∷ word.Group ∷ word.Rules ∷ []
+
+-- the rules of one of several groups
+unfoldable pub part_of : ℕ → Data → Result Part Fault
+part_of version d = do
+  o ← object_among part_words d
   layer ← read_in word.Layer o short_of
   group ← read_in word.Group o short_of
-  rule ← read_in word.Rule o (rule_of [])
+  rules ← read_in word.Rules o (rules_of version)
+  Ok (record { layer = layer; group = group; rules = rules })
+
+-- any number of them; the command itself refuses too many, and two of one group
+unfoldable pub parts_of : ℕ → Data → Result (List Part) Fault
+parts_of version d = items_in d >>= items_after (λ done. part_of version) []
+
+unfoldable pub put_many : ℕ → Data → Result Command Fault
+put_many version o = do
+  parts ← read_in word.Parts o (parts_of version)
+  Ok (command.PutMany parts)
+
+unfoldable pub add_rule : ℕ → Data → Result Command Fault
+add_rule version o = do
+  layer ← read_in word.Layer o short_of
+  group ← read_in word.Group o short_of
+  rule ← read_in word.Rule o (rule_of version [])
   Ok (command.AddRule layer group rule)
 
 unfoldable pub remove_rule : Data → Result Command Fault
@@ -81,13 +104,14 @@ sweep o = do
   Ok (command.Sweep layer now)
 
 -- what a line asks for that is to do this
-abbrev pub command_of : Verb → Data → Result Command Fault
-command_of verb.AddLayer o = add_layer o
-command_of verb.RemoveLayer o = remove_layer o
-command_of verb.AddGroup o = add_group o
-command_of verb.RemoveGroup o = remove_group o
-command_of verb.PutRules o = put_rules o
-command_of verb.AddRule o = add_rule o
-command_of verb.RemoveRule o = remove_rule o
-command_of verb.SetDefault o = set_default o
-command_of verb.Sweep o = sweep o
+abbrev pub command_of : ℕ → Verb → Data → Result Command Fault
+command_of version verb.AddLayer o = add_layer o
+command_of version verb.RemoveLayer o = remove_layer o
+command_of version verb.AddGroup o = add_group version o
+command_of version verb.RemoveGroup o = remove_group o
+command_of version verb.PutRules o = put_rules version o
+command_of version verb.PutMany o = put_many version o
+command_of version verb.AddRule o = add_rule version o
+command_of version verb.RemoveRule o = remove_rule o
+command_of version verb.SetDefault o = set_default o
+command_of version verb.Sweep o = sweep o

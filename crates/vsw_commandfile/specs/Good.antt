@@ -3,12 +3,14 @@ use Rattle.std.specs.Prelude.{◌≡◌, ◌≢◌, ◌⊎◌, ℕ, ◌≤◌, �
 use Rattle.std.specs.List.{AllPairs}
 use Rattle.vsw_policy.specs.Numbers.{IsGoodSpec}
 use Rattle.vsw_policy.specs.declared.command.Command.{Command}
-use Rattle.vsw_policy.specs.declared.command.Command.TheVariants.{AddLayer, RemoveLayer, AddGroup, RemoveGroup, PutRules, AddRule, RemoveRule, SetDefault, Sweep}
+use Rattle.vsw_policy.specs.declared.command.Command.TheVariants.{AddLayer, RemoveLayer, AddGroup, RemoveGroup, PutRules, PutMany, AddRule, RemoveRule, SetDefault, Sweep}
 use Rattle.vsw_policy.specs.Obey.{rules_given}
 use Rattle.vsw_policy.specs.Sound.{Each, IsGoodRule, is_listed}
 use Rattle.vsw_config.specs.declared.file.PolicyFile.{PolicyFile}
+use Rattle.vsw_config.specs.Value.{value_for}
 use Rattle.vsw_config.specs.Good.{AreGoodConds}
 use Rattle.vsw_commandfile.specs.declared.line.Line.{Line}
+use Rattle.vsw_commandfile.specs.Verb.{verb_names, verb_for}
 use Rattle.vsw_commandfile.specs.Line.{is_port}
 use Rattle.vsw_commandfile.specs.Lines.{lines_of}
 use Rattle.vsw_commandfile.specs.Commands.{commands_file_of}
@@ -20,6 +22,7 @@ IsWithin (RemoveLayer n) = Unit {0}
 IsWithin (AddGroup n g dir when) = AreGoodConds when
 IsWithin (RemoveGroup n g) = Unit {0}
 IsWithin (PutRules n g rs) = Each (λ r. AreGoodConds r.when) rs
+IsWithin (PutMany ps) = Each (λ p. Each (λ r. AreGoodConds r.when) p.rules) ps
 IsWithin (AddRule n g r) = AreGoodConds r.when
 IsWithin (RemoveRule n g k) = Unit {0}
 IsWithin (SetDefault n dir allow) = Unit {0}
@@ -38,6 +41,10 @@ pub record AreGood (policy : PolicyFile) (lines : List Line) : Type 0 where
 
 abbrev pub EachIsGood : Type 0
 EachIsGood = (policy : PolicyFile) (bytes : List ℕ) (lines : List Line) → commands_file_of policy bytes ≡ Ok lines → AreGood policy lines
+
+-- beside a policy of version 1, a line may do nothing that version 2 adds
+abbrev pub FirstIsOld : Type 0
+FirstIsOld = (name : List ℕ) → verb_for 1 name ≡ value_for verb_names name
 
 -- lines, each with a line feed behind it
 abbrev pub with_feeds : List (List ℕ) → List ℕ

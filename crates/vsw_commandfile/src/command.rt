@@ -13,24 +13,27 @@ use std::alloc::Global;
 use vsw_base::{Items, Moment};
 use vsw_config::{
     AllowsReader, CondsReader, DirReader, Fault, ReadItem, ReadValue, ShortReader, Word, items,
-    list, member, one_rule, spec_in, whole,
+    list, member, object_in, one_rule, spec_in, whole,
 };
-use vsw_policy::Command;
+use vsw_policy::{Command, Part};
 use vsw_rule::Rule;
 
 /// Reads a rule alone: it is compared with no other.
-struct AloneReader;
+#[derive(Drop)]
+struct AloneReader {
+    version: u8,
+}
 
 impl ReadValue<Rule> for AloneReader {
-    ghost value_of = { λ reader. rule_of [] };
+    ghost value_of = { λ reader. rule_of reader.version [] };
 
     fn value(&self, alloc: Global, value: &Value) -> Result<Rule, Fault> {
-        one_rule(alloc, &[], value)
+        one_rule(alloc, self.version, &[], value)
     }
 }
 
 impl ReadItem<Rule> for AloneReader {
-    ghost item_of = { λ reader done. rule_of [] };
+    ghost item_of = { λ reader done. rule_of reader.version [] };
 
     fn item(&self, alloc: Global, _done: &[Rule], value: &Value) -> Result<Rule, Fault> {
         self.value(alloc, value)
@@ -38,15 +41,19 @@ impl ReadItem<Rule> for AloneReader {
 }
 
 /// Reads any number of rules, each alone.
-struct RulesReader;
+#[derive(Drop)]
+struct RulesReader {
+    version: u8,
+}
 
 impl ReadValue<Items<Rule>> for RulesReader {
-    ghost value_of = { λ reader. spec.rules_of };
+    ghost value_of = { λ reader. spec.rules_of reader.version };
 
     #[tactic(auto, unfolding(crate::specs::Command::rules_of))]
     fn value(&self, alloc: Global, value: &Value) -> Result<Items<Rule>, Fault> {
+        let version = self.version;
         let values = items(alloc, value)?;
-        let rules = list(alloc, &AloneReader, values)?;
+        let rules = list(alloc, &AloneReader { version }, values)?;
         Ok(rules)
     }
 }
@@ -81,13 +88,13 @@ fn remove_layer(alloc: Global, object: &Value) -> Result<Command, Fault>
 }
 
 #[tactic(auto, unfolding(crate::specs::Command::add_group))]
-fn add_group(alloc: Global, object: &Value) -> Result<Command, Fault>
-    ensures { Says result (spec.add_group (view object.now)) }
+fn add_group(alloc: Global, version: u8, object: &Value) -> Result<Command, Fault>
+    ensures { Says result (spec.add_group version (view object.now)) }
 {
     let layer = member(alloc, object, Word::Layer, &ShortReader)?;
     let group = member(alloc, object, Word::Group, &ShortReader)?;
     let dir = member(alloc, object, Word::Dir, &DirReader)?;
-    let when = member(alloc, object, Word::WhenAll, &CondsReader)?;
+    let when = member(alloc, object, Word::WhenAll, &CondsReader { version })?;
     Ok(Command::AddGroup {
         layer,
         group,
@@ -106,12 +113,12 @@ fn remove_group(alloc: Global, object: &Value) -> Result<Command, Fault>
 }
 
 #[tactic(auto, unfolding(crate::specs::Command::put_rules))]
-fn put_rules(alloc: Global, object: &Value) -> Result<Command, Fault>
-    ensures { Says result (spec.put_rules (view object.now)) }
+fn put_rules(alloc: Global, version: u8, object: &Value) -> Result<Command, Fault>
+    ensures { Says result (spec.put_rules version (view object.now)) }
 {
     let layer = member(alloc, object, Word::Layer, &ShortReader)?;
     let group = member(alloc, object, Word::Group, &ShortReader)?;
-    let rules = member(alloc, object, Word::Rules, &RulesReader)?;
+    let rules = member(alloc, object, Word::Rules, &RulesReader { version })?;
     Ok(Command::PutRules {
         layer,
         group,
@@ -119,13 +126,65 @@ fn put_rules(alloc: Global, object: &Value) -> Result<Command, Fault>
     })
 }
 
+const PART_WORDS: [Word; 3] = [Word::Layer, Word::Group, Word::Rules];
+
+/// Reads the rules that one group gets beside others.
+#[derive(Drop)]
+struct PartReader {
+    version: u8,
+}
+
+impl ReadItem<Part> for PartReader {
+    ghost item_of = { λ reader done. spec.part_of reader.version };
+
+    #[tactic(auto, unfolding(crate::specs::Command::part_of))]
+    fn item(&self, alloc: Global, _done: &[Part], value: &Value) -> Result<Part, Fault> {
+        let version = self.version;
+        let object = object_in(alloc, &PART_WORDS, value)?;
+        let layer = member(alloc, object, Word::Layer, &ShortReader)?;
+        let group = member(alloc, object, Word::Group, &ShortReader)?;
+        let rules = member(alloc, object, Word::Rules, &RulesReader { version })?;
+        Ok(Part {
+            layer,
+            group,
+            rules,
+        })
+    }
+}
+
+/// Reads the parts, of any number.
+#[derive(Drop)]
+struct PartsReader {
+    version: u8,
+}
+
+impl ReadValue<Items<Part>> for PartsReader {
+    ghost value_of = { λ reader. spec.parts_of reader.version };
+
+    #[tactic(auto, unfolding(crate::specs::Command::parts_of))]
+    fn value(&self, alloc: Global, value: &Value) -> Result<Items<Part>, Fault> {
+        let version = self.version;
+        let values = items(alloc, value)?;
+        let parts = list(alloc, &PartReader { version }, values)?;
+        Ok(parts)
+    }
+}
+
+#[tactic(auto, unfolding(crate::specs::Command::put_many))]
+fn put_many(alloc: Global, version: u8, object: &Value) -> Result<Command, Fault>
+    ensures { Says result (spec.put_many version (view object.now)) }
+{
+    let parts = member(alloc, object, Word::Parts, &PartsReader { version })?;
+    Ok(Command::PutMany { parts })
+}
+
 #[tactic(auto, unfolding(crate::specs::Command::add_rule))]
-fn add_rule(alloc: Global, object: &Value) -> Result<Command, Fault>
-    ensures { Says result (spec.add_rule (view object.now)) }
+fn add_rule(alloc: Global, version: u8, object: &Value) -> Result<Command, Fault>
+    ensures { Says result (spec.add_rule version (view object.now)) }
 {
     let layer = member(alloc, object, Word::Layer, &ShortReader)?;
     let group = member(alloc, object, Word::Group, &ShortReader)?;
-    let rule = member(alloc, object, Word::Rule, &AloneReader)?;
+    let rule = member(alloc, object, Word::Rule, &AloneReader { version })?;
     Ok(Command::AddRule { layer, group, rule })
 }
 
@@ -163,16 +222,22 @@ fn sweep(alloc: Global, object: &Value) -> Result<Command, Fault>
 }
 
 /// What a line asks for that is to do this.
-pub(crate) fn command(alloc: Global, verb: Verb, object: &Value) -> Result<Command, Fault>
-    ensures { Says result (spec.command_of verb (view object.now)) }
+pub(crate) fn command(
+    alloc: Global,
+    version: u8,
+    verb: Verb,
+    object: &Value,
+) -> Result<Command, Fault>
+    ensures { Says result (spec.command_of version verb (view object.now)) }
 {
     match verb {
         Verb::AddLayer => add_layer(alloc, object),
         Verb::RemoveLayer => remove_layer(alloc, object),
-        Verb::AddGroup => add_group(alloc, object),
+        Verb::AddGroup => add_group(alloc, version, object),
         Verb::RemoveGroup => remove_group(alloc, object),
-        Verb::PutRules => put_rules(alloc, object),
-        Verb::AddRule => add_rule(alloc, object),
+        Verb::PutRules => put_rules(alloc, version, object),
+        Verb::PutMany => put_many(alloc, version, object),
+        Verb::AddRule => add_rule(alloc, version, object),
         Verb::RemoveRule => remove_rule(alloc, object),
         Verb::SetDefault => set_default(alloc, object),
         Verb::Sweep => sweep(alloc, object),

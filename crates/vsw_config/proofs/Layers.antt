@@ -100,29 +100,29 @@ push_layer known done l q room none good = (
   All-push (IsGoodLayer known) done l q.2 good,
 )
 
-layer_kept : (known : List ℕ) (done : List LayerFile) (d : Data) (l : LayerFile) → LayersKept known done → layer_of known done d ≡ Ok l → LayersKept known (done ++ l ∷ [])
+layer_kept : (version : ℕ) (known : List ℕ) (done : List LayerFile) (d : Data) (l : LayerFile) → LayersKept known done → layer_of version known done d ≡ Ok l → LayersKept known (done ++ l ∷ [])
 unfolding layer_of
-layer_kept known done d l q h =
+layer_kept version known done d l q h =
     taken (object_among layer_words d) _ l h (λ o e h.
     taken (read_in word.Controller o (listed_number known)) _ l h (λ controller here h.
     taken (room_for controller done) _ l h (λ u room h.
     taken (read_in word.Layer o (fresh_layer controller done)) _ l h (λ layer there h.
     taken (spec_in layer o) _ l h (λ spec part h.
-    taken (read_in word.Groups o groups_of) _ l h (λ groups list h.
+    taken (read_in word.Groups o (groups_of version)) _ l h (λ groups list h.
     read word.Controller o (listed_number known) controller here (λ place number.
     read word.Layer o (fresh_layer controller done) layer there (λ place fresh.
-    read word.Groups o groups_of groups list (λ place value.
+    read word.Groups o (groups_of version) groups list (λ place value.
     let none = fresh_layer_apart controller done _ layer fresh in
     subst (λ (m : LayerFile). LayersKept known (done ++ m ∷ [])) (same_value _ l h)
     (push_layer known done (record { controller = controller; spec = spec; groups = groups }) q (room_left controller done u room)
     (rw (spec_layer layer o spec part) none)
-    (good_layer known (record { controller = controller; spec = spec; groups = groups }) (known_listed known _ controller number) (groups_good _ groups value) (spec_good layer o spec part))))))))))))
+    (good_layer known (record { controller = controller; spec = spec; groups = groups }) (known_listed known _ controller number) (groups_good version _ groups value) (spec_good layer o spec part))))))))))))
 
 none_yet : (c : ℕ) → count_by c [] ≤ 16
 none_yet c = omega arith
 
-pub layers_good : (known : List ℕ) (d : Data) (ls : List LayerFile) → layers_of known d ≡ Ok ls → AreGoodLayers known ls
+pub layers_good : (version : ℕ) (known : List ℕ) (d : Data) (ls : List LayerFile) → layers_of version known d ≡ Ok ls → AreGoodLayers known ls
 unfolding layers_of AreGoodLayers
-layers_good known d ls h =
+layers_good version known d ls h =
     taken (items_in d) _ ls h (λ ds e h.
-    kept (LayersKept known) (layer_of known) (layer_kept known) [] ds ls (none_yet, no_pairs AreApart, All-nil (IsGoodLayer known)) h)
+    kept (LayersKept known) (layer_of version known) (layer_kept version known) [] ds ls (none_yet, no_pairs AreApart, All-nil (IsGoodLayer known)) h)

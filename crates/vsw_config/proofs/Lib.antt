@@ -6,3 +6,4 @@ pub mod ListsRead
 pub mod Rules
 pub mod Layers
 pub mod Policies
+pub mod Versions

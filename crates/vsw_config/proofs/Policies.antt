@@ -1,5 +1,5 @@
 -- Ports and policies that are read.
-use Rattle.std.proofs.Common.{◌≡◌, ◌≢◌, ◌==◌, ℕ, ◌≤◌, List, [], ◌∷◌, ◌++◌, length, Bool, true, false, nat_lt, nat_le, Result, Ok, Err, subst, if◌then◌else◌}
+use Rattle.std.proofs.Common.{◌≡◌, ◌≢◌, ◌==◌, ◌⊎◌, inl, inr, ℕ, zero, suc, ◌≤◌, List, [], ◌∷◌, ◌++◌, length, Bool, true, false, nat_lt, nat_le, Result, Ok, Err, refl, subst, arith, if◌then◌else◌}
 use Rattle.std.specs.List.{list_any, AllPairs}
 use Rattle.std.specs.Prelude.{All, IfOk}
 use Rattle.std.proofs.lemmas.List.Elements.{All-nil, All-push}
@@ -43,24 +43,24 @@ HasRows p = (8 ≤ p.rows) × (p.rows ≤ 16384)
 abbrev PortsKept : List ℕ → List PortFile → Type 0
 PortsKept known ps = AllPairs (λ p q. p.port ≢ q.port) ps × AllPairs (λ p q. p.mac ≢ q.mac) ps × All (λ p. AreGoodLayers known p.layers) ps × All HasRows ps
 
-port_kept : (known : List ℕ) (done : List PortFile) (d : Data) (p : PortFile) → PortsKept known done → port_of known done d ≡ Ok p → PortsKept known (done ++ p ∷ [])
+port_kept : (version : ℕ) (known : List ℕ) (done : List PortFile) (d : Data) (p : PortFile) → PortsKept known done → port_of version known done d ≡ Ok p → PortsKept known (done ++ p ∷ [])
 unfolding port_of
-port_kept known done d p q h =
+port_kept version known done d p q h =
     taken (object_among port_words d) _ p h (λ o e h.
     taken (read_in word.Port o (fresh_port done)) _ p h (λ number here h.
     taken (read_in word.Mac o (fresh_mac done)) _ p h (λ mac there h.
     taken (read_in word.Rows o rows_of) _ p h (λ rows some h.
-    taken (read_in word.Layers o (layers_of known)) _ p h (λ layers list h.
+    taken (read_in word.Layers o (layers_of version known)) _ p h (λ layers list h.
     read word.Port o (fresh_port done) number here (λ place fresh.
     read word.Mac o (fresh_mac done) mac there (λ place new.
     read word.Rows o rows_of rows some (λ place within.
-    read word.Layers o (layers_of known) layers list (λ place value.
+    read word.Layers o (layers_of version known) layers list (λ place value.
     let none = fresh_port_apart done _ number fresh in
     let no_mac = fresh_mac_apart done _ mac new in
     subst (λ (s : PortFile). PortsKept known (done ++ s ∷ [])) (same_value _ p h) (
       pairs_push (λ p q. p.port ≢ q.port) (λ s. s.port == number) done _ (λ s t. apart s.port number t) q.0 none,
       pairs_push (λ p q. p.mac ≢ q.mac) (λ s. s.mac == mac) done _ (λ s t. apart s.mac mac t) q.1 no_mac,
-      All-push (λ p. AreGoodLayers known p.layers) done _ q.2 (layers_good known _ layers value),
+      All-push (λ p. AreGoodLayers known p.layers) done _ q.2 (layers_good version known _ layers value),
       All-push HasRows done _ q.3 (between 8 16384 _ rows within),
     ))))))))))
 
@@ -92,25 +92,32 @@ controllers_good o cs h =
       kept AreDistinct fresh_number number_kept [] ds cs (no_pairs (λ c d. c ≢ d)) items,
     ))
 
-ports_good : (known : List ℕ) (o : Data) (ps : List PortFile) → ports_in known o ≡ Ok ps → AreGoodPorts known ps
+ports_good : (version : ℕ) (known : List ℕ) (o : Data) (ps : List PortFile) → ports_in version known o ≡ Ok ps → AreGoodPorts known ps
 unfolding ports_in AreGoodPorts
-ports_good known o ps h =
+ports_good version known o ps h =
     taken (few_in PortsLimit 16 word.Ports o) _ ps h (λ ds e h.
-    let items = from_under (Member word.Ports) (items_after (port_of known) [] ds) ps (from_part _ ps h) in
-    let count = as_many (port_of known) ds ps items in
-    let all = kept (PortsKept known) (port_of known) (port_kept known) [] ds ps (no_pairs (λ p q. p.port ≢ q.port), no_pairs (λ p q. p.mac ≢ q.mac), All-nil (λ p. AreGoodLayers known p.layers), All-nil HasRows) items in
+    let items = from_under (Member word.Ports) (items_after (port_of version known) [] ds) ps (from_part _ ps h) in
+    let count = as_many (port_of version known) ds ps items in
+    let all = kept (PortsKept known) (port_of version known) (port_kept version known) [] ds ps (no_pairs (λ p q. p.port ≢ q.port), no_pairs (λ p q. p.mac ≢ q.mac), All-nil (λ p. AreGoodLayers known p.layers), All-nil HasRows) items in
     (rw count (few_there PortsLimit 16 word.Ports o ds e), all.0, all.1, all.2, all.3))
+
+one_or_two : (n : ℕ) → (1 ≤ n) × (n ≤ 2) → (n ≡ 1) ⊎ (n ≡ 2)
+one_or_two zero h = absurd (omega (arith, h.0))
+one_or_two (suc zero) h = inl refl
+one_or_two (suc (suc zero)) h = inr refl
+one_or_two (suc (suc (suc n))) h = absurd (omega (arith, h.1))
 
 policy_good : (d : Data) (p : PolicyFile) → policy_of d ≡ Ok p → IsGoodPolicy p
 unfolding policy_of IsGoodPolicy
 policy_good d p h =
     taken (of_part (object_among file_words d)) _ p h (λ o e h.
-    taken (of_part (read_in word.Version o (number_from 1 1))) _ p h (λ version e h.
+    taken (of_part (read_in word.Version o (number_from 1 2))) _ p h (λ version first h.
     taken (controllers_in o) _ p h (λ controllers here h.
-    taken (ports_in controllers o) _ p h (λ ports there h.
+    taken (ports_in version controllers o) _ p h (λ ports there h.
+    read word.Version o (number_from 1 2) version (from_part _ version first) (λ place number.
     let good = controllers_good o controllers here in
-    subst (λ (q : PolicyFile). (length q.controllers ≤ 8) × AllPairs (λ c d. c ≢ d) q.controllers × AreGoodPorts q.controllers q.ports) (same_value _ p h)
-    (good.0, good.1, ports_good controllers o ports there)))))
+    subst (λ (q : PolicyFile). (length q.controllers ≤ 8) × AllPairs (λ c d. c ≢ d) q.controllers × AreGoodPorts q.controllers q.ports × ((q.version ≡ 1) ⊎ (q.version ≡ 2))) (same_value _ p h)
+    (good.0, good.1, ports_good version controllers o ports there, one_or_two version (between 1 2 place version number)))))))
 
 not_long : (b : Bool) (r : Result PolicyFile ConfigFault) (p : PolicyFile) → (if b then Err PolicyLimit else r) ≡ Ok p → r ≡ Ok p
 not_long true r p h = cc

@@ -1,5 +1,5 @@
 -- What a rule does.
-use Rattle.std.specs.Prelude.{◌≡◌, ℕ, ◌<◌, ◌^◌, nat_lt, List, [], ◌∷◌, Bool, true, false, Option, Some, None, is_some, Result, Ok, codes, refl, if◌then◌else◌}
+use Rattle.std.specs.Prelude.{◌≡◌, ℕ, ◌<◌, ◌^◌, nat_lt, List, [], ◌∷◌, ◌++◌, Bool, true, false, Option, Some, None, is_some, Result, Ok, codes, refl, if◌then◌else◌}
 use Rattle.std.proofs.lemmas.Bool.{ltb-true}
 use Rattle.serde_json.specs.Data.{Data}
 use Rattle.serde_json.specs.Find.{as_null, as_str}
@@ -12,22 +12,29 @@ use Rattle.vsw_config.specs.declared.word.Word.{Word}
 use Rattle.vsw_config.specs.declared.word.Word.TheVariants as word
 use Rattle.vsw_config.specs.Fault.{◌>>=◌, shape}
 use Rattle.vsw_config.specs.Object.{object_among, read_in, read_if}
-use Rattle.vsw_config.specs.Value.{short_of, number_from, truth_of, mac_in, ip4_in, value_for}
+use Rattle.vsw_config.specs.Value.{short_of, number_from, truth_of, mac_in, ip4_in, ip6_in, since_two, value_for}
 
-abbrev pub set_words : List Word
-set_words = word.DstMac ∷ word.SrcMac ∷ word.SrcIp ∷ word.DstIp ∷ word.SrcPort ∷ word.DstPort ∷ []
+-- the names of what an edit may write that both versions of the file have
+abbrev pub set_names : List Word
+set_names = word.DstMac ∷ word.SrcMac ∷ word.SrcIp ∷ word.DstIp ∷ word.SrcPort ∷ word.DstPort ∷ []
 
--- the fields to write; none is required
-unfoldable pub set_of : Data → Result Set Fault
-set_of d = do
-  o ← object_among set_words d
+-- all of them, in a file of this version: version 2 adds two
+abbrev pub set_words : ℕ → List Word
+set_words version = set_names ++ since_two version (word.SrcIp6 ∷ word.DstIp6 ∷ [])
+
+-- the fields to write; none is required. In version 1 no IPv6 address can be there, as an unknown name was refused before
+unfoldable pub set_of : ℕ → Data → Result Set Fault
+set_of version d = do
+  o ← object_among (set_words version) d
   dst_mac ← read_if word.DstMac o mac_in
   src_mac ← read_if word.SrcMac o mac_in
   src_ip ← read_if word.SrcIp o ip4_in
   dst_ip ← read_if word.DstIp o ip4_in
   src_port ← read_if word.SrcPort o short_of
   dst_port ← read_if word.DstPort o short_of
-  Ok (record { dst_mac = dst_mac; src_mac = src_mac; src_ip = src_ip; dst_ip = dst_ip; src_port = src_port; dst_port = dst_port })
+  src_ip6 ← read_if word.SrcIp6 o ip6_in
+  dst_ip6 ← read_if word.DstIp6 o ip6_in
+  Ok (record { dst_mac = dst_mac; src_mac = src_mac; src_ip = src_ip; dst_ip = dst_ip; src_port = src_port; dst_port = dst_port; src_ip6 = src_ip6; dst_ip6 = dst_ip6 })
 
 abbrev pub vni_of : Data → Result ℕ Fault
 vni_of d = number_from 0 16777215 d
@@ -61,11 +68,11 @@ outer_of d = do
 unfoldable pub encap_of : Data → Result (Option Outer) Fault
 encap_of d = if is_some (as_null d) then Ok None else outer_of d >>= (λ o. Ok (Some o))
 
-unfoldable pub edit_of : Data → Result Action Fault
-edit_of d = do
+unfoldable pub edit_of : ℕ → Data → Result Action Fault
+edit_of version d = do
   o ← object_among (word.Decap ∷ word.Set ∷ word.Encap ∷ []) d
   decap ← read_in word.Decap o truth_of
-  set ← read_in word.Set o set_of
+  set ← read_in word.Set o (set_of version)
   encap ← read_in word.Encap o encap_of
   Ok (action.Edit decap set encap)
 
@@ -73,5 +80,5 @@ abbrev pub action_for : List ℕ → Result Action Fault
 action_for = value_for ((codes "allow", action.Allow) ∷ (codes "drop", action.Drop) ∷ [])
 
 -- one of two texts, or an edit
-unfoldable pub action_of : Data → Result Action Fault
-action_of d = elim (as_str d) [ None ↦ edit_of d | Some text ↦ action_for text ]
+unfoldable pub action_of : ℕ → Data → Result Action Fault
+action_of version d = elim (as_str d) [ None ↦ edit_of version d | Some text ↦ action_for text ]

@@ -2,7 +2,9 @@
 use Rattle.std.specs.Prelude.{ℕ, List, [], ◌∷◌, Result, Ok, Err}
 use Rattle.serde_json.specs.Data.{Data}
 use Rattle.vsw_base.specs.declared.address.Prefix.{Prefix}
+use Rattle.vsw_base.specs.declared.address.Prefix6.{Prefix6}
 use Rattle.vsw_base.specs.Spelling.{prefix_of}
+use Rattle.vsw_base.specs.Spelling6.{prefix6_of}
 use Rattle.vsw_rule.specs.declared.rule.Item.{Item}
 use Rattle.vsw_rule.specs.declared.rule.Item.TheVariants as item
 use Rattle.vsw_rule.specs.declared.rule.Cond.{Cond}
@@ -22,16 +24,21 @@ unfoldable pub value_of : Form → Data → Result ℕ Fault
 value_of form.Number d = whole_of d
 value_of form.Mac d = mac_in d
 value_of form.Ip4 d = ip4_in d
+value_of form.Ip6 d = shape
 
 abbrev pub prefix_in : Data → Result Prefix Fault
 prefix_in d = text_of d >>= (λ t. if_there (prefix_of t))
 
+abbrev pub prefix6_in : Data → Result Prefix6 Fault
+prefix6_in d = text_of d >>= (λ t. if_there (prefix6_of t))
+
 abbrev pub single_of : Form → Data → Result Item Fault
 single_of f d = value_of f d >>= (λ n. Ok (item.Range n n))
 
--- a value alone is the range of this value; for an IPv4 address it is a prefix
+-- a value alone is the range of this value; for an IPv4 or IPv6 address it is a prefix
 unfoldable pub alone_of : Form → Data → Result Item Fault
 alone_of form.Ip4 d = prefix_in d >>= (λ p. Ok (item.Prefix p))
+alone_of form.Ip6 d = prefix6_in d >>= (λ p. Ok (item.Prefix6 p))
 alone_of form.Number d = single_of form.Number d
 alone_of form.Mac d = single_of form.Mac d
 
@@ -45,20 +52,28 @@ range_of f (low ∷ high ∷ []) = do
   Ok (item.Range l h)
 range_of f (low ∷ high ∷ more ∷ ds) = shape
 
+-- one value, or a list of two
+abbrev pub one_or_two : Form → Data → Result Item Fault
+one_or_two f d = elim (items_in d) [ Err e ↦ alone_of f d | Ok ds ↦ range_of f ds ]
+
+-- for an IPv6 address a prefix alone, and never a list
 unfoldable pub item_of : Form → Data → Result Item Fault
-item_of f d = elim (items_in d) [ Err e ↦ alone_of f d | Ok ds ↦ range_of f ds ]
+item_of form.Ip6 d = alone_of form.Ip6 d
+item_of form.Ip4 d = one_or_two form.Ip4 d
+item_of form.Number d = one_or_two form.Number d
+item_of form.Mac d = one_or_two form.Mac d
 
 -- at most 64 items
 unfoldable pub items_of : Form → Data → Result (List Item) Fault
 items_of f d = items_to 64 d >>= items_after (λ done. item_of f) []
 
-unfoldable pub cond_of : Data → Result Cond Fault
-cond_of d = do
+unfoldable pub cond_of : ℕ → Data → Result Cond Fault
+cond_of version d = do
   o ← object_among (word.Field ∷ word.Any ∷ []) d
-  field ← read_in word.Field o field_of
+  field ← read_in word.Field o (field_of version)
   items ← read_in word.Any o (items_of (form_of field))
   Ok (record { field = field; items = items })
 
 -- at most 16 conditions, which may stand there twice
-unfoldable pub conds_of : Data → Result (List Cond) Fault
-conds_of d = items_to 16 d >>= items_after (λ done. cond_of) []
+unfoldable pub conds_of : ℕ → Data → Result (List Cond) Fault
+conds_of version d = items_to 16 d >>= items_after (λ done. cond_of version) []

@@ -1,5 +1,5 @@
 -- What holds of every policy that is read.
-use Rattle.std.specs.Prelude.{◌≡◌, ◌≢◌, ℕ, ◌≤◌, ◌==◌, List, true, length, None, Ok, All}
+use Rattle.std.specs.Prelude.{◌≡◌, ◌≢◌, ◌⊎◌, ℕ, ◌≤◌, ◌==◌, List, true, length, None, Ok, All}
 use Rattle.std.specs.List.{AllPairs, list_any}
 use Rattle.vsw_rule.specs.Check.{bad_rule_of}
 use Rattle.vsw_rule.specs.declared.rule.Cond.{Cond}
@@ -40,9 +40,9 @@ AreGoodLayers known ls = ((c : ℕ) → count_by c ls ≤ 16) × AllPairs AreApa
 unfoldable pub AreGoodPorts : List ℕ → List PortFile → Type 0
 AreGoodPorts known ps = (length ps ≤ 16) × AllPairs (λ p q. p.port ≢ q.port) ps × AllPairs (λ p q. p.mac ≢ q.mac) ps × All (λ p. AreGoodLayers known p.layers) ps × All (λ p. (8 ≤ p.rows) × (p.rows ≤ 16384)) ps
 
--- at most 8 controllers, none twice, and good ports
+-- at most 8 controllers, none twice, and good ports; the version is 1 or 2
 unfoldable pub IsGoodPolicy : PolicyFile → Type 0
-IsGoodPolicy p = (length p.controllers ≤ 8) × AllPairs (λ c d. c ≢ d) p.controllers × AreGoodPorts p.controllers p.ports
+IsGoodPolicy p = (length p.controllers ≤ 8) × AllPairs (λ c d. c ≢ d) p.controllers × AreGoodPorts p.controllers p.ports × ((p.version ≡ 1) ⊎ (p.version ≡ 2))
 
 abbrev pub EachIsGood : Type 0
 EachIsGood = (bytes : List ℕ) (p : PolicyFile) → policy_file_of bytes ≡ Ok p → IsGoodPolicy p

@@ -12,3 +12,4 @@ pub mod Policy
 pub mod Port
 pub mod Layer
 pub mod Good
+pub mod Version

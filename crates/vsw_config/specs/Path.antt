@@ -1,7 +1,7 @@
 -- Paths to a place in a file, and the kinds of what may be wrong there.
 use Rattle.std.specs.Prelude.{ℕ, List, [], ◌∷◌, ◌++◌, codes, decimal}
 use Rattle.vsw_config.specs.declared.word.Word.{Word}
-use Rattle.vsw_config.specs.declared.word.Word.TheVariants.{Version, Controllers, Ports, Port, Mac, Rows, Layers, Controller, Layer, Order, DefaultOut, DefaultIn, Pairs, Idle, Linger, Groups, Group, Dir, When, Rules, Rule, Priority, Action, Stateful, Last, Field, Any, Decap, Set, Encap, DstMac, SrcMac, SrcIp, DstIp, SrcPort, DstPort, Vni, At, Do, WhenAll, Default, Now}
+use Rattle.vsw_config.specs.declared.word.Word.TheVariants.{Version, Controllers, Ports, Port, Mac, Rows, Layers, Controller, Layer, Order, DefaultOut, DefaultIn, Pairs, Idle, Linger, Groups, Group, Dir, When, Rules, Rule, Priority, Action, Stateful, Last, Field, Any, Decap, Set, Encap, DstMac, SrcMac, SrcIp, DstIp, SrcPort, DstPort, SrcIp6, DstIp6, Vni, At, Do, WhenAll, Default, Now, Parts}
 use Rattle.vsw_config.specs.declared.fault.Step.{Step}
 use Rattle.vsw_config.specs.declared.fault.Step.TheVariants.{Member, Place}
 use Rattle.vsw_config.specs.declared.fault.Kind.{Kind}
@@ -45,12 +45,15 @@ word_text SrcIp = codes "src_ip"
 word_text DstIp = codes "dst_ip"
 word_text SrcPort = codes "src_port"
 word_text DstPort = codes "dst_port"
+word_text SrcIp6 = codes "src_ip6"
+word_text DstIp6 = codes "dst_ip6"
 word_text Vni = codes "vni"
 word_text At = codes "at"
 word_text Do = codes "do"
 word_text WhenAll = codes "when_all"
 word_text Default = codes "default"
 word_text Now = codes "now"
+word_text Parts = codes "parts"
 
 -- a slash, and a name or a place from 0
 abbrev pub step_text : Step → List ℕ

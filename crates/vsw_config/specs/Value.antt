@@ -1,8 +1,9 @@
 -- Numbers, truth values and texts.
-use Rattle.std.specs.Prelude.{ℕ, ◌&&◌, List, [], ◌∷◌, Bool, nat_le, Option, Some, None, option_and_then, Result, Ok, bytes_eq, if◌then◌else◌}
+use Rattle.std.specs.Prelude.{ℕ, ◌==◌, ◌&&◌, List, [], ◌∷◌, Bool, nat_le, Option, Some, None, option_and_then, Result, Ok, bytes_eq, if◌then◌else◌}
 use Rattle.serde_json.specs.Data.{Data}
 use Rattle.serde_json.specs.Find.{as_number, as_u64, as_str, as_bool}
 use Rattle.vsw_base.specs.Spelling.{mac_of, ip4_of}
+use Rattle.vsw_base.specs.Spelling6.{ip6_of}
 use Rattle.vsw_config.specs.declared.fault.Fault.{Fault}
 use Rattle.vsw_config.specs.Fault.{◌>>=◌, shape}
 
@@ -29,12 +30,19 @@ truth_of d = if_there (as_bool d)
 abbrev pub text_of : Data → Result (List ℕ) Fault
 text_of d = if_there (as_str d)
 
--- the text of an Ethernet address, of an IPv4 address
+-- the text of an Ethernet address, of an IPv4 address, of an IPv6 address
 abbrev pub mac_in : Data → Result ℕ Fault
 mac_in d = text_of d >>= (λ t. if_there (mac_of t))
 
 abbrev pub ip4_in : Data → Result ℕ Fault
 ip4_in d = text_of d >>= (λ t. if_there (ip4_of t))
+
+abbrev pub ip6_in : Data → Result ℕ Fault
+ip6_in d = text_of d >>= (λ t. if_there (ip6_of t))
+
+-- what version 2 of the file adds to a table; version 1 has nothing of it
+abbrev pub since_two : {A : Type 0} → ℕ → List A → List A
+since_two version rows = if version == 2 then rows else []
 
 -- what stands beside this text in a table
 abbrev pub value_for : {A : Type 0} → List (List ℕ × A) → List ℕ → Result A Fault

@@ -4,10 +4,11 @@ ghost use Rattle.std.specs.Prelude.{◌≡◌, ◌<◌, ◌^◌, Ok};
 ghost use Rattle.serde_json.specs.View.{view};
 ghost use Rattle.vsw_config.specs.Fault.{Says};
 ghost use Rattle.vsw_config.specs.Action.{set_of, headers_of, outer_of, encap_of, edit_of, action_for, action_of};
+ghost use Rattle.vsw_config.specs.Action as spec;
 
 use crate::{
-    Fault, Ip4Reader, Kind, MacReader, ReadValue, ShortReader, TruthReader, Word, here, member,
-    member_if, number_in, object_in,
+    Fault, Ip4Reader, Ip6Reader, Kind, MacReader, ReadValue, ShortReader, TruthReader, Word, here,
+    member, member_if, number_in, object_in,
 };
 use serde_json::Value;
 use std::alloc::Global;
@@ -23,6 +24,28 @@ const SET_WORDS: [Word; 6] = [
     Word::DstPort,
 ];
 
+const SET_WORDS6: [Word; 8] = [
+    Word::DstMac,
+    Word::SrcMac,
+    Word::SrcIp,
+    Word::DstIp,
+    Word::SrcPort,
+    Word::DstPort,
+    Word::SrcIp6,
+    Word::DstIp6,
+];
+
+/// The names of what an edit may write, in a file of this version.
+fn set_words(version: u8) -> &'static [Word]
+    ensures { result.now ≡ spec.set_words version }
+{
+    if version == 2 {
+        &SET_WORDS6
+    } else {
+        &SET_WORDS
+    }
+}
+
 const ENCAP_WORDS: [Word; 5] = [
     Word::DstMac,
     Word::SrcMac,
@@ -35,20 +58,25 @@ const ENCAP_WORDS: [Word; 5] = [
 const MOST_VNI: u32 = 0xff_ffff;
 
 /// Reads the fields that an edit writes.
-struct SetReader;
+#[derive(Drop)]
+struct SetReader {
+    version: u8,
+}
 
 impl ReadValue<Set> for SetReader {
-    ghost value_of = { λ reader. set_of };
+    ghost value_of = { λ reader. set_of reader.version };
 
     #[tactic(auto, unfolding(crate::specs::Action::set_of))]
     fn value(&self, alloc: Global, value: &Value) -> Result<Set, Fault> {
-        let object = object_in(alloc, &SET_WORDS, value)?;
+        let object = object_in(alloc, set_words(self.version), value)?;
         let dst_mac = member_if(alloc, object, Word::DstMac, &MacReader)?;
         let src_mac = member_if(alloc, object, Word::SrcMac, &MacReader)?;
         let src_ip = member_if(alloc, object, Word::SrcIp, &Ip4Reader)?;
         let dst_ip = member_if(alloc, object, Word::DstIp, &Ip4Reader)?;
         let src_port = member_if(alloc, object, Word::SrcPort, &ShortReader)?;
         let dst_port = member_if(alloc, object, Word::DstPort, &ShortReader)?;
+        let src_ip6 = member_if(alloc, object, Word::SrcIp6, &Ip6Reader)?;
+        let dst_ip6 = member_if(alloc, object, Word::DstIp6, &Ip6Reader)?;
         Ok(Set {
             dst_mac,
             src_mac,
@@ -56,6 +84,8 @@ impl ReadValue<Set> for SetReader {
             dst_ip,
             src_port,
             dst_port,
+            src_ip6,
+            dst_ip6,
         })
     }
 }
@@ -103,12 +133,12 @@ impl ReadValue<Option<Outer>> for EncapReader {
 }
 
 #[tactic(auto, unfolding(crate::specs::Action::edit_of))]
-fn edit(alloc: Global, value: &Value) -> Result<Action, Fault>
-    ensures { Says result (edit_of (view value.now)) }
+fn edit(alloc: Global, version: u8, value: &Value) -> Result<Action, Fault>
+    ensures { Says result (edit_of version (view value.now)) }
 {
     let object = object_in(alloc, &[Word::Decap, Word::Set, Word::Encap], value)?;
     let decap = member(alloc, object, Word::Decap, &TruthReader)?;
-    let set = member(alloc, object, Word::Set, &SetReader)?;
+    let set = member(alloc, object, Word::Set, &SetReader { version })?;
     let encap = member(alloc, object, Word::Encap, &EncapReader)?;
     Ok(Action::Edit { decap, set, encap })
 }
@@ -124,10 +154,13 @@ fn action_named(alloc: Global, name: &str) -> Result<Action, Fault>
 }
 
 /// Reads the action of a rule.
-pub(crate) struct ActionReader;
+#[derive(Drop)]
+pub(crate) struct ActionReader {
+    pub version: u8,
+}
 
 impl ReadValue<Action> for ActionReader {
-    ghost value_of = { λ reader. action_of };
+    ghost value_of = { λ reader. action_of reader.version };
 
     #[tactic(auto, unfolding(crate::specs::Action::action_of))]
     fn value(&self, alloc: Global, value: &Value) -> Result<Action, Fault> {
@@ -137,7 +170,7 @@ impl ReadValue<Action> for ActionReader {
                 Ok(action)
             }
             None => {
-                let action = edit(alloc, value)?;
+                let action = edit(alloc, self.version, value)?;
                 Ok(action)
             }
         }

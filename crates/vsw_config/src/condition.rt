@@ -4,7 +4,7 @@ ghost use Rattle.std.specs.Prelude.{◌≡◌, map, []};
 ghost use Rattle.serde_json.specs.View.{view};
 ghost use Rattle.vsw_config.specs.Fault.{Says};
 ghost use Rattle.vsw_config.specs.Field.{form_of};
-ghost use Rattle.vsw_config.specs.Condition.{value_of, prefix_in, single_of, alone_of, range_of, item_of, items_of, cond_of, conds_of};
+ghost use Rattle.vsw_config.specs.Condition.{value_of, prefix_in, prefix6_in, single_of, alone_of, range_of, one_or_two, item_of, items_of, cond_of, conds_of};
 
 use crate::field::{FieldReader, Form, form_of};
 use crate::{
@@ -13,7 +13,7 @@ use crate::{
 };
 use serde_json::Value;
 use std::alloc::Global;
-use vsw_base::{Items, Prefix};
+use vsw_base::{Items, Prefix, Prefix6};
 use vsw_rule::{Cond, Item};
 
 /// The most items of a condition.
@@ -36,6 +36,7 @@ fn number(alloc: Global, form: Form, value: &Value) -> Result<u64, Fault>
             let address = ip4(alloc, value)?;
             Ok(u64::from(address.number()))
         }
+        Form::Ip6 => Err(here(alloc, Kind::Shape)),
     }
 }
 
@@ -44,6 +45,13 @@ fn prefix(alloc: Global, value: &Value) -> Result<Prefix, Fault>
 {
     let text = text(alloc, value)?;
     Prefix::read(text.as_bytes()).map_err(|_| here(alloc, Kind::Shape))
+}
+
+fn prefix6(alloc: Global, value: &Value) -> Result<Prefix6, Fault>
+    ensures { result ≡ prefix6_in (view value.now) }
+{
+    let text = text(alloc, value)?;
+    Prefix6::read(text.as_bytes()).map_err(|_| here(alloc, Kind::Shape))
 }
 
 fn single(alloc: Global, form: Form, value: &Value) -> Result<Item, Fault>
@@ -65,6 +73,10 @@ fn alone(alloc: Global, form: Form, value: &Value) -> Result<Item, Fault>
             let prefix = prefix(alloc, value)?;
             Ok(Item::Prefix(prefix))
         }
+        Form::Ip6 => {
+            let prefix = prefix6(alloc, value)?;
+            Ok(Item::Prefix6(prefix))
+        }
         Form::Number => single(alloc, Form::Number, value),
         Form::Mac => single(alloc, Form::Mac, value),
     }
@@ -82,9 +94,8 @@ fn range(alloc: Global, form: Form, values: &[Value]) -> Result<Item, Fault>
     Ok(Item::Range { low, high })
 }
 
-#[tactic(auto, unfolding(crate::specs::Condition::item_of))]
-fn item(alloc: Global, form: Form, value: &Value) -> Result<Item, Fault>
-    ensures { Says result (item_of form (view value.now)) }
+fn one_or_two(alloc: Global, form: Form, value: &Value) -> Result<Item, Fault>
+    ensures { Says result (one_or_two form (view value.now)) }
 {
     match items(alloc, value) {
         Ok(values) => {
@@ -95,6 +106,19 @@ fn item(alloc: Global, form: Form, value: &Value) -> Result<Item, Fault>
             let item = alone(alloc, form, value)?;
             Ok(item)
         }
+    }
+}
+
+#[tactic(auto, unfolding(crate::specs::Condition::item_of))]
+fn item(alloc: Global, form: Form, value: &Value) -> Result<Item, Fault>
+    ensures { Says result (item_of form (view value.now)) }
+{
+    match form {
+        Form::Ip6 => {
+            let item = alone(alloc, form, value)?;
+            Ok(item)
+        }
+        Form::Number | Form::Mac | Form::Ip4 => one_or_two(alloc, form, value),
     }
 }
 
@@ -123,31 +147,39 @@ impl ReadValue<Items<Item>> for ItemsReader {
     }
 }
 
-struct CondReader;
+#[derive(Drop)]
+struct CondReader {
+    version: u8,
+}
 
 impl ReadItem<Cond> for CondReader {
-    ghost item_of = { λ reader done. cond_of };
+    ghost item_of = { λ reader done. cond_of reader.version };
 
     #[tactic(auto, unfolding(crate::specs::Condition::cond_of))]
     fn item(&self, alloc: Global, _done: &[Cond], value: &Value) -> Result<Cond, Fault> {
         let object = object_in(alloc, &[Word::Field, Word::Any], value)?;
-        let field = member(alloc, object, Word::Field, &FieldReader)?;
+        let version = self.version;
+        let field = member(alloc, object, Word::Field, &FieldReader { version })?;
         let form = form_of(field);
         let items = member(alloc, object, Word::Any, &ItemsReader { form })?;
         Ok(Cond { field, items })
     }
 }
 
-/// Reads the conditions of a rule or group.
-pub struct CondsReader;
+/// Reads the conditions of a rule or group, in a file of this version.
+#[derive(Drop)]
+pub struct CondsReader {
+    pub version: u8,
+}
 
 impl ReadValue<Items<Cond>> for CondsReader {
-    ghost value_of = { λ reader. conds_of };
+    ghost value_of = { λ reader. conds_of reader.version };
 
     #[tactic(auto, unfolding(crate::specs::Condition::conds_of))]
     fn value(&self, alloc: Global, value: &Value) -> Result<Items<Cond>, Fault> {
+        let version = self.version;
         let values = items_up_to(alloc, MOST_CONDITIONS, value)?;
-        let conditions = list(alloc, &CondReader, values)?;
+        let conditions = list(alloc, &CondReader { version }, values)?;
         Ok(conditions)
     }
 }

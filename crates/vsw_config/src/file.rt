@@ -27,6 +27,8 @@ pub struct PortFile {
 /// A policy file.
 #[derive(PartialEq, Eq, Drop)]
 pub struct PolicyFile {
+    /// 1 or 2. In version 2, the file may name IPv6 addresses, and a command beside it several groups.
+    pub version: u8,
     pub controllers: Items<u16>,
     pub ports: Items<PortFile>,
 }

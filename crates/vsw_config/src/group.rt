@@ -64,18 +64,22 @@ impl ReadValue<Dir> for DirReader {
     }
 }
 
-struct GroupReader;
+#[derive(Drop)]
+struct GroupReader {
+    version: u8,
+}
 
 impl ReadItem<Group> for GroupReader {
-    ghost item_of = { λ reader. group_of };
+    ghost item_of = { λ reader. group_of reader.version };
 
     #[tactic(auto, unfolding(crate::specs::Rule::group_of))]
     fn item(&self, alloc: Global, done: &[Group], value: &Value) -> Result<Group, Fault> {
         let object = object_in(alloc, &GROUP_WORDS, value)?;
+        let version = self.version;
         let number = member(alloc, object, Word::Group, &NumberReader { done })?;
         let dir = member(alloc, object, Word::Dir, &DirReader)?;
-        let when = member(alloc, object, Word::When, &CondsReader)?;
-        let rules = member(alloc, object, Word::Rules, &RulesReader)?;
+        let when = member(alloc, object, Word::When, &CondsReader { version })?;
+        let rules = member(alloc, object, Word::Rules, &RulesReader { version })?;
         Ok(Group {
             number,
             dir,
@@ -86,15 +90,19 @@ impl ReadItem<Group> for GroupReader {
 }
 
 /// Reads the groups of a layer.
-pub struct GroupsReader;
+#[derive(Drop)]
+pub struct GroupsReader {
+    pub version: u8,
+}
 
 impl ReadValue<Items<Group>> for GroupsReader {
-    ghost value_of = { λ reader. groups_of };
+    ghost value_of = { λ reader. groups_of reader.version };
 
     #[tactic(auto, unfolding(crate::specs::Rule::groups_of))]
     fn value(&self, alloc: Global, value: &Value) -> Result<Items<Group>, Fault> {
+        let version = self.version;
         let values = items_up_to(alloc, MOST_GROUPS, value)?;
-        let groups = list(alloc, &GroupReader, values)?;
+        let groups = list(alloc, &GroupReader { version }, values)?;
         Ok(groups)
     }
 }

@@ -151,15 +151,16 @@ pub fn spec_in(alloc: Global, layer: u16, object: &Value) -> Result<LayerSpec, F
 /// Reads a layer of one of these controllers.
 #[derive(Drop)]
 struct LayerReader<'a> {
+    version: u8,
     known: &'a [u16],
 }
 
 impl<'a> ReadItem<LayerFile> for LayerReader<'a> {
-    ghost item_of = { λ reader. layer_of reader.known.now };
+    ghost item_of = { λ reader. layer_of reader.version reader.known.now };
 
     #[tactic(auto, unfolding(crate::specs::Layer::layer_of))]
     fn item(&self, alloc: Global, done: &[LayerFile], value: &Value) -> Result<LayerFile, Fault> {
-        let known = self.known;
+        let (version, known) = (self.version, self.known);
         let object = object_in(alloc, &LAYER_WORDS, value)?;
         let controller = member(alloc, object, Word::Controller, &ControllerReader { known })?;
         has_room(alloc, controller, done)?;
@@ -170,7 +171,7 @@ impl<'a> ReadItem<LayerFile> for LayerReader<'a> {
             &NumberReader { controller, done },
         )?;
         let spec = spec_in(alloc, number, object)?;
-        let groups = member(alloc, object, Word::Groups, &GroupsReader)?;
+        let groups = member(alloc, object, Word::Groups, &GroupsReader { version })?;
         Ok(LayerFile {
             controller,
             spec,
@@ -182,16 +183,18 @@ impl<'a> ReadItem<LayerFile> for LayerReader<'a> {
 /// Reads the layers of a port, each of one of these controllers.
 #[derive(Drop)]
 pub(crate) struct LayersReader<'a> {
+    pub(crate) version: u8,
     pub(crate) known: &'a [u16],
 }
 
 impl<'a> ReadValue<Items<LayerFile>> for LayersReader<'a> {
-    ghost value_of = { λ reader. layers_of reader.known.now };
+    ghost value_of = { λ reader. layers_of reader.version reader.known.now };
 
     #[tactic(auto, unfolding(crate::specs::Layer::layers_of))]
     fn value(&self, alloc: Global, value: &Value) -> Result<Items<LayerFile>, Fault> {
+        let (version, known) = (self.version, self.known);
         let values = items(alloc, value)?;
-        let layers = list(alloc, &LayerReader { known: self.known }, values)?;
+        let layers = list(alloc, &LayerReader { version, known }, values)?;
         Ok(layers)
     }
 }

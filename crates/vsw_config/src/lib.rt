@@ -32,6 +32,7 @@ pub use object::{ReadValue, member, member_if, object_in};
 pub use read::read_policy;
 pub use rule::one_rule;
 pub use value::{
-    Ip4Reader, MacReader, ShortReader, TruthReader, ip4, mac, number_in, short, text, whole,
+    Ip4Reader, Ip6Reader, MacReader, ShortReader, TruthReader, ip4, mac, number_in, short, text,
+    whole,
 };
 pub use word::Word;

@@ -75,20 +75,26 @@ impl<'a> ReadValue<Mac> for AddressReader<'a> {
 /// Reads a port whose layers are of these controllers.
 #[derive(Drop)]
 struct PortReader<'a> {
+    version: u8,
     known: &'a [u16],
 }
 
 impl<'a> ReadItem<PortFile> for PortReader<'a> {
-    ghost item_of = { λ reader. port_of reader.known.now };
+    ghost item_of = { λ reader. port_of reader.version reader.known.now };
 
     #[tactic(auto, unfolding(crate::specs::Port::port_of))]
     fn item(&self, alloc: Global, done: &[PortFile], value: &Value) -> Result<PortFile, Fault> {
-        let known = self.known;
+        let (version, known) = (self.version, self.known);
         let object = object_in(alloc, &PORT_WORDS, value)?;
         let port = member(alloc, object, Word::Port, &NumberReader { done })?;
         let mac = member(alloc, object, Word::Mac, &AddressReader { done })?;
         let rows = number_in(alloc, LEAST_ROWS, MOST_ROWS, object, Word::Rows)?;
-        let layers = member(alloc, object, Word::Layers, &LayersReader { known })?;
+        let layers = member(
+            alloc,
+            object,
+            Word::Layers,
+            &LayersReader { version, known },
+        )?;
         Ok(PortFile {
             port,
             mac,
@@ -99,9 +105,14 @@ impl<'a> ReadItem<PortFile> for PortReader<'a> {
 }
 
 /// Ports whose layers are of these controllers.
-pub fn ports(alloc: Global, known: &[u16], values: &[Value]) -> Result<Items<PortFile>, Fault>
-    ensures { Says result (items_after (port_of known.now) [] (map view values.now)) }
+pub fn ports(
+    alloc: Global,
+    version: u8,
+    known: &[u16],
+    values: &[Value],
+) -> Result<Items<PortFile>, Fault>
+    ensures { Says result (items_after (port_of version known.now) [] (map view values.now)) }
 {
-    let ports = list(alloc, &PortReader { known }, values)?;
+    let ports = list(alloc, &PortReader { version, known }, values)?;
     Ok(ports)
 }

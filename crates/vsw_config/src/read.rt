@@ -52,14 +52,22 @@ fn controllers_in(alloc: Global, object: &Value) -> Result<Items<u16>, ConfigFau
 }
 
 #[tactic(auto, unfolding(crate::specs::Policy::ports_in, crate::specs::Policy::few_in))]
-fn ports_in(alloc: Global, known: &[u16], object: &Value) -> Result<Items<PortFile>, ConfigFault>
-    ensures { Tells result (spec.ports_in known.now (view object.now)) }
+fn ports_in(
+    alloc: Global,
+    version: u8,
+    known: &[u16],
+    object: &Value,
+) -> Result<Items<PortFile>, ConfigFault>
+    ensures { Tells result (spec.ports_in version known.now (view object.now)) }
 {
     let values = items_in(alloc, object, Word::Ports)?;
     if values.len() > MOST_PORTS {
         return Err(ConfigFault::PortsLimit);
     }
-    let ports = under_step(Step::Member(Word::Ports), ports(alloc, known, values))?;
+    let ports = under_step(
+        Step::Member(Word::Ports),
+        ports(alloc, version, known, values),
+    )?;
     Ok(ports)
 }
 
@@ -68,10 +76,14 @@ fn policy(alloc: Global, value: &Value) -> Result<PolicyFile, ConfigFault>
     ensures { Tells result (policy_of (view value.now)) }
 {
     let object = object_in(alloc, &FILE_WORDS, value)?;
-    number_in(alloc, 1, 1, object, Word::Version)?;
+    let version = number_in(alloc, 1, 2, object, Word::Version)? as u8;
     let controllers = controllers_in(alloc, object)?;
-    let ports = ports_in(alloc, controllers.as_slice(), object)?;
-    Ok(PolicyFile { controllers, ports })
+    let ports = ports_in(alloc, version, controllers.as_slice(), object)?;
+    Ok(PolicyFile {
+        version,
+        controllers,
+        ports,
+    })
 }
 
 fn whole_file(alloc: Global, bytes: &[u8]) -> Result<PolicyFile, ConfigFault>

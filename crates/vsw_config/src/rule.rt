@@ -65,14 +65,14 @@ fn judged(alloc: Global, rule: Rule) -> Result<Rule, Fault>
 
 /// A rule, read against those that stand before it.
 #[tactic(auto, unfolding(crate::specs::Rule::rule_of))]
-pub fn one_rule(alloc: Global, done: &[Rule], value: &Value) -> Result<Rule, Fault>
-    ensures { Says result (rule_of done.now (view value.now)) }
+pub fn one_rule(alloc: Global, version: u8, done: &[Rule], value: &Value) -> Result<Rule, Fault>
+    ensures { Says result (rule_of version done.now (view value.now)) }
 {
     let object = object_in(alloc, &RULE_WORDS, value)?;
     let number = member(alloc, object, Word::Rule, &NumberReader { done })?;
     let priority = member(alloc, object, Word::Priority, &ShortReader)?;
-    let when = member(alloc, object, Word::When, &CondsReader)?;
-    let action = member(alloc, object, Word::Action, &ActionReader)?;
+    let when = member(alloc, object, Word::When, &CondsReader { version })?;
+    let action = member(alloc, object, Word::Action, &ActionReader { version })?;
     let stateful = member(alloc, object, Word::Stateful, &TruthReader)?;
     let last = member(alloc, object, Word::Last, &TruthReader)?;
     let rule = Rule {
@@ -87,26 +87,33 @@ pub fn one_rule(alloc: Global, done: &[Rule], value: &Value) -> Result<Rule, Fau
     Ok(rule)
 }
 
-struct RuleReader;
+#[derive(Drop)]
+struct RuleReader {
+    version: u8,
+}
 
 impl ReadItem<Rule> for RuleReader {
-    ghost item_of = { λ reader. rule_of };
+    ghost item_of = { λ reader. rule_of reader.version };
 
     fn item(&self, alloc: Global, done: &[Rule], value: &Value) -> Result<Rule, Fault> {
-        one_rule(alloc, done, value)
+        one_rule(alloc, self.version, done, value)
     }
 }
 
 /// Reads the rules of a group.
-pub(crate) struct RulesReader;
+#[derive(Drop)]
+pub(crate) struct RulesReader {
+    pub version: u8,
+}
 
 impl ReadValue<Items<Rule>> for RulesReader {
-    ghost value_of = { λ reader. rules_of };
+    ghost value_of = { λ reader. rules_of reader.version };
 
     #[tactic(auto, unfolding(crate::specs::Rule::rules_of))]
     fn value(&self, alloc: Global, value: &Value) -> Result<Items<Rule>, Fault> {
+        let version = self.version;
         let values = items_up_to(alloc, MOST_RULES, value)?;
-        let rules = list(alloc, &RuleReader, values)?;
+        let rules = list(alloc, &RuleReader { version }, values)?;
         Ok(rules)
     }
 }

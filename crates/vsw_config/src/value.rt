@@ -4,14 +4,14 @@ ghost use Rattle.std.specs.Prelude.{◌≡◌, ◌≤◌, IfOk};
 ghost use Rattle.serde_json.specs.View.{view};
 ghost use Rattle.vsw_config.specs.Object.{read_in};
 ghost use Rattle.vsw_config.specs.Fault.{Says, seen};
-ghost use Rattle.vsw_config.specs.Value.{whole_of, number_from, short_of, truth_of, text_of, mac_in, ip4_in};
+ghost use Rattle.vsw_config.specs.Value.{whole_of, number_from, short_of, truth_of, text_of, mac_in, ip4_in, ip6_in};
 
 use crate::fault::{Fault, Kind, Step, here, under_step};
 use crate::object::{ReadValue, value_in};
 use crate::word::Word;
 use serde_json::Value;
 use std::alloc::Global;
-use vsw_base::{Ip4, Mac};
+use vsw_base::{Ip4, Ip6, Mac};
 
 /// A whole number.
 pub fn whole(alloc: Global, value: &Value) -> Result<u64, Fault>
@@ -138,5 +138,17 @@ impl ReadValue<Ip4> for Ip4Reader {
 
     fn value(&self, alloc: Global, value: &Value) -> Result<Ip4, Fault> {
         ip4(alloc, value)
+    }
+}
+
+/// Reads the text of an IPv6 address.
+pub struct Ip6Reader;
+
+impl ReadValue<Ip6> for Ip6Reader {
+    ghost value_of = { λ reader. ip6_in };
+
+    fn value(&self, alloc: Global, value: &Value) -> Result<Ip6, Fault> {
+        let text = text(alloc, value)?;
+        Ip6::read(text.as_bytes()).map_err(|_| here(alloc, Kind::Shape))
     }
 }

@@ -120,6 +120,8 @@ fn is_asked(place: usize, command: &Command) -> bool {
             group,
             rules,
         } => place == 4 && *layer == 10 && *group == 4 && is_eighth_rule(rules.as_slice()),
+        // The policy beside has version 1.
+        Command::PutMany { .. } => false,
         Command::AddRule { layer, group, rule } => place == 5
             && *layer == 10
             && *group == 4

@@ -8,7 +8,7 @@ use vsw_commandfile::{CommandsFault, Line, read_commands};
 use vsw_config::{PolicyFile, read_policy};
 
 /// Controllers 1 and 2, and ports 7 and 1.
-const POLICY: &str = concat!(
+pub const POLICY: &str = concat!(
     r#"{"version":1,"controllers":[1,2],"ports":["#,
     r#"{"port":7,"mac":"02:00:00:00:00:07","rows":8,"layers":[]},"#,
     r#"{"port":1,"mac":"02:00:00:00:00:01","rows":8,"layers":[]}]}"#,
@@ -42,14 +42,26 @@ pub const FILE: &str = concat!(
     r#"{"at":11,"when":"before","controller":1,"port":1,"do":"sweep","layer":10,"now":90000000}"#,
 );
 
-fn policy(alloc: Global) -> Option<PolicyFile> {
-    read_policy(alloc, POLICY.as_bytes()).ok()
+/// The same of version 2.
+pub const POLICY_OF_2: &str = concat!(
+    r#"{"version":2,"controllers":[1,2],"ports":["#,
+    r#"{"port":7,"mac":"02:00:00:00:00:07","rows":8,"layers":[]},"#,
+    r#"{"port":1,"mac":"02:00:00:00:00:01","rows":8,"layers":[]}]}"#,
+);
+
+fn policy(alloc: Global, text: &str) -> Option<PolicyFile> {
+    read_policy(alloc, text.as_bytes()).ok()
+}
+
+/// The lines of a commands file beside this policy.
+pub fn lines_beside(alloc: Global, policy_text: &str, bytes: &[u8]) -> Option<Items<Line>> {
+    let policy = policy(alloc, policy_text)?;
+    read_commands(alloc, bytes, &policy).ok()
 }
 
 /// The lines of a commands file.
 pub fn lines_of(alloc: Global, bytes: &[u8]) -> Option<Items<Line>> {
-    let policy = policy(alloc)?;
-    read_commands(alloc, bytes, &policy).ok()
+    lines_beside(alloc, POLICY, bytes)
 }
 
 /// Appends a fault as a complaint has it: the line, the kind and the path, or the limit.
@@ -79,14 +91,19 @@ fn put_said(alloc: Global, out: &mut Text, policy: &PolicyFile, bytes: &[u8]) {
     }
 }
 
-/// Whether this is what is said of a file.
-pub fn is_said(alloc: Global, bytes: &[u8], expected: &str) -> bool {
+/// Whether this is what is said of a file beside this policy.
+pub fn is_said_beside(alloc: Global, policy_text: &str, bytes: &[u8], expected: &str) -> bool {
     let mut out = Text::new(alloc);
-    match policy(alloc) {
+    match policy(alloc, policy_text) {
         Some(policy) => put_said(alloc, &mut out, &policy, bytes),
         None => out.put(b"no policy"),
     }
     out.is(expected.as_bytes())
+}
+
+/// Whether this is what is said of a file.
+pub fn is_said(alloc: Global, bytes: &[u8], expected: &str) -> bool {
+    is_said_beside(alloc, POLICY, bytes, expected)
 }
 
 /// Whether this is what is said of a file that was put together.

@@ -79,8 +79,10 @@ fn missing_and_unknown_members_are_told_at_their_object(rt: HostRuntime) {
 }
 
 /// Values of the wrong form, and numbers past their limits.
-const VALUES: [[&str; 3]; 23] = [
-    [r#""version":1"#, r#""version":2"#, "Shape /version"],
+const VALUES: [[&str; 3]; 25] = [
+    [r#""version":1"#, r#""version":0"#, "Shape /version"],
+    [r#""version":1"#, r#""version":3"#, "Shape /version"],
+    [r#""version":1"#, r#""version":"1""#, "Shape /version"],
     [
         r#""controllers":[1]"#,
         r#""controllers":1"#,
@@ -179,7 +181,8 @@ fn wrong_values_are_told_where_they_stand(rt: HostRuntime) {
 }
 
 /// Values at their limits.
-const FITTING: [[&str; 3]; 12] = [
+const FITTING: [[&str; 3]; 13] = [
+    [r#""version":1"#, r#""version":2"#, "read"],
     [r#""port":1"#, r#""port":0"#, "read"],
     [r#""port":1"#, r#""port":65535"#, "read"],
     [r#""rows":64"#, r#""rows":8"#, "read"],

@@ -64,7 +64,7 @@ fn items_of_all_forms_are_read(rt: HostRuntime) {
 }
 
 /// Items of other forms.
-const OTHER_ITEMS: [[&str; 3]; 14] = [
+const OTHER_ITEMS: [[&str; 3]; 17] = [
     [
         r#""10.0.0.0/24""#,
         r#""10.0.0.0/33""#,
@@ -132,6 +132,21 @@ const OTHER_ITEMS: [[&str; 3]; 14] = [
     ],
     [
         r#""dst_ip","any":["10.0.0.0/24"]"#,
+        r#""src_ip6","any":["fd00::/64"]"#,
+        "Shape /ports/0/layers/0/groups/0/rules/0/when/0/field",
+    ],
+    [
+        r#""when":[],"rules""#,
+        r#""when":[{"field":"dst_ip6","any":["fd00::/64"]}],"rules""#,
+        "Shape /ports/0/layers/0/groups/0/when/0/field",
+    ],
+    [
+        r#""10.0.0.0/24""#,
+        r#""fd00::/64""#,
+        "Shape /ports/0/layers/0/groups/0/rules/0/when/0/any/0",
+    ],
+    [
+        r#""dst_ip","any":["10.0.0.0/24"]"#,
         r#""dst_ip","any":{}"#,
         "Shape /ports/0/layers/0/groups/0/rules/0/when/0/any",
     ],
@@ -187,7 +202,7 @@ fn rules_are_judged(rt: HostRuntime) {
 }
 
 /// Edits, and what isn't one.
-const ACTIONS: [[&str; 3]; 14] = [
+const ACTIONS: [[&str; 3]; 17] = [
     [
         r#""allow""#,
         r#"{"decap":true,"set":{},"encap":null}"#,
@@ -235,6 +250,21 @@ const ACTIONS: [[&str; 3]; 14] = [
     [
         r#""allow""#,
         r#"{"decap":false,"set":{"vni":1},"encap":null}"#,
+        "Shape /ports/0/layers/0/groups/0/rules/0/action/set",
+    ],
+    [
+        r#""allow""#,
+        r#"{"decap":false,"set":{"src_ip6":"fd00::77"},"encap":null}"#,
+        "Shape /ports/0/layers/0/groups/0/rules/0/action/set",
+    ],
+    [
+        r#""allow""#,
+        r#"{"decap":false,"set":{"dst_ip6":"fd00::77"},"encap":null}"#,
+        "Shape /ports/0/layers/0/groups/0/rules/0/action/set",
+    ],
+    [
+        r#""allow""#,
+        r#"{"decap":false,"set":{"src_ip":"x","dst_ip6":1},"encap":null}"#,
         "Shape /ports/0/layers/0/groups/0/rules/0/action/set",
     ],
     [

@@ -13,6 +13,8 @@ mod commandfile_order_tests;
 #[cfg(test)]
 mod commandfile_samples;
 #[cfg(test)]
+mod commandfile_version_tests;
+#[cfg(test)]
 mod fault_tests;
 #[cfg(test)]
 mod file_tests;
@@ -35,6 +37,8 @@ mod real_host_tests;
 mod samples;
 #[cfg(test)]
 mod source_tests;
+#[cfg(test)]
+mod version_tests;
 #[cfg(test)]
 mod workload_tests;
 

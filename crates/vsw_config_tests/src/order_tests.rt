@@ -4,10 +4,10 @@ use crate::samples::check;
 
 /// Two faults each, of which the first in the order of reading is told.
 const TWO_FAULTS: [[&str; 3]; 11] = [
-    [r#"{"version":1"#, r#"{"note":1,"version":2"#, "Shape /"],
+    [r#"{"version":1"#, r#"{"note":1,"version":3"#, "Shape /"],
     [
         r#"1,"controllers":[1]"#,
-        r#"2,"controllers":[1,2,3,4,5,6,7,8,9]"#,
+        r#"3,"controllers":[1,2,3,4,5,6,7,8,9]"#,
         "Shape /version",
     ],
     ["[1]", r#"["x",2,3,4,5,6,7,8,9]"#, "controllers"],

@@ -1,9 +1,9 @@
-//! Three policy files, read to the values that they were written for.
+//! Four policy files, read to the values that they were written for.
 
-use crate::samples::ONE;
+use crate::samples::{OF_IPV6, ONE};
 use std::alloc::Global;
 use std::process::Abort;
-use vsw_base::{Dir, Ip4, Items, Mac, Outer, Prefix, Set};
+use vsw_base::{Dir, Ip4, Ip6, Items, Mac, Outer, Prefix, Prefix6, Set};
 use vsw_config::{LayerFile, PolicyFile, PortFile, read_policy};
 use vsw_policy::LayerSpec;
 use vsw_rule::{Action, Cond, Field, Group, Item, Rule};
@@ -88,7 +88,12 @@ fn layer(controller: u16, number: u16, order: u16, groups: Items<Group>) -> Laye
     }
 }
 
-fn file(alloc: Global, controllers: Items<u16>, layers: Items<LayerFile>) -> PolicyFile {
+fn file(
+    alloc: Global,
+    version: u8,
+    controllers: Items<u16>,
+    layers: Items<LayerFile>,
+) -> PolicyFile {
     let port = PortFile {
         port: 1,
         mac: Mac::of(0x0200_0000_0001),
@@ -96,7 +101,11 @@ fn file(alloc: Global, controllers: Items<u16>, layers: Items<LayerFile>) -> Pol
         layers,
     };
     let ports = one(alloc, port);
-    PolicyFile { controllers, ports }
+    PolicyFile {
+        version,
+        controllers,
+        ports,
+    }
 }
 
 const NOTHING: Set = Set {
@@ -106,6 +115,8 @@ const NOTHING: Set = Set {
     dst_ip: None,
     src_port: None,
     dst_port: None,
+    src_ip6: None,
+    dst_ip6: None,
 };
 
 fn first(alloc: Global) -> PolicyFile {
@@ -113,7 +124,7 @@ fn first(alloc: Global) -> PolicyFile {
     let group = group(alloc, 1, Dir::Out, rule(5, when, Action::Allow, false));
     let groups = one(alloc, group);
     let layers = one(alloc, layer(1, 10, 1, groups));
-    file(alloc, one(alloc, 1), layers)
+    file(alloc, 1, one(alloc, 1), layers)
 }
 
 #[test]
@@ -164,6 +175,8 @@ fn translating_layer(alloc: Global) -> LayerFile {
             dst_ip: None,
             src_port: Some(40000),
             dst_port: None,
+            src_ip6: None,
+            dst_ip6: None,
         },
         encap: None,
     };
@@ -212,7 +225,7 @@ fn three(alloc: Global) -> PolicyFile {
     let layers = one(alloc, stateful_layer(alloc));
     let layers = and(layers, translating_layer(alloc));
     let layers = and(layers, tunnel_layer(alloc));
-    file(alloc, controllers, layers)
+    file(alloc, 1, controllers, layers)
 }
 
 #[test]
@@ -244,6 +257,8 @@ fn forwarding_group(alloc: Global) -> Group {
             dst_ip: Some(Ip4::of(0x0a00_0005)),
             src_port: None,
             dst_port: Some(1234),
+            src_ip6: None,
+            dst_ip6: None,
         },
         encap: None,
     };
@@ -254,10 +269,40 @@ fn forwarding(alloc: Global) -> PolicyFile {
     let rule = rule(1, Items::new(alloc), Action::Allow, false);
     let groups = one(alloc, group(alloc, 1, Dir::Out, rule));
     let groups = and(groups, forwarding_group(alloc));
-    file(alloc, one(alloc, 1), one(alloc, layer(1, 10, 1, groups)))
+    file(alloc, 1, one(alloc, 1), one(alloc, layer(1, 10, 1, groups)))
 }
 
 #[test]
 fn two_groups_are_read(rt: HostRuntime) {
     check(&rt, rt.alloc(), FORWARDING, forwarding(rt.alloc()));
+}
+
+fn hiding(alloc: Global) -> Rule {
+    let prefix = Prefix6 {
+        value: Ip6::of(0xfd00_0000_0000_0000_0000_0000_0000_0000),
+        bits: 64,
+    };
+    let items = one(alloc, Item::Prefix6(prefix));
+    let field = Field::DstIp6;
+    let when = one(alloc, Cond { field, items });
+    let action = Action::Edit {
+        decap: false,
+        set: Set {
+            src_ip6: Some(Ip6::of(0xfd00_0000_0000_0000_0000_0000_0000_0077)),
+            ..NOTHING
+        },
+        encap: None,
+    };
+    rule(5, when, action, true)
+}
+
+fn of_ipv6(alloc: Global) -> PolicyFile {
+    let group = group(alloc, 1, Dir::Out, hiding(alloc));
+    let layers = one(alloc, layer(1, 10, 1, one(alloc, group)));
+    file(alloc, 2, one(alloc, 1), layers)
+}
+
+#[test]
+fn rules_over_ipv6_are_read(rt: HostRuntime) {
+    check(&rt, rt.alloc(), OF_IPV6, of_ipv6(rt.alloc()));
 }

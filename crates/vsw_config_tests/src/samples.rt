@@ -14,6 +14,17 @@ pub const ONE: &str = concat!(
     r#""last":false}]}]}]}]}"#,
 );
 
+/// A policy of version 2, whose one rule has packets to fd00::/64 come from fd00::77.
+pub const OF_IPV6: &str = concat!(
+    r#"{"version":2,"controllers":[1],"#,
+    r#""ports":[{"port":1,"mac":"02:00:00:00:00:01","rows":64,"layers":[{"controller":1,"#,
+    r#""layer":10,"order":1,"default_out":"drop","default_in":"drop","pairs":100,"idle":240,"#,
+    r#""linger":10,"groups":[{"group":1,"dir":"out","when":[],"rules":[{"rule":5,"priority":10,"#,
+    r#""when":[{"field":"dst_ip6","any":["fd00::/64"]}],"#,
+    r#""action":{"decap":false,"set":{"src_ip6":"fd00::77"},"encap":null},"stateful":true,"#,
+    r#""last":false}]}]}]}]}"#,
+);
+
 /// A text that is put together. Where memory is wanting it isn't whole, and then it is no file and is not what is said.
 #[derive(Drop)]
 pub struct Text {
@@ -149,16 +160,16 @@ pub fn is_said_of(alloc: Global, file: &Text, expected: &str) -> bool {
     }
 }
 
-/// Whether a change makes what is said of it: what goes, what comes, and what is said.
-fn is_right(alloc: Global, change: &[&str; 3]) -> bool {
-    let file = replaced(alloc, ONE, change[0], change[1].as_bytes());
+/// Whether a change of a file makes what is said of it: what goes, what comes, and what is said.
+fn is_right(alloc: Global, file: &str, change: &[&str; 3]) -> bool {
+    let file = replaced(alloc, file, change[0], change[1].as_bytes());
     is_said_of(alloc, &file, change[2])
 }
 
-/// The place of the first change of the file of which another thing is said, if there is one.
-fn first_wrong(alloc: Global, changes: &[[&str; 3]]) -> Option<usize> {
+/// The place of the first change of a file of which another thing is said, if there is one.
+pub fn first_wrong(alloc: Global, file: &str, changes: &[[&str; 3]]) -> Option<usize> {
     for place in 0..changes.len() {
-        if !is_right(alloc, &changes[place]) {
+        if !is_right(alloc, file, &changes[place]) {
             return Some(place);
         }
     }
@@ -167,7 +178,7 @@ fn first_wrong(alloc: Global, changes: &[[&str; 3]]) -> Option<usize> {
 
 /// Fails where another thing is said of a change than it says.
 pub fn check(rt: &impl Abort, alloc: Global, changes: &[[&str; 3]]) {
-    let wrong = first_wrong(alloc, changes);
+    let wrong = first_wrong(alloc, ONE, changes);
     assert!(rt; wrong.is_none(), "{wrong:?}");
 }
 

@@ -16,12 +16,13 @@ use Rattle.vsw_policy.specs.Layer.{LayerSeen}
 use Rattle.vsw_rows.specs.Entries.{is_obeyed}
 use Rattle.vsw_lookup.specs.Rules.{after_entry}
 use Rattle.vsw_policy.specs.declared.command.Command.{Command}
-use Rattle.vsw_policy.specs.declared.command.Command.TheVariants.{AddLayer, RemoveLayer, AddGroup, RemoveGroup, PutRules, AddRule, RemoveRule, SetDefault, Sweep}
+use Rattle.vsw_policy.specs.declared.command.Part.{Part}
+use Rattle.vsw_policy.specs.declared.command.Command.TheVariants.{AddLayer, RemoveLayer, AddGroup, RemoveGroup, PutRules, PutMany, AddRule, RemoveRule, SetDefault, Sweep}
 use Rattle.vsw_policy.specs.declared.refusal.Refusal.{Refusal}
 use Rattle.vsw_policy.specs.declared.refusal.Reply.{Reply}
 use Rattle.std.specs.Prelude.{if◌then◌else◌}
 use Rattle.vsw_policy.specs.Layers.{PolicySeen, is_before, is_layer}
-use Rattle.vsw_policy.specs.Obey.{after, answered, empty_layer, first_refusal, is_memory, layer_named, obey, placed, tests, within}
+use Rattle.vsw_policy.specs.Obey.{after, answered, empty_layer, first_refusal, is_memory, obey, placed, put_part, put_parts, tests, within}
 use Rattle.vsw_policy.specs.Refusals.{reply_of}
 use Rattle.vsw_port.specs.Core.{entered}
 use Rattle.vsw_port.specs.Ledger.{LedgerSeen, layers_in}
@@ -47,8 +48,12 @@ length-placed cs l (m ∷ ms) =
     let ih = length-placed cs l ms in
     elim (is_before cs l m) as (λ b. length (if b then l ∷ m ∷ ms else m ∷ placed cs l ms) ≡ suc (suc (length ms))) [ true ↦ refl | false ↦ ap (λ n. suc n) ih ]
 
-same_many : (c : ℕ) (m : Command) (ls : List LayerSeen) (rows room : ℕ) → (length (changed (is_layer c (layer_named m)) (within m) ls) ≤ length ls) ⊎ (rows * length (changed (is_layer c (layer_named m)) (within m) ls) ≤ room)
-same_many c m ls rows room = let same = length-changed (is_layer c (layer_named m)) (within m) ls in inl (omega (arith, same))
+same_many : (c n : ℕ) (m : Command) (ls : List LayerSeen) (rows room : ℕ) → (length (changed (is_layer c n) (within m) ls) ≤ length ls) ⊎ (rows * length (changed (is_layer c n) (within m) ls) ≤ room)
+same_many c n m ls rows room = let same = length-changed (is_layer c n) (within m) ls in inl (omega (arith, same))
+
+length-parts : (c : ℕ) (ps : List Part) (ls : List LayerSeen) → length (put_parts c ps ls) ≡ length ls
+length-parts c [] ls = refl
+length-parts c (p ∷ ps) ls = length-parts c ps (put_part c p ls) ∙ length-changed (is_layer c p.layer) (within (PutRules p.layer p.group p.rules)) ls
 
 -- there is room for the looks in all of them
 pub looks_fit : (cs : List ℕ) (ls : List LayerSeen) (c : ℕ) (m : Command) (rows room : ℕ) → HasLooks m ls rows room → (length (after cs ls c m) ≤ length ls) ⊎ (rows * length (after cs ls c m) ≤ room)
@@ -56,13 +61,14 @@ looks_fit cs ls c (AddLayer s) rows room h =
     let one : length (after cs ls c (AddLayer s)) ≡ length ls + 1 = omega (arith, length-placed cs (empty_layer c s) ls) in
     inr (subst (λ n. rows * n ≤ room) (sym one) (h s refl))
 looks_fit cs ls c (RemoveLayer n) rows room h = inl (length-removed (is_layer c n) ls)
-looks_fit cs ls c (AddGroup n g dir when) rows room h = same_many c (AddGroup n g dir when) ls rows room
-looks_fit cs ls c (RemoveGroup n g) rows room h = same_many c (RemoveGroup n g) ls rows room
-looks_fit cs ls c (PutRules n g rs) rows room h = same_many c (PutRules n g rs) ls rows room
-looks_fit cs ls c (AddRule n g r) rows room h = same_many c (AddRule n g r) ls rows room
-looks_fit cs ls c (RemoveRule n g k) rows room h = same_many c (RemoveRule n g k) ls rows room
-looks_fit cs ls c (SetDefault n dir allow) rows room h = same_many c (SetDefault n dir allow) ls rows room
-looks_fit cs ls c (Sweep n now) rows room h = same_many c (Sweep n now) ls rows room
+looks_fit cs ls c (AddGroup n g dir when) rows room h = same_many c n (AddGroup n g dir when) ls rows room
+looks_fit cs ls c (RemoveGroup n g) rows room h = same_many c n (RemoveGroup n g) ls rows room
+looks_fit cs ls c (PutRules n g rs) rows room h = same_many c n (PutRules n g rs) ls rows room
+looks_fit cs ls c (PutMany ps) rows room h = let same = length-parts c ps ls in inl (omega (arith, same))
+looks_fit cs ls c (AddRule n g r) rows room h = same_many c n (AddRule n g r) ls rows room
+looks_fit cs ls c (RemoveRule n g k) rows room h = same_many c n (RemoveRule n g k) ls rows room
+looks_fit cs ls c (SetDefault n dir allow) rows room h = same_many c n (SetDefault n dir allow) ls rows room
+looks_fit cs ls c (Sweep n now) rows room h = same_many c n (Sweep n now) ls rows room
 
 pub room_after : (cs : List ℕ) (ls : List LayerSeen) (c : ℕ) (m : Command) (r : Reply) (rows room : ℕ) → r ≡ reply_in (obey cs ls c m) → HasLooks m ls rows room → HasRoom ls (left_by ls (obey cs ls c m)) (is_obeyed r) rows room
 room_after cs ls c m r rows room right h = by (first_refusal (tests ls c m)) right

@@ -31,11 +31,13 @@ fn hold_more<'a, 'g, J: Naming, G, R: Wait>(
 ) -> Result<(), NoMemory>
     ensures { OnOk result (map (λ h. h.port) helds.new.items ≡ map (λ h. h.port) helds.old.items ++ map (λ d. d.live) docks.now) }
 {
-    if let Some((dock, others)) = docks.split_first() {
-        put(helds, dock.port().hold(rt))?;
-        hold_more(rt, others, helds)?;
+    match docks.split_first() {
+        None => Ok(()),
+        Some((dock, others)) => {
+            put(helds, dock.port().hold(rt))?;
+            hold_more(rt, others, helds)
+        }
     }
-    Ok(())
 }
 
 /// Takes the lock of each port, in order. All histories stand still while these are kept.

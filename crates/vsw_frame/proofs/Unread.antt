@@ -9,13 +9,14 @@ use Rattle.vsw_base.specs.declared.fault.BadFrame.TheVariants.{TooLong}
 use Rattle.std.proofs.lemmas.Bool.{cond-false}
 use Rattle.vsw_base.specs.Ethernet.{EtherFields, ether_of}
 use Rattle.vsw_base.specs.Ipv4.{IpFields, ip_of, ip_total, ip_header}
+use Rattle.vsw_base.specs.Ipv6.{Ip6Fields, ip6_of, ip6_total}
 use Rattle.vsw_base.specs.Tcp.{TcpFields, tcp_of, tcp_header}
 use Rattle.vsw_base.specs.Udp.{UdpFields, udp_of, udp_length}
-use Rattle.vsw_base.specs.Shape.{ipv4_kind}
+use Rattle.vsw_base.specs.Shape.{ipv4_kind, ipv6_kind}
 use Rattle.vsw_base.specs.Frame as frame
-use Rattle.vsw_base.specs.Frame.{Level, Parts, Opened, End, within, frame_of, end_of, opened_ip, opened_of, ports, control_in, frame_in, look_in, level_of, plain_parts, encap_parts, payload_in, slack_in, ◌>>=◌}
-use Rattle.vsw_frame.proofs.Alike.{vni_like, ether_like, ip_like, ip_before, ip_bounds, tcp_like, tcp_before, tcp_bounds, udp_like, udp_before, udp_bounds}
-use Rattle.vsw_frame.proofs.Tiles.{ether_rest, ip_payload, ip_trailer, tcp_payload, udp_payload, udp_slack, frame_tiles}
+use Rattle.vsw_base.specs.Frame.{Level, Parts, Opened, End, within, frame_of, end_of, end6_of, opened_ip, opened_ip6, opened_of, ports, control_in, frame_in, look_in, level_of, plain_parts, encap_parts, payload_in, slack_in, ◌>>=◌}
+use Rattle.vsw_frame.proofs.Alike.{vni_like, ether_like, ip_like, ip_before, ip_bounds, ip6_like, ip6_before, ip6_bounds, tcp_like, tcp_before, tcp_bounds, udp_like, udp_before, udp_bounds}
+use Rattle.vsw_frame.proofs.Tiles.{ether_rest, ip_payload, ip6_payload, ip_trailer, ip6_trailer, tcp_payload, udp_payload, udp_slack, frame_tiles}
 use Rattle.vsw_frame.proofs.Within.{looked, looked_in}
 use Rattle.vsw_frame.specs.Ends.{SameHeaders, OtherEnds, SaysAs, IsReadAs, EndsAreUnread, lengths}
 use Rattle.vsw_frame.specs.Tiles.{Tiles, TilesAt, outermost}
@@ -41,6 +42,7 @@ abbrev pub with_payload : End → List ℕ → List ℕ → End
 with_payload (frame.Rest p) q s = frame.Rest q
 with_payload (frame.OverTcp t) q s = frame.OverTcp (record { src = t.src; dst = t.dst; control = t.control; payload = q })
 with_payload (frame.OverUdp u) q s = frame.OverUdp (record { src = u.src; dst = u.dst; payload = q; slack = s })
+with_payload (frame.OverUdp6 u) q s = frame.OverUdp6 (record { src = u.src; dst = u.dst; payload = q; slack = s })
 
 -- other bytes that begin with the same headers end alike
 abbrev EndCut : List ℕ → (List ℕ → Result End BadFrame) → End → Type 0
@@ -62,6 +64,9 @@ over_tcp q = tcp_of q >>= (λ t. Ok (frame.OverTcp t))
 
 abbrev over_udp : List ℕ → Result End BadFrame
 over_udp q = udp_of q >>= (λ u. Ok (frame.OverUdp u))
+
+abbrev over_udp6 : List ℕ → Result End BadFrame
+over_udp6 q = udp_of q >>= (λ u. Ok (frame.OverUdp6 u))
 
 abbrev unread : List ℕ → Result End BadFrame
 unread q = Ok (frame.Rest q)
@@ -104,6 +109,23 @@ udp_cut bytes (Ok u) end s h =
     ) in
     subst (EndCut bytes over_udp) same c
 
+udp6_cut : (bytes : List ℕ) (r : Result UdpFields BadFrame) (end : End) → udp_of bytes ≡ r → r >>= (λ u. Ok (frame.OverUdp6 u)) ≡ Ok end → EndCut bytes over_udp6 end
+udp6_cut bytes (Err f) end s h = absurd (cc)
+udp6_cut bytes (Ok u) end s h =
+    let same : frame.OverUdp6 u ≡ end = cc in
+    let y = udp_length bytes in
+    let b = udp_bounds bytes u s in
+    let p : length u.payload ≡ y - 8 = ap length (udp_payload bytes u s) ∙ length-drop 8 (take y bytes) ∙ omega (arith, length-take y bytes, b.1) in
+    let k : length u.slack ≡ length bytes - y = ap length (udp_slack bytes u s) ∙ length-drop y bytes in
+    let n : 8 + length u.payload ≡ y = omega (arith, p, b.0) in
+    let c : EndCut bytes over_udp6 (frame.OverUdp6 u) = (
+      8,
+      omega (arith, b.0, b.1, p, k),
+      λ q l e.
+          (frame.OverUdp6 (udp_before bytes q u), ap (λ (r : Result UdpFields BadFrame). r >>= (λ u. Ok (frame.OverUdp6 u))) (udp_like bytes q u l e s), refl, ap (λ (m : ℕ). drop 8 (take m q)) (sym n) ∙ drop-take 8 (length u.payload) q),
+    ) in
+    subst (EndCut bytes over_udp6) same c
+
 cut_if : (b : Bool) (f g : List ℕ → Result End BadFrame) (bytes : List ℕ) (end : End) → (f bytes ≡ Ok end → EndCut bytes f end) → (g bytes ≡ Ok end → EndCut bytes g end) → cond b (f bytes) (g bytes) ≡ Ok end → EndCut bytes (λ q. cond b (f q) (g q)) end
 cut_if true f g bytes end p q h = p h
 cut_if false f g bytes end p q h = q h
@@ -120,6 +142,16 @@ end_cut i end =
     cut_if (i.proto == 6) over_tcp (λ q. cond (i.proto == 17) (over_udp q) (unread q)) bytes end (tcp_cut bytes (tcp_of bytes) end refl) udp in
     cut_if i.part unread (λ q. cond (i.proto == 6) (over_tcp q) (cond (i.proto == 17) (over_udp q) (unread q))) bytes end (rest_cut bytes end) tcp
 
+abbrev end6_by : Bool → Bool → List ℕ → Result End BadFrame
+end6_by tcp udp q = cond tcp (over_tcp q) (cond udp (over_udp6 q) (unread q))
+
+end6_cut : (i : Ip6Fields) (end : End) → end6_of i ≡ Ok end → EndCut i.payload (end6_by (i.proto == 6) (i.proto == 17)) end
+end6_cut i end =
+    let bytes = i.payload in
+    let udp : cond (i.proto == 17) (over_udp6 bytes) (unread bytes) ≡ Ok end → EndCut bytes (λ q. cond (i.proto == 17) (over_udp6 q) (unread q)) end =
+    cut_if (i.proto == 17) over_udp6 unread bytes end (udp6_cut bytes (udp_of bytes) end refl) (rest_cut bytes end) in
+    cut_if (i.proto == 6) over_tcp (λ q. cond (i.proto == 17) (over_udp6 q) (unread q)) bytes end (tcp_cut bytes (tcp_of bytes) end refl) udp
+
 -- other bytes that begin with the same headers are opened alike
 abbrev OpenedCut : List ℕ → Opened → Type 0
 OpenedCut bytes o =
@@ -132,61 +164,88 @@ not_ip e = record { front = frame.ether_header e ∷ []; trailer = []; end = fra
 abbrev over_ip : EtherFields → IpFields → End → Opened
 over_ip e i end = record { front = frame.ether_header e ∷ frame.ip_header i ∷ []; trailer = i.trailer; end = end }
 
-abbrev after : Bool → EtherFields → Result Opened BadFrame
-after b e = cond b (ip_of e.rest >>= opened_ip e) (Ok (not_ip e))
+abbrev over_ip6 : EtherFields → Ip6Fields → End → Opened
+over_ip6 e i end = record { front = frame.ether_header e ∷ frame.ip6_header i ∷ []; trailer = i.trailer; end = end }
+
+abbrev after : Bool → Bool → EtherFields → Result Opened BadFrame
+after b c e = cond b (ip_of e.rest >>= opened_ip e) (cond c (ip6_of e.rest >>= opened_ip6 e) (Ok (not_ip e)))
 
 abbrev before : List ℕ → EtherFields → EtherFields
 before other e = record { dst = e.dst; src = e.src; kind = e.kind; rest = drop 14 other }
 
-opened_after : (bytes other : List ℕ) (e : EtherFields) (b : Bool) → length other ≡ length bytes → take 14 other ≡ take 14 bytes → ether_of bytes ≡ Ok e → (e.kind == ipv4_kind) ≡ b → opened_of other ≡ after b (before other e)
-opened_after bytes other e b l t h k =
-    ap (λ (r : Result EtherFields BadFrame). r >>= (λ e. after (e.kind == ipv4_kind) e)) (ether_like bytes other e l t h)
-    ∙ ap (λ (c : Bool). after c (before other e)) k
+opened_after : (bytes other : List ℕ) (e : EtherFields) (b c : Bool) → length other ≡ length bytes → take 14 other ≡ take 14 bytes → ether_of bytes ≡ Ok e → (e.kind == ipv4_kind) ≡ b → (e.kind == ipv6_kind) ≡ c → opened_of other ≡ after b c (before other e)
+opened_after bytes other e b c l t h k m =
+    ap (λ (r : Result EtherFields BadFrame). r >>= (λ e. after (e.kind == ipv4_kind) (e.kind == ipv6_kind) e)) (ether_like bytes other e l t h)
+    ∙ ap (λ (x : Bool). after x (e.kind == ipv6_kind) (before other e)) k
+    ∙ ap (λ (x : Bool). after b x (before other e)) m
 
-not_ip_cut : (bytes : List ℕ) (e : EtherFields) → ether_of bytes ≡ Ok e → (e.kind == ipv4_kind) ≡ false → OpenedCut bytes (not_ip e)
-not_ip_cut bytes e h k =
+not_ip_cut : (bytes : List ℕ) (e : EtherFields) → ether_of bytes ≡ Ok e → (e.kind == ipv4_kind) ≡ false → (e.kind == ipv6_kind) ≡ false → OpenedCut bytes (not_ip e)
+not_ip_cut bytes e h k m =
     let r : length e.rest ≡ length bytes - 14 = ap length (ether_rest bytes e h) ∙ length-drop 14 bytes in (
       14,
       omega (arith, r, ether_bound bytes e h),
       λ other l t.
-          (not_ip (before other e), opened_after bytes other e false l t h k, refl, refl, take_whole (length e.rest) (drop 14 other) (omega (arith, r, l, length-drop 14 other))),
+          (not_ip (before other e), opened_after bytes other e false false l t h k m, refl, refl, take_whole (length e.rest) (drop 14 other) (omega (arith, r, l, length-drop 14 other))),
     )
 
-over_ip_cut : (bytes : List ℕ) (e : EtherFields) (i : IpFields) (end : End) → ether_of bytes ≡ Ok e → (e.kind == ipv4_kind) ≡ true → ip_of e.rest ≡ Ok i → end_of i ≡ Ok end → OpenedCut bytes (over_ip e i end)
-over_ip_cut bytes e i end h k s u =
-    let c = end_cut i end u in
+-- a packet behind Ethernet: `head` bytes of a header, which says `total`, and an end that `f` reads of what it carries. Other bytes
+-- with the same header are opened by `opens`, once it is known what their end is
+packet_cut : (bytes rest payload trailer : List ℕ) (head total : ℕ) (f : List ℕ → Result End BadFrame) (front : List Header) (end : End)
+    → 14 ≤ length bytes → rest ≡ drop 14 bytes → head ≤ total → total ≤ length rest → payload ≡ drop head (take total rest) → trailer ≡ drop total rest → EndCut payload f end
+    → ((other : List ℕ) (n : ℕ) (e : End) → length other ≡ length bytes → length (drop 14 other) ≡ length rest → head ≤ n → take (14 + n) other ≡ take (14 + n) bytes → take n (drop 14 other) ≡ take n rest → f (drop head (take total (drop 14 other))) ≡ Ok e → (t : List ℕ) × (opened_of other ≡ Ok (record { front = front; trailer = t; end = e })))
+    → OpenedCut bytes (record { front = front; trailer = trailer; end = end })
+packet_cut bytes rest payload trailer head total f front end long is h t p q c opens =
     let x = c.0 in
-    let ih = ip_header e.rest in
-    let it = ip_total e.rest in
-    let b = ip_bounds e.rest i s in
-    let r : length e.rest ≡ length bytes - 14 = ap length (ether_rest bytes e h) ∙ length-drop 14 bytes in
-    let p : length i.payload ≡ it - ih = ap length (ip_payload e.rest i s) ∙ length-drop ih (take it e.rest) ∙ omega (arith, length-take it e.rest, b.2) in
-    let t : length i.trailer ≡ length e.rest - it = ap length (ip_trailer e.rest i s) ∙ length-drop it e.rest in (
-      14 + (ih + x),
-      omega (arith, c.1, r, p, t, b.0, b.1, b.2, ether_bound bytes e h),
+    let r : length rest ≡ length bytes - 14 = ap length is ∙ length-drop 14 bytes in
+    let lp : length payload ≡ total - head = ap length p ∙ length-drop head (take total rest) ∙ omega (arith, length-take total rest, t) in
+    let lt : length trailer ≡ length rest - total = ap length q ∙ length-drop total rest in (
+      14 + (head + x),
+      omega (arith, c.1, r, lp, lt, h, t, long),
       λ other l same.
-          let rest = drop 14 other in
-          let lr : length rest ≡ length e.rest = omega (arith, length-drop 14 other, l, r) in
-          let begins : take (ih + x) rest ≡ take (ih + x) e.rest = take_drop 14 (ih + x) bytes other same ∙ ap (take (ih + x)) (sym (ether_rest bytes e h)) in
-          let q = drop ih (take it rest) in
-          let room : ih + x ≤ it = omega (arith, c.1, p, b.1) in
-          let lq : length q ≡ length i.payload = length-drop ih (take it rest) ∙ omega (arith, length-take it rest, lr, b.2, p) in
-          let sq : take x q ≡ take x i.payload = take_inner ih x it rest room ∙ take_drop ih x e.rest rest begins ∙ sym (take_inner ih x it e.rest room) ∙ ap (take x) (sym (ip_payload e.rest i s)) in
-          let w = c.2 q lq sq in
-          let like = ip_like e.rest rest i lr (take_less 20 (ih + x) e.rest rest (omega (arith, b.0)) begins) s in
+          let after = drop 14 other in
+          let la : length after ≡ length rest = omega (arith, length-drop 14 other, l, r) in
+          let begins : take (head + x) after ≡ take (head + x) rest = take_drop 14 (head + x) bytes other same ∙ ap (take (head + x)) (sym is) in
+          let inside = drop head (take total after) in
+          let room : head + x ≤ total = omega (arith, c.1, lp, h) in
+          let li : length inside ≡ length payload = length-drop head (take total after) ∙ omega (arith, length-take total after, la, t, lp) in
+          let si : take x inside ≡ take x payload = take_inner head x total after room ∙ take_drop head x rest after begins ∙ sym (take_inner head x total rest room) ∙ ap (take x) (sym p) in
+          let w = c.2 inside li si in
           let n = length (payload_in end) in
-          let deep : ih + x + n ≤ it = omega (arith, c.1, p, b.1) in
-          let place : take n (drop x q) ≡ take n (drop (14 + (ih + x)) other) =
-          ap (take n) (drop-drop x ih (take it rest)) ∙ take_inner (ih + x) n it rest deep ∙ ap (take n) (drop-drop (ih + x) 14 other) in (
-            over_ip (before other e) (ip_before e.rest rest i) w.0,
-            opened_after bytes other e true l (take_less 14 (14 + (ih + x)) bytes other (omega arith) same) h k
-                ∙ ap (λ (r : Result IpFields BadFrame). r >>= opened_ip (before other e)) like
-                ∙ ap (λ (r : Result End BadFrame). r >>= (λ end. Ok (over_ip (before other e) (ip_before e.rest rest i) end))) w.1,
+          let deep : head + x + n ≤ total = omega (arith, c.1, lp, h) in
+          let place : take n (drop x inside) ≡ take n (drop (14 + (head + x)) other) =
+          ap (take n) (drop-drop x head (take total after)) ∙ take_inner (head + x) n total after deep ∙ ap (take n) (drop-drop (head + x) 14 other) in
+          let o = opens other (head + x) w.0 l la (omega arith) same begins w.1 in (
+            record { front = front; trailer = o.0; end = w.0 },
+            o.1,
             refl,
             w.2,
             w.3 ∙ place,
           ),
     )
+
+over_ip_cut : (bytes : List ℕ) (e : EtherFields) (i : IpFields) (end : End) → ether_of bytes ≡ Ok e → (e.kind == ipv4_kind) ≡ true → ip_of e.rest ≡ Ok i → end_of i ≡ Ok end → OpenedCut bytes (over_ip e i end)
+over_ip_cut bytes e i end h k s u =
+    let b = ip_bounds e.rest i s in
+    packet_cut bytes e.rest i.payload i.trailer (ip_header e.rest) (ip_total e.rest) (end_by i.part (i.proto == 6) (i.proto == 17)) (frame.ether_header e ∷ frame.ip_header i ∷ []) end (ether_bound bytes e h) (ether_rest bytes e h) b.1 b.2 (ip_payload e.rest i s) (ip_trailer e.rest i s) (end_cut i end u) (λ other n end l lr m same begins is.
+    let j = ip_before e.rest (drop 14 other) i in
+    let like = ip_like e.rest (drop 14 other) i lr (take_less 20 n e.rest (drop 14 other) (omega (arith, b.0, m)) begins) s in (
+      j.trailer,
+      opened_after bytes other e true (e.kind == ipv6_kind) l (take_less 14 (14 + n) bytes other (omega arith) same) h k refl
+          ∙ ap (λ (r : Result IpFields BadFrame). r >>= opened_ip (before other e)) like
+          ∙ ap (λ (r : Result End BadFrame). r >>= (λ end. Ok (over_ip (before other e) j end))) is,
+    ))
+
+over_ip6_cut : (bytes : List ℕ) (e : EtherFields) (i : Ip6Fields) (end : End) → ether_of bytes ≡ Ok e → (e.kind == ipv4_kind) ≡ false → (e.kind == ipv6_kind) ≡ true → ip6_of e.rest ≡ Ok i → end6_of i ≡ Ok end → OpenedCut bytes (over_ip6 e i end)
+over_ip6_cut bytes e i end h k m s u =
+    let b = ip6_bounds e.rest i s in
+    packet_cut bytes e.rest i.payload i.trailer 40 (ip6_total e.rest) (end6_by (i.proto == 6) (i.proto == 17)) (frame.ether_header e ∷ frame.ip6_header i ∷ []) end (ether_bound bytes e h) (ether_rest bytes e h) b.0 b.1 (ip6_payload e.rest i s) (ip6_trailer e.rest i s) (end6_cut i end u) (λ other n end l lr long same begins is.
+    let j = ip6_before e.rest (drop 14 other) i in
+    let like = ip6_like e.rest (drop 14 other) i lr (take_less 40 n e.rest (drop 14 other) long begins) s in (
+      j.trailer,
+      opened_after bytes other e false true l (take_less 14 (14 + n) bytes other (omega arith) same) h k m
+          ∙ ap (λ (r : Result Ip6Fields BadFrame). r >>= opened_ip6 (before other e)) like
+          ∙ ap (λ (r : Result End BadFrame). r >>= (λ end. Ok (over_ip6 (before other e) j end))) is,
+    ))
 
 ip_cut : (bytes : List ℕ) (e : EtherFields) (i : IpFields) (r : Result End BadFrame) (o : Opened) → ether_of bytes ≡ Ok e → (e.kind == ipv4_kind) ≡ true → ip_of e.rest ≡ Ok i → end_of i ≡ r → r >>= (λ end. Ok (over_ip e i end)) ≡ Ok o → OpenedCut bytes o
 ip_cut bytes e i (Err f) o h k s u g = absurd (cc)
@@ -196,13 +255,22 @@ ether_ip_cut : (bytes : List ℕ) (e : EtherFields) (r : Result IpFields BadFram
 ether_ip_cut bytes e (Err f) o h k s g = absurd (cc)
 ether_ip_cut bytes e (Ok i) o h k s g = ip_cut bytes e i (end_of i) o h k s refl g
 
-after_cut : (bytes : List ℕ) (e : EtherFields) (b : Bool) (o : Opened) → ether_of bytes ≡ Ok e → (e.kind == ipv4_kind) ≡ b → after b e ≡ Ok o → OpenedCut bytes o
-after_cut bytes e true o h k g = ether_ip_cut bytes e (ip_of e.rest) o h k refl g
-after_cut bytes e false o h k g = let t : not_ip e ≡ o = cc in subst (OpenedCut bytes) t (not_ip_cut bytes e h k)
+ip6_cut : (bytes : List ℕ) (e : EtherFields) (i : Ip6Fields) (r : Result End BadFrame) (o : Opened) → ether_of bytes ≡ Ok e → (e.kind == ipv4_kind) ≡ false → (e.kind == ipv6_kind) ≡ true → ip6_of e.rest ≡ Ok i → end6_of i ≡ r → r >>= (λ end. Ok (over_ip6 e i end)) ≡ Ok o → OpenedCut bytes o
+ip6_cut bytes e i (Err f) o h k m s u g = absurd (cc)
+ip6_cut bytes e i (Ok end) o h k m s u g = let t : over_ip6 e i end ≡ o = cc in subst (OpenedCut bytes) t (over_ip6_cut bytes e i end h k m s u)
 
-ether_cut : (bytes : List ℕ) (r : Result EtherFields BadFrame) (o : Opened) → ether_of bytes ≡ r → r >>= (λ e. after (e.kind == ipv4_kind) e) ≡ Ok o → OpenedCut bytes o
+ether_ip6_cut : (bytes : List ℕ) (e : EtherFields) (r : Result Ip6Fields BadFrame) (o : Opened) → ether_of bytes ≡ Ok e → (e.kind == ipv4_kind) ≡ false → (e.kind == ipv6_kind) ≡ true → ip6_of e.rest ≡ r → r >>= opened_ip6 e ≡ Ok o → OpenedCut bytes o
+ether_ip6_cut bytes e (Err f) o h k m s g = absurd (cc)
+ether_ip6_cut bytes e (Ok i) o h k m s g = ip6_cut bytes e i (end6_of i) o h k m s refl g
+
+after_cut : (bytes : List ℕ) (e : EtherFields) (b c : Bool) (o : Opened) → ether_of bytes ≡ Ok e → (e.kind == ipv4_kind) ≡ b → (e.kind == ipv6_kind) ≡ c → after b c e ≡ Ok o → OpenedCut bytes o
+after_cut bytes e true c o h k m g = ether_ip_cut bytes e (ip_of e.rest) o h k refl g
+after_cut bytes e false true o h k m g = ether_ip6_cut bytes e (ip6_of e.rest) o h k m refl g
+after_cut bytes e false false o h k m g = let t : not_ip e ≡ o = cc in subst (OpenedCut bytes) t (not_ip_cut bytes e h k m)
+
+ether_cut : (bytes : List ℕ) (r : Result EtherFields BadFrame) (o : Opened) → ether_of bytes ≡ r → r >>= (λ e. after (e.kind == ipv4_kind) (e.kind == ipv6_kind) e) ≡ Ok o → OpenedCut bytes o
 ether_cut bytes (Err f) o h g = absurd (cc)
-ether_cut bytes (Ok e) o h g = after_cut bytes e (e.kind == ipv4_kind) o h refl g
+ether_cut bytes (Ok e) o h g = after_cut bytes e (e.kind == ipv4_kind) (e.kind == ipv6_kind) o h refl refl g
 
 opened_cut : (bytes : List ℕ) (o : Opened) → opened_of bytes ≡ Ok o → OpenedCut bytes o
 opened_cut bytes o h = ether_cut bytes (ether_of bytes) o refl h
@@ -211,16 +279,19 @@ ports_kept : (end : End) (q s : List ℕ) → ports (with_payload end q s) ≡ p
 ports_kept (frame.Rest p) q s = refl
 ports_kept (frame.OverTcp t) q s = refl
 ports_kept (frame.OverUdp u) q s = refl
+ports_kept (frame.OverUdp6 u) q s = refl
 
 control_kept : (end : End) (q s : List ℕ) → control_in (with_payload end q s) ≡ control_in end
 control_kept (frame.Rest p) q s = refl
 control_kept (frame.OverTcp t) q s = refl
 control_kept (frame.OverUdp u) q s = refl
+control_kept (frame.OverUdp6 u) q s = refl
 
 within_kept : (end : End) (s : List ℕ) → within (with_payload end (payload_in end) s) ≡ within end
 within_kept (frame.Rest p) s = refl
 within_kept (frame.OverTcp t) s = refl
 within_kept (frame.OverUdp u) s = refl
+within_kept (frame.OverUdp6 u) s = refl
 
 -- the same headers before other lists
 same_front : (f : ℕ) (h x y bytes other : List ℕ) → length h ≡ f → bytes ≡ h ++ x → other ≡ h ++ y → take f other ≡ take f bytes
@@ -258,6 +329,7 @@ plain_as bytes other o h s =
 
 within_other : (end : End) (v : ℕ) (inner q s : List ℕ) → within end ≡ Some (v, inner) → length q ≡ length (payload_in end) → take 8 q ≡ take 8 (payload_in end) → within (with_payload end q s) ≡ Some (v, drop 8 q)
 within_other (frame.Rest p) v inner q s h l t = absurd (cc)
+within_other (frame.OverUdp6 u) v inner q s h l t = absurd (cc)
 within_other (frame.OverTcp u) v inner q s h l t = absurd (cc)
 within_other (frame.OverUdp u) v inner q s h l t =
     let w = udp_within (u.dst == vxlan_port) (vni_of u.payload) v u.payload inner h in

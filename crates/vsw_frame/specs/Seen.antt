@@ -1,23 +1,28 @@
 -- What the reader's values say, in the words of the definition of a frame.
-use Rattle.std.specs.Prelude.{◌≡◌, ◌≤◌, ◌+◌, ◌*◌, true, ◌<◌, ◌||◌, ◌&&◌, ℕ, zero, suc, Bool, List, ◌∷◌, ◌++◌, length, take, drop, Option, Some, None, Result, Ok, Err}
+use Rattle.std.specs.Prelude.{◌≡◌, ◌≤◌, ◌+◌, ◌*◌, true, false, ◌<◌, ◌||◌, ◌&&◌, ℕ, zero, suc, Bool, List, [], ◌∷◌, ◌++◌, length, take, drop, Option, Some, None, Result, Ok, Err}
 use Rattle.vsw_base.specs.declared.fault.BadFrame.{BadFrame}
+use Rattle.vsw_base.specs.Ethernet.{EtherFields}
+use Rattle.vsw_base.specs.Frame.{◌>>=◌, opened_ip6}
 use Rattle.vsw_base.specs.Frame as frame
+use Rattle.vsw_base.specs.Ipv6.{ip6_of}
 use Rattle.vsw_header.specs.Tcp.{tcp_view}
 use Rattle.vsw_header.specs.Udp.{udp_view}
 use Rattle.vsw_frame.specs.declared.opened.End.{End}
-use Rattle.vsw_frame.specs.declared.opened.End.TheVariants.{Rest, OverTcp, OverUdp}
+use Rattle.vsw_frame.specs.declared.opened.End.TheVariants.{Rest, OverTcp, OverUdp, OverUdp6}
 use Rattle.vsw_frame.specs.declared.opened.Opened.{Opened}
 use Rattle.vsw_frame.specs.declared.opened.Inner.{Inner}
 use Rattle.vsw_frame.specs.declared.found.Found.{Found}
 use Rattle.vsw_frame.specs.declared.frame.Level.{Level}
 use Rattle.vsw_frame.specs.Levels.{level_fields, more_levels}
 use Rattle.vsw_base.specs.declared.header.Header.{Header}
+use Rattle.vsw_base.specs.declared.header.Header.TheVariants.{Ether, Ip, Vxlan, Ports, Six}
 use Rattle.vsw_base.specs.Shape.{is_plain, is_encap}
 
 abbrev pub end_fields : End → frame.End
 end_fields (Rest payload) = frame.Rest payload.now
 end_fields (OverTcp t) = frame.OverTcp (tcp_view t)
 end_fields (OverUdp u) = frame.OverUdp (udp_view u)
+end_fields (OverUdp6 u) = frame.OverUdp6 (udp_view u)
 
 abbrev pub end_seen : Result End BadFrame → Result frame.End BadFrame
 end_seen (Ok end) = Ok (end_fields end)
@@ -38,6 +43,32 @@ opened_fields front o = record { front = front; trailer = o.trailer.now; end = e
 abbrev pub opened_seen : List Header → Result Opened BadFrame → Result frame.Opened BadFrame
 opened_seen front (Ok o) = Ok (opened_fields front o)
 opened_seen front (Err e) = Err e
+
+-- Ethernet and IPv4
+abbrev pub is_ip_front : List Header → Bool
+is_ip_front [] = false
+is_ip_front (Ether d s k ∷ []) = false
+is_ip_front (Ether d s k ∷ Ether e t l ∷ hs) = false
+is_ip_front (Ether d s k ∷ Ip a b p f ∷ []) = true
+is_ip_front (Ether d s k ∷ Ip a b p f ∷ h ∷ hs) = false
+is_ip_front (Ether d s k ∷ Vxlan v ∷ hs) = false
+is_ip_front (Ether d s k ∷ Ports p x y ∷ hs) = false
+is_ip_front (Ether d s k ∷ Six a b p ∷ hs) = false
+is_ip_front (Ip a b p f ∷ hs) = false
+is_ip_front (Vxlan v ∷ hs) = false
+is_ip_front (Ports p x y ∷ hs) = false
+is_ip_front (Six a b p ∷ hs) = false
+
+-- UDP in which an encapsulation is looked for stands behind IPv4
+abbrev pub IsOver : List Header → frame.End → Type 0
+IsOver front (frame.Rest payload) = Unit {0}
+IsOver front (frame.OverTcp t) = Unit {0}
+IsOver front (frame.OverUdp u) = is_ip_front front ≡ true
+IsOver front (frame.OverUdp6 u) = Unit {0}
+
+-- what stands behind an Ethernet header of the type of IPv6
+abbrev pub opened_six : EtherFields → Result frame.Opened BadFrame
+opened_six e = ip6_of e.rest >>= opened_ip6 e
 
 -- what was found in a frame, with the headers that were pushed
 abbrev pub found_parts : List Header → Found → frame.Parts

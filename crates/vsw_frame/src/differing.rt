@@ -5,6 +5,7 @@ ghost use Rattle.vsw_frame.specs.Differ as headers;
 
 use vsw_base::Header;
 
+#[inline(always)]
 fn is_same(header: &Header, other: &Header) -> bool
     ensures { result ≡ headers.is_same header.now other.now }
 {
@@ -40,7 +41,34 @@ fn is_same(header: &Header, other: &Header) -> bool
                 dst: to_dst,
             },
         ) => proto == to_proto && src == to_src && dst == to_dst,
-        _ => false,
+        (
+            Header::Six { src, dst, proto },
+            Header::Six {
+                src: to_src,
+                dst: to_dst,
+                proto: to_proto,
+            },
+        ) => src == to_src && dst == to_dst && proto == to_proto,
+        (
+            Header::Ether { .. },
+            Header::Ip { .. } | Header::Vxlan { .. } | Header::Ports { .. } | Header::Six { .. },
+        )
+        | (
+            Header::Ip { .. },
+            Header::Ether { .. } | Header::Vxlan { .. } | Header::Ports { .. } | Header::Six { .. },
+        )
+        | (
+            Header::Vxlan { .. },
+            Header::Ether { .. } | Header::Ip { .. } | Header::Ports { .. } | Header::Six { .. },
+        )
+        | (
+            Header::Ports { .. },
+            Header::Ether { .. } | Header::Ip { .. } | Header::Vxlan { .. } | Header::Six { .. },
+        )
+        | (
+            Header::Six { .. },
+            Header::Ether { .. } | Header::Ip { .. } | Header::Vxlan { .. } | Header::Ports { .. },
+        ) => false,
     }
 }
 

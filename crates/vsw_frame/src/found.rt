@@ -23,6 +23,7 @@ pub struct Found<'a> {
     pub payload: &'a [u8],
 }
 
+#[inline(always)]
 fn push_ports(headers: &mut Headers, end: &End<'_>)
     requires room { length headers.old ≤ 8 }
     ensures { headers.new ≡ headers.old ++ ports (end_fields end.now) }
@@ -34,7 +35,7 @@ fn push_ports(headers: &mut Headers, end: &End<'_>)
             src: tcp.src,
             dst: tcp.dst,
         }),
-        End::OverUdp(udp) => headers.push(Header::Ports {
+        End::OverUdp(udp) | End::OverUdp6(udp) => headers.push(Header::Ports {
             proto: 17,
             src: udp.src,
             dst: udp.dst,
@@ -42,35 +43,39 @@ fn push_ports(headers: &mut Headers, end: &End<'_>)
     }
 }
 
+#[inline(always)]
 fn control(end: &End<'_>) -> Control
     ensures { result ≡ control_in (end_fields end.now) }
 {
     match end {
         End::OverTcp(tcp) => tcp.control,
-        _ => Control::None,
+        End::Rest(_) | End::OverUdp(_) | End::OverUdp6(_) => Control::None,
     }
 }
 
+#[inline(always)]
 fn payload<'a>(end: &End<'a>) -> &'a [u8]
     ensures { result.now ≡ payload_in (end_fields end.now) }
 {
     match end {
         End::Rest(payload) => payload,
         End::OverTcp(tcp) => tcp.payload,
-        End::OverUdp(udp) => udp.payload,
+        End::OverUdp(udp) | End::OverUdp6(udp) => udp.payload,
     }
 }
 
+#[inline(always)]
 fn slack<'a>(end: &End<'a>) -> &'a [u8]
     ensures { result.now ≡ slack_in (end_fields end.now) }
 {
     match end {
-        End::OverUdp(udp) => udp.slack,
-        _ => &[],
+        End::OverUdp(udp) | End::OverUdp6(udp) => udp.slack,
+        End::Rest(_) | End::OverTcp(_) => &[],
     }
 }
 
 /// A frame in which no encapsulation is looked for, or found. Its ports are pushed.
+#[inline(always)]
 fn plain<'a>(bytes: &'a [u8], opened: &Opened<'a>, headers: &mut Headers) -> Found<'a>
     requires room { length headers.old ≤ 8 }
     ensures pushed { headers.new ≡ headers.old ++ ports (end_fields opened.now.end) }
@@ -93,6 +98,7 @@ fn plain<'a>(bytes: &'a [u8], opened: &Opened<'a>, headers: &mut Headers) -> Fou
 }
 
 /// An encapsulation around what was found in its inner frame.
+#[inline(always)]
 fn encapsulated<'a>(bytes: &'a [u8], opened: &Opened<'a>, inner: &Found<'a>) -> Found<'a>
     requires levels { inner.now.third ≡ None }
     ensures parts { (front hs : List Header) (vni : ℕ) → found_parts (front ++ Vxlan vni ∷ hs) result ≡ encap_parts bytes.now (opened_fields front opened.now) vni (found_parts hs inner.now) }

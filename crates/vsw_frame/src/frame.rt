@@ -11,9 +11,9 @@ use vsw_base::{Control, Sizes, Stack};
 pub struct Level<'a> {
     /// From the Ethernet header on.
     pub bytes: &'a [u8],
-    /// After the IPv4 total length.
+    /// After the length that IPv4 or IPv6 says.
     pub trailer: &'a [u8],
-    /// After the UDP length, within the IPv4 total length.
+    /// After the UDP length, within the length that IPv4 or IPv6 says.
     pub slack: &'a [u8],
 }
 

@@ -10,6 +10,7 @@ ghost use Rattle.vsw_frame.specs.Levels.{level_fields, levels_of, IsInOrder, Sta
 use crate::frame::{Frame, Levels};
 
 /// All levels of a frame.
+#[inline(always)]
 pub fn all_levels<'a>(frame: &Frame<'a>) -> Levels<'a>
     ensures levels { levels_of result ≡ (parts frame.now).levels }
     ensures count { length (levels_of result) ≡ encaps (parts frame.now).stack + 1 }
@@ -23,6 +24,7 @@ pub fn all_levels<'a>(frame: &Frame<'a>) -> Levels<'a>
 }
 
 /// The levels without their first.
+#[inline(always)]
 pub fn within<'a>(levels: &Levels<'a>) -> Levels<'a>
     requires more { 1 < length (levels_of levels.now) }
     requires in_order { IsInOrder levels.now }
@@ -42,6 +44,7 @@ pub fn within<'a>(levels: &Levels<'a>) -> Levels<'a>
 }
 
 /// The levels without so many of the first.
+#[inline(always)]
 pub fn levels_without<'a>(levels: &Levels<'a>, dropped: u8) -> Levels<'a>
     requires more { dropped < length (levels_of levels.now) }
     requires in_order { IsInOrder levels.now }

@@ -54,7 +54,27 @@ fn outermost(headers: &[Header]) -> Option<Outer>
             dst_ip: *dst_ip,
             vni: *vni,
         }),
-        _ => None,
+        []
+        | [_]
+        | [_, _]
+        | [
+            Header::Ip { .. } | Header::Vxlan { .. } | Header::Ports { .. } | Header::Six { .. },
+            _,
+            _,
+            ..
+        ]
+        | [
+            Header::Ether { .. },
+            Header::Ether { .. } | Header::Vxlan { .. } | Header::Ports { .. } | Header::Six { .. },
+            _,
+            ..
+        ]
+        | [
+            Header::Ether { .. },
+            Header::Ip { .. },
+            Header::Ether { .. } | Header::Ip { .. } | Header::Ports { .. } | Header::Six { .. },
+            ..
+        ] => None,
     }
 }
 

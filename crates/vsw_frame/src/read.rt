@@ -16,6 +16,7 @@ const FRAME_MAX: usize = 65_600;
 /// Encapsulations that are looked for.
 const ENCAPS_MAX: u8 = 2;
 
+#[inline(always)]
 fn size(level: &Option<Level<'_>>) -> u32
     requires { IsShort 65600 level.now }
     ensures { result ≡ size_of level.now }
@@ -26,6 +27,7 @@ fn size(level: &Option<Level<'_>>) -> u32
     }
 }
 
+#[inline(always)]
 #[tactic(auto, using(crate::proofs::Finds::sizes_are, crate::proofs::Within::within_stack, crate::proofs::Finds::shorter))]
 fn framed<'a>(bytes: &'a [u8], headers: Headers, found: &Found<'a>) -> Frame<'a>
     requires finds { Finds 2 bytes.now headers found.now }
@@ -48,9 +50,10 @@ fn framed<'a>(bytes: &'a [u8], headers: Headers, found: &Found<'a>) -> Frame<'a>
 }
 
 /// Reads a frame, or names its first fault: at most two VXLAN encapsulations outermost, then Ethernet,
-/// IPv4 where the type says so, and the ports of an unfragmented TCP or UDP packet. UDP to port 4789
-/// with at least 8 bytes of payload and the I flag is VXLAN; beyond the second encapsulation it is
-/// plain UDP. Checksums aren't looked at.
+/// IPv4 or IPv6 where the type says so, and the ports of an unfragmented TCP or UDP packet. UDP over IPv4 to
+/// port 4789 with at least 8 bytes of payload and the I flag is VXLAN; beyond the second encapsulation, and
+/// over IPv6, it is plain UDP. Checksums aren't looked at.
+#[inline(always)]
 pub fn read_frame<'a>(bytes: &'a [u8]) -> Result<Frame<'a>, BadFrame>
     ensures parts { seen result ≡ frame_of bytes.now }
     ensures short { OnOk result (length bytes.now ≤ 65600) }

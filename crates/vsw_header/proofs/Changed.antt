@@ -16,7 +16,7 @@ are_numbers : (ws : List ℕ) → ((i : ℕ) → get_or ws i 0 < 65536) → AreW
 are_numbers [] h = tt
 are_numbers (w ∷ ws) h = (omega (arith, h 0), are_numbers ws (λ i. h (suc i)))
 
-changes_words : (ms ns : List ℕ) → AreWords ns → AreWords (changes ms ns)
+pub changes_words : (ms ns : List ℕ) → AreWords ns → AreWords (changes ms ns)
 changes_words [] ns h = tt
 changes_words (m ∷ ms) [] h = tt
 changes_words (m ∷ ms) (n ∷ ns) h = grind (arith, common_steps, changes_words ms ns h.1)
@@ -34,7 +34,7 @@ changes_sum (x ∷ xs) (y ∷ ys) h l =
     (rest.0 + (if x == y then 0 else 1), omega (arith, rest.1, place_sum x y (changes xs ys) h.0, sum_cons x xs, sum_cons y ys))
 
 -- an update as one folded sum
-update_is : (old : ℕ) (ms ns : List ℕ) → AreWords (changes ms ns) → update_of old ms ns ≡ 65535 - fold_of (65535 - old + sum (changes ms ns))
+pub update_is : (old : ℕ) (ms ns : List ℕ) → AreWords (changes ms ns) → update_of old ms ns ≡ 65535 - fold_of (65535 - old + sum (changes ms ns))
 update_is old ms ns h = sym (checksum_is ((65535 - old) ∷ changes ms ns) (65535 - old + sum (changes ms ns)) (omega arith, h) (ap fold_of (sym (sum_cons (65535 - old) (changes ms ns)))))
 
 -- the loop's end: no place is left
@@ -68,7 +68,7 @@ stays_written old ms ns xs ys c e =
     let f : (65535 - old + sum (changes ms ns)) % 65535 ≡ sum ys % 65535 = rw (o, mod-add-mod (sum xs) 65535 (sum (changes ms ns)), c.differ, k.1) (add-mul-mod_self_left (sum ys) 65535 k.0) in
     ap written (update_is old ms ns (differ_words ms ns xs ys c)) ∙ written_is (65535 - old + sum (changes ms ns)) ∙ ap (λ (n : ℕ). 65535 - n) f ∙ sym (checksum_written ys c.new_words)
 
-append_words : (xs ys : List ℕ) → AreWords xs → AreWords ys → AreWords (xs ++ ys)
+pub append_words : (xs ys : List ℕ) → AreWords xs → AreWords ys → AreWords (xs ++ ys)
 append_words [] ys f g = g
 append_words (x ∷ xs) ys f g = (f.0, append_words xs ys f.1 g)
 
@@ -91,7 +91,7 @@ place_append : (b : Bool) (p q : ℕ) (us vs : List ℕ) → (if b then us ++ vs
 place_append true p q us vs = refl
 place_append false p q us vs = refl
 
-changes-append : (xs ys zs ws : List ℕ) → length xs ≡ length ys → changes (xs ++ zs) (ys ++ ws) ≡ changes xs ys ++ changes zs ws
+pub changes-append : (xs ys zs ws : List ℕ) → length xs ≡ length ys → changes (xs ++ zs) (ys ++ ws) ≡ changes xs ys ++ changes zs ws
 changes-append [] [] zs ws l = refl
 changes-append [] (y ∷ ys) zs ws l = absurd (omega (arith, l))
 changes-append (x ∷ xs) [] zs ws l = absurd (omega (arith, l))

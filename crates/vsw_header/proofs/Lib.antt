@@ -7,7 +7,11 @@ pub mod IpBack
 pub mod IpRight
 pub mod IpRights
 pub mod L4Back
+pub mod Unchanged
+pub mod Keys
+pub mod Ip6Fields
 pub mod L4Update
+pub mod Longs
 pub mod L4Right
 pub mod UdpRight
 pub mod L4Rights

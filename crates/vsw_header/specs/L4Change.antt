@@ -1,13 +1,32 @@
 -- TCP and UDP headers whose endpoints are changed.
-use Rattle.std.specs.Prelude.{ℕ, ◌/◌, ◌%◌, ◌==◌, List, [], ◌∷◌, ◌++◌, take, drop, if◌then◌else◌}
+use Rattle.std.specs.Prelude.{ℕ, Bool, true, false, ◌/◌, ◌%◌, ◌==◌, List, [], ◌∷◌, ◌++◌, take, drop, if◌then◌else◌}
 use Rattle.byteorder.specs.Endian.{big_bytes, big_number}
+use Rattle.vsw_header.specs.declared.l4_change.Addresses.{Addresses}
+use Rattle.vsw_header.specs.declared.l4_change.Addresses.TheVariants.{Four, Six}
 use Rattle.vsw_header.specs.declared.l4_change.Endpoints.{Endpoints}
+use Rattle.vsw_header.specs.Sum.{six_words}
 use Rattle.vsw_header.specs.Update.{update_of, written}
+
+-- the words of a packet's addresses
+abbrev pub address_words : Addresses → List ℕ
+address_words (Four src dst) = src / 65536 ∷ src % 65536 ∷ dst / 65536 ∷ dst % 65536 ∷ []
+address_words (Six src dst) = six_words src ++ six_words dst
 
 -- what the checksums of TCP and UDP count of a packet's endpoints: the words of the addresses, which stand in the
 -- pseudo-header, and the ports
 abbrev pub endpoint_words : Endpoints → List ℕ
-endpoint_words e = e.src / 65536 ∷ e.src % 65536 ∷ e.dst / 65536 ∷ e.dst % 65536 ∷ e.src_port ∷ e.dst_port ∷ []
+endpoint_words e = address_words e.at ++ (e.src_port ∷ e.dst_port ∷ [])
+
+abbrev pub is_four : Addresses → Bool
+is_four (Four a b) = true
+is_four (Six a b) = false
+
+-- addresses of one kind
+abbrev pub are_alike : Addresses → Addresses → Bool
+are_alike (Four a b) (Four c d) = true
+are_alike (Six a b) (Six c d) = true
+are_alike (Four a b) (Six c d) = false
+are_alike (Six a b) (Four c d) = false
 
 -- a checksum of a packet whose endpoints change, updated for the words that differ (RFC 1624, equation 3)
 abbrev pub checksum_changed : ℕ → Endpoints → Endpoints → ℕ

@@ -31,6 +31,7 @@ pub struct EtherPart<'a> {
 }
 
 /// The address that the bytes begin with.
+#[inline(always)]
 fn read_mac(bytes: &[u8]) -> Mac
     requires { 6 ≤ length bytes.now }
     ensures { result ≡ big_number 6 bytes.now }
@@ -39,6 +40,7 @@ fn read_mac(bytes: &[u8]) -> Mac
 }
 
 /// The header that the bytes begin with.
+#[inline(always)]
 pub fn read_ether<'a>(bytes: &'a [u8]) -> Result<EtherPart<'a>, BadFrame>
     ensures fields { ether_seen result ≡ ether_of bytes.now }
     ensures fit { IfOk result (λ part. IsFit (Ether part.dst part.src part.kind)) }

@@ -48,6 +48,7 @@ pub struct IpPart<'a> {
 }
 
 /// Bytes of the header that the bytes begin with, its options among them.
+#[inline(always)]
 pub fn header_len(bytes: &[u8]) -> usize
     requires { 1 ≤ length bytes.now }
     ensures value { result ≡ ip_header bytes.now }
@@ -57,6 +58,7 @@ pub fn header_len(bytes: &[u8]) -> usize
 }
 
 /// Bytes of the packet with its header.
+#[inline(always)]
 fn total_len(bytes: &[u8]) -> usize
     requires { 20 ≤ length bytes.now }
     ensures { result ≡ ip_total bytes.now }
@@ -65,6 +67,7 @@ fn total_len(bytes: &[u8]) -> usize
 }
 
 /// Whether this is a fragment.
+#[inline(always)]
 fn is_fragment(bytes: &[u8]) -> bool
     requires { 20 ≤ length bytes.now }
     ensures { result ≡ is_part bytes.now }
@@ -73,6 +76,7 @@ fn is_fragment(bytes: &[u8]) -> bool
 }
 
 /// The fields of a header whose lengths were found to be right.
+#[inline(always)]
 fn fields<'a>(bytes: &'a [u8], header: usize, total: usize) -> IpPart<'a>
     requires within { (20 ≤ length bytes.now) × (total ≤ length bytes.now) × (header ≤ total) }
     requires lengths { (header ≡ ip_header bytes.now) × (total ≡ ip_total bytes.now) }
@@ -91,6 +95,7 @@ fn fields<'a>(bytes: &'a [u8], header: usize, total: usize) -> IpPart<'a>
 
 /// The header that the bytes begin with. Options are skipped, and the checksum isn't looked at:
 /// captures under checksum offload hold wrong ones.
+#[inline(always)]
 pub fn read_ip<'a>(bytes: &'a [u8]) -> Result<IpPart<'a>, BadFrame>
     ensures fields { ip_seen result ≡ ip_of bytes.now }
     ensures fit { IfOk result (λ part. IsFit (Ip part.src part.dst part.proto part.part)) }

@@ -1,11 +1,12 @@
 //! An IPv4 header (RFC 791, section 3.1) whose addresses are changed.
 
-ghost use Rattle.std.specs.Prelude.{◌≡◌, ◌≤◌, ◌++◌, ◌*◌, length, slice_index, bit_and};
-ghost use Rattle.byteorder.specs.Endian.{big_bytes};
-ghost use Rattle.vsw_header.specs.IpChange as change;
-ghost use Rattle.vsw_header.specs.IpChange.{ip_changed, checksum_changed};
+ghost use Rattle.std.specs.Prelude.{◌≡◌, ◌≤◌, ◌++◌, IsTrue, drop, length};
+ghost use Rattle.byteorder.specs.Endian.{big_bytes, big_number};
+ghost use Rattle.vsw_header.specs.IpChange.{address_words, ip_changed, checksum_changed};
+ghost use Rattle.vsw_header.specs.Update.{update_of};
 
-use crate::sum_change::update;
+use crate::sum::complement;
+use crate::sum_change::changed_long;
 use byteorder::{BigEndian, ByteOrder};
 use vsw_base::Ip4;
 
@@ -21,30 +22,47 @@ const DST: usize = 16;
 /// Offset of what follows the addresses.
 const END: usize = 20;
 
-/// The words of a source and a destination address.
-fn address_words(src: u32, dst: u32) -> [u16; 4]
-    ensures words { result ≡ change.address_words src dst }
-    ensures len { length result ≡ 4 }
+/// Whether these addresses stand there.
+#[inline(always)]
+fn are_there(bytes: &[u8], src: Ip4, dst: Ip4) -> bool
+    requires { 20 ≤ length bytes.now }
+    ensures { IsTrue result → (src ≡ big_number 4 (drop 12 bytes.now)) × (dst ≡ big_number 4 (drop 16 bytes.now)) }
 {
-    [
-        (src / 0x1_0000) as u16,
-        (src % 0x1_0000) as u16,
-        (dst / 0x1_0000) as u16,
-        (dst % 0x1_0000) as u16,
-    ]
+    BigEndian::read_u32(&bytes[SRC..]) == src.number()
+        && BigEndian::read_u32(&bytes[DST..]) == dst.number()
+}
+
+/// Whether these addresses stand there, so that the header with them is the one that there is.
+#[inline(always)]
+fn is_same(bytes: &[u8], src: Ip4, dst: Ip4) -> bool
+    requires { 20 ≤ length bytes.now }
+    ensures { IsTrue result → ip_changed src dst bytes.now ≡ bytes.now }
+{
+    are_there(bytes, src, dst)
+}
+
+/// A checksum, updated for the words of two addresses that differ.
+#[inline(always)]
+fn updated(old: u16, from_src: u32, from_dst: u32, src: Ip4, dst: Ip4) -> u16
+    ensures { result ≡ update_of old (address_words from_src from_dst) (address_words src dst) }
+{
+    let total = changed_long(u64::from(!old), from_src, src.number());
+    complement(changed_long(total, from_dst, dst.number()))
 }
 
 /// The checksum that stands there, updated for the words of the addresses that differ.
+#[inline(always)]
 fn checksum(bytes: &[u8], src: Ip4, dst: Ip4) -> u16
     requires { 20 ≤ length bytes.now }
     ensures { result ≡ checksum_changed src dst bytes.now }
 {
-    let from = address_words(
+    updated(
+        BigEndian::read_u16(&bytes[CHECKSUM..]),
         BigEndian::read_u32(&bytes[SRC..]),
         BigEndian::read_u32(&bytes[DST..]),
-    );
-    let to = address_words(src.number(), dst.number());
-    update(BigEndian::read_u16(&bytes[CHECKSUM..]), &from, &to)
+        src,
+        dst,
+    )
 }
 
 /// The bytes of a checksum and two addresses.
@@ -64,6 +82,9 @@ pub fn change_ip(bytes: &mut [u8], src: Ip4, dst: Ip4)
     requires { 20 ≤ length bytes.old }
     ensures { bytes.new ≡ ip_changed src dst bytes.old }
 {
+    if is_same(bytes, src, dst) {
+        return;
+    }
     let checksum = checksum(bytes, src, dst);
     bytes[CHECKSUM..END].copy_from_slice(&written(checksum, src, dst));
 }

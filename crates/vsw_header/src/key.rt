@@ -1,9 +1,10 @@
 //! The keys by which a layer finds its pairs.
 
 ghost use Rattle.std.specs.Prelude.{◌≡◌, get_or};
+ghost use Rattle.vsw_header.specs.Key as key;
 ghost use Rattle.vsw_header.specs.Key.{vnis, packet_of, ports_of, key_from, mirror_of};
 
-use vsw_base::{Header, Ip4, LayerKey, Stack};
+use vsw_base::{Addr, Header, LayerKey, Stack};
 
 /// The network of the encapsulation at this place, the outermost being 0; 0 where there is none.
 fn vni_at(headers: &[Header], place: usize) -> u32
@@ -18,12 +19,16 @@ fn vni_at(headers: &[Header], place: usize) -> u32
                 vni_at(rest, place - 1)
             }
         }
-        [_, rest @ ..] => vni_at(rest, place),
+        [
+            Header::Ether { .. } | Header::Ip { .. } | Header::Ports { .. } | Header::Six { .. },
+            rest @ ..,
+        ] => vni_at(rest, place),
     }
 }
 
 /// Source, destination, protocol and fragment mark of inner headers.
-fn packet(headers: &[Header]) -> (Ip4, Ip4, u8, bool)
+#[inline(always)]
+fn packet(headers: &[Header]) -> (Addr, Addr, u8, bool)
     ensures { result ≡ packet_of headers.now }
 {
     match headers {
@@ -36,32 +41,50 @@ fn packet(headers: &[Header]) -> (Ip4, Ip4, u8, bool)
                 part,
             },
             ..
-        ] => (*src, *dst, *proto, *part),
-        _ => (Ip4::of(0), Ip4::of(0), 0, false),
+        ] => (Addr::Four(*src), Addr::Four(*dst), *proto, *part),
+        [_, Header::Six { src, dst, proto }, ..] => {
+            (Addr::Six(*src), Addr::Six(*dst), *proto, false)
+        }
+        []
+        | [_]
+        | [
+            _,
+            Header::Ether { .. } | Header::Vxlan { .. } | Header::Ports { .. },
+            ..
+        ] => (Addr::Absent, Addr::Absent, 0, false),
     }
 }
 
 /// Source and destination port of inner headers.
+#[inline(always)]
 fn ports(headers: &[Header]) -> (u16, u16)
     ensures { result ≡ ports_of headers.now }
 {
     match headers {
         [_, _, Header::Ports { src, dst, .. }, ..] => (*src, *dst),
-        _ => (0, 0),
+        []
+        | [_]
+        | [_, _]
+        | [
+            _,
+            _,
+            Header::Ether { .. } | Header::Ip { .. } | Header::Vxlan { .. } | Header::Six { .. },
+            ..
+        ] => (0, 0),
     }
 }
 
-/// The key of a stack: its VNIs, and the inner addresses, protocol, fragment mark and ports.
-pub fn key_of(stack: &Stack) -> LayerKey
-    ensures { result ≡ key_from stack.now }
+/// The key of inner headers behind encapsulations, so many and of these networks.
+#[inline(always)]
+fn key_behind(headers: &[Header], encaps: u8, vni_outer: u32, vni_second: u32) -> LayerKey
+    ensures { result ≡ key.key_behind headers.now encaps vni_outer vni_second }
 {
-    let headers = stack.inner();
     let (src, dst, proto, part) = packet(headers);
     let (src_port, dst_port) = ports(headers);
     LayerKey {
-        encaps: stack.encaps(),
-        vni_outer: vni_at(stack.headers(), 0),
-        vni_second: vni_at(stack.headers(), 1),
+        encaps,
+        vni_outer,
+        vni_second,
         src,
         dst,
         proto,
@@ -69,6 +92,20 @@ pub fn key_of(stack: &Stack) -> LayerKey
         src_port,
         dst_port,
     }
+}
+
+/// The key of a stack: its VNIs, and the inner addresses, protocol, fragment mark and ports.
+#[tactic(auto, using(crate::proofs::Keys::plain_key))]
+pub fn key_of(stack: &Stack) -> LayerKey
+    ensures { result ≡ key_from stack.now }
+{
+    let all = stack.headers();
+    let encaps = stack.encaps();
+    if encaps == 0 {
+        return key_behind(all, 0, 0, 0);
+    }
+    let headers = stack.inner();
+    key_behind(headers, encaps, vni_at(all, 0), vni_at(all, 1))
 }
 
 /// The key of the replies: source and destination exchanged.

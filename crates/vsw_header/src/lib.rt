@@ -1,4 +1,4 @@
-//! Headers: Ethernet, IPv4, TCP, UDP and VXLAN, the internet checksums in them, and the identities and keys by which they tell a flow.
+//! Headers: Ethernet, IPv4, IPv6, TCP, UDP and VXLAN, the internet checksums in them, and the identities and keys by which they tell a flow.
 #![tactic(auto)]
 
 mod ether;
@@ -7,6 +7,8 @@ mod flow_law;
 mod flow_sums;
 mod identity;
 mod ip;
+mod ip6;
+mod ip6_change;
 mod ip_change;
 mod ip_examples;
 mod ip_law;
@@ -31,8 +33,10 @@ pub use ip::{IpPart, header_len, read_ip, write_ip};
 pub use ip_change::change_ip;
 pub use ip_examples::ip_vectors;
 pub use ip_law::ip_laws;
+pub use ip6::{Ip6Part, read_ip6};
+pub use ip6_change::change_ip6;
 pub use key::{key_of, mirror};
-pub use l4_change::{Endpoints, change_tcp, change_udp, uncheck_udp};
+pub use l4_change::{Addresses, Endpoints, change_tcp, change_udp, uncheck_udp};
 pub use l4_examples::l4_vectors;
 pub use l4_law::l4_laws;
 pub use port_choice::choose_port;

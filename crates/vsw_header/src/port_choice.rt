@@ -10,7 +10,11 @@ fn source(headers: &[Header]) -> Option<Mac>
 {
     match headers {
         [Header::Ether { src, .. }, ..] => Some(*src),
-        _ => None,
+        []
+        | [
+            Header::Ip { .. } | Header::Vxlan { .. } | Header::Ports { .. } | Header::Six { .. },
+            ..
+        ] => None,
     }
 }
 
@@ -19,7 +23,11 @@ fn destination(headers: &[Header]) -> Option<Mac>
 {
     match headers {
         [Header::Ether { dst, .. }, ..] => Some(*dst),
-        _ => None,
+        []
+        | [
+            Header::Ip { .. } | Header::Vxlan { .. } | Header::Ports { .. } | Header::Six { .. },
+            ..
+        ] => None,
     }
 }
 

@@ -12,6 +12,7 @@ const STEP: usize = 8;
 
 /// The sum with a number added, in one's complement: a carry out of the highest bit is added at the
 /// lowest.
+#[inline(always)]
 pub(crate) fn plus(sum: u64, number: u64) -> u64
     ensures { fold_of result ≡ fold_of (sum + number) }
 {
@@ -19,12 +20,13 @@ pub(crate) fn plus(sum: u64, number: u64) -> u64
     if low < number { low + 1 } else { low }
 }
 
-/// The complement of the word that the sum folds to.
+/// The complement of the word that the sum folds to. A sum to which nothing was added is a word.
+#[inline(always)]
 pub(crate) fn complement(sum: u64) -> u16
     ensures { result ≡ 65535 - fold_of sum }
 {
-    if sum == 0 {
-        0xffff
+    if sum < 0x1_0000 {
+        0xffff - sum as u16
     } else {
         0xfffe - ((sum - 1) % 0xffff) as u16
     }

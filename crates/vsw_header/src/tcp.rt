@@ -40,6 +40,7 @@ pub struct TcpPart<'a> {
 }
 
 /// What the flags ask for.
+#[inline(always)]
 fn control(flags: u8) -> Control
     ensures { result ≡ control_of flags }
 {
@@ -58,6 +59,7 @@ fn control(flags: u8) -> Control
 
 /// The header that the bytes begin with. Options are skipped, and the checksum isn't looked at:
 /// captures under checksum offload hold wrong ones.
+#[inline(always)]
 pub fn read_tcp<'a>(bytes: &'a [u8]) -> Result<TcpPart<'a>, BadFrame>
     ensures { tcp_seen result ≡ tcp_of bytes.now }
 {

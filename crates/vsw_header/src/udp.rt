@@ -30,6 +30,7 @@ pub struct UdpPart<'a> {
 
 /// The header that the bytes begin with. The checksum isn't looked at: captures under checksum
 /// offload hold wrong ones.
+#[inline(always)]
 pub fn read_udp<'a>(bytes: &'a [u8]) -> Result<UdpPart<'a>, BadFrame>
     ensures { udp_seen result ≡ udp_of bytes.now }
 {

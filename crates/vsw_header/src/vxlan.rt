@@ -22,6 +22,7 @@ const FLAG_VNI: u8 = 0x08;
 
 /// The VNI of the header that the bytes begin with, if there is one. Reserved bits are ignored, as
 /// the RFC asks.
+#[inline(always)]
 pub fn read_vxlan(bytes: &[u8]) -> Option<u32>
     ensures vni { result ≡ vni_of bytes.now }
     ensures fit { IfSome result (λ vni. vni < 2 ^ 24) }

@@ -2,7 +2,8 @@
 
 ghost use Rattle.std.specs.Prelude.{◌<◌, ◌^◌, length};
 
-use vsw_base::{Dir, Header, Ip4, LayerKey, Mac, Place, Stack};
+use crate::six_tests::{FAR, OWN, ether6, six};
+use vsw_base::{Addr, Dir, Header, Ip4, Ip6, LayerKey, Mac, Place, Stack};
 use vsw_header::{choose_port, flow_sum, key_of, mirror, same_id, same_key, spread, ufid};
 
 const IPV4: u16 = 0x0800;
@@ -94,8 +95,8 @@ fn plain_key() -> LayerKey {
         encaps: 0,
         vni_outer: 0,
         vni_second: 0,
-        src: Ip4::of(0x0a00_0005),
-        dst: Ip4::of(0x0a00_0009),
+        src: Addr::Four(Ip4::of(0x0a00_0005)),
+        dst: Addr::Four(Ip4::of(0x0a00_0009)),
         proto: 17,
         part: false,
         src_port: 1234,
@@ -109,10 +110,21 @@ fn sums(headers: &[Header]) -> Option<(u32, u32)> {
     Some((flow_sum(&stack), spread(&stack, 4)))
 }
 
+/// UDP from port 1234 of fd00::5 to port 53 of fd00::9.
+fn query6() -> [Header; 3] {
+    let ports = Header::Ports {
+        proto: 17,
+        src: 1234,
+        dst: 53,
+    };
+    [ether6(), six(17), ports]
+}
+
 #[test]
 fn flow_sums_are_of_the_inner_headers(rt: HostRuntime) {
     let sent = sums(&encapsulated()).map(|(sum, _)| sum);
     assert!(rt; (sums(&plain()), sent) == (Some((9664, 0)), Some(0x1_7530)));
+    assert!(rt; sums(&query6()) == Some((166_557, 1)));
 }
 
 fn has_key(headers: &[Header], key: &LayerKey) -> bool {
@@ -127,7 +139,7 @@ fn keys_are_of_the_networks_and_the_inner_headers(rt: HostRuntime) {
     let key = LayerKey {
         encaps: 1,
         vni_outer: 5001,
-        src: Ip4::of(0xc000_0207),
+        src: Addr::Four(Ip4::of(0xc000_0207)),
         src_port: 40_000,
         ..plain_key()
     };
@@ -141,8 +153,8 @@ fn key_in(encaps: u8, vni_outer: u32, vni_second: u32) -> LayerKey {
         encaps,
         vni_outer,
         vni_second,
-        src: Ip4::of(0xc000_0207),
-        dst: Ip4::of(0x0a00_0009),
+        src: Addr::Four(Ip4::of(0xc000_0207)),
+        dst: Addr::Four(Ip4::of(0x0a00_0009)),
         proto: 17,
         part: false,
         src_port: 40_000,
@@ -156,8 +168,8 @@ fn reply_key_in(encaps: u8, vni_outer: u32) -> LayerKey {
         encaps,
         vni_outer,
         vni_second: 0,
-        src: Ip4::of(0x0a00_0009),
-        dst: Ip4::of(0xc000_0207),
+        src: Addr::Four(Ip4::of(0x0a00_0009)),
+        dst: Addr::Four(Ip4::of(0xc000_0207)),
         proto: 17,
         part: false,
         src_port: 53,
@@ -192,21 +204,61 @@ fn what_a_stack_has_not_is_zero(rt: HostRuntime) {
     };
     let arp = [ether(0xffff_ffff_ffff, 0x0200_0000_0001, 0x0806)];
     let arp_key = LayerKey {
-        src: Ip4::of(0),
-        dst: Ip4::of(0),
+        src: Addr::Absent,
+        dst: Addr::Absent,
         proto: 0,
         src_port: 0,
         dst_port: 0,
         ..plain_key()
     };
+    let unspecified = [
+        ether(0xffff_ffff_ffff, 0x0200_0000_0001, IPV4),
+        Header::Ip {
+            src: Ip4::of(0),
+            dst: Ip4::of(0),
+            proto: 0,
+            part: false,
+        },
+    ];
     assert!(rt; has_key(&fragment, &fragment_key) && has_key(&arp, &arp_key));
+    assert!(rt; !has_key(&unspecified, &arp_key));
+}
+
+fn address6(number: u128) -> Addr {
+    Addr::Six(Ip6::of(number))
+}
+
+/// The key of the query over IPv6.
+fn key6() -> LayerKey {
+    LayerKey {
+        src: address6(OWN),
+        dst: address6(FAR),
+        ..plain_key()
+    }
+}
+
+/// The key of its reply.
+fn reply_key6() -> LayerKey {
+    LayerKey {
+        src: address6(FAR),
+        dst: address6(OWN),
+        src_port: 53,
+        dst_port: 1234,
+        ..plain_key()
+    }
+}
+
+#[test]
+fn keys_of_ipv6_are_mirrored_too(rt: HostRuntime) {
+    assert!(rt; has_key(&query6(), &key6()));
+    assert!(rt; mirror(&key6()) == reply_key6() && mirror(&reply_key6()) == key6());
 }
 
 #[test]
 fn replies_have_the_mirrored_key(rt: HostRuntime) {
     let key = LayerKey {
-        src: Ip4::of(0x0a00_0009),
-        dst: Ip4::of(0x0a00_0005),
+        src: Addr::Four(Ip4::of(0x0a00_0009)),
+        dst: Addr::Four(Ip4::of(0x0a00_0005)),
         src_port: 53,
         dst_port: 1234,
         ..plain_key()

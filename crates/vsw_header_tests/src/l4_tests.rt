@@ -1,8 +1,13 @@
 //! Headers from other sources.
 
-use vsw_base::{BadFrame, Control, Ip4};
+ghost use Rattle.std.specs.Prelude.{◌≡◌};
+ghost use Rattle.vsw_header.specs.declared.l4_change.Addresses.TheVariants.{Four, Six};
+
+use crate::six_frames::{SEGMENT6, SEGMENT6_SENT};
+use crate::six_tests::{FAR, HIDDEN, OWN, WORLD};
+use vsw_base::{BadFrame, Control, Ip4, Ip6};
 use vsw_header::{
-    Endpoints, TcpPart, UdpPart, change_tcp, change_udp, read_tcp, read_udp, read_vxlan,
+    Addresses, Endpoints, TcpPart, UdpPart, change_tcp, change_udp, read_tcp, read_udp, read_vxlan,
     uncheck_udp, write_udp_vxlan,
 };
 
@@ -104,10 +109,14 @@ fn an_encapsulation_is_read_and_written(rt: HostRuntime) {
 }
 
 /// From this port of this address to port 53 of 10.0.0.9.
-fn query(src: u32, src_port: u16) -> Endpoints {
+fn query(src: u32, src_port: u16) -> Endpoints
+    ensures { result.at ≡ Four src 0x0a000009 }
+{
     Endpoints {
-        src: Ip4::of(src),
-        dst: Ip4::of(0x0a00_0009),
+        at: Addresses::Four {
+            src: Ip4::of(src),
+            dst: Ip4::of(0x0a00_0009),
+        },
         src_port,
         dst_port: 53,
     }
@@ -148,11 +157,41 @@ fn endpoints_of_tcp_are_changed_in_place(rt: HostRuntime) {
     assert!(rt; bytes == changed);
 }
 
+/// From this port of one address to port 80 of another.
+fn over_ipv6(src: u128, dst: u128, src_port: u16) -> Endpoints
+    ensures { result.at ≡ Six src dst }
+{
+    Endpoints {
+        at: Addresses::Six {
+            src: Ip6::of(src),
+            dst: Ip6::of(dst),
+        },
+        src_port,
+        dst_port: 80,
+    }
+}
+
+#[test]
+fn endpoints_over_ipv6_are_changed_in_place(rt: HostRuntime) {
+    let mut segment = [0; 37];
+    segment.copy_from_slice(&SEGMENT6[54..91]);
+    let (from, to) = (over_ipv6(OWN, FAR, 1234), over_ipv6(HIDDEN, WORLD, 40_000));
+    change_tcp(&mut segment, &from, &to);
+    assert!(rt; &segment[..] == &SEGMENT6_SENT[54..91]);
+}
+
 /// From 192.0.2.7, and this port, to 203.0.113.4, port 53.
-fn translated(src_port: u16) -> Endpoints {
-    let mut to = query(0xc000_0207, src_port);
-    to.dst = Ip4::of(0xcb00_7104);
-    to
+fn translated(src_port: u16) -> Endpoints
+    ensures { result.at ≡ Four 0xc0000207 0xcb007104 }
+{
+    Endpoints {
+        at: Addresses::Four {
+            src: Ip4::of(0xc000_0207),
+            dst: Ip4::of(0xcb00_7104),
+        },
+        src_port,
+        dst_port: 53,
+    }
 }
 
 /// What a receiver sums of a segment and its pseudo-header, with its carries: a multiple of 65,535

@@ -18,6 +18,8 @@ fn nothing() -> Set {
         dst_ip: None,
         src_port: None,
         dst_port: None,
+        src_ip6: None,
+        dst_ip6: None,
     }
 }
 

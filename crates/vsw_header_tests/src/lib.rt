@@ -21,6 +21,10 @@ mod rewriting_tests;
 #[cfg(test)]
 mod rule;
 #[cfg(test)]
+mod six_frames;
+#[cfg(test)]
+mod six_tests;
+#[cfg(test)]
 mod spelling_tests;
 #[cfg(test)]
 mod stack_tests;

@@ -1,11 +1,12 @@
-//! A plain program of what a frame says, written from the layouts alone (RFC 791, 768, 9293, 7348), and
+//! A plain program of what a frame says, written from the layouts alone (RFC 791, 8200, 768, 9293, 7348), and
 //! frames on which the reader is compared with it.
 
 ghost use Rattle.std.specs.Prelude.{◌≤◌, ◌<◌};
 
+use crate::six_frames::{INSIDE, SEGMENT6};
 use crate::whole_frames::{REPLY, nested};
 use std::alloc::{AllocError, Global};
-use vsw_base::{Control, Header, Headers, Ip4, Mac, Sizes};
+use vsw_base::{Control, Header, Headers, Ip4, Ip6, Mac, Sizes};
 use vsw_frame::{Frame, read_frame};
 
 /// TCP with 4 bytes of options and 2 of payload, from port 1234 of 10.0.0.5 to port 80 of 10.0.0.9.
@@ -54,6 +55,22 @@ fn address(bytes: &[u8], at: usize) -> Ip4
     let high = u32::from(word(bytes, at));
     let low = u32::from(word(bytes, at + 2));
     Ip4::of(high * 0x1_0000 + low)
+}
+
+fn half(bytes: &[u8], at: usize) -> u64
+    requires { at ≤ 4000 }
+{
+    u64::from(word(bytes, at)) * 0x1_0000_0000_0000
+        + u64::from(word(bytes, at + 2)) * 0x1_0000_0000
+        + u64::from(word(bytes, at + 4)) * 0x1_0000
+        + u64::from(word(bytes, at + 6))
+}
+
+fn address6(bytes: &[u8], at: usize) -> Ip6
+    requires { at ≤ 3000 }
+{
+    let high = u128::from(half(bytes, at));
+    Ip6::of(high * 0x1_0000_0000_0000_0000 + u128::from(half(bytes, at + 8)))
 }
 
 fn mac(bytes: &[u8], at: usize) -> Mac
@@ -181,6 +198,34 @@ fn ipv4(frame: &[u8], is_last: bool, said: &mut Said<'_>) -> Result<Behind, u8> 
     }
 }
 
+/// IPv6 behind the Ethernet header of a frame. No encapsulation is looked for in it.
+fn ipv6(frame: &[u8], said: &mut Said<'_>) -> Result<Behind, u8> {
+    if frame.len() < 54 {
+        return Err(10);
+    }
+    if byte(frame, 14) / 16 != 6 {
+        return Err(11);
+    }
+    let payload = usize::from(word(frame, 18));
+    if payload > frame.len() - 54 {
+        return Err(12);
+    }
+    let proto = byte(frame, 20);
+    add(
+        &mut said.headers,
+        Header::Six {
+            src: address6(frame, 22),
+            dst: address6(frame, 38),
+            proto,
+        },
+    );
+    match proto {
+        6 => tcp(frame, 54, 54 + payload, said),
+        17 => udp(frame, 54, 54 + payload, true, said),
+        _ => Ok(Behind::Payload(54, 54 + payload)),
+    }
+}
+
 /// A frame, without what an encapsulation holds.
 fn level(frame: &[u8], is_last: bool, said: &mut Said<'_>) -> Result<Behind, u8> {
     if frame.len() < 14 {
@@ -197,6 +242,8 @@ fn level(frame: &[u8], is_last: bool, said: &mut Said<'_>) -> Result<Behind, u8>
     );
     if kind == 0x0800 {
         ipv4(frame, is_last, said)
+    } else if kind == 0x86dd {
+        ipv6(frame, said)
     } else {
         Ok(Behind::Payload(14, frame.len()))
     }
@@ -302,10 +349,12 @@ fn every_change_of_a_byte_is_read_as_the_plain_program_says(rt: HostRuntime) {
     let alloc = rt.alloc();
     assert!(rt; sweep(alloc, &REPLY));
     assert!(rt; sweep(alloc, &SEGMENT));
+    assert!(rt; sweep(alloc, &SEGMENT6));
 }
 
 /// Two of the three encapsulations are looked for.
 #[test]
 fn frames_in_frames_are_read_as_the_plain_program_says(rt: HostRuntime) {
     assert!(rt; sweep(rt.alloc(), &nested()));
+    assert!(rt; sweep(rt.alloc(), &INSIDE));
 }

@@ -59,19 +59,19 @@ fn says(frame: &Frame<'_>, headers: &[Header], bytes: &[u8], payload: &[u8], siz
 }
 
 /// Whether a frame of these headers, payload and sizes is read.
-fn reads(bytes: &[u8], headers: &[Header], payload: &[u8], sizes: Sizes) -> bool {
+pub fn reads(bytes: &[u8], headers: &[Header], payload: &[u8], sizes: Sizes) -> bool {
     match read_frame(bytes) {
         Ok(frame) => says(&frame, headers, bytes, payload, sizes),
         Err(_) => false,
     }
 }
 
-fn sizes(whole: u32, one: u32, two: u32) -> Sizes {
+pub fn sizes(whole: u32, one: u32, two: u32) -> Sizes {
     Sizes { whole, one, two }
 }
 
 /// The control that a frame asks for, or its fault.
-fn control(bytes: &[u8]) -> Result<Control, BadFrame> {
+pub fn control(bytes: &[u8]) -> Result<Control, BadFrame> {
     match read_frame(bytes) {
         Ok(frame) => Ok(frame.control()),
         Err(fault) => Err(fault),

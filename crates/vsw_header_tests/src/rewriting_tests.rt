@@ -54,7 +54,7 @@ const ENDS: [u8; 102] = [
 ];
 
 /// The acts that push an encapsulation.
-fn encap(place: u8, vni: u32) -> [Act; 3] {
+pub fn encap(place: u8, vni: u32) -> [Act; 3] {
     let [ether, ip, vxlan] = outer(place, vni);
     [Act::Push(ether), Act::Push(ip), Act::Push(vxlan)]
 }
@@ -101,7 +101,7 @@ fn compare(bytes: &[u8], acts: &[Act], expected: &[u8], out: &mut [u8]) -> bool
     }
 }
 
-fn becomes(bytes: &[u8], acts: &[Act], expected: &[u8]) -> bool {
+pub fn becomes(bytes: &[u8], acts: &[Act], expected: &[u8]) -> bool {
     let mut out = [OLD; ROOM];
     compare(bytes, acts, expected, &mut out)
 }
@@ -213,7 +213,7 @@ fn the_payload_of_a_fragment_stays(rt: HostRuntime) {
 }
 
 /// The acts that leave an encapsulation as it is.
-fn kept(inner: [Act; 3]) -> [Act; 6] {
+pub fn kept(inner: [Act; 3]) -> [Act; 6] {
     let [a, b, c] = inner;
     [Act::Ignore, Act::Ignore, Act::Ignore, a, b, c]
 }

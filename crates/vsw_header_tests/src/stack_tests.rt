@@ -1,8 +1,11 @@
 //! Stacks of each kind.
 
+use crate::six_tests::six;
 use vsw_base::{Header, Ip4, Mac, Stack};
 
 const IPV4: u16 = 0x0800;
+
+const IPV6: u16 = 0x86dd;
 
 fn ether(kind: u16) -> Header {
     Header::Ether {
@@ -55,8 +58,10 @@ fn plain_stacks_are_taken(rt: HostRuntime) {
         is_plain(&[ether(IPV4), ip(1, false)]),
         is_plain(&[ether(IPV4), ip(17, true)]),
         is_plain(&[ether(IPV4), ip(6, false), ports(6)]),
+        is_plain(&[ether(IPV6), six(58)]),
+        is_plain(&[ether(IPV6), six(17), ports(17)]),
     ];
-    assert!(rt; taken == [true; 4]);
+    assert!(rt; taken == [true; 6]);
 }
 
 /// How many encapsulations there are, if the inner header is that of ARP.
@@ -105,8 +110,14 @@ fn ports_stand_under_whole_tcp_and_udp_alone(rt: HostRuntime) {
         is_bad(&[ether(IPV4), ip(17, true), ports(17)]),
         is_bad(&[ether(IPV4), ip(17, false)]),
         is_bad(&[ether(IPV4), ip(6, false), ports(17)]),
+        is_bad(&[ether(IPV6), six(17)]),
+        is_bad(&[ether(IPV6), six(58), ports(17)]),
+        is_bad(&[ether(IPV6), six(17), ports(6)]),
+        is_bad(&[ether(IPV6)]),
+        is_bad(&[ether(IPV6), ip(1, false)]),
+        is_bad(&[ether(IPV4), six(58)]),
     ];
-    assert!(rt; refused == [true; 3]);
+    assert!(rt; refused == [true; 9]);
 }
 
 #[test]
@@ -124,5 +135,12 @@ fn other_encapsulations_are_refused(rt: HostRuntime) {
         vxlan(3),
         ether(0x0806),
     ];
-    assert!(rt; [is_bad(&encap(5001)), is_bad(&large), is_bad(&thrice)] == [true; 3]);
+    let over_ipv6 = [ether(IPV6), six(17), vxlan(1), ether(0x0806)];
+    let refused = [
+        is_bad(&encap(5001)),
+        is_bad(&large),
+        is_bad(&thrice),
+        is_bad(&over_ipv6),
+    ];
+    assert!(rt; refused == [true; 4]);
 }

@@ -12,11 +12,12 @@ use Rattle.vsw_policy.specs.declared.layer.LayerSpec.{LayerSpec}
 use Rattle.vsw_policy.specs.Groups.{changed, removed}
 use Rattle.vsw_policy.specs.Layer.{LayerSeen, defaulting, with_pair, with_touched, without_pair}
 use Rattle.vsw_policy.specs.declared.command.Command.{Command}
-use Rattle.vsw_policy.specs.declared.command.Command.TheVariants.{AddLayer, RemoveLayer, AddGroup, RemoveGroup, PutRules, AddRule, RemoveRule, SetDefault, Sweep}
+use Rattle.vsw_policy.specs.declared.command.Part.{Part}
+use Rattle.vsw_policy.specs.declared.command.Command.TheVariants.{AddLayer, RemoveLayer, AddGroup, RemoveGroup, PutRules, PutMany, AddRule, RemoveRule, SetDefault, Sweep}
 use Rattle.vsw_policy.specs.declared.refusal.Refusal.{Refusal}
 use Rattle.vsw_policy.specs.declared.refusal.Reply.{Reply}
 use Rattle.vsw_policy.specs.Layers.{is_of, is_layer, is_before, changed_at}
-use Rattle.vsw_policy.specs.Obey.{placed, empty_layer, within, tests, groups_in, groups_of, first_refusal, answered, obey}
+use Rattle.vsw_policy.specs.Obey.{placed, empty_layer, within, tests, groups_in, groups_of, first_refusal, answered, obey, lacks_layer, lacks_group, put_parts}
 use Rattle.vsw_policy.specs.Obey as policy
 use Rattle.vsw_policy.specs.Own.{of_own}
 use Rattle.vsw_policy.specs.Sound.{Each, AreInOrder}
@@ -57,6 +58,14 @@ count_bare c (l ∷ ls) = by (c == l.controller) (count_bare c ls)
     by true ih = omega (arith, ih)
     by false ih = ih
 
+layers_bare : (c : ℕ) (ls : List LayerSeen) (ps : List Part) → list_any (lacks_layer (map bare ls) c) ps ≡ list_any (lacks_layer ls c) ps
+layers_bare c ls [] = refl
+layers_bare c ls (p ∷ ps) = rw (any_bare c p.layer ls) (ap (λ w. lacks_layer ls c p || w) (layers_bare c ls ps))
+
+places_bare : (c : ℕ) (ls : List LayerSeen) (ps : List Part) → list_any (lacks_group (map bare ls) c) ps ≡ list_any (lacks_group ls c) ps
+places_bare c ls [] = refl
+places_bare c ls (p ∷ ps) = rw (groups_bare c p.layer ls) (ap (λ w. lacks_group ls c p || w) (places_bare c ls ps))
+
 -- a command is tested alike
 tests_bare : (ls : List LayerSeen) (c : ℕ) (m : Command) → tests (map bare ls) c m ≡ tests ls c m
 tests_bare ls c (AddLayer s) = rw (any_bare c s.layer ls, count_bare c ls) refl
@@ -64,6 +73,7 @@ tests_bare ls c (RemoveLayer n) = rw (any_bare c n ls) refl
 tests_bare ls c (AddGroup n g dir when) = rw (any_bare c n ls, groups_bare c n ls) refl
 tests_bare ls c (RemoveGroup n g) = rw (any_bare c n ls, groups_bare c n ls) refl
 tests_bare ls c (PutRules n g rs) = rw (any_bare c n ls, groups_bare c n ls) refl
+tests_bare ls c (PutMany ps) = rw (layers_bare c ls ps, places_bare c ls ps) refl
 tests_bare ls c (AddRule n g r) = rw (any_bare c n ls, groups_bare c n ls) refl
 tests_bare ls c (RemoveRule n g k) = rw (any_bare c n ls, groups_bare c n ls) refl
 tests_bare ls c (SetDefault n dir allow) = rw (any_bare c n ls) refl
@@ -97,6 +107,13 @@ placed_bare cs new (l ∷ ls) = by (is_before cs new l) (placed_bare cs new ls)
     by true ih = ap (λ w. bare new ∷ bare l ∷ w) (sym (bare_twice ls))
     by false ih = ap (λ w. bare l ∷ w) ih
 
+parts_bare : (c : ℕ) (ps : List Part) (ls ms : List LayerSeen) → map bare ls ≡ map bare ms → map bare (put_parts c ps ls) ≡ map bare (put_parts c ps ms)
+parts_bare c [] ls ms e = e
+parts_bare c (p ∷ ps) ls ms e =
+    let f : LayerSeen → LayerSeen = within (PutRules p.layer p.group p.rules) in
+    parts_bare c ps (changed (is_layer c p.layer) f ls) (changed (is_layer c p.layer) f ms)
+    (changed_bare c p.layer f (λ l. refl) ls ∙ ap (λ w. map bare (changed (is_layer c p.layer) f w)) e ∙ sym (changed_bare c p.layer f (λ l. refl) ms))
+
 -- a command leaves alike
 after_bare : (cs : List ℕ) (ls : List LayerSeen) (c : ℕ) (m : Command) → map bare (policy.after cs ls c m) ≡ map bare (policy.after cs (map bare ls) c m)
 after_bare cs ls c (AddLayer s) = placed_bare cs (empty_layer c s) ls
@@ -104,6 +121,7 @@ after_bare cs ls c (RemoveLayer n) = removed_bare c n ls
 after_bare cs ls c (AddGroup n g dir when) = changed_bare c n (within (AddGroup n g dir when)) (λ l. refl) ls
 after_bare cs ls c (RemoveGroup n g) = changed_bare c n (within (RemoveGroup n g)) (λ l. refl) ls
 after_bare cs ls c (PutRules n g rs) = changed_bare c n (within (PutRules n g rs)) (λ l. refl) ls
+after_bare cs ls c (PutMany ps) = parts_bare c ps ls (map bare ls) (sym (bare_twice ls))
 after_bare cs ls c (AddRule n g r) = changed_bare c n (within (AddRule n g r)) (λ l. refl) ls
 after_bare cs ls c (RemoveRule n g k) = changed_bare c n (within (RemoveRule n g k)) (λ l. refl) ls
 after_bare cs ls c (SetDefault n dir allow) = changed_bare c n (within (SetDefault n dir allow)) (λ l. refl) ls
@@ -215,10 +233,17 @@ within_name (RemoveLayer n) l = (refl, refl, refl)
 within_name (AddGroup n g dir when) l = (refl, refl, refl)
 within_name (RemoveGroup n g) l = (refl, refl, refl)
 within_name (PutRules n g rs) l = (refl, refl, refl)
+within_name (PutMany ps) l = (refl, refl, refl)
 within_name (AddRule n g r) l = (refl, refl, refl)
 within_name (RemoveRule n g k) l = (refl, refl, refl)
 within_name (SetDefault n dir allow) l = (let n = names_default dir allow l.spec in (refl, n.0, n.1))
 within_name (Sweep n now) l = (refl, refl, refl)
+
+order_parts : (cs : List ℕ) (c : ℕ) (ps : List Part) (ls : List LayerSeen) → AreInOrder cs ls → AreInOrder cs (put_parts c ps ls)
+order_parts cs c [] ls h = h
+order_parts cs c (p ∷ ps) ls h =
+    let m : Command = PutRules p.layer p.group p.rules in
+    order_parts cs c ps (changed (is_layer c p.layer) (within m) ls) (order_changed cs (is_layer c p.layer) (within m) (within_name m) ls h)
 
 order_after : (cs : List ℕ) (ls : List LayerSeen) (c : ℕ) (m : Command) → AreInOrder cs ls → AreInOrder cs (policy.after cs ls c m)
 order_after cs ls c (AddLayer s) h = order-placed cs (empty_layer c s) ls h
@@ -226,6 +251,7 @@ order_after cs ls c (RemoveLayer n) h = order_removed cs (is_layer c n) ls h
 order_after cs ls c (AddGroup n g dir when) h = order_changed cs (is_layer c n) (within (AddGroup n g dir when)) (within_name (AddGroup n g dir when)) ls h
 order_after cs ls c (RemoveGroup n g) h = order_changed cs (is_layer c n) (within (RemoveGroup n g)) (within_name (RemoveGroup n g)) ls h
 order_after cs ls c (PutRules n g rs) h = order_changed cs (is_layer c n) (within (PutRules n g rs)) (within_name (PutRules n g rs)) ls h
+order_after cs ls c (PutMany ps) h = order_parts cs c ps ls h
 order_after cs ls c (AddRule n g r) h = order_changed cs (is_layer c n) (within (AddRule n g r)) (within_name (AddRule n g r)) ls h
 order_after cs ls c (RemoveRule n g k) h = order_changed cs (is_layer c n) (within (RemoveRule n g k)) (within_name (RemoveRule n g k)) ls h
 order_after cs ls c (SetDefault n dir allow) h = order_changed cs (is_layer c n) (within (SetDefault n dir allow)) (within_name (SetDefault n dir allow)) ls h

@@ -1,5 +1,5 @@
 -- Layers without pairs and stateful rules: packets change nothing there.
-use Rattle.std.proofs.Common.{◌≡◌, ℕ, suc, ◌==◌, not, Bool, true, false, nat_le, if◌then◌else◌, List, [], ◌∷◌, length, Option, Some, None, refl, ap, sym, ◌∙◌, subst, arith, ne_eqb}
+use Rattle.std.proofs.Common.{◌≡◌, ℕ, suc, ◌==◌, not, Bool, true, false, nat_le, if◌then◌else◌, List, [], ◌∷◌, ◌++◌, length, Option, Some, None, refl, ap, sym, ◌∙◌, subst, arith, ne_eqb}
 use Rattle.vsw_port.specs.declared.stop.Stop.{Stop}
 use Rattle.vsw_port.specs.Admit.{stop_of}
 use Rattle.vsw_port.proofs.Walks.{each_crossed}
@@ -22,10 +22,11 @@ use Rattle.vsw_policy.specs.Groups.{changed, removed, is_group, is_rule, with_ru
 use Rattle.vsw_policy.specs.Layer.{LayerSeen}
 use Rattle.vsw_layerflow.specs.Pairs.{pair_of}
 use Rattle.vsw_policy.specs.declared.command.Command.{Command}
-use Rattle.vsw_policy.specs.declared.command.Command.TheVariants.{AddLayer, RemoveLayer, AddGroup, RemoveGroup, PutRules, AddRule, RemoveRule, SetDefault, Sweep}
+use Rattle.vsw_policy.specs.declared.command.Part.{Part}
+use Rattle.vsw_policy.specs.declared.command.Command.TheVariants.{AddLayer, RemoveLayer, AddGroup, RemoveGroup, PutRules, PutMany, AddRule, RemoveRule, SetDefault, Sweep}
 use Rattle.vsw_policy.specs.declared.refusal.Refusal.{Refusal}
 use Rattle.vsw_policy.specs.Layers.{is_layer, is_before}
-use Rattle.vsw_policy.specs.Obey.{empty_layer, within, tests, first_refusal, answered, obey, rules_given}
+use Rattle.vsw_policy.specs.Obey.{empty_layer, within, tests, first_refusal, answered, obey, rules_given, put_parts}
 use Rattle.vsw_policy.specs.Obey as policy
 use Rattle.vsw_policy.specs.Sound.{Each}
 use Rattle.vsw_rule.specs.declared.rule.Action.{Action}
@@ -188,10 +189,23 @@ within_plain (RemoveLayer n) l g p = p
 within_plain (AddGroup n g dir when) l r p = (p.0, each_append IsPlainGroup l.groups (record { number = g; dir = dir; when = when; rules = [] } ∷ []) p.1 (tt, tt))
 within_plain (RemoveGroup n g) l r p = ((rw p.0 refl), each_removed IsPlainGroup (is_group g) l.groups p.1)
 within_plain (PutRules n g rs) l r p = ((rw p.0 refl), each_changed IsPlainGroup (is_group g) (with_rules rs) l.groups (λ x q. r) p.1)
+within_plain (PutMany ps) l r p = p
 within_plain (AddRule n g k) l r p = (p.0, each_changed IsPlainGroup (is_group g) (with_rule k) l.groups (λ x q. each_append IsPlainRule x.rules (k ∷ []) q r) p.1)
 within_plain (RemoveRule n g k) l r p = ((rw p.0 refl), each_changed IsPlainGroup (is_group g) (without_rule k) l.groups (λ x q. each_removed IsPlainRule (is_rule k) x.rules q) p.1)
 within_plain (SetDefault n dir allow) l r p = p
 within_plain (Sweep n now) l r p = ((rw p.0 refl), p.1)
+
+each_parts : {A : Type 0} (P : A → Type 0) (xs ys : List A) → Each P (xs ++ ys) → Each P xs × Each P ys
+each_parts P [] ys e = (tt, e)
+each_parts P (x ∷ xs) ys e = let rest = each_parts P xs ys e.1 in ((e.0, rest.0), rest.1)
+
+-- several groups at once
+parts_plain : (c : ℕ) (ps : List Part) (ls : List LayerSeen) → Each IsPlainRule (rules_given (PutMany ps)) → ArePlain ls → ArePlain (put_parts c ps ls)
+parts_plain c [] ls g e = e
+parts_plain c (p ∷ ps) ls g e =
+    let given = each_parts IsPlainRule p.rules (rules_given (PutMany ps)) g in
+    let m : Command = PutRules p.layer p.group p.rules in
+    parts_plain c ps (changed (is_layer c p.layer) (within m) ls) given.1 (each_changed IsPlain (is_layer c p.layer) (within m) ls (λ l i. within_plain m l given.0 i) e)
 
 command_plain : (cs : List ℕ) (ls : List LayerSeen) (c : ℕ) (m : Command) → Each IsPlainRule (rules_given m) → ArePlain ls → ArePlain (policy.after cs ls c m)
 command_plain cs ls c (AddLayer s) g e = each_placed IsPlain cs (empty_layer c s) ls (refl, tt) e
@@ -199,6 +213,7 @@ command_plain cs ls c (RemoveLayer n) g e = each_removed IsPlain (is_layer c n) 
 command_plain cs ls c (AddGroup n k dir when) g e = each_changed IsPlain (is_layer c n) (within (AddGroup n k dir when)) ls (λ l p. within_plain (AddGroup n k dir when) l g p) e
 command_plain cs ls c (RemoveGroup n k) g e = each_changed IsPlain (is_layer c n) (within (RemoveGroup n k)) ls (λ l p. within_plain (RemoveGroup n k) l g p) e
 command_plain cs ls c (PutRules n k rs) g e = each_changed IsPlain (is_layer c n) (within (PutRules n k rs)) ls (λ l p. within_plain (PutRules n k rs) l g p) e
+command_plain cs ls c (PutMany ps) g e = parts_plain c ps ls g e
 command_plain cs ls c (AddRule n k r) g e = each_changed IsPlain (is_layer c n) (within (AddRule n k r)) ls (λ l p. within_plain (AddRule n k r) l g p) e
 command_plain cs ls c (RemoveRule n k j) g e = each_changed IsPlain (is_layer c n) (within (RemoveRule n k j)) ls (λ l p. within_plain (RemoveRule n k j) l g p) e
 command_plain cs ls c (SetDefault n dir allow) g e = each_changed IsPlain (is_layer c n) (within (SetDefault n dir allow)) ls (λ l p. within_plain (SetDefault n dir allow) l g p) e

@@ -18,7 +18,7 @@ use Rattle.vsw_layerflow.specs.declared.pair.Pair.{Pair}
 use Rattle.vsw_layerflow.specs.Pairs.{back, holder}
 use Rattle.vsw_pcap.specs.declared.capture.Record.{Record}
 use Rattle.vsw_policy.specs.declared.command.Command.{Command}
-use Rattle.vsw_policy.specs.declared.command.Command.TheVariants.{AddLayer, RemoveLayer, AddGroup, RemoveGroup, PutRules, AddRule, RemoveRule, SetDefault, Sweep}
+use Rattle.vsw_policy.specs.declared.command.Command.TheVariants.{AddLayer, RemoveLayer, AddGroup, RemoveGroup, PutRules, PutMany, AddRule, RemoveRule, SetDefault, Sweep}
 use Rattle.vsw_policy.specs.declared.refusal.Refusal.{Refusal}
 use Rattle.vsw_policy.specs.declared.refusal.Refusal.TheVariants as refusal_is
 use Rattle.vsw_policy.specs.Obey.{tests, first_refusal, answered, obey}
@@ -104,6 +104,7 @@ tests_not ls c (RemoveLayer n) = (λ e. cc e, tt)
 tests_not ls c (AddGroup n g dir when) = (λ e. cc e, (λ e. cc e, (λ e. cc e, tt)))
 tests_not ls c (RemoveGroup n g) = (λ e. cc e, (λ e. cc e, tt))
 tests_not ls c (PutRules n g rs) = (λ e. cc e, (λ e. cc e, (λ e. cc e, (λ e. cc e, tt))))
+tests_not ls c (PutMany ps) = (λ e. cc e, (λ e. cc e, (λ e. cc e, (λ e. cc e, (λ e. cc e, (λ e. cc e, tt))))))
 tests_not ls c (AddRule n g r) = (λ e. cc e, (λ e. cc e, (λ e. cc e, (λ e. cc e, tt))))
 tests_not ls c (RemoveRule n g k) = (λ e. cc e, (λ e. cc e, (λ e. cc e, tt)))
 tests_not ls c (SetDefault n dir allow) = (λ e. cc e, tt)
@@ -120,6 +121,8 @@ reply_not (Some refusal_is.RuleExists) ls n = refl
 reply_not (Some refusal_is.ManyLayers) ls n = refl
 reply_not (Some refusal_is.ManyGroups) ls n = refl
 reply_not (Some refusal_is.ManyRules) ls n = refl
+reply_not (Some refusal_is.ManyParts) ls n = refl
+reply_not (Some refusal_is.PartTwice) ls n = refl
 reply_not (Some refusal_is.Memory) ls n = absurd (n refl)
 
 -- ---- rounds

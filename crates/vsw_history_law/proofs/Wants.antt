@@ -79,6 +79,8 @@ line_wants l (what.Reply (reply.Refused refusal.RuleExists)) e = absurd (cc e)
 line_wants l (what.Reply (reply.Refused refusal.ManyLayers)) e = absurd (cc e)
 line_wants l (what.Reply (reply.Refused refusal.ManyGroups)) e = absurd (cc e)
 line_wants l (what.Reply (reply.Refused refusal.ManyRules)) e = absurd (cc e)
+line_wants l (what.Reply (reply.Refused refusal.ManyParts)) e = absurd (cc e)
+line_wants l (what.Reply (reply.Refused refusal.PartTwice)) e = absurd (cc e)
 
 -- ---- a report
 

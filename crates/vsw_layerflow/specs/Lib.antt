@@ -2,3 +2,4 @@ pub mod Track
 pub mod Pairs
 pub mod Life
 pub mod Index
+pub mod Hashed

@@ -3,6 +3,8 @@ use Rattle.std.specs.Prelude.{◌≡◌, ℕ, ◌<◌, ◌==◌, ◌&&◌, ◌||
 use Rattle.vsw_base.specs.declared.packet.Dir.{Dir}
 use Rattle.vsw_base.specs.declared.packet.Dir.TheVariants.{Out, In}
 use Rattle.vsw_base.specs.Direction.{same_dir}
+use Rattle.vsw_base.specs.declared.address.Addr.{Addr}
+use Rattle.vsw_base.specs.declared.address.Addr.TheVariants as addr
 use Rattle.vsw_base.specs.declared.flow.LayerKey.{LayerKey}
 use Rattle.vsw_base.specs.declared.flow.Track.{Track}
 use Rattle.vsw_layerflow.specs.declared.pair.Probe.{Probe}
@@ -16,8 +18,19 @@ abbrev pub same_bool : Bool → Bool → Bool
 same_bool true b = b
 same_bool false b = not b
 
+abbrev pub same_addr : Addr → Addr → Bool
+same_addr addr.Absent addr.Absent = true
+same_addr (addr.Four a) (addr.Four b) = a == b
+same_addr (addr.Six a) (addr.Six b) = a == b
+same_addr addr.Absent (addr.Four b) = false
+same_addr addr.Absent (addr.Six b) = false
+same_addr (addr.Four a) addr.Absent = false
+same_addr (addr.Four a) (addr.Six b) = false
+same_addr (addr.Six a) addr.Absent = false
+same_addr (addr.Six a) (addr.Four b) = false
+
 abbrev pub same_key : LayerKey → LayerKey → Bool
-same_key a b = a.encaps == b.encaps && (a.vni_outer == b.vni_outer && (a.vni_second == b.vni_second && (a.src == b.src && (a.dst == b.dst && (a.proto == b.proto && (same_bool a.part b.part && (a.src_port == b.src_port && a.dst_port == b.dst_port)))))))
+same_key a b = a.encaps == b.encaps && (a.vni_outer == b.vni_outer && (a.vni_second == b.vni_second && (same_addr a.src b.src && (same_addr a.dst b.dst && (a.proto == b.proto && (same_bool a.part b.part && (a.src_port == b.src_port && a.dst_port == b.dst_port)))))))
 
 abbrev pub same_probe : Probe → Probe → Bool
 same_probe a b = same_dir a.dir b.dir && same_key a.key b.key

@@ -1,6 +1,6 @@
 -- States of a pair of flows (RFC 9293, section 3.3.2, as far as a switch between the ends can tell), row by
 -- row: a state, and what each control of a packet of direction d makes of it.
-use Rattle.std.specs.Prelude.{◌≡◌, ◌↔◌, ◌⊎◌, Bool, true, false, if◌then◌else◌}
+use Rattle.std.specs.Prelude.{◌≡◌, ◌↔◌, ◌⊎◌, if◌then◌else◌}
 use Rattle.vsw_base.specs.Direction.{same_dir}
 use Rattle.vsw_base.specs.declared.flow.Track.{Track}
 use Rattle.vsw_base.specs.declared.flow.Track.TheVariants.{Plain, Opening, Open, Half, Closed}

@@ -1,11 +1,15 @@
 //! A pair, what it is found by, and how long it lives.
 
-ghost use Rattle.std.specs.Prelude.{◌≡◌};
+ghost use Rattle.std.specs.Prelude.{◌≡◌, ◌<◌, fold};
+ghost use Rattle.std.proofs.Common.{rules};
+ghost use Rattle.std.specs.Cmp.Rules.{hashing};
 ghost use Rattle.vsw_layerflow.specs.declared.pair.Probe.{Probe};
 ghost use Rattle.vsw_layerflow.specs.Pairs.{front, back, turned, same_probe, probe};
 ghost use Rattle.vsw_layerflow.specs.Life.{life, due, is_over};
+ghost use Rattle.vsw_layerflow.specs.Hashed.{address_input, dir_bit, fields_number};
 
-use vsw_base::{Dir, LayerKey, Moment, Set, Track};
+use std::hash::{Hash, Hasher};
+use vsw_base::{Addr, Dir, LayerKey, Moment, Set, Track};
 
 /// Microseconds of a second.
 const MICROS: u64 = 1_000_000;
@@ -31,10 +35,71 @@ pub struct Pair {
 }
 
 /// What a packet looks for among the pairs of a layer.
-#[derive(Clone, Copy, Debug, PartialEq, Eq, Hash)]
+#[derive(Clone, Copy, Debug, PartialEq, Eq)]
 pub struct Probe {
     pub dir: Dir,
     pub key: LayerKey,
+}
+
+impl Hash for Probe {
+    ghost use Rattle.vsw_layerflow.specs.Hashed.{probe_input};
+
+    ghost hash_input = { probe_input };
+
+    ghost respects_eq = { Prim.search (hashing, rules) };
+
+    // Few numbers are fed, as each takes a multiplication.
+    fn hash<H: Hasher>(&self, state: &mut H) {
+        state.write_u128(fields_number(self));
+        hash_address(&self.key.src, state);
+        hash_address(&self.key.dst, state);
+    }
+}
+
+/// All of a probe but its addresses, as one number, which `fields_number` of specs/Hashed.antt defines.
+fn fields_number(probe: &Probe) -> u128
+    ensures { result ≡ fields_number probe.now }
+{
+    let LayerKey {
+        encaps,
+        vni_outer,
+        vni_second,
+        proto,
+        part,
+        src_port,
+        dst_port,
+        ..
+    } = probe.key;
+    let vnis = u64::from(vni_outer) * 0x1_0000_0000 + u64::from(vni_second);
+    let ports = u32::from(src_port) * 0x1_0000 + u32::from(dst_port);
+    let rest = u64::from(dir_bit(probe.dir)) * 0x100_0000_0000_0000
+        + u64::from(encaps) * 0x1_0000_0000_0000
+        + u64::from(proto) * 0x100_0000_0000
+        + u64::from(part) * 0x1_0000_0000
+        + u64::from(ports);
+    u128::from(vnis) * 0x1_0000_0000_0000_0000 + u128::from(rest)
+}
+
+/// The direction as a bit.
+fn dir_bit(dir: Dir) -> u8
+    ensures value { result ≡ dir_bit dir }
+    ensures small { result < 2 }
+{
+    match dir {
+        Dir::Out => 0,
+        Dir::In => 1,
+    }
+}
+
+/// Feeds an address as a number of its own length.
+fn hash_address<H: Hasher>(address: &Addr, state: &mut H)
+    ensures { state.new ≡ fold H.write state.old (address_input address.now) }
+{
+    match address {
+        Addr::Absent => {}
+        Addr::Four(four) => state.write_u32(four.number()),
+        Addr::Six(six) => state.write_u128(six.number()),
+    }
 }
 
 impl Probe {

@@ -8,10 +8,11 @@ use Rattle.vsw_policy.specs.Groups.{changed, removed}
 use Rattle.vsw_policy.specs.Layer.{LayerSeen}
 use Rattle.vsw_policy.specs.Staying.{same_rule}
 use Rattle.vsw_policy.specs.declared.command.Command.{Command}
-use Rattle.vsw_policy.specs.declared.command.Command.TheVariants.{AddLayer, RemoveLayer, AddGroup, RemoveGroup, PutRules, AddRule, RemoveRule, SetDefault, Sweep}
+use Rattle.vsw_policy.specs.declared.command.Part.{Part}
+use Rattle.vsw_policy.specs.declared.command.Command.TheVariants.{AddLayer, RemoveLayer, AddGroup, RemoveGroup, PutRules, PutMany, AddRule, RemoveRule, SetDefault, Sweep}
 use Rattle.vsw_policy.specs.declared.refusal.Refusal.{Refusal}
 use Rattle.vsw_policy.specs.Layers.{is_of, is_layer, is_before}
-use Rattle.vsw_policy.specs.Obey.{placed, empty_layer, within, tests, after, first_refusal, answered}
+use Rattle.vsw_policy.specs.Obey.{placed, empty_layer, within, lacks_layer, lacks_group, tests, put_part, put_parts, after, first_refusal, answered}
 use Rattle.vsw_policy.specs.Own.{OthersStay, of_own, ObeysAlone, SameIsEqual}
 use Rattle.vsw_policy.specs.Sound.{Each, AreInOrder}
 use Rattle.vsw_policy.proofs.Orders.{across-before}
@@ -123,6 +124,7 @@ within-of d (RemoveLayer n) l = refl
 within-of d (AddGroup n g dir when) l = refl
 within-of d (RemoveGroup n g) l = refl
 within-of d (PutRules n g rs) l = refl
+within-of d (PutMany ps) l = refl
 within-of d (AddRule n g r) l = refl
 within-of d (RemoveRule n g k) l = refl
 within-of d (SetDefault n dir allow) l = refl
@@ -137,12 +139,17 @@ other c d n l e h = let i : (c == l.controller) ≡ true = own c n l h in grind 
 others-changed : (c d n : ℕ) (m : Command) (ls : List LayerSeen) → (d == c) ≡ false → filter (is_of d) (changed (is_layer c n) (within m) ls) ≡ filter (is_of d) ls
 others-changed c d n m ls e = changed-others (is_of d) (is_layer c n) (within m) (λ l i. other c d n l e i) (λ l. within-of d m l) ls
 
+others-parts : (c d : ℕ) (ps : List Part) (ls : List LayerSeen) → (d == c) ≡ false → filter (is_of d) (put_parts c ps ls) ≡ filter (is_of d) ls
+others-parts c d [] ls e = refl
+others-parts c d (p ∷ ps) ls e = others-parts c d ps (put_part c p ls) e ∙ others-changed c d p.layer (PutRules p.layer p.group p.rules) ls e
+
 pub others-stay : (cs : List ℕ) (ls : List LayerSeen) (c : ℕ) (m : Command) → OthersStay c ls (after cs ls c m)
 others-stay cs ls c (AddLayer s) d e = placed-others (is_of d) cs (empty_layer c s) ls e
 others-stay cs ls c (RemoveLayer n) d e = removed-others (is_of d) (is_layer c n) (λ l i. other c d n l e i) ls
 others-stay cs ls c (AddGroup n g dir when) d e = others-changed c d n (AddGroup n g dir when) ls e
 others-stay cs ls c (RemoveGroup n g) d e = others-changed c d n (RemoveGroup n g) ls e
 others-stay cs ls c (PutRules n g rs) d e = others-changed c d n (PutRules n g rs) ls e
+others-stay cs ls c (PutMany ps) d e = others-parts c d ps ls e
 others-stay cs ls c (AddRule n g r) d e = others-changed c d n (AddRule n g r) ls e
 others-stay cs ls c (RemoveRule n g k) d e = others-changed c d n (RemoveRule n g k) ls e
 others-stay cs ls c (SetDefault n dir allow) d e = others-changed c d n (SetDefault n dir allow) ls e
@@ -154,12 +161,24 @@ any-own c n ls = any-filter (is_of c) (is_layer c n) (own c n) ls
 find-own : (c n : ℕ) (ls : List LayerSeen) → find (is_layer c n) (filter (is_of c) ls) ≡ find (is_layer c n) ls
 find-own c n ls = find-filter (is_of c) (is_layer c n) (own c n) ls
 
+any-as : {A : Type 0} (p q : A → Bool) → ((x : A) → p x ≡ q x) → (xs : List A) → list_any p xs ≡ list_any q xs
+any-as p q h [] = refl
+any-as p q h (x ∷ xs) = rw (h x) (ap (λ b. q x || b) (any-as p q h xs))
+
+lacks-layer-own : (c : ℕ) (ls : List LayerSeen) (p : Part) → lacks_layer (filter (is_of c) ls) c p ≡ lacks_layer ls c p
+lacks-layer-own c ls p = rw (any-own c p.layer ls) refl
+
+lacks-group-own : (c : ℕ) (ls : List LayerSeen) (p : Part) → lacks_group (filter (is_of c) ls) c p ≡ lacks_group ls c p
+lacks-group-own c ls p = rw (find-own c p.layer ls) refl
+
 tests-own : (ls : List LayerSeen) (c : ℕ) (m : Command) → tests (filter (is_of c) ls) c m ≡ tests ls c m
 tests-own ls c (AddLayer s) = rw (any-own c s.layer ls, filter-twice (is_of c) ls) refl
 tests-own ls c (RemoveLayer n) = rw (any-own c n ls) refl
 tests-own ls c (AddGroup n g dir when) = rw (any-own c n ls, find-own c n ls) refl
 tests-own ls c (RemoveGroup n g) = rw (any-own c n ls, find-own c n ls) refl
 tests-own ls c (PutRules n g rs) = rw (any-own c n ls, find-own c n ls) refl
+tests-own ls c (PutMany ps) =
+    rw (any-as (lacks_layer (filter (is_of c) ls) c) (lacks_layer ls c) (lacks-layer-own c ls) ps, any-as (lacks_group (filter (is_of c) ls) c) (lacks_group ls c) (lacks-group-own c ls) ps) refl
 tests-own ls c (AddRule n g r) = rw (any-own c n ls, find-own c n ls) refl
 tests-own ls c (RemoveRule n g k) = rw (any-own c n ls, find-own c n ls) refl
 tests-own ls c (SetDefault n dir allow) = rw (any-own c n ls) refl
@@ -167,6 +186,10 @@ tests-own ls c (Sweep n now) = rw (any-own c n ls) refl
 
 own-changed : (c n : ℕ) (m : Command) (ls : List LayerSeen) → filter (is_of c) (changed (is_layer c n) (within m) ls) ≡ changed (is_layer c n) (within m) (filter (is_of c) ls)
 own-changed c n m ls = changed-filter (is_of c) (is_layer c n) (within m) (own c n) (λ l. within-of c m l) ls
+
+own-parts : (c : ℕ) (ps : List Part) (ls : List LayerSeen) → filter (is_of c) (put_parts c ps ls) ≡ put_parts c ps (filter (is_of c) ls)
+own-parts c [] ls = refl
+own-parts c (p ∷ ps) ls = own-parts c ps (put_part c p ls) ∙ ap (λ ms. put_parts c ps ms) (own-changed c p.layer (PutRules p.layer p.group p.rules) ls)
 
 itself : (n : ℕ) → (n == n) ≡ true
 itself n = grind (arith, nat_tests)
@@ -177,6 +200,7 @@ after-own cs ls c (RemoveLayer n) h = removed-filter (is_of c) (is_layer c n) (o
 after-own cs ls c (AddGroup n g dir when) h = own-changed c n (AddGroup n g dir when) ls
 after-own cs ls c (RemoveGroup n g) h = own-changed c n (RemoveGroup n g) ls
 after-own cs ls c (PutRules n g rs) h = own-changed c n (PutRules n g rs) ls
+after-own cs ls c (PutMany ps) h = own-parts c ps ls
 after-own cs ls c (AddRule n g r) h = own-changed c n (AddRule n g r) ls
 after-own cs ls c (RemoveRule n g k) h = own-changed c n (RemoveRule n g k) ls
 after-own cs ls c (SetDefault n dir allow) h = own-changed c n (SetDefault n dir allow) ls

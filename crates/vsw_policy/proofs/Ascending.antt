@@ -1,7 +1,7 @@
 -- The tests of a command, in the order of their refusals' numbers.
 use Rattle.std.proofs.Common.{◌≡◌, ◌≤◌, ◌<◌, Bool, true, false, List, [], ◌∷◌, Option, Some, None, Err, refl, subst, arith, if◌then◌else◌}
 use Rattle.vsw_policy.specs.Layer.{LayerSeen}
-use Rattle.vsw_policy.specs.declared.command.Command.TheVariants.{AddLayer, RemoveLayer, AddGroup, RemoveGroup, PutRules, AddRule, RemoveRule, SetDefault, Sweep}
+use Rattle.vsw_policy.specs.declared.command.Command.TheVariants.{AddLayer, RemoveLayer, AddGroup, RemoveGroup, PutRules, PutMany, AddRule, RemoveRule, SetDefault, Sweep}
 use Rattle.vsw_policy.specs.declared.refusal.Refusal.{Refusal}
 use Rattle.vsw_policy.specs.Obey.{tests, first_refusal, after, answered}
 use Rattle.vsw_policy.specs.Refusals.{refusal_number}
@@ -14,6 +14,7 @@ tests-ascend ls c (RemoveLayer n) = (tt, tt)
 tests-ascend ls c (AddGroup n g dir when) = ((omega arith, (omega arith, tt)), ((omega arith, tt), (tt, tt)))
 tests-ascend ls c (RemoveGroup n g) = ((omega arith, tt), (tt, tt))
 tests-ascend ls c (PutRules n g rs) = ((omega arith, (omega arith, (omega arith, tt))), ((omega arith, (omega arith, tt)), ((omega arith, tt), (tt, tt))))
+tests-ascend ls c (PutMany ps) = ((omega arith, (omega arith, (omega arith, (omega arith, (omega arith, tt))))), ((omega arith, (omega arith, (omega arith, (omega arith, tt)))), ((omega arith, (omega arith, (omega arith, tt))), ((omega arith, (omega arith, tt)), ((omega arith, tt), (tt, tt))))))
 tests-ascend ls c (AddRule n g r) = ((omega arith, (omega arith, (omega arith, tt))), ((omega arith, (omega arith, tt)), ((omega arith, tt), (tt, tt))))
 tests-ascend ls c (RemoveRule n g k) = ((omega arith, (omega arith, tt)), ((omega arith, tt), (tt, tt)))
 tests-ascend ls c (SetDefault n dir allow) = (tt, tt)

@@ -1,7 +1,7 @@
 -- Commands leave the layers in order and within the limits.
 use Rattle.std.proofs.Common.{◌≡◌, suc, ◌<◌, ◌≤◌, ℕ, ◌==◌, ◌&&◌, ◌||◌, Bool, true, false, not, List, [], ◌∷◌, ◌++◌, length, filter, Some, None, refl, ap, ◌∙◌, arith}
 use Rattle.std.specs.Prelude.{nat_le, nat_lt, if◌then◌else◌}
-use Rattle.std.specs.List.{find, list_any}
+use Rattle.std.specs.List.{find, flat_map, list_any}
 use Rattle.std.proofs.lemmas.Bool.Decides.{nat_tests}
 use Rattle.std.proofs.lemmas.List.{length-append}
 use Rattle.vsw_base.specs.declared.packet.Dir.{Dir}
@@ -17,10 +17,11 @@ use Rattle.vsw_policy.specs.Groups.{is_group, is_rule, changed, removed, rules_i
 use Rattle.vsw_policy.specs.Layer.{LayerSeen, with_spec, defaulting}
 use Rattle.vsw_policy.specs.Staying.{goes}
 use Rattle.vsw_policy.specs.declared.command.Command.{Command}
-use Rattle.vsw_policy.specs.declared.command.Command.TheVariants.{AddLayer, RemoveLayer, AddGroup, RemoveGroup, PutRules, AddRule, RemoveRule, SetDefault, Sweep}
+use Rattle.vsw_policy.specs.declared.command.Part.{Part}
+use Rattle.vsw_policy.specs.declared.command.Command.TheVariants.{AddLayer, RemoveLayer, AddGroup, RemoveGroup, PutRules, PutMany, AddRule, RemoveRule, SetDefault, Sweep}
 use Rattle.vsw_policy.specs.declared.refusal.Refusal.{Refusal}
 use Rattle.vsw_policy.specs.Layers.{is_of, is_layer, is_before}
-use Rattle.vsw_policy.specs.Obey.{placed, empty_layer, within, groups_in, tests, after, first_refusal, rules_given}
+use Rattle.vsw_policy.specs.Obey.{placed, empty_layer, within, groups_in, repeats_rule, exceeds_rules, tests, put_part, put_parts, after, first_refusal, rules_given}
 use Rattle.vsw_policy.specs.Sound.{Each, IsGoodRule, IsGoodGroup, IsGoodLayer, AreApart, AreInOrder, AreGood, IsSound, same_layer, same_group, same_number, is_listed}
 use Rattle.vsw_policy.proofs.Orders.{flip-before, over-before}
 
@@ -31,6 +32,15 @@ each-as P Q f (x ∷ xs) h = (f x h.0, each-as P Q f xs h.1)
 each-push : {A : Type 0} (P : A → Type 0) (xs : List A) (y : A) → Each P xs → P y → Each P (xs ++ y ∷ [])
 each-push P [] y h i = (i, tt)
 each-push P (x ∷ xs) y h i = (h.0, each-push P xs y h.1 i)
+
+-- what holds of each of two lists that stand one behind the other holds of each of either
+each-front : {A : Type 0} (P : A → Type 0) (xs ys : List A) → Each P (xs ++ ys) → Each P xs
+each-front P [] ys h = tt
+each-front P (x ∷ xs) ys h = (h.0, each-front P xs ys h.1)
+
+each-behind : {A : Type 0} (P : A → Type 0) (xs ys : List A) → Each P (xs ++ ys) → Each P ys
+each-behind P [] ys h = h
+each-behind P (x ∷ xs) ys h = each-behind P xs ys h.1
 
 -- what is changed is good where the change is good of the first that passes
 each-changed : {A : Type 0} (P : A → Type 0) (p : A → Bool) (f : A → A) (xs : List A) → ((x : A) → find p xs ≡ Some x → P x → P (f x)) → Each P xs → Each P (changed p f xs)
@@ -261,6 +271,19 @@ good-added cs g dir when l new room ok =
     let others = each-as (λ x. is_group g x ≡ false) (λ x. same_group x h ≡ false) (λ x i. flip-equal g x.number i) l.groups (each-none (is_group g) l.groups new) in
     (ok.0, one_more 32 l.groups h room, each-push IsGoodGroup l.groups h ok.2 (good-empty g dir when), apart-push same_group l.groups h ok.3 others, ok.4)
 
+good-put : (cs : List ℕ) (ls : List LayerSeen) (c n g : ℕ) (rs : List Rule) → AreGood cs ls → Each IsGoodRule rs → has_twice rs ≡ false → nat_lt 1024 (length rs) ≡ false → AreGood cs (changed (is_layer c n) (within (PutRules n g rs)) ls)
+good-put cs ls c n g rs h good once room =
+    let few = at_most 1024 (length rs) room in
+    let apart = apart-numbers rs once in
+    good-changed cs ls (is_layer c n) (within (PutRules n g rs)) (λ l. (refl, refl, refl))
+    (λ l found ok. let k = good-groups cs g (with_rules rs) l (λ x. refl) (λ x i j. (few, good, apart)) ok in (ok.0, k.0, k.1, k.2, below_filter (λ p. not (goes g (rules_in l.groups g) rs p)) l.next_pair l.pairs ok.4)) h
+
+good-parts : (cs : List ℕ) (c : ℕ) (ps : List Part) (ls : List LayerSeen) → AreGood cs ls → Each IsGoodRule (flat_map (λ p. p.rules) ps) → Each (λ p. repeats_rule p ≡ false) ps → Each (λ p. exceeds_rules p ≡ false) ps → AreGood cs (put_parts c ps ls)
+good-parts cs c [] ls h good once room = h
+good-parts cs c (p ∷ ps) ls h good once room =
+    let rest = flat_map (λ (q : Part). q.rules) ps in
+    good-parts cs c ps (put_part c p ls) (good-put cs ls c p.layer p.group p.rules h (each-front IsGoodRule p.rules rest good) once.0 room.0) (each-behind IsGoodRule p.rules rest good) once.1 room.1
+
 default-keeps : (d : Dir) (b : Bool) → KeepsName (λ l. with_spec (defaulting d b l.spec) l)
 default-keeps Out b l = (refl, refl, refl)
 default-keeps In b l = (refl, refl, refl)
@@ -282,10 +305,10 @@ keeps cs ls c (RemoveGroup n g) h listed good none =
     (λ l found ok. (ok.0, at_most_as _ _ 32 (length-removed (is_group g) l.groups) ok.1, each-removed IsGoodGroup (is_group g) l.groups ok.2, apart-removed same_group (is_group g) l.groups ok.3, below_filter (λ p. not (goes g (rules_in l.groups g) [] p)) l.next_pair l.pairs ok.4)) h
 keeps cs ls c (PutRules n g rs) h listed good none =
     let t = passed (tests ls c (PutRules n g rs)) none in
-    let few = at_most 1024 (length rs) t.1.1.1.0 in
-    let apart = apart-numbers rs t.1.1.0 in
-    good-changed cs ls (is_layer c n) (within (PutRules n g rs)) (λ l. (refl, refl, refl))
-    (λ l found ok. let k = good-groups cs g (with_rules rs) l (λ x. refl) (λ x i j. (few, good, apart)) ok in (ok.0, k.0, k.1, k.2, below_filter (λ p. not (goes g (rules_in l.groups g) rs p)) l.next_pair l.pairs ok.4)) h
+    good-put cs ls c n g rs h good t.1.1.0 t.1.1.1.0
+keeps cs ls c (PutMany ps) h listed good none =
+    let t = passed (tests ls c (PutMany ps)) none in
+    good-parts cs c ps ls h good (each-none repeats_rule ps t.1.1.0) (each-none exceeds_rules ps t.1.1.1.0)
 keeps cs ls c (AddRule n g r) h listed good none =
     let t = passed (tests ls c (AddRule n g r)) none in
     let new : list_any (is_rule r.number) (rules_in (groups_in ls c n) g) ≡ false = t.1.1.0 in

@@ -8,3 +8,4 @@ pub mod Own
 pub mod Refusals
 pub mod Law
 pub use Rattle.vsw_classify.specs.Groups
+pub mod Private

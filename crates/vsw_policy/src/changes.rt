@@ -8,6 +8,7 @@ ghost use Rattle.vsw_policy.specs.Obey as obey;
 ghost use Rattle.vsw_policy.specs.Obey.{after};
 
 use crate::command::Command;
+use crate::parts::put_many;
 use crate::places::{layer_place, place_for};
 use crate::{Groups, Layer, LayerSpec};
 use std::alloc::Global;
@@ -54,7 +55,8 @@ fn remove_layer(layers: &mut Vec<Layer>, controller: u16, layer: u16)
     let _ = layers.remove(place);
 }
 
-/// The layer after a command that names it. One that adds or removes a layer changes nothing within.
+/// The layer after a command that names it. One that adds or removes a layer, or names several, changes
+/// nothing within.
 fn change_within(alloc: Global, layer: &mut Layer, command: &Command) -> Result<(), NoMemory>
     ensures ok { OnOk result (seen layer.new ≡ obey.within command.now (seen layer.old)) }
     ensures err { OnErr result (seen layer.new ≡ seen layer.old) }
@@ -62,6 +64,7 @@ fn change_within(alloc: Global, layer: &mut Layer, command: &Command) -> Result<
     match command {
         Command::AddLayer { .. } => Ok(()),
         Command::RemoveLayer { .. } => Ok(()),
+        Command::PutMany { .. } => Ok(()),
         Command::AddGroup {
             group,
             dir,
@@ -127,6 +130,7 @@ pub fn change(
             change_named(alloc, layers, controller, *layer, command)
         }
         Command::PutRules { layer, .. } => change_named(alloc, layers, controller, *layer, command),
+        Command::PutMany { parts } => put_many(alloc, layers, controller, parts.as_slice()),
         Command::AddRule { layer, .. } => change_named(alloc, layers, controller, *layer, command),
         Command::RemoveRule { layer, .. } => {
             change_named(alloc, layers, controller, *layer, command)

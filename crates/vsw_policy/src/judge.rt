@@ -8,19 +8,14 @@ ghost use Rattle.vsw_policy.specs.declared.command.Command.TheVariants as comman
 ghost use Rattle.vsw_policy.specs.Obey.{tests, first_refusal};
 
 use crate::command::Command;
+use crate::judge_many::judge_put_many;
+use crate::limits::{MOST_GROUPS, MOST_LAYERS, MOST_RULES};
 use crate::places::{count_layers, groups_in, has_layer};
 use crate::refusal::Refusal;
 use crate::{Layer, LayerSpec, has_group, has_rule, has_twice, rules_in};
 use std::alloc::Global;
 use vsw_base::NoMemory;
 use vsw_rule::Rule;
-
-/// The most layers of a controller, groups of a layer, and rules of a group.
-const MOST_LAYERS: usize = 16;
-
-const MOST_GROUPS: usize = 32;
-
-const MOST_RULES: usize = 1024;
 
 fn judge_add_layer(layers: &[Layer], controller: u16, spec: &LayerSpec) -> Option<Refusal>
     ensures { result ≡ first_refusal (tests (map seen layers.now) controller (command.AddLayer spec.now)) }
@@ -166,6 +161,7 @@ pub fn judge(
             group,
             rules,
         } => judge_put_rules(alloc, layers, controller, *layer, *group, rules.as_slice()),
+        Command::PutMany { parts } => judge_put_many(alloc, layers, controller, parts.as_slice()),
         Command::RemoveLayer { layer } => Ok(judge_layer(layers, controller, *layer)),
         Command::RemoveGroup { layer, group } => {
             Ok(judge_group(layers, controller, *layer, *group))

@@ -8,7 +8,7 @@ use Rattle.vsw_base.specs.declared.flow.Crossing.{Crossing}
 use Rattle.vsw_base.specs.declared.flow.Outer.{Outer}
 use Rattle.vsw_base.specs.declared.flow.Set.{Set}
 use Rattle.vsw_base.specs.declared.header.Header.{Header}
-use Rattle.vsw_base.specs.declared.header.Header.TheVariants.{Ether, Ip, Vxlan, Ports}
+use Rattle.vsw_base.specs.declared.header.Header.TheVariants.{Ether, Ip, Vxlan, Ports, Six}
 use Rattle.vsw_base.specs.declared.packet.Control.{Control}
 use Rattle.vsw_base.specs.declared.packet.Dir.{Dir}
 use Rattle.vsw_base.specs.Shape.{encaps}
@@ -39,6 +39,7 @@ written_like set (Ether d s k) = refl
 written_like set (Ip a b p f) = refl
 written_like set (Vxlan v) = refl
 written_like set (Ports p x y) = refl
+written_like set (Six a b p) = refl
 
 all_written : (set : Set) (hs : List Header) → AreLike hs (map (written set) hs)
 all_written set [] = tt
@@ -50,6 +51,7 @@ written_count set (Ether d s k ∷ hs) = written_count set hs
 written_count set (Ip a b p f ∷ hs) = written_count set hs
 written_count set (Vxlan v ∷ hs) = omega (arith, written_count set hs)
 written_count set (Ports p x y ∷ hs) = written_count set hs
+written_count set (Six a b p ∷ hs) = written_count set hs
 
 abbrev set_at : Set → ℕ → List Header → List Header
 set_at set n hs = take (3 * n) hs ++ map (written set) (drop (3 * n) hs)

@@ -108,6 +108,8 @@ memory_answer (Err refusal.RuleExists) e = absurd (true≢false (sym e))
 memory_answer (Err refusal.ManyLayers) e = absurd (true≢false (sym e))
 memory_answer (Err refusal.ManyGroups) e = absurd (true≢false (sym e))
 memory_answer (Err refusal.ManyRules) e = absurd (true≢false (sym e))
+memory_answer (Err refusal.ManyParts) e = absurd (true≢false (sym e))
+memory_answer (Err refusal.PartTwice) e = absurd (true≢false (sym e))
 
 reply_told : (answer : Result (Unit {0}) Refusal) (ls : List LayerSeen) → reply_in (told answer ls) ≡ reply_of answer
 reply_told (Ok done) ls = refl

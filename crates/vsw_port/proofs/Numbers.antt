@@ -18,9 +18,10 @@ use Rattle.std.specs.Prelude.{if◌then◌else◌}
 use Rattle.vsw_port.specs.History.{left_by}
 use Rattle.vsw_policy.specs.Groups.{changed, removed}
 use Rattle.vsw_policy.specs.declared.command.Command.{Command}
-use Rattle.vsw_policy.specs.declared.command.Command.TheVariants.{AddLayer, RemoveLayer, AddGroup, RemoveGroup, PutRules, AddRule, RemoveRule, SetDefault, Sweep}
+use Rattle.vsw_policy.specs.declared.command.Part.{Part}
+use Rattle.vsw_policy.specs.declared.command.Command.TheVariants.{AddLayer, RemoveLayer, AddGroup, RemoveGroup, PutRules, PutMany, AddRule, RemoveRule, SetDefault, Sweep}
 use Rattle.vsw_policy.specs.declared.refusal.Refusal.{Refusal}
-use Rattle.vsw_policy.specs.Obey.{after, answered, empty_layer, first_refusal, obey, placed, tests, within}
+use Rattle.vsw_policy.specs.Obey.{after, answered, empty_layer, first_refusal, obey, placed, put_part, put_parts, tests, within}
 use Rattle.vsw_port.specs.Core.{AreAtMost}
 
 -- the next number of the layer at this place is as before, or one more and none is made there any more
@@ -129,12 +130,17 @@ removed_at_most n p (l ∷ ls) h = by (p l) (removed_at_most n p ls h.1)
     by true more = h.1
     by false more = (h.0, more)
 
+parts_at_most : (n c : ℕ) (ps : List Part) (ls : List LayerSeen) → AreAtMost n ls → AreAtMost n (put_parts c ps ls)
+parts_at_most n c [] ls h = h
+parts_at_most n c (p ∷ ps) ls h = parts_at_most n c ps (put_part c p ls) (changed_at_most n (is_layer c p.layer) (within (PutRules p.layer p.group p.rules)) (λ l. refl) ls h)
+
 commanded : (n : ℕ) (cs : List ℕ) (ls : List LayerSeen) (c : ℕ) (m : Command) → AreAtMost n ls → AreAtMost n (after cs ls c m)
 commanded n cs ls c (AddLayer s) h = placed_at_most n cs (empty_layer c s) ls (omega arith) h
 commanded n cs ls c (RemoveLayer k) h = removed_at_most n (is_layer c k) ls h
 commanded n cs ls c (AddGroup k g dir when) h = changed_at_most n (is_layer c k) (within (AddGroup k g dir when)) (λ l. refl) ls h
 commanded n cs ls c (RemoveGroup k g) h = changed_at_most n (is_layer c k) (within (RemoveGroup k g)) (λ l. refl) ls h
 commanded n cs ls c (PutRules k g rs) h = changed_at_most n (is_layer c k) (within (PutRules k g rs)) (λ l. refl) ls h
+commanded n cs ls c (PutMany ps) h = parts_at_most n c ps ls h
 commanded n cs ls c (AddRule k g r) h = changed_at_most n (is_layer c k) (within (AddRule k g r)) (λ l. refl) ls h
 commanded n cs ls c (RemoveRule k g r) h = changed_at_most n (is_layer c k) (within (RemoveRule k g r)) (λ l. refl) ls h
 commanded n cs ls c (SetDefault k dir allow) h = changed_at_most n (is_layer c k) (within (SetDefault k dir allow)) (λ l. refl) ls h

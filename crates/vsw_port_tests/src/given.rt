@@ -23,7 +23,15 @@ pub fn is_good(command: &Command) -> bool
     match command {
         Command::PutRules { rules, .. } => are_good(rules.as_slice()),
         Command::AddRule { rule, .. } => rule.check().is_ok(),
-        _ => true,
+        Command::AddLayer { .. }
+        | Command::RemoveLayer { .. }
+        | Command::AddGroup { .. }
+        | Command::RemoveGroup { .. }
+        | Command::RemoveRule { .. }
+        | Command::SetDefault { .. }
+        | Command::Sweep { .. } => true,
+        // None of these tests gives one.
+        Command::PutMany { .. } => false,
     }
 }
 

@@ -29,6 +29,7 @@ rule_with action = record { number = 5; priority = 10; when = record { field = D
 -- one controller, and one port with one layer and one rule, which allows them
 abbrev pub sample_policy : PolicyFile
 sample_policy = record {
+  version = 1;
   controllers = 1 ∷ [];
   ports = record {
     port = 1;

@@ -59,6 +59,8 @@ refusal_small refusal.RuleExists = omega arith
 refusal_small refusal.ManyLayers = omega arith
 refusal_small refusal.ManyGroups = omega arith
 refusal_small refusal.ManyRules = omega arith
+refusal_small refusal.ManyParts = omega arith
+refusal_small refusal.PartTwice = omega arith
 refusal_small refusal.Memory = omega arith
 
 pub refusal_law : (r : Refusal) → refusal_of (refusal_number r) ≡ Some r
@@ -71,6 +73,8 @@ refusal_law refusal.RuleExists = refl
 refusal_law refusal.ManyLayers = refl
 refusal_law refusal.ManyGroups = refl
 refusal_law refusal.ManyRules = refl
+refusal_law refusal.ManyParts = refl
+refusal_law refusal.PartTwice = refl
 refusal_law refusal.Memory = refl
 
 pub fault_small : (f : BadFrame) → fault_number f < 2 ^ 16
@@ -83,6 +87,9 @@ fault_small fault.TcpOffset = omega arith
 fault_small fault.ShortUdp = omega arith
 fault_small fault.UdpLength = omega arith
 fault_small fault.TooLong = omega arith
+fault_small fault.ShortIp6 = omega arith
+fault_small fault.Ip6Version = omega arith
+fault_small fault.Ip6Length = omega arith
 
 pub fault_law : (f : BadFrame) → fault_of (fault_number f) ≡ Some f
 fault_law fault.ShortEther = refl
@@ -94,3 +101,6 @@ fault_law fault.TcpOffset = refl
 fault_law fault.ShortUdp = refl
 fault_law fault.UdpLength = refl
 fault_law fault.TooLong = refl
+fault_law fault.ShortIp6 = refl
+fault_law fault.Ip6Version = refl
+fault_law fault.Ip6Length = refl

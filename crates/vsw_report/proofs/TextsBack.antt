@@ -48,6 +48,8 @@ name_free c refusal.RuleExists small = free_high c (codes "RuleExists") small re
 name_free c refusal.ManyLayers small = free_high c (codes "ManyLayers") small refl
 name_free c refusal.ManyGroups small = free_high c (codes "ManyGroups") small refl
 name_free c refusal.ManyRules small = free_high c (codes "ManyRules") small refl
+name_free c refusal.ManyParts small = free_high c (codes "ManyParts") small refl
+name_free c refusal.PartTwice small = free_high c (codes "PartTwice") small refl
 name_free c refusal.Memory small = free_high c (codes "Memory") small refl
 
 fault_free : (c : ℕ) (f : BadFrame) → c < 43 → is_free c (fault_name f) ≡ true
@@ -60,6 +62,9 @@ fault_free c fault.TcpOffset small = free_high c (codes "TcpOffset") small refl
 fault_free c fault.ShortUdp small = free_high c (codes "ShortUdp") small refl
 fault_free c fault.UdpLength small = free_high c (codes "UdpLength") small refl
 fault_free c fault.TooLong small = free_high c (codes "TooLong") small refl
+fault_free c fault.ShortIp6 small = free_high c (codes "ShortIp6") small refl
+fault_free c fault.Ip6Version small = free_high c (codes "Ip6Version") small refl
+fault_free c fault.Ip6Length small = free_high c (codes "Ip6Length") small refl
 
 small_16 : (c n : ℕ) → c < 43 → n < 2 ^ 16 → is_free c (decimal n) ≡ true
 small_16 c n small h = free_16 c n (omega (arith, small)) h

@@ -12,6 +12,7 @@ use Rattle.vsw_promise.specs.Sample.{IsReport}
 -- one stateful rule. A pair lives 100 seconds, and 10 once it is closed
 abbrev pub life_policy : PolicyFile
 life_policy = record {
+  version = 1;
   controllers = 1 ∷ [];
   ports = record {
     port = 1;

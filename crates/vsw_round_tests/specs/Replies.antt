@@ -20,11 +20,11 @@ use Rattle.vsw_promise.specs.Jobs.{Setting}
 use Rattle.vsw_promise.specs.Sample.{IsReport, captured}
 
 abbrev pub no_set : Set
-no_set = record { dst_mac = None; src_mac = None; src_ip = None; dst_ip = None; src_port = None; dst_port = None }
+no_set = record { dst_mac = None; src_mac = None; src_ip = None; dst_ip = None; src_port = None; dst_port = None; src_ip6 = None; dst_ip6 = None }
 
 -- the source becomes 192.0.2.7, port 40000
 abbrev pub other_source : Set
-other_source = record { dst_mac = None; src_mac = None; src_ip = Some 0xc0000207; dst_ip = None; src_port = Some 40000; dst_port = None }
+other_source = record { dst_mac = None; src_mac = None; src_ip = Some 0xc0000207; dst_ip = None; src_port = Some 40000; dst_port = None; src_ip6 = None; dst_ip6 = None }
 
 -- network 5001, from 172.16.0.1 to 172.16.0.2
 abbrev pub tunnel : Outer
@@ -39,6 +39,7 @@ layer controller number order groups = record { controller = controller; spec = 
 -- layer 10 remembers, layer 20 rewrites, and layer 30 encapsulates what goes to 10.0.0.0/16 and decapsulates network 5001
 abbrev pub reply_policy : PolicyFile
 reply_policy = record {
+  version = 1;
   controllers = 1 ∷ 2 ∷ 3 ∷ [];
   ports = record {
     port = 1;

@@ -104,6 +104,8 @@ fn replies(alloc: Global) -> Items<ToldLine> {
         refused(Refusal::ManyLayers),
         refused(Refusal::ManyGroups),
         refused(Refusal::ManyRules),
+        refused(Refusal::ManyParts),
+        refused(Refusal::PartTwice),
         replied(
             By::Controller(2),
             7,
@@ -127,6 +129,8 @@ c2 7 +1 refused 6 RuleExists
 c2 7 +1 refused 7 ManyLayers
 c2 7 +1 refused 8 ManyGroups
 c2 7 +1 refused 9 ManyRules
+c2 7 +1 refused 11 ManyParts
+c2 7 +1 refused 12 PartTwice
 c2 7 @2 refused 10 Memory
 loose
 ";
@@ -164,6 +168,9 @@ fn loose_packets(alloc: Global) -> Items<Loose> {
         malformed(BadFrame::ShortUdp),
         malformed(BadFrame::UdpLength),
         malformed(BadFrame::TooLong),
+        malformed(BadFrame::ShortIp6),
+        malformed(BadFrame::Ip6Version),
+        malformed(BadFrame::Ip6Length),
         Loose {
             packet: 10,
             cause: LooseCause::NoPort,
@@ -185,6 +192,9 @@ loose
 7 malformed 7 ShortUdp
 7 malformed 8 UdpLength
 7 malformed 9 TooLong
+7 malformed 10 ShortIp6
+7 malformed 11 Ip6Version
+7 malformed 12 Ip6Length
 10 noport
 ";
 

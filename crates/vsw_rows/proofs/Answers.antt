@@ -1,8 +1,6 @@
 -- A good row answers the packets of its key.
-use Rattle.std.proofs.Common.{◌≡◌, ℕ, ◌+◌, arith, length-append, List, ◌++◌, refl, sym, ◌∙◌, ap, subst, length, take, drop}
+use Rattle.std.proofs.Common.{◌≡◌, ℕ, List, ◌++◌, refl, sym, ◌∙◌, ap, subst, length, take, drop}
 use Rattle.std.proofs.Math.Seq.{take-append_seam, drop-append_seam}
-use Rattle.std.proofs.lemmas.List.{length-replicate}
-use Rattle.std.specs.Prelude.{replicate}
 use Rattle.vsw_base.specs.declared.flow.Ufid.{Ufid}
 use Rattle.vsw_base.specs.declared.header.Header.{Header}
 use Rattle.vsw_base.specs.declared.packet.Dir.{Dir}
@@ -13,14 +11,14 @@ use Rattle.vsw_rows.specs.LeanLaw.{answer_by}
 use Rattle.vsw_rows.proofs.Answered.{row_answers}
 use Rattle.vsw_rows.specs.Law.{RowAnswers}
 use Rattle.vsw_rows.specs.GoodRows.{words_of}
-use Rattle.vsw_words.specs.Key.{addresses, key_words, macs, padded}
+use Rattle.vsw_words.specs.Key.{key_words}
 use Rattle.vsw_words.specs.Row.{body_words, row_words}
-use Rattle.vsw_words.proofs.Decoded.{apart, padded_length}
+use Rattle.vsw_words.proofs.Decoded.{apart}
+use Rattle.vsw_words.proofs.Used as used
 
 -- an identity has sixteen words
 pub key_length : (dir : Dir) (hs : List Header) → length (key_words dir hs) ≡ 16
-unfolding key_words
-key_length dir hs = omega (arith, length-append (padded 6 (macs hs)) (padded 3 (addresses hs) ++ replicate 5 0), length-append (padded 3 (addresses hs)) (replicate 5 0), padded_length 6 (macs hs), padded_length 3 (addresses hs), length-replicate {A = ℕ} 5 0)
+key_length = used.key_length
 
 -- lists of sixteen words with others behind them are the same in both parts
 pub fronts : (ks ls ms ns : List ℕ) → length ks ≡ 16 → length ms ≡ 16 → ks ++ ls ≡ ms ++ ns → ks ≡ ms

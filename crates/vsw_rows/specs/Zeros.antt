@@ -8,7 +8,6 @@ use Rattle.vsw_rows.specs.GoodRows.{IsGoodRow, words_of}
 use Rattle.vsw_rows.specs.Good.{Row}
 use Rattle.vsw_words.specs.Row.{in_use}
 use Rattle.vsw_words.proofs.Used.{row_ends}
-use Rattle.vsw_words.proofs.Written.{form_short}
 
 -- the first nineteen words tell how many are in use
 front_tells : (words : List ℕ) → in_use (take 19 words) ≡ in_use words
@@ -23,4 +22,4 @@ row_whole row words is ends = rw (front_tells words) (whole (in_use words) words
 pub ends_in_zero : (o : Opening) (h : List Event) (words : List ℕ) → length words ≡ 73 → IsGoodRow o h words → words ≡ take (in_use (take 19 words)) words ++ replicate (73 - in_use (take 19 words)) 0
 ends_in_zero o h words len good =
     let row : Row = good.row in
-    row_whole row words good.words_is (subst (λ ws. drop (in_use ws) ws ≡ replicate (73 - in_use ws) 0) (sym good.words_is) (row_ends row.id row.verdict row.acts row.until (form_short row.acts good.body.form)))
+    row_whole row words good.words_is (subst (λ ws. drop (in_use ws) ws ≡ replicate (73 - in_use ws) 0) (sym good.words_is) (row_ends row.id row.verdict row.acts row.until good.body.few))

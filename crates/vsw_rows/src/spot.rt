@@ -8,6 +8,7 @@ ghost use Rattle.vsw_rows.specs.Leant.{same_spot, spot_in};
 ghost use Rattle.vsw_rows.specs.Spots.{or_put, spot_by};
 
 use indexmap::IndexMap;
+use vsw_base::Addr;
 use vsw_layerflow::Probe;
 use vsw_walk::Looked;
 
@@ -65,5 +66,7 @@ pub fn put_spot(spots: &mut IndexMap<Spot, Probe>, spot: Spot, probe: Probe)
     if at_spot(spots, &spot).is_some() {
         return;
     }
+    // The check finds the types within a probe only where one of them is named beside the call.
+    let _address: &Addr = &probe.key.src;
     let _ = spots.insert(spot, probe);
 }

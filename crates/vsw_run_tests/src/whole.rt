@@ -3,6 +3,7 @@
 mod command_tests;
 mod edit_tests;
 mod frames;
+mod ipv6_tests;
 mod length_tests;
 mod pair_tests;
 mod policies;

@@ -1,5 +1,5 @@
 -- The actions of a walk as one transposition.
-use Rattle.std.proofs.Common.{◌≡◌, ◌∙◌, List, [], ◌∷◌, ◌++◌, true, sym, ap, subst}
+use Rattle.std.proofs.Common.{◌≡◌, ◌∙◌, List, [], ◌∷◌, ◌++◌, length, arith, true, refl, sym, ap, subst}
 use Rattle.vsw_base.specs.declared.header.Header.{Header}
 use Rattle.vsw_base.specs.Shape.{encaps, is_stack}
 use Rattle.vsw_rule.specs.Edit.{edited, kept_after}
@@ -11,6 +11,10 @@ use Rattle.vsw_transpose.specs.Fits.{fits, kept, none}
 use Rattle.vsw_transpose.proofs.None.{none_does, none_fits, none_kept}
 use Rattle.vsw_walk.specs.Made.{CanMake, Does, made_by}
 use Rattle.vsw_walk.proofs.Made.{can_before, left_last, made_last}
+
+pub no_actions : (actions : List Action) → length actions ≡ 0 → actions ≡ []
+no_actions [] e = refl
+no_actions (a ∷ es) e = absurd (omega (arith, e))
 
 -- no action
 pub none_made : (actions : List Action) (first : List Header) (xs : List Act) → actions ≡ [] → is_stack first ≡ true → xs ≡ none first → Does actions first xs

@@ -2,10 +2,12 @@
 use Rattle.std.proofs.Common.{◌≡◌, ℕ, ◌||◌, ◌++◌, Bool, true, false, true≢false, List, [], ◌∷◌, Option, Some, None, refl, sym, ap, ◌∙◌, subst, map, take, arith}
 use Rattle.std.specs.Prelude.{get_or}
 use Rattle.std.proofs.lemmas.List.{take-append-drop}
+use Rattle.vsw_base.specs.declared.address.Addr.{Addr}
+use Rattle.vsw_base.specs.declared.address.Addr.TheVariants as addr
 use Rattle.vsw_base.specs.declared.flow.LayerKey.{LayerKey}
 use Rattle.vsw_base.specs.declared.flow.Set.{Set}
 use Rattle.vsw_base.specs.declared.header.Header.{Header}
-use Rattle.vsw_base.specs.declared.header.Header.TheVariants.{Ether, Ip, Vxlan, Ports}
+use Rattle.vsw_base.specs.declared.header.Header.TheVariants.{Ether, Ip, Vxlan, Ports, Six}
 use Rattle.vsw_base.specs.declared.packet.Control.{Control}
 use Rattle.vsw_base.specs.declared.packet.Dir.{Dir}
 use Rattle.vsw_base.specs.Shape.{is_stack, is_plain, encaps, inner}
@@ -38,18 +40,24 @@ plain_writes = plain_cases Writes
     (λ d s k t. (t, λ set. (refl, refl, refl)))
     (λ d s k a b p q t. (t, λ set. (refl, refl, refl)))
     (λ d s k a b p q x y t. (t, λ set. (refl, refl, refl)))
+    (λ d s k a b p t. (t, λ set. (refl, refl, refl)))
+    (λ d s k a b p x y t. (t, λ set. (refl, refl, refl)))
 
 once_writes : (hs : List Header) → is_plain hs ≡ true → OnceWrites hs
 once_writes = plain_cases OnceWrites
     (λ d s k t d' s' a' b' v. (t, λ set. (refl, refl, refl)))
     (λ d s k a b p q t d' s' a' b' v. (t, λ set. (refl, refl, refl)))
     (λ d s k a b p q x y t d' s' a' b' v. (t, λ set. (refl, refl, refl)))
+    (λ d s k a b p t d' s' a' b' v. (t, λ set. (refl, refl, refl)))
+    (λ d s k a b p x y t d' s' a' b' v. (t, λ set. (refl, refl, refl)))
 
 twice_writes : (hs : List Header) → is_plain hs ≡ true → TwiceWrites hs
 twice_writes = plain_cases TwiceWrites
     (λ d s k t d' s' a' b' v d'' s'' a'' b'' w. (t, λ set. (refl, refl, refl)))
     (λ d s k a b p q t d' s' a' b' v d'' s'' a'' b'' w. (t, λ set. (refl, refl, refl)))
     (λ d s k a b p q x y t d' s' a' b' v d'' s'' a'' b'' w. (t, λ set. (refl, refl, refl)))
+    (λ d s k a b p t d' s' a' b' v d'' s'' a'' b'' w. (t, λ set. (refl, refl, refl)))
+    (λ d s k a b p x y t d' s' a' b' v d'' s'' a'' b'' w. (t, λ set. (refl, refl, refl)))
 
 writes : (hs : List Header) → is_stack hs ≡ true → Writes hs
 writes = stack_cases Writes plain_writes (λ hs t d s a b v n. once_writes hs t d s a b v) (λ hs t d' s' a' b' w m d s a b v n. twice_writes hs t d' s' a' b' w d s a b v)
@@ -68,6 +76,8 @@ reverse_for set hs = record {
   dst_ip = undone set.src_ip (field.src_ip hs);
   src_port = undone set.dst_port (field.dst_port hs);
   dst_port = undone set.src_port (field.src_port hs);
+  src_ip6 = undone set.dst_ip6 (field.dst_ip6 hs);
+  dst_ip6 = undone set.src_ip6 (field.src_ip6 hs);
 }
 
 -- inner headers of the same kinds that answer the edited ones answer, with the reverse set written, those from before
@@ -79,21 +89,41 @@ restored : (new : Option ℕ) (old x : ℕ) → x ≡ or_old new old → or_old 
 restored None old x e = e
 restored (Some new) old x e = refl
 
+abbrev pub number_in : Addr → ℕ
+number_in addr.Absent = 0
+number_in (addr.Four a) = a
+number_in (addr.Six a) = a
+
+four_restored : (new : Option ℕ) (old x : ℕ) → addr.Four x ≡ addr.Four (or_old new old) → addr.Four (or_old (undone new (Some old)) x) ≡ addr.Four old
+four_restored new old x e = ap addr.Four (restored new old x (ap number_in e))
+
+six_restored : (new : Option ℕ) (old x : ℕ) → addr.Six x ≡ addr.Six (or_old new old) → addr.Six (or_old (undone new (Some old)) x) ≡ addr.Six old
+six_restored new old x e = ap addr.Six (restored new old x (ap number_in e))
+
 ether_returns : (d s k : ℕ) → Returns (Ether d s k ∷ [])
 ether_returns d s k set [] a m = absurd a
 ether_returns d s k set (h ∷ []) a m = m
 ether_returns d s k set (h ∷ g ∷ ks) a m = absurd a.1
 
 ip_returns : (d s k a b p : ℕ) (q : Bool) → Returns (Ether d s k ∷ Ip a b p q ∷ [])
-ip_returns d s k a b p q set (h ∷ Ip a' b' p' q' ∷ []) l m = (restored set.dst_ip b a' m.0, restored set.src_ip a b' m.1, m.2, m.3, m.4, m.5)
+ip_returns d s k a b p q set (h ∷ Ip a' b' p' q' ∷ []) l m = (four_restored set.dst_ip b a' m.0, four_restored set.src_ip a b' m.1, m.2, m.3, m.4, m.5)
 ip_returns d s k a b p q set ks l m = absurd (grind arith)
 
 ports_return : (d s k a b p : ℕ) (q : Bool) (x y : ℕ) → Returns (Ether d s k ∷ Ip a b p q ∷ Ports p x y ∷ [])
-ports_return d s k a b p q x y set (h ∷ Ip a' b' p' q' ∷ Ports r x' y' ∷ []) l m = (restored set.dst_ip b a' m.0, restored set.src_ip a b' m.1, m.2, m.3, restored set.dst_port y x' m.4, restored set.src_port x y' m.5)
+ports_return d s k a b p q x y set (h ∷ Ip a' b' p' q' ∷ Ports r x' y' ∷ []) l m = (four_restored set.dst_ip b a' m.0, four_restored set.src_ip a b' m.1, m.2, m.3, restored set.dst_port y x' m.4, restored set.src_port x y' m.5)
 ports_return d s k a b p q x y set ks l m = absurd (grind arith)
+
+six_returns : (d s k a b p : ℕ) → Returns (Ether d s k ∷ Six a b p ∷ [])
+six_returns d s k a b p set (h ∷ Six a' b' p' ∷ []) l m = (six_restored set.dst_ip6 b a' m.0, six_restored set.src_ip6 a b' m.1, m.2, m.3, m.4, m.5)
+six_returns d s k a b p set ks l m = absurd (grind arith)
+
+six_ports_return : (d s k a b p x y : ℕ) → Returns (Ether d s k ∷ Six a b p ∷ Ports p x y ∷ [])
+six_ports_return d s k a b p x y set (h ∷ Six a' b' p' ∷ Ports r x' y' ∷ []) l m = (six_restored set.dst_ip6 b a' m.0, six_restored set.src_ip6 a b' m.1, m.2, m.3, restored set.dst_port y x' m.4, restored set.src_port x y' m.5)
+six_ports_return d s k a b p x y set ks l m = absurd (grind arith)
 
 returns : (hs : List Header) → is_plain hs ≡ true → Returns hs
 returns = plain_cases Returns (λ d s k t. ether_returns d s k) (λ d s k a b p q t. ip_returns d s k a b p q) (λ d s k a b p q x y t. ports_return d s k a b p q x y)
+    (λ d s k a b p t. six_returns d s k a b p) (λ d s k a b p x y t. six_ports_return d s k a b p x y)
 
 -- two lists of inner headers by what their keys tell of them
 by_key : (hs ks : List Header) → key_from ks ≡ mirror_of (key_from hs) → Answers (inner ks) (inner hs)
@@ -123,6 +153,7 @@ header_stays (Ether d s k) = refl
 header_stays (Ip a b p q) = refl
 header_stays (Vxlan v) = refl
 header_stays (Ports p x y) = refl
+header_stays (Six a b p) = refl
 
 headers_stay : (hs : List Header) → map (written nothing) hs ≡ hs
 headers_stay [] = refl

@@ -19,7 +19,7 @@ use crate::turns::Turns;
 use crate::{reverse_set, set_of, wanted_pair};
 use std::alloc::Global;
 use std::marker::Model;
-use vsw_base::{Control, Dir, LayerKey, Mac, Moment, NoMemory, Outer, Set, Stack, Track};
+use vsw_base::{Addr, Control, Dir, LayerKey, Mac, Moment, NoMemory, Outer, Set, Stack, Track};
 use vsw_layerflow::{Pair, due};
 use vsw_policy::{Layer, LayerSpec};
 use vsw_rule::{Action, Rule};
@@ -195,6 +195,7 @@ impl Scratch {
     {
         // The check finds the types within a pair only where one of them is named beside the push.
         let _mac: &Option<Mac> = &pair.forward_set.dst_mac;
+        let _address: &Addr = &pair.forward.src;
         self.wanted.push_reserved(Wanted::Touch {
             layer,
             number: pair.number,
@@ -290,6 +291,8 @@ fn is_nothing(set: &Set) -> bool
         && set.dst_ip.is_none()
         && set.src_port.is_none()
         && set.dst_port.is_none()
+        && set.src_ip6.is_none()
+        && set.dst_ip6.is_none()
 }
 
 /// How many encapsulations are kept of so many, where the first of the stack goes.

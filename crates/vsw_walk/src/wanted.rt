@@ -7,7 +7,7 @@ ghost use Rattle.vsw_rule.specs.Field as field;
 ghost use Rattle.vsw_base.specs.declared.header.Header.{Header};
 ghost use Rattle.vsw_walk.specs.Wanted as spec;
 
-use vsw_base::{Control, Dir, Header, Ip4, LayerKey, Mac, Moment, Set, Stack, Track};
+use vsw_base::{Control, Dir, Header, Ip4, Ip6, LayerKey, Mac, Moment, Set, Stack, Track};
 use vsw_header::mirror;
 use vsw_layerflow::{Pair, opening};
 use vsw_rule::{Action, Rule};
@@ -15,23 +15,42 @@ use vsw_rule::{Action, Rule};
 /// The protocol number of TCP.
 const TCP: u8 = 6;
 
-/// Destination and source of inner headers.
+/// Destination and source of inner Ethernet.
 fn macs(headers: &[Header]) -> (Option<Mac>, Option<Mac>)
     ensures { result ≡ (field.dst_mac headers.now, field.src_mac headers.now) }
 {
     match headers {
         [Header::Ether { dst, src, .. }, ..] => (Some(*dst), Some(*src)),
-        _ => (None, None),
+        [
+            Header::Ip { .. } | Header::Vxlan { .. } | Header::Ports { .. } | Header::Six { .. },
+            ..
+        ]
+        | [] => (None, None),
     }
 }
 
-/// Source and destination of inner headers.
-fn addresses(headers: &[Header]) -> (Option<Ip4>, Option<Ip4>)
-    ensures { result ≡ (field.src_ip headers.now, field.dst_ip headers.now) }
+/// Source and destination of inner IPv4, and those of inner IPv6.
+fn addresses(headers: &[Header]) -> (Option<Ip4>, Option<Ip4>, Option<Ip6>, Option<Ip6>)
+    ensures { result ≡ (field.src_ip headers.now, field.dst_ip headers.now, field.src_ip6 headers.now, field.dst_ip6 headers.now) }
 {
     match headers {
-        [Header::Ether { .. }, Header::Ip { src, dst, .. }, ..] => (Some(*src), Some(*dst)),
-        _ => (None, None),
+        [Header::Ether { .. }, Header::Ip { src, dst, .. }, ..] => {
+            (Some(*src), Some(*dst), None, None)
+        }
+        [Header::Ether { .. }, Header::Six { src, dst, .. }, ..] => {
+            (None, None, Some(*src), Some(*dst))
+        }
+        [
+            Header::Ether { .. },
+            Header::Ether { .. } | Header::Vxlan { .. } | Header::Ports { .. },
+            ..
+        ]
+        | [Header::Ether { .. }]
+        | [
+            Header::Ip { .. } | Header::Vxlan { .. } | Header::Ports { .. } | Header::Six { .. },
+            ..
+        ]
+        | [] => (None, None, None, None),
     }
 }
 
@@ -41,7 +60,15 @@ fn ports(headers: &[Header]) -> (Option<u16>, Option<u16>)
 {
     match headers {
         [_, _, Header::Ports { src, dst, .. }, ..] => (Some(*src), Some(*dst)),
-        _ => (None, None),
+        [
+            _,
+            _,
+            Header::Ether { .. } | Header::Ip { .. } | Header::Vxlan { .. } | Header::Six { .. },
+            ..
+        ]
+        | [_, _]
+        | [_]
+        | [] => (None, None),
     }
 }
 
@@ -53,7 +80,7 @@ pub fn reverse_set(set: &Set, stack: &Stack) -> Set
 {
     let headers = stack.inner();
     let (dst_mac, src_mac) = macs(headers);
-    let (src_ip, dst_ip) = addresses(headers);
+    let (src_ip, dst_ip, src_ip6, dst_ip6) = addresses(headers);
     let (src_port, dst_port) = ports(headers);
     Set {
         dst_mac: set.src_mac.and(src_mac),
@@ -62,6 +89,8 @@ pub fn reverse_set(set: &Set, stack: &Stack) -> Set
         dst_ip: set.src_ip.and(src_ip),
         src_port: set.dst_port.and(dst_port),
         dst_port: set.src_port.and(src_port),
+        src_ip6: set.dst_ip6.and(dst_ip6),
+        dst_ip6: set.src_ip6.and(src_ip6),
     }
 }
 
@@ -79,6 +108,8 @@ pub fn set_of(action: &Action) -> Set
             dst_ip: None,
             src_port: None,
             dst_port: None,
+            src_ip6: None,
+            dst_ip6: None,
         },
     }
 }

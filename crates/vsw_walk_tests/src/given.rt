@@ -1,10 +1,10 @@
 //! Commands that are given to a policy.
 
-ghost use Rattle.std.specs.Prelude.{◌≡◌, IsTrue};
+ghost use Rattle.std.specs.Prelude.{◌≡◌, IsTrue, flat_map};
 ghost use Rattle.vsw_policy.specs.Obey.{rules_given};
 ghost use Rattle.vsw_policy.specs.Sound.{Each, IsGoodRule, is_listed};
 
-use vsw_policy::{Command, Policy};
+use vsw_policy::{Command, Part, Policy};
 use vsw_rule::Rule;
 
 fn are_good(rules: &[Rule]) -> bool
@@ -16,6 +16,16 @@ fn are_good(rules: &[Rule]) -> bool
     }
 }
 
+#[tactic(auto, using(crate::proofs::Parts::good_joined))]
+fn parts_are_good(parts: &[Part]) -> bool
+    ensures { IsTrue result → Each IsGoodRule (flat_map (λ p. p.rules) parts.now) }
+{
+    match parts {
+        [] => true,
+        [first, rest @ ..] => are_good(first.rules.as_slice()) && parts_are_good(rest),
+    }
+}
+
 /// Whether the rules that a command brings are good.
 pub fn is_good(command: &Command) -> bool
     ensures { IsTrue result → Each IsGoodRule (rules_given command.now) }
@@ -23,7 +33,14 @@ pub fn is_good(command: &Command) -> bool
     match command {
         Command::PutRules { rules, .. } => are_good(rules.as_slice()),
         Command::AddRule { rule, .. } => rule.check().is_ok(),
-        _ => true,
+        Command::PutMany { parts } => parts_are_good(parts.as_slice()),
+        Command::AddLayer { .. }
+        | Command::RemoveLayer { .. }
+        | Command::AddGroup { .. }
+        | Command::RemoveGroup { .. }
+        | Command::RemoveRule { .. }
+        | Command::SetDefault { .. }
+        | Command::Sweep { .. } => true,
     }
 }
 

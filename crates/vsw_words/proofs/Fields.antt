@@ -25,6 +25,10 @@ high_is a b h = div-mul-add a (2 ^ 32) b h
 pub low_is : (a b : ℕ) → b < 2 ^ 32 → (a * 2 ^ 32 + b) % 2 ^ 32 ≡ b
 low_is a b h = mod-mul-add a (2 ^ 32) b h
 
+-- a number from its halves of 64 bits
+pub whole_is : (a : ℕ) → a / 2 ^ 64 * 2 ^ 64 + a % 2 ^ 64 ≡ a
+whole_is a = omega arith
+
 pub bit_is : (q : Bool) → (bit q == 1) ≡ q
 bit_is true = refl
 bit_is false = refl

@@ -1,11 +1,11 @@
 -- The form of a transposition is found one act at a time.
 use Rattle.std.proofs.Common.{◌≡◌, ℕ, ◌+◌, ◌%◌, ◌≤◌, ◌==◌, ◌&&◌, List, [], ◌∷◌, refl, sym, ◌∙◌, ap, arith, length, true, false, Bool, nat_le, suc}
 use Rattle.std.proofs.lemmas.Grind.{common_steps}
-use Rattle.vsw_base.specs.declared.header.Header.TheVariants.{Ether, Ip, Vxlan, Ports}
+use Rattle.vsw_base.specs.declared.header.Header.TheVariants.{Ether, Ip, Vxlan, Ports, Six}
 use Rattle.vsw_transpose.specs.declared.act.Act.{Act}
 use Rattle.vsw_transpose.specs.declared.act.Act.TheVariants.{Push, Pop, Modify, Ignore}
 use Rattle.vsw_transpose.specs.Chain.{chain}
-use Rattle.vsw_transpose.specs.Form.{is_form, pushed, pops, are_stays, are_late, are_ordered}
+use Rattle.vsw_transpose.specs.Form.{all_write, is_form, pushed, pops, are_stays, are_late, are_ordered}
 use Rattle.vsw_transpose.proofs.Encaps.{chained}
 use Rattle.vsw_words.specs.declared.stage.Stage.{Stage}
 use Rattle.vsw_words.specs.declared.stage.Stage.TheVariants.{Pops, OnePop, TwoPops, Pushes, BehindEther, BehindIp, Stays, Wrong}
@@ -21,6 +21,7 @@ wrong (Push (Ether d s k) ∷ xs) = ap (λ (t : Stage). is_rest t xs) (if_wrong 
 wrong (Push (Ip a b p q) ∷ xs) = ap (λ (t : Stage). is_rest t xs) (if_wrong _) ∙ wrong xs
 wrong (Push (Vxlan v) ∷ xs) = ap (λ (t : Stage). is_rest t xs) (if_wrong _) ∙ wrong xs
 wrong (Push (Ports p a b) ∷ xs) = wrong xs
+wrong (Push (Six a b p) ∷ xs) = wrong xs
 wrong (Pop ∷ xs) = wrong xs
 wrong (Modify c ∷ xs) = wrong xs
 wrong (Ignore ∷ xs) = wrong xs
@@ -47,6 +48,7 @@ stays (Push (Ether d s k) ∷ xs) = if_wrong_rest _ xs
 stays (Push (Ip a b p q) ∷ xs) = if_wrong_rest _ xs
 stays (Push (Vxlan v) ∷ xs) = if_wrong_rest _ xs
 stays (Push (Ports p a b) ∷ xs) = wrong xs
+stays (Push (Six a b p) ∷ xs) = wrong xs
 stays (Pop ∷ xs) = wrong xs
 stays (Modify c ∷ xs) = stays xs
 stays (Ignore ∷ xs) = stays xs
@@ -84,6 +86,7 @@ late (Push (Ether d s k) ∷ xs) = record { whole = pushes_on (k == 2048) Behind
 late (Push (Ip a b p q) ∷ xs) = record { whole = broken _ xs (are_late xs); ether = pushes_on _ BehindIp xs (are_late xs) (chain 2 (pushed xs)) (IsLate.ip (late xs)); ip = broken _ xs (are_late xs) }
 late (Push (Vxlan v) ∷ xs) = record { whole = broken _ xs (are_late xs); ether = broken _ xs (are_late xs); ip = pushes_on _ Pushes xs (are_late xs) (chain 0 (pushed xs)) (IsLate.whole (late xs)) }
 late (Push (Ports p a b) ∷ xs) = record { whole = wrong xs ∙ sym (none (are_late xs)); ether = wrong xs ∙ sym (none (are_late xs)); ip = wrong xs ∙ sym (none (are_late xs)) }
+late (Push (Six a b p) ∷ xs) = record { whole = wrong xs ∙ sym (none (are_late xs)); ether = wrong xs ∙ sym (none (are_late xs)); ip = wrong xs ∙ sym (none (are_late xs)) }
 late (Pop ∷ xs) = record { whole = wrong xs; ether = wrong xs; ip = wrong xs }
 late (Modify c ∷ xs) = record { whole = stays xs ∙ stays_whole xs; ether = wrong xs ∙ stays_broken 0 xs; ip = wrong xs ∙ stays_broken 1 xs }
 late (Ignore ∷ xs) = record { whole = stays xs ∙ stays_whole xs; ether = wrong xs ∙ stays_broken 0 xs; ip = wrong xs ∙ stays_broken 1 xs }
@@ -142,6 +145,7 @@ ordered (Push (Ether d s k) ∷ xs) = record { whole = IsLate.whole (late (Push 
 ordered (Push (Ip a b p q) ∷ xs) = record { whole = IsLate.whole (late (Push (Ip a b p q) ∷ xs)) ∙ late_whole (Push (Ip a b p q) ∷ xs); one = if_wrong_rest _ xs ∙ late_part 1 (Push (Ip a b p q) ∷ xs) refl; two = if_wrong_rest _ xs ∙ late_part 2 (Push (Ip a b p q) ∷ xs) refl }
 ordered (Push (Vxlan v) ∷ xs) = record { whole = IsLate.whole (late (Push (Vxlan v) ∷ xs)) ∙ late_whole (Push (Vxlan v) ∷ xs); one = if_wrong_rest _ xs ∙ late_part 1 (Push (Vxlan v) ∷ xs) refl; two = if_wrong_rest _ xs ∙ late_part 2 (Push (Vxlan v) ∷ xs) refl }
 ordered (Push (Ports p a b) ∷ xs) = record { whole = IsLate.whole (late (Push (Ports p a b) ∷ xs)) ∙ late_whole (Push (Ports p a b) ∷ xs); one = wrong xs ∙ late_part 1 (Push (Ports p a b) ∷ xs) refl; two = wrong xs ∙ late_part 2 (Push (Ports p a b) ∷ xs) refl }
+ordered (Push (Six a b p) ∷ xs) = record { whole = IsLate.whole (late (Push (Six a b p) ∷ xs)) ∙ late_whole (Push (Six a b p) ∷ xs); one = wrong xs ∙ late_part 1 (Push (Six a b p) ∷ xs) refl; two = wrong xs ∙ late_part 2 (Push (Six a b p) ∷ xs) refl }
 ordered (Modify c ∷ xs) = record { whole = IsLate.whole (late (Modify c ∷ xs)) ∙ late_whole (Modify c ∷ xs); one = wrong xs ∙ late_part 1 (Modify c ∷ xs) refl; two = wrong xs ∙ late_part 2 (Modify c ∷ xs) refl }
 ordered (Ignore ∷ xs) = record { whole = IsLate.whole (late (Ignore ∷ xs)) ∙ late_whole (Ignore ∷ xs); one = wrong xs ∙ late_part 1 (Ignore ∷ xs) refl; two = wrong xs ∙ late_part 2 (Ignore ∷ xs) refl }
 
@@ -151,6 +155,6 @@ short n h = grind (arith, common_steps)
 zero_more : (n : ℕ) → n + 0 ≡ n
 zero_more n = omega arith
 
--- acts that go on to a whole form from the start are those of a transposition
-pub formed : (xs : List Act) → length xs ≤ 18 → is_rest Pops xs ≡ is_form xs
-formed xs h = IsOrdered.whole (ordered xs) ∙ rw (zero_more (pops xs), short (length xs) h, chained (pushed xs)) refl
+-- acts that go on to a whole form from the start, and write what they must, are those of a transposition
+pub formed : (xs : List Act) → length xs ≤ 18 → all_write xs ≡ true → is_rest Pops xs ≡ is_form xs
+formed xs h w = IsOrdered.whole (ordered xs) ∙ rw (zero_more (pops xs), short (length xs) h, chained (pushed xs), w) (sym (true_all _))

@@ -8,3 +8,5 @@ pub mod Passes
 pub mod Used
 pub mod Formed
 pub mod Loosely
+pub mod Halves
+pub mod Taken

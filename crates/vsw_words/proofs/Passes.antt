@@ -1,6 +1,6 @@
 -- Bodies read back from their words.
-use Rattle.std.proofs.Common.{◌≡◌, ℕ, ◌+◌, ◌<◌, ◌/◌, ◌%◌, ◌^◌, ◌≤◌, ◌==◌, ◌&&◌, List, [], ◌∷◌, refl, sym, ◌∙◌, ap, subst, arith, length, true, false, Bool, Option, Some, None, get_or, drop, nat_lt, bit_or, zero, suc}
-use Rattle.std.specs.Prelude.{replicate}
+use Rattle.std.proofs.Common.{◌≡◌, ℕ, ◌+◌, ◌<◌, ◌/◌, ◌%◌, ◌^◌, ◌≤◌, ◌==◌, ◌&&◌, List, [], ◌∷◌, refl, sym, ◌∙◌, ap, subst, arith, length, true, false, Bool, Option, Some, None, is_some, get_or, drop, nat_lt, bit_or, zero, suc}
+use Rattle.std.specs.Prelude.{option_map, replicate}
 use Rattle.std.proofs.lemmas.Grind.{common_steps}
 use Rattle.std.proofs.lemmas.List.{drop_more}
 use Rattle.std.proofs.lemmas.Nat.{le_or_l, le_or_r}
@@ -10,13 +10,13 @@ use Rattle.vsw_base.specs.declared.packet.Dir.TheVariants.{Out, In}
 use Rattle.vsw_base.specs.declared.fate.Verdict.{Verdict}
 use Rattle.vsw_base.specs.declared.fate.Verdict.TheVariants.{Pass, Rule, Default}
 use Rattle.vsw_transpose.specs.Form.{is_form}
-use Rattle.vsw_words.specs.Row.{acts_words, filled, verdict_word, dropper_word, last_words, body_words, IsBare}
-use Rattle.vsw_words.specs.Stage.{is_read}
+use Rattle.vsw_words.specs.Row.{acts_words, all_halves, filled, verdict_word, dropper_word, last_words, body_words, IsBare}
+use Rattle.vsw_words.specs.Stage.{is_read, is_rest}
 use Rattle.vsw_words.specs.declared.stage.Stage.TheVariants.{Pops}
-use Rattle.vsw_words.specs.Reading.{or_none, are_zero, read_acts, verdict_of, IsBody, IsVerdictFit, IsDropper, IsLast, IsTold}
+use Rattle.vsw_words.specs.Reading.{or_none, are_zero, joined_acts, read_acts, read_joined, verdict_of, IsBody, IsVerdictFit, IsDropper, IsLast, IsTold}
 use Rattle.vsw_words.proofs.Formed.{formed}
-use Rattle.vsw_words.proofs.Written.{form_short}
-use Rattle.vsw_words.proofs.Acts.{acts_told, acts_back, form_good, zeros_are}
+use Rattle.vsw_words.proofs.Acts.{acts_told, acts_back, acts_single, form_good, zeros_are}
+use Rattle.vsw_words.proofs.Halves.{rest_joined, joined_fewer, joined_write, halves_joined}
 
 -- the or of two numbers is 0 where both are
 both_zero : (a b : ℕ) → (bit_or a b == 0) ≡ ((a == 0) && (b == 0))
@@ -34,35 +34,50 @@ zero_more all i words t h e = ap (λ (b : Bool). b && are_zero (drop (i + 1) wor
     ∙ and_more (all == 0) (get_or words i 0 == 0) (are_zero (drop (i + 1) words))
     ∙ ap (λ (l : List ℕ). (all == 0) && are_zero l) (sym (drop_more words i 0 h)) ∙ e
 
+-- acts of a row that go on to a whole form are those of a transposition, joined
+raw_form : (count : ℕ) (words : List ℕ) (raw : List Act) → count ≤ 18 → read_acts count words ≡ Some raw → is_rest Pops raw ≡ is_form (joined_acts raw)
+raw_form count words raw few read =
+    let long : count ≡ length raw = (acts_told count words raw read).0 in
+    rest_joined raw Pops ∙ formed (joined_acts raw) (omega (arith, few, long, joined_fewer raw)) (joined_write raw (acts_single count words raw read))
+
 -- where acts are read that go on to a whole form, they are those of a transposition
-pub acts_are : (count : ℕ) (words : List ℕ) → count ≤ 18 → is_read Pops (read_acts count words) ≡ true → (read_acts count words ≡ Some (or_none (read_acts count words))) × (is_form (or_none (read_acts count words)) ≡ true)
+pub acts_are : (count : ℕ) (words : List ℕ) → count ≤ 18 → is_read Pops (read_acts count words) ≡ true
+    → (is_some (read_acts count words) ≡ true) × (read_joined count words ≡ Some (or_none (read_joined count words))) × (is_form (or_none (read_joined count words)) ≡ true)
 acts_are count words few whole = by (read_acts count words) refl whole
   where
-    by : (o : Option (List Act)) → read_acts count words ≡ o → is_read Pops o ≡ true → (o ≡ Some (or_none o)) × (is_form (or_none o) ≡ true)
+    by : (o : Option (List Act)) → read_acts count words ≡ o → is_read Pops o ≡ true
+        → (is_some o ≡ true) × (option_map joined_acts o ≡ Some (or_none (option_map joined_acts o))) × (is_form (or_none (option_map joined_acts o)) ≡ true)
     by None e w = absurd (grind (arith, common_steps))
-    by (Some xs) e w =
-        let long : count ≡ length xs = (acts_told count words xs e).0 in
-        (refl, sym (formed xs (omega (arith, few, long))) ∙ w)
+    by (Some raw) e w = (refl, refl, sym (raw_form count words raw few e) ∙ w)
+
+-- acts of a transposition are those that acts of a row were joined to
+joined_of : (o : Option (List Act)) (xs : List Act) → option_map joined_acts o ≡ Some xs → (raw : List Act) × (o ≡ Some raw) × (joined_acts raw ≡ xs)
+joined_of None xs e = absurd (grind (arith, common_steps))
+joined_of (Some raw) xs e = (raw, refl, grind (arith, common_steps))
 
 -- and the other way round
-pub acts_read : (count : ℕ) (words : List ℕ) (xs : List Act) → read_acts count words ≡ Some xs → is_form xs ≡ true → count ≤ 18 → (is_read Pops (read_acts count words) ≡ true) × (or_none (read_acts count words) ≡ xs)
+pub acts_read : (count : ℕ) (words : List ℕ) (xs : List Act) → read_joined count words ≡ Some xs → is_form xs ≡ true → count ≤ 18 → (is_read Pops (read_acts count words) ≡ true) × (or_none (read_joined count words) ≡ xs)
 acts_read count words xs read form few =
-    let long : count ≡ length xs = (acts_told count words xs read).0 in
-    rw read (formed xs (omega (arith, few, long)) ∙ form, refl)
+    let (raw, is, joined) = joined_of (read_acts count words) xs read in
+    (ap (is_read Pops) is ∙ raw_form count words raw few is ∙ ap is_form joined ∙ form, ap or_none read)
 
-pub last_pass_told : (v : Verdict) (count : ℕ) (last : List ℕ) (by : List Act) → v ≡ Pass → length last ≡ 54 → read_acts count last ≡ Some by → is_form by ≡ true → IsLast v count last by
+pub last_pass_told : (v : Verdict) (count : ℕ) (last : List ℕ) (by : List Act) → v ≡ Pass → length last ≡ 54 → read_joined count last ≡ Some by → is_form by ≡ true → IsLast v count last by
 last_pass_told v count last by is long read form =
-    let told = acts_told count last by read in
-    let are : last ≡ last_words Pass by = told.1 ∙ ap (λ (n : ℕ). filled n (acts_words by)) long in
-    let whole : IsLast Pass count last by = record { acts = told.0; are = are; form = form; bare = tt } in
+    let (raw, was, joined) = joined_of (read_acts count last) by read in
+    let told = acts_told count last raw was in
+    let again : all_halves by ≡ raw = ap all_halves (sym joined) ∙ halves_joined raw (acts_single count last raw was) in
+    let are : last ≡ last_words Pass by = told.1 ∙ ap (λ (n : ℕ). filled n (acts_words raw)) long ∙ ap (λ (xs : List Act). filled 54 (acts_words xs)) (sym again) in
+    let whole : IsLast Pass count last by = record { acts = told.0 ∙ ap (λ (xs : List Act). length xs) (sym again); are = are; form = form; bare = tt; apart = ap joined_acts again ∙ joined } in
     subst (λ w. IsLast w count last by) (sym is) whole
 
-pub last_pass_read : (v : Verdict) (count : ℕ) (last : List ℕ) (xs : List Act) → v ≡ Pass → IsBody v xs → count ≡ length xs → last ≡ last_words v xs → (read_acts count last ≡ Some xs) × (is_form xs ≡ true) × (count ≤ 18)
+pub last_pass_read : (v : Verdict) (count : ℕ) (last : List ℕ) (xs : List Act) → v ≡ Pass → IsBody v xs → count ≡ length (all_halves xs) → last ≡ last_words v xs
+    → (is_some (read_acts count last) ≡ true) × (read_joined count last ≡ Some xs) × (is_form xs ≡ true) × (count ≤ 18)
 last_pass_read v count last xs is body acts are =
-    let short : length xs ≤ 18 = form_short xs body.form in
-    let words : last ≡ filled 54 (acts_words xs) = are ∙ ap (λ (w : Verdict). last_words w xs) is in
-    let back : read_acts (length xs) (filled 54 (acts_words xs)) ≡ Some xs = acts_back xs 54 (form_good xs body.form body.acts) (omega (arith, short)) in
-    (rw (acts, words) back, body.form, omega (arith, short, acts))
+    let hs : List Act = all_halves xs in
+    let words : last ≡ filled 54 (acts_words hs) = are ∙ ap (λ (w : Verdict). last_words w xs) is in
+    let back : read_acts (length hs) (filled 54 (acts_words hs)) ≡ Some hs = acts_back hs 54 (form_good xs body.form body.acts) (omega (arith, body.few)) in
+    let read : read_acts count last ≡ Some hs = rw (acts, words) back in
+    (ap is_some read, ap (option_map joined_acts) read ∙ ap (λ (ys : List Act). Some ys) body.apart, body.form, omega (arith, body.few, acts))
 
 -- the verdict drops
 abbrev pub IsDrop : Verdict → Type 0
@@ -78,8 +93,8 @@ head_zero w (x ∷ xs) long none is =
 
 bare_last : (v : Verdict) (last : List ℕ) → IsDrop v → last ≡ dropper_word v ∷ replicate 53 0 → IsLast v 0 last []
 bare_last Pass last d e = absurd d
-bare_last (Rule c l g r) last d e = record { acts = refl; are = e; form = refl; bare = refl }
-bare_last (Default c l dir) last d e = record { acts = refl; are = e; form = refl; bare = refl }
+bare_last (Rule c l g r) last d e = record { acts = refl; are = e; form = refl; bare = refl; apart = refl }
+bare_last (Default c l dir) last d e = record { acts = refl; are = e; form = refl; bare = refl; apart = refl }
 
 dropper_is : (v : Verdict) (n : ℕ) → IsDrop v → IsDropper v n → n ≡ dropper_word v
 dropper_is Pass n d e = absurd d
@@ -104,10 +119,10 @@ drop_words Pass xs d b = absurd d
 drop_words (Rule c l g r) xs d b = (b, refl)
 drop_words (Default c l dir) xs d b = (b, refl)
 
-pub last_drop_back : (v : Verdict) (count : ℕ) (last : List ℕ) (by xs : List Act) (t : Bool) → IsDrop v → t ≡ ((count == 0) && are_zero (drop 1 last)) → by ≡ [] → IsBody v xs → count ≡ length xs → last ≡ last_words v xs → (t ≡ true) × (by ≡ xs)
+pub last_drop_back : (v : Verdict) (count : ℕ) (last : List ℕ) (by xs : List Act) (t : Bool) → IsDrop v → t ≡ ((count == 0) && are_zero (drop 1 last)) → by ≡ [] → IsBody v xs → count ≡ length (all_halves xs) → last ≡ last_words v xs → (t ≡ true) × (by ≡ xs)
 last_drop_back v count last by xs t drops is bare body acts are =
     let k = drop_words v xs drops body.bare in
-    let none : count ≡ 0 = acts ∙ ap (λ (l : List Act). length l) k.0 in
+    let none : count ≡ 0 = acts ∙ ap (λ (l : List Act). length (all_halves l)) k.0 in
     let words : last ≡ dropper_word v ∷ replicate 53 0 = are ∙ k.1 in
     (is ∙ rw (none, words) refl, bare ∙ sym k.0)
 
@@ -117,7 +132,7 @@ drop_rule v c l g r e = subst IsDrop (sym e) tt
 pub drop_default : (v : Verdict) (c l : ℕ) (dir : Dir) → v ≡ Default c l dir → IsDrop v
 drop_default v c l dir e = subst IsDrop (sym e) tt
 
-parts : (word until count : ℕ) (last : List ℕ) (v : Verdict) (by : List Act) (u : ℕ) → word ∷ until ∷ count ∷ last ≡ body_words v by u → (word ≡ verdict_word v) × (until ≡ u) × (count ≡ length by) × (last ≡ last_words v by)
+parts : (word until count : ℕ) (last : List ℕ) (v : Verdict) (by : List Act) (u : ℕ) → word ∷ until ∷ count ∷ last ≡ body_words v by u → (word ≡ verdict_word v) × (until ≡ u) × (count ≡ length (all_halves by)) × (last ≡ last_words v by)
 unfolding body_words
 parts word until count last v by u e = (ap (λ (l : List ℕ). get_or l 0 0) e, ap (λ (l : List ℕ). get_or l 1 0) e, ap (λ (l : List ℕ). get_or l 2 0) e, ap (drop 3) e)
 
@@ -167,10 +182,10 @@ unfolding body_words
 some_told word until count first micros last w by f m is told =
     let whole : IsLast w count last by = told (subst (IsDropper w) f is.1) in
     let words : word ∷ until ∷ count ∷ last ≡ body_words w by micros = rw (is.0, m, whole.acts, sym whole.are) refl in
-    record { are = words; form = whole.form; bare = whole.bare }
+    record { are = words; form = whole.form; bare = whole.bare; apart = whole.apart }
 
 pub some_back : (word until count first micros : ℕ) (last : List ℕ) (o : Option Verdict) (w : Verdict) (by : List Act) (t : Bool) → first ≡ get_or last 0 0 → micros ≡ until → o ≡ verdict_of word first → o ≡ Some w
-    → ((xs : List Act) → IsBody w xs → count ≡ length xs → last ≡ last_words w xs → (t ≡ true) × (by ≡ xs))
+    → ((xs : List Act) → IsBody w xs → count ≡ length (all_halves xs) → last ≡ last_words w xs → (t ≡ true) × (by ≡ xs))
     → (v : Verdict) (xs : List Act) (u : ℕ) → IsBody v xs → word ∷ until ∷ count ∷ last ≡ body_words v xs u → (t ≡ true) × (w ≡ v) × (by ≡ xs) × (micros ≡ u)
 some_back word until count first micros last o w by t f m is some back v xs u body e =
     let p = parts word until count last v xs u e in
@@ -181,7 +196,7 @@ some_back word until count first micros last o w by t f m is some back v xs u bo
 
 -- what stands behind the verdict in the words of a body
 pub some_taken : (word until count first : ℕ) (last : List ℕ) (o : Option Verdict) (w : Verdict) → first ≡ get_or last 0 0 → o ≡ verdict_of word first → o ≡ Some w → (v : Verdict) (xs : List Act) (u : ℕ) → IsBody v xs → word ∷ until ∷ count ∷ last ≡ body_words v xs u
-    → (ys : List Act) × IsBody w ys × (count ≡ length ys) × (last ≡ last_words w ys)
+    → (ys : List Act) × IsBody w ys × (count ≡ length (all_halves ys)) × (last ≡ last_words w ys)
 some_taken word until count first last o w f is some v xs u body e =
     let p = parts word until count last v xs u e in
     let same : w ≡ v = some_is w v (sym some ∙ is ∙ told_verdict word until count first last v xs u f body e) in

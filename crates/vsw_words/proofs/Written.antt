@@ -1,5 +1,5 @@
 -- Rows written part by part.
-use Rattle.std.proofs.Common.{◌≡◌, ℕ, ◌-◌, ◌%◌, ◌≤◌, ◌==◌, ◌&&◌, List, [], ◌∷◌, ◌++◌, refl, sym, ◌∙◌, ap, arith, length, true, false, Bool, nat_le, take, drop, length-append, zero, suc}
+use Rattle.std.proofs.Common.{◌≡◌, ℕ, ◌-◌, List, [], ◌∷◌, ◌++◌, refl, sym, ◌∙◌, ap, arith, length, true, take, drop, length-append, zero, suc}
 use Rattle.std.proofs.Math.Seq.{take-append_seam, drop-append_seam}
 use Rattle.std.proofs.lemmas.List.{append-nil, drop_all}
 use Rattle.std.proofs.lemmas.Grind.{common_steps}
@@ -10,10 +10,11 @@ use Rattle.vsw_base.specs.declared.flow.Ufid.{Ufid}
 use Rattle.vsw_transpose.specs.declared.act.Act.{Act}
 use Rattle.vsw_transpose.specs.declared.act.Act.TheVariants.{Push, Pop, Modify, Ignore}
 use Rattle.vsw_transpose.specs.Chain.{chain}
-use Rattle.vsw_transpose.specs.Form.{is_form, pushed, are_encaps, are_ordered, pops}
+use Rattle.vsw_transpose.specs.Form.{is_form, pushed}
 use Rattle.vsw_transpose.proofs.Encaps.{chained}
+use Rattle.vsw_transpose.proofs.Kept.{form_parts}
 use Rattle.vsw_words.specs.Key.{key_words}
-use Rattle.vsw_words.specs.Row.{body_words, row_words, verdict_word, last_words}
+use Rattle.vsw_words.specs.Row.{all_halves, body_words, row_words, verdict_word, last_words}
 use Rattle.vsw_words.specs.Reading.{AreRanged, AreActsFit}
 
 -- a front of k words is written over an old list, and then the rest
@@ -25,10 +26,10 @@ both_written k old first last e =
     let none : drop (length whole - k) (drop k whole) ≡ [] = drop_all (length whole - k) (drop k whole) (omega (arith, e, length-append first (drop k old), ap (λ (l : List ℕ). length l) behind)) in
     ap (λ (l : List ℕ). take k whole ++ (last ++ l)) none ∙ ap (λ (l : List ℕ). take k whole ++ l) (append-nil last) ∙ ap (λ (l : List ℕ). l ++ last) front
 
-pub body_is : (verdict : Verdict) (by : List Act) (until word time : ℕ) (old first last : List ℕ) → first ≡ word ∷ time ∷ length by ∷ [] → word ≡ verdict_word verdict → time ≡ until → last ≡ last_words verdict by
+pub body_is : (verdict : Verdict) (by : List Act) (until word time count : ℕ) (old first last : List ℕ) → first ≡ word ∷ time ∷ count ∷ [] → word ≡ verdict_word verdict → time ≡ until → count ≡ length (all_halves by) → last ≡ last_words verdict by
     → put_mid 3 (length (first ++ drop 3 old) - 3) (first ++ drop 3 old) last ≡ body_words verdict by until
 unfolding body_words
-body_is verdict by until word time old first last e f h g = both_written 3 old first last (ap (λ (l : List ℕ). length l) e) ∙ rw (e, f, h, g) refl
+body_is verdict by until word time count old first last e f h n g = both_written 3 old first last (ap (λ (l : List ℕ). length l) e) ∙ rw (e, f, h, n, g) refl
 
 pub row_is : (id : Ufid) (verdict : Verdict) (by : List Act) (until : ℕ) (old key first last : List ℕ) → first ≡ key → key ≡ key_words id.dir id.stack → length key ≡ 16 → last ≡ body_words verdict by until
     → put_mid 16 (length (first ++ drop 16 old) - 16) (first ++ drop 16 old) last ≡ row_words id verdict by until
@@ -46,26 +47,10 @@ chain_fits n (Modify c ∷ xs) t r = (r.0, chain_fits n xs t r.1)
 chain_fits n (Ignore ∷ xs) t r = (tt, chain_fits n xs t r.1)
 chain_fits n (Push h ∷ xs) t r = absurd (grind (arith, common_steps))
 
-last_of : (a b : Bool) → (a && b) ≡ true → b ≡ true
-last_of true b t = t
-last_of false b t = grind arith
-
 -- the pushes of a transposition are of whole encapsulations
 pub form_chain : (xs : List Act) → is_form xs ≡ true → chain 0 (pushed xs) ≡ true
-form_chain xs t = sym (chained (pushed xs)) ∙ last_of (nat_le (length xs) 18 && are_ordered xs && (pops xs % 3 == 0)) (are_encaps (pushed xs)) t
+form_chain xs t = sym (chained (pushed xs)) ∙ (form_parts xs t).3
 
 -- the acts of a transposition have their numbers in their ranges
 pub acts_fit : (xs : List Act) → is_form xs ≡ true → AreRanged xs → AreActsFit xs
 acts_fit xs t r = chain_fits 0 xs (form_chain xs t) r
-
-first_of : (a b : Bool) → (a && b) ≡ true → a ≡ true
-first_of true b t = refl
-first_of false b t = grind arith
-
--- a transposition has at most eighteen acts
-pub form_short : (xs : List Act) → is_form xs ≡ true → length xs ≤ 18
-form_short xs t =
-    let a : (nat_le (length xs) 18 && are_ordered xs && (pops xs % 3 == 0)) ≡ true = first_of _ (are_encaps (pushed xs)) t in
-    let b : (nat_le (length xs) 18 && are_ordered xs) ≡ true = first_of _ (pops xs % 3 == 0) a in
-    let c : nat_le (length xs) 18 ≡ true = first_of _ (are_ordered xs) b in
-    grind (arith, common_steps)

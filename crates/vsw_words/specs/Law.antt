@@ -6,7 +6,7 @@ use Rattle.vsw_base.specs.Fits.{AreFit}
 use Rattle.vsw_base.specs.Shape.{is_stack}
 use Rattle.vsw_words.specs.Key.{key_words}
 use Rattle.vsw_words.specs.Id.{id_of}
-use Rattle.vsw_words.specs.Row.{row_words, in_use}
+use Rattle.vsw_words.specs.Row.{all_halves, row_words, in_use}
 use Rattle.vsw_transpose.specs.declared.act.Act.{Act}
 
 -- an identity: its headers are those of a stack, and its numbers lie in the ranges of their fields
@@ -23,7 +23,7 @@ Decodes = (id : Ufid) → IsId id → id_of (key_words id.dir id.stack) ≡ id
 abbrev pub TellsApart : Type 0
 TellsApart = (a b : Ufid) → IsId a → IsId b → key_words a.dir a.stack ≡ key_words b.dir b.stack → a ≡ b
 
--- a row is 0 beyond its words in use
+-- a row is 0 beyond its words in use; it has at most eighteen acts
 abbrev pub EndsInZero : Type 0
-EndsInZero = (id : Ufid) (verdict : Verdict) (by : List Act) (until : ℕ) → length by ≤ 18
+EndsInZero = (id : Ufid) (verdict : Verdict) (by : List Act) (until : ℕ) → length (all_halves by) ≤ 18
     → drop (in_use (row_words id verdict by until)) (row_words id verdict by until) ≡ replicate (73 - in_use (row_words id verdict by until)) 0

@@ -1,7 +1,7 @@
 -- A body read back from its words.
-use Rattle.std.specs.Prelude.{◌≡◌, ℕ, ◌/◌, ◌%◌, ◌^◌, ◌<◌, ◌==◌, ◌&&◌, List, [], ◌∷◌, Bool, true, false, Option, Some, None, nat_lt, zero, suc, length, get_or, if◌then◌else◌}
+use Rattle.std.specs.Prelude.{◌≡◌, ℕ, ◌+◌, ◌*◌, ◌/◌, ◌%◌, ◌^◌, ◌<◌, ◌≤◌, ◌==◌, ◌&&◌, List, [], ◌∷◌, Bool, true, false, Option, Some, None, nat_lt, option_map, zero, suc, length, get_or, if◌then◌else◌}
 use Rattle.vsw_base.specs.declared.header.Header.{Header}
-use Rattle.vsw_base.specs.declared.header.Header.TheVariants.{Ether, Ip, Vxlan}
+use Rattle.vsw_base.specs.declared.header.Header.TheVariants.{Ether, Ip, Vxlan, Ports, Six}
 use Rattle.vsw_base.specs.declared.packet.Dir.TheVariants.{Out, In}
 use Rattle.vsw_base.specs.declared.fate.Verdict.{Verdict}
 use Rattle.vsw_base.specs.declared.fate.Verdict.TheVariants.{Pass, Rule, Default}
@@ -11,7 +11,7 @@ use Rattle.vsw_transpose.specs.declared.act.Change.TheVariants as of
 use Rattle.vsw_transpose.specs.declared.act.Act.{Act}
 use Rattle.vsw_transpose.specs.declared.act.Act.TheVariants.{Push, Pop, Modify, Ignore}
 use Rattle.vsw_transpose.specs.Form.{is_form}
-use Rattle.vsw_words.specs.Row.{act_words, dropper_word, last_words, body_words, IsBare}
+use Rattle.vsw_words.specs.Row.{act_words, all_halves, dropper_word, last_words, body_words, IsBare}
 
 -- a field that may be absent is below a bound
 abbrev pub IsBelow : ℕ → Option ℕ → Type 0
@@ -24,12 +24,20 @@ IsActFit (Push h) = IsFit h
 IsActFit (Modify (of.Ether dst src)) = IsBelow (2 ^ 48) dst × IsBelow (2 ^ 48) src
 IsActFit (Modify (of.Ip src dst)) = IsBelow (2 ^ 32) src × IsBelow (2 ^ 32) dst
 IsActFit (Modify (of.Ports src dst)) = IsBelow (2 ^ 16) src × IsBelow (2 ^ 16) dst
-IsActFit x = Unit {0}
+IsActFit (Modify (of.Six src dst)) = IsBelow (2 ^ 128) src × IsBelow (2 ^ 128) dst
+IsActFit Pop = Unit {0}
+IsActFit Ignore = Unit {0}
 
 -- what the types of an act's fields say; that a network is below 2^24 is of the form of a transposition
 abbrev pub IsRanged : Act → Type 0
+IsRanged (Push (Ether dst src kind)) = IsFit (Ether dst src kind)
+IsRanged (Push (Ip src dst proto part)) = IsFit (Ip src dst proto part)
 IsRanged (Push (Vxlan vni)) = Unit {0}
-IsRanged x = IsActFit x
+IsRanged (Push (Ports proto src dst)) = IsFit (Ports proto src dst)
+IsRanged (Push (Six src dst proto)) = IsFit (Six src dst proto)
+IsRanged Pop = Unit {0}
+IsRanged (Modify c) = IsActFit (Modify c)
+IsRanged Ignore = Unit {0}
 
 abbrev pub AreRanged : List Act → Type 0
 AreRanged [] = Unit {0}
@@ -45,12 +53,54 @@ IsVerdictFit Pass = Unit {0}
 IsVerdictFit (Rule controller layer group rule) = (controller < 2 ^ 16) × (layer < 2 ^ 16) × (group < 2 ^ 16) × (rule < 2 ^ 16)
 IsVerdictFit (Default controller layer dir) = (controller < 2 ^ 16) × (layer < 2 ^ 16)
 
--- what a row may say is done with packets: acts of the form of a transposition, none for a drop, and numbers in their ranges
+-- the source of a change of IPv6 that writes the source alone, and the destination of one that writes it alone
+abbrev pub lone_src : Act → Option ℕ
+lone_src (Push h) = None
+lone_src Pop = None
+lone_src (Modify (of.Ether dst src)) = None
+lone_src (Modify (of.Ip src dst)) = None
+lone_src (Modify (of.Ports src dst)) = None
+lone_src (Modify (of.Six src None)) = src
+lone_src (Modify (of.Six src (Some dst))) = None
+lone_src Ignore = None
+
+abbrev pub lone_dst : Act → Option ℕ
+lone_dst (Push h) = None
+lone_dst Pop = None
+lone_dst (Modify (of.Ether dst src)) = None
+lone_dst (Modify (of.Ip src dst)) = None
+lone_dst (Modify (of.Ports src dst)) = None
+lone_dst (Modify (of.Six None dst)) = dst
+lone_dst (Modify (of.Six (Some src) dst)) = None
+lone_dst Ignore = None
+
+-- both as one change
+abbrev pub both_of : Option ℕ → Option ℕ → Option Act
+both_of None dst = None
+both_of (Some src) None = None
+both_of (Some src) (Some dst) = Some (Modify (of.Six (Some src) (Some dst)))
+
+-- a change of both in place of two acts, or the first of them before what becomes of those behind it
+abbrev pub joined_by : Option Act → Act → List Act → List Act → List Act
+joined_by None act behind rest = act ∷ behind
+joined_by (Some both) act behind rest = both ∷ rest
+
+-- acts of a row as acts of a transposition: a lone source and a lone destination directly behind it are one change
+abbrev pub joined_acts : List Act → List Act
+joined_acts [] = []
+joined_acts (x ∷ []) = x ∷ []
+joined_acts (x ∷ y ∷ ys) = joined_by (both_of (lone_src x) (lone_dst y)) x (joined_acts (y ∷ ys)) (joined_acts ys)
+
+-- what a row may say is done with packets: acts of the form of a transposition, none for a drop, and numbers in their ranges. A row has room for
+-- eighteen acts, and no lone source of IPv6 stands directly before a lone destination, since they would be read as one change. All acts that fit
+-- a stack are so.
 pub record IsBody (verdict : Verdict) (by : List Act) : Type 0 where
   pub form : is_form by ≡ true
   pub bare : IsBare verdict by
   pub acts : AreActsFit by
   pub numbers : IsVerdictFit verdict
+  pub few : length (all_halves by) ≤ 18
+  pub apart : joined_acts (all_halves by) ≡ by
 
 abbrev pub are_zero : List ℕ → Bool
 are_zero [] = true
@@ -75,6 +125,9 @@ ip4 word = word % 2 ^ 32
 
 abbrev pub port : ℕ → ℕ
 port word = word % 65536
+
+abbrev pub ip6 : ℕ → ℕ → ℕ
+ip6 high low = high * 2 ^ 64 + low
 
 abbrev pub ether_by : ℕ → ℕ → ℕ → Header
 ether_by head first second = Ether (mac first) (mac second) (head / 65536 % 65536)
@@ -105,6 +158,8 @@ act_by head first second =
     else if head % 16 == 6 then Some (Modify (ip_change head first second))
     else if head % 16 == 7 then Some (Modify (ports_change head first second))
     else if head % 16 == 8 then Some Ignore
+    else if head % 16 == 9 then Some (Modify (of.Six (Some (ip6 first second)) None))
+    else if head % 16 == 10 then Some (Modify (of.Six None (Some (ip6 first second))))
     else None
 
 -- the words are the act's
@@ -130,6 +185,23 @@ read_acts zero words = if are_zero words then Some [] else None
 read_acts (suc n) (head ∷ first ∷ second ∷ words) = with_act (read_act head first second) (read_acts n words)
 read_acts (suc n) words = None
 
+-- and these as acts of a transposition
+abbrev pub read_joined : ℕ → List ℕ → Option (List Act)
+read_joined n words = option_map joined_acts (read_acts n words)
+
+-- the address that the words of a lone source or a lone destination of IPv6 tell
+abbrev pub src_of : ℕ → ℕ → ℕ → Option ℕ
+src_of head first second = if head % 16 == 9 then Some (ip6 first second) else None
+
+abbrev pub dst_of : ℕ → ℕ → ℕ → Option ℕ
+dst_of head first second = if head % 16 == 10 then Some (ip6 first second) else None
+
+-- the destination, where the first of so many acts is a lone one
+abbrev pub dst_ahead : ℕ → List ℕ → Option ℕ
+dst_ahead zero words = None
+dst_ahead (suc n) (head ∷ first ∷ second ∷ words) = dst_of head first second
+dst_ahead (suc n) words = None
+
 -- the verdict of its word and the word of who drops
 abbrev pub verdict_of : ℕ → ℕ → Option Verdict
 verdict_of word dropper =
@@ -146,16 +218,18 @@ IsDropper verdict dropper = dropper ≡ dropper_word verdict
 
 -- the number of acts and what stands behind it are those of a body
 pub record IsLast (verdict : Verdict) (count : ℕ) (last : List ℕ) (by : List Act) : Type 0 where
-  pub acts : count ≡ length by
+  pub acts : count ≡ length (all_halves by)
   pub are : last ≡ last_words verdict by
   pub form : is_form by ≡ true
   pub bare : IsBare verdict by
+  pub apart : joined_acts (all_halves by) ≡ by
 
 -- the words are those of a body
 pub record IsTold (words : List ℕ) (verdict : Verdict) (by : List Act) (until : ℕ) : Type 0 where
   pub are : words ≡ body_words verdict by until
   pub form : is_form by ≡ true
   pub bare : IsBare verdict by
+  pub apart : joined_acts (all_halves by) ≡ by
 
 -- the acts, if they were read
 abbrev pub or_none : Option (List Act) → List Act

@@ -1,10 +1,11 @@
 -- The 73 words of a row: sixteen of an identity, then 57 of what is done with its packets, the body. docs/FORMATS.md has them as a table.
-use Rattle.std.specs.Prelude.{◌≡◌, ℕ, ◌+◌, ◌*◌, ◌-◌, ◌^◌, ◌==◌, List, [], ◌∷◌, ◌++◌, Bool, true, false, Option, Some, None, is_some, min, length, replicate, get_or, if◌then◌else◌}
-use Rattle.vsw_base.specs.declared.header.Header.TheVariants.{Ether, Ip, Vxlan, Ports}
+use Rattle.std.specs.Prelude.{◌≡◌, ℕ, ◌+◌, ◌*◌, ◌/◌, ◌%◌, ◌-◌, ◌^◌, ◌==◌, List, [], ◌∷◌, ◌++◌, Bool, true, false, Option, Some, None, is_some, not, flat_map, min, length, replicate, get_or, if◌then◌else◌}
+use Rattle.vsw_base.specs.declared.header.Header.TheVariants.{Ether, Ip, Vxlan, Ports, Six}
 use Rattle.vsw_base.specs.declared.packet.Dir.TheVariants.{Out, In}
 use Rattle.vsw_base.specs.declared.fate.Verdict.{Verdict}
 use Rattle.vsw_base.specs.declared.fate.Verdict.TheVariants.{Pass, Rule, Default}
 use Rattle.vsw_base.specs.declared.flow.Ufid.{Ufid}
+use Rattle.vsw_transpose.specs.declared.act.Change.{Change}
 use Rattle.vsw_transpose.specs.declared.act.Change.TheVariants as of
 use Rattle.vsw_transpose.specs.declared.act.Act.{Act}
 use Rattle.vsw_transpose.specs.declared.act.Act.TheVariants.{Push, Pop, Modify, Ignore}
@@ -35,16 +36,56 @@ abbrev pub or_zero : Option ℕ → ℕ
 or_zero None = 0
 or_zero (Some n) = n
 
--- the three words of an act: its first word and its two fields. No transposition pushes ports.
+-- the words of one address of IPv6: its halves stand in the place of both fields
+abbrev pub six_words : ℕ → Bool → ℕ → List ℕ
+six_words kind first address = act_head kind first (not first) 0 ∷ address / 2 ^ 64 ∷ address % 2 ^ 64 ∷ []
+
+-- a change as acts of a row: one of both addresses of IPv6 is one of the source and then one of the destination
+abbrev pub change_halves : Change → List Act
+change_halves (of.Ether dst src) = Modify (of.Ether dst src) ∷ []
+change_halves (of.Ip src dst) = Modify (of.Ip src dst) ∷ []
+change_halves (of.Ports src dst) = Modify (of.Ports src dst) ∷ []
+change_halves (of.Six None dst) = Modify (of.Six None dst) ∷ []
+change_halves (of.Six (Some src) None) = Modify (of.Six (Some src) None) ∷ []
+change_halves (of.Six (Some src) (Some dst)) = Modify (of.Six (Some src) None) ∷ Modify (of.Six None (Some dst)) ∷ []
+
+-- an act as acts of a row, each of which three words tell
+abbrev pub halves : Act → List Act
+halves (Push h) = Push h ∷ []
+halves Pop = Pop ∷ []
+halves (Modify c) = change_halves c
+halves Ignore = Ignore ∷ []
+
+-- the destination, where a change writes both addresses of IPv6
+abbrev pub second_half : Act → Option ℕ
+second_half (Push h) = None
+second_half Pop = None
+second_half (Modify (of.Ether dst src)) = None
+second_half (Modify (of.Ip src dst)) = None
+second_half (Modify (of.Ports src dst)) = None
+second_half (Modify (of.Six None dst)) = None
+second_half (Modify (of.Six (Some src) dst)) = dst
+second_half Ignore = None
+
+-- the acts of a row
+abbrev pub all_halves : List Act → List Act
+all_halves xs = flat_map halves xs
+
+-- the three words of an act of a row: its first word and its two fields. No transposition pushes ports or IPv6, or changes no address of IPv6;
+-- of a change of both it is the first half's.
 abbrev pub act_words : Act → List ℕ
 act_words (Push (Ether dst src kind)) = act_head 1 true true kind ∷ dst ∷ src ∷ []
 act_words (Push (Ip src dst proto part)) = act_head 2 true true proto ∷ src ∷ dst ∷ []
 act_words (Push (Vxlan vni)) = act_head 3 false false vni ∷ 0 ∷ 0 ∷ []
 act_words (Push (Ports proto src dst)) = 0 ∷ 0 ∷ 0 ∷ []
+act_words (Push (Six src dst proto)) = 0 ∷ 0 ∷ 0 ∷ []
 act_words Pop = act_head 4 false false 0 ∷ 0 ∷ 0 ∷ []
 act_words (Modify (of.Ether dst src)) = act_head 5 (is_some dst) (is_some src) 0 ∷ or_zero dst ∷ or_zero src ∷ []
 act_words (Modify (of.Ip src dst)) = act_head 6 (is_some src) (is_some dst) 0 ∷ or_zero src ∷ or_zero dst ∷ []
 act_words (Modify (of.Ports src dst)) = act_head 7 (is_some src) (is_some dst) 0 ∷ or_zero src ∷ or_zero dst ∷ []
+act_words (Modify (of.Six (Some src) dst)) = six_words 9 true src
+act_words (Modify (of.Six None (Some dst))) = six_words 10 false dst
+act_words (Modify (of.Six None None)) = 0 ∷ 0 ∷ 0 ∷ []
 act_words Ignore = act_head 8 false false 0 ∷ 0 ∷ 0 ∷ []
 
 abbrev pub acts_words : List Act → List ℕ
@@ -57,12 +98,12 @@ filled n words = words ++ replicate (n - length words) 0
 
 -- what stands behind the count of acts: the acts of a pass, or who drops
 abbrev pub last_words : Verdict → List Act → List ℕ
-last_words Pass by = filled 54 (acts_words by)
+last_words Pass by = filled 54 (acts_words (all_halves by))
 last_words verdict by = filled 54 (dropper_word verdict ∷ [])
 
--- the words of a body: verdict, until, the number of acts, and 54 more
+-- the words of a body: verdict, until, the number of acts of the row, and 54 more
 unfoldable pub body_words : Verdict → List Act → ℕ → List ℕ
-body_words verdict by until = verdict_word verdict ∷ until ∷ length by ∷ last_words verdict by
+body_words verdict by until = verdict_word verdict ∷ until ∷ length (all_halves by) ∷ last_words verdict by
 
 -- the words of a row
 unfoldable pub row_words : Ufid → Verdict → List Act → ℕ → List ℕ

@@ -1,14 +1,48 @@
 //! The words of an act.
 
-ghost use Rattle.std.specs.Prelude.{◌≡◌, ◌<◌, ◌^◌, Some, is_some, true};
+ghost use Rattle.std.specs.Prelude.{◌≡◌, ◌<◌, ◌^◌, None, Some, is_some, true};
 ghost use Rattle.vsw_base.specs.Fits.{IsFit};
 ghost use Rattle.vsw_words.specs.Reading as reading;
 ghost use Rattle.vsw_words.specs.Reading.{IsBelow, IsActFit, IsRanged};
 ghost use Rattle.vsw_words.specs.Row as spec;
 ghost use Rattle.vsw_transpose.specs.declared.act.Act.TheVariants.{Push, Modify};
+ghost use Rattle.vsw_transpose.specs.declared.act.Change.TheVariants as of;
 
-use vsw_base::{Header, Ip4, Mac};
+use vsw_base::{Header, Ip4, Ip6, Mac};
 use vsw_transpose::{Act, Change};
+
+/// The destination, where a change writes both addresses of IPv6. It has an act of its own in a row.
+#[inline(always)]
+pub(crate) fn second_half(act: &Act) -> Option<Ip6>
+    ensures { result ≡ spec.second_half act.now }
+{
+    match act {
+        Act::Push(_) => None,
+        Act::Pop => None,
+        Act::Modify(change) => second_address(change),
+        Act::Ignore => None,
+    }
+}
+
+#[inline(always)]
+fn second_address(change: &Change) -> Option<Ip6>
+    ensures { result ≡ spec.second_half (Modify change.now) }
+{
+    match change {
+        Change::Ether { .. } => None,
+        Change::Ip { .. } => None,
+        Change::Ports { .. } => None,
+        Change::Six { src, dst } => { if src.is_some() { *dst } else { None } }
+    }
+}
+
+/// The words of the second half.
+#[inline(always)]
+pub(crate) fn second_words(dst: Ip6) -> [u64; 3]
+    ensures { result ≡ spec.act_words (Modify (of.Six None (Some dst))) }
+{
+    six_words(10, false, dst)
+}
 
 /// The three words of an act: its first word, and its two fields.
 #[inline(always)]
@@ -61,6 +95,10 @@ fn pushed(header: &Header) -> [u64; 3]
             let _ranges = (*proto, *src, *dst);
             [0, 0, 0]
         }
+        Header::Six { src, dst, proto } => {
+            let _ranges = (src.number(), dst.number(), *proto);
+            [0, 0, 0]
+        }
     }
 }
 
@@ -91,7 +129,56 @@ fn modified(change: &Change) -> [u64; 3]
                 port_word(dst),
             ]
         }
+        Change::Six { src, dst } => six_change(src, dst),
     }
+}
+
+/// The words of a change of IPv6, or of its first half.
+#[inline(always)]
+fn six_change(src: &Option<Ip6>, dst: &Option<Ip6>) -> [u64; 3]
+    ensures words { result ≡ spec.act_words (Modify (of.Six src.now dst.now)) }
+    ensures ranges { IsBelow (2 ^ 128) src.now × IsBelow (2 ^ 128) dst.now }
+{
+    note_range(src);
+    note_range(dst);
+    match src {
+        Some(src) => six_words(9, true, *src),
+        None => destination_words(dst),
+    }
+}
+
+#[inline(always)]
+fn destination_words(dst: &Option<Ip6>) -> [u64; 3]
+    ensures { result ≡ spec.act_words (Modify (of.Six None dst.now)) }
+{
+    match dst {
+        Some(dst) => six_words(10, false, *dst),
+        None => [0, 0, 0],
+    }
+}
+
+/// Says that an address lies in the range of its type.
+#[inline(always)]
+fn note_range(address: &Option<Ip6>)
+    ensures { IsBelow (2 ^ 128) address.now }
+{
+    if let Some(address) = address {
+        let _ = address.number();
+    }
+}
+
+/// The words of one address of IPv6, whose halves stand in the place of both fields.
+#[inline(always)]
+fn six_words(kind: u64, first: bool, address: Ip6) -> [u64; 3]
+    requires { kind < 16 }
+    ensures { result ≡ spec.six_words kind first address }
+{
+    let number = address.number();
+    [
+        head(kind, first, !first, 0),
+        (number >> 64) as u64,
+        (number % 0x1_0000_0000_0000_0000) as u64,
+    ]
 }
 
 #[inline(always)]
@@ -124,6 +211,55 @@ fn port_word(port: &Option<u16>) -> u64
     match port {
         None => 0,
         Some(port) => u64::from(*port),
+    }
+}
+
+/// The source and the destination whose words these are, as one change, where the first three words are of a lone source
+/// and the first of so many acts behind them is a lone destination.
+#[inline(always)]
+pub(crate) fn joined_act(
+    head: u64,
+    first: u64,
+    second: u64,
+    count: u64,
+    behind: &[u64],
+) -> Option<Act>
+    ensures { result ≡ reading.both_of (reading.src_of head first second) (reading.dst_ahead count behind.now) }
+{
+    if head % 16 != 9 {
+        return None;
+    }
+    match dst_ahead(count, behind) {
+        None => None,
+        Some(dst) => Some(Act::Modify(Change::Six {
+            src: Some(ip6(first, second)),
+            dst: Some(dst),
+        })),
+    }
+}
+
+/// The destination, where the first of so many acts is a lone one.
+#[inline(always)]
+fn dst_ahead(count: u64, words: &[u64]) -> Option<Ip6>
+    ensures { result ≡ reading.dst_ahead count words.now }
+{
+    if count == 0 {
+        return None;
+    }
+    match words {
+        [head, first, second, ..] => dst_of(*head, *first, *second),
+        _ => None,
+    }
+}
+
+#[inline(always)]
+fn dst_of(head: u64, first: u64, second: u64) -> Option<Ip6>
+    ensures { result ≡ reading.dst_of head first second }
+{
+    if head % 16 == 10 {
+        Some(ip6(first, second))
+    } else {
+        None
     }
 }
 
@@ -182,6 +318,16 @@ fn act_by(head: u64, first: u64, second: u64) -> Option<Act>
         Some(Act::Modify(ports_change(head, first, second)))
     } else if kind == 8 {
         Some(Act::Ignore)
+    } else if kind == 9 {
+        Some(Act::Modify(Change::Six {
+            src: Some(ip6(first, second)),
+            dst: None,
+        }))
+    } else if kind == 10 {
+        Some(Act::Modify(Change::Six {
+            src: None,
+            dst: Some(ip6(first, second)),
+        }))
     } else {
         None
     }
@@ -299,6 +445,13 @@ fn ip4(word: u64) -> Ip4
     ensures { result ≡ reading.ip4 word }
 {
     Ip4::of((word % 0x1_0000_0000) as u32)
+}
+
+#[inline(always)]
+fn ip6(high: u64, low: u64) -> Ip6
+    ensures { result ≡ reading.ip6 high low }
+{
+    Ip6::of(u128::from(high) * 0x1_0000_0000_0000_0000 + u128::from(low))
 }
 
 #[inline(always)]

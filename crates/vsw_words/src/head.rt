@@ -7,7 +7,7 @@ ghost use Rattle.vsw_words.specs.Loose as spec;
 use vsw_base::Dir;
 
 /// What the first word of a key says: the direction, the number of encapsulations, and what the inner headers are.
-/// Whether IPv4 and ports are there is left out: the type, the mark of a fragment and the protocol tell it.
+/// Whether IPv4, IPv6 and ports are there is left out: the type, the mark of a fragment and the protocol tell it.
 #[derive(Clone, Copy)]
 pub(crate) struct Head {
     pub dir: Dir,

@@ -6,11 +6,11 @@ ghost use Rattle.vsw_transpose.specs.declared.act.Act.{Act};
 ghost use Rattle.vsw_transpose.specs.Form.{is_form};
 ghost use Rattle.vsw_words.specs.Reading as spec;
 ghost use Rattle.vsw_words.specs.Reading.{IsBody, IsTold, IsLast, IsDropper, or_none};
-ghost use Rattle.vsw_words.specs.Row.{body_words, last_words, verdict_word};
+ghost use Rattle.vsw_words.specs.Row.{all_halves, body_words, last_words, verdict_word};
 ghost use Rattle.vsw_words.specs.Stage.{is_read};
 ghost use Rattle.vsw_words.specs.declared.row.Body.{Body};
 
-use crate::act::{act_of, is_act};
+use crate::act::{act_of, is_act, joined_act};
 use crate::row::Body;
 use crate::stage::{Stage, is_whole, next};
 use vsw_base::{Dir, Moment, Verdict};
@@ -76,8 +76,8 @@ fn take_body(verdict: u64, until: u64, count: u64, last: &[u64], out: &mut Body)
 /// Reads the acts of a pass, and none of a drop.
 fn take_last(verdict: &Verdict, count: u64, last: &[u64], by: &mut Transposition)
     requires long { length last.now ≡ 54 }
-    requires of { (xs : List Act) × IsBody verdict.now xs × (count ≡ length xs) × (last.now ≡ last_words verdict.now xs) }
-    ensures { (xs : List Act) → IsBody verdict.now xs → count ≡ length xs → last.now ≡ last_words verdict.now xs → by.new ≡ xs }
+    requires of { (xs : List Act) × IsBody verdict.now xs × (count ≡ length (all_halves xs)) × (last.now ≡ last_words verdict.now xs) }
+    ensures { (xs : List Act) → IsBody verdict.now xs → count ≡ length (all_halves xs) → last.now ≡ last_words verdict.now xs → by.new ≡ xs }
 {
     match verdict {
         Verdict::Pass => take_acts(count, last, by),
@@ -89,9 +89,9 @@ fn take_last(verdict: &Verdict, count: u64, last: &[u64], by: &mut Transposition
 /// Reads so many acts, which are those of a transposition.
 fn take_acts(count: u64, words: &[u64], by: &mut Transposition)
     requires acts { is_some (spec.read_acts count words.now) ≡ true }
-    requires form { is_form (or_none (spec.read_acts count words.now)) ≡ true }
+    requires form { is_form (or_none (spec.read_joined count words.now)) ≡ true }
     requires few { count ≤ 18 }
-    ensures { by.new ≡ or_none (spec.read_acts count words.now) }
+    ensures { by.new ≡ or_none (spec.read_joined count words.now) }
 {
     by.rewrite(&ActWords { count, words });
 }
@@ -133,7 +133,7 @@ fn first(words: &[u64]) -> u64
 fn read_last(verdict: &Verdict, count: u64, last: &[u64], by: &mut Transposition) -> bool
     requires { length last.now ≡ 54 }
     ensures told { result ≡ true → IsDropper verdict.now (get_or last.now 0 0) → IsLast verdict.now count last.now by.new }
-    ensures back { (xs : List Act) → IsBody verdict.now xs → count ≡ length xs → last.now ≡ last_words verdict.now xs → (result ≡ true) × (by.new ≡ xs) }
+    ensures back { (xs : List Act) → IsBody verdict.now xs → count ≡ length (all_halves xs) → last.now ≡ last_words verdict.now xs → (result ≡ true) × (by.new ≡ xs) }
 {
     match verdict {
         Verdict::Pass => read_pass(count, last, by),
@@ -194,7 +194,7 @@ struct ActWords<'a> {
 }
 
 impl WritesActs for ActWords<'_> {
-    ghost gives = { λ a. or_none (spec.read_acts a.count a.words.now) };
+    ghost gives = { λ a. or_none (spec.read_joined a.count a.words.now) };
 
     ghost is_ready = { λ a. (is_some (spec.read_acts a.count a.words.now) ≡ true) × (a.count ≤ 18) };
 
@@ -207,9 +207,9 @@ impl WritesActs for ActWords<'_> {
 /// Reads so many acts of a transposition, with 0 behind them. Only when all are found to be of one does it
 /// write them.
 fn read_pass(count: u64, words: &[u64], by: &mut Transposition) -> bool
-    ensures told { result ≡ true → spec.read_acts count words.now ≡ Some by.new }
+    ensures told { result ≡ true → spec.read_joined count words.now ≡ Some by.new }
     ensures form { result ≡ true → is_form by.new ≡ true }
-    ensures back { (xs : List Act) → spec.read_acts count words.now ≡ Some xs → is_form xs ≡ true → count ≤ 18 → (result ≡ true) × (by.new ≡ xs) }
+    ensures back { (xs : List Act) → spec.read_joined count words.now ≡ Some xs → is_form xs ≡ true → count ≤ 18 → (result ≡ true) × (by.new ≡ xs) }
 {
     if count > 18 {
         return false;
@@ -241,19 +241,46 @@ fn are_acts(stage: Stage, count: u64, words: &[u64]) -> bool
     }
 }
 
-/// Appends the acts of these words.
+/// Appends the acts that so many acts of a row tell. A change of both addresses of IPv6 is two of these.
 fn write_acts(count: u64, words: &[u64], out: &mut Acts)
     requires told { is_some (spec.read_acts count words.now) ≡ true }
     requires room { length out.old + count ≤ 18 }
-    ensures { out.new ≡ out.old ++ or_none (spec.read_acts count words.now) }
+    ensures { out.new ≡ out.old ++ or_none (spec.read_joined count words.now) }
 {
     if count == 0 {
         return;
     }
-    if let [head, first, second, rest @ ..] = words {
-        out.push(act_of(*head, *first, *second));
-        write_acts(count - 1, rest, out);
+    if words.len() < 3 {
+        return;
     }
+    let (head, first, second) = first_three(words);
+    let rest = behind(words);
+    match joined_act(head, first, second, count - 1, rest) {
+        None => {
+            out.push(act_of(head, first, second));
+            write_acts(count - 1, rest, out);
+        }
+        Some(both) => {
+            out.push(both);
+            write_acts(count - 2, behind(rest), out);
+        }
+    }
+}
+
+#[inline(always)]
+fn first_three(words: &[u64]) -> (u64, u64, u64)
+    requires { 3 ≤ length words.now }
+    ensures { result ≡ (get_or words.now 0 0, get_or words.now 1 0, get_or words.now 2 0) }
+{
+    (words[0], words[1], words[2])
+}
+
+/// The words behind those of an act.
+#[inline(always)]
+fn behind(words: &[u64]) -> &[u64]
+    ensures { result.now ≡ drop 3 words.now }
+{
+    if words.len() < 3 { &[] } else { &words[3..] }
 }
 
 /// All are read, in no order: that is quicker than to stop at the first one that isn't 0.

@@ -1,14 +1,15 @@
 //! The words of a row, and its body read back from them.
 
-ghost use Rattle.std.specs.Prelude.{◌≡◌, ◌+◌, ◌*◌, ◌<◌, ◌≤◌, ◌^◌, IsTrue, List, [], ◌∷◌, length};
+ghost use Rattle.std.specs.Prelude.{◌≡◌, ◌+◌, ◌*◌, ◌<◌, ◌≤◌, ◌^◌, ◌++◌, IsTrue, List, [], ◌∷◌, drop, length, true};
 ghost use Rattle.vsw_base.specs.declared.fate.Verdict.TheVariants.{Pass};
 ghost use Rattle.vsw_base.specs.Fits.{AreFit};
-ghost use Rattle.vsw_words.specs.Reading.{IsBody, IsVerdictFit, AreRanged};
+ghost use Rattle.vsw_transpose.specs.Fits.{fits};
+ghost use Rattle.vsw_words.specs.Reading.{IsBody, IsVerdictFit, IsRanged, AreRanged};
 ghost use Rattle.vsw_words.specs.Row as spec;
 ghost use Rattle.vsw_words.specs.Key.{joined};
-ghost use Rattle.vsw_words.specs.Row.{IsBare, acts_words, filled, four_bounds};
+ghost use Rattle.vsw_words.specs.Row.{IsBare, acts_words, all_halves, filled, four_bounds, halves};
 
-use crate::act::act_words;
+use crate::act::{act_words, second_half, second_words};
 use crate::key::key_words;
 use vsw_base::{Dir, Moment, Ufid, Verdict};
 use vsw_transpose::{Act, Transposition};
@@ -35,13 +36,17 @@ impl Body {
     }
 }
 
-/// Writes the row of an identity: its words, the verdict, what is done to the headers, and until when that holds.
+/// Writes the row of an identity: its words, the verdict, what is done to the headers, and until when that holds. What is
+/// done to packets that pass fits their headers.
 pub fn row_of(id: &Ufid, verdict: &Verdict, by: &Transposition, until: Moment, out: &mut [u64; 73])
-    requires { IsBare verdict.now by.now }
+    requires bare { IsBare verdict.now by.now }
+    requires fits { verdict.now ≡ Pass → fits by.now id.now.stack ≡ true }
     ensures words { out.new ≡ spec.row_words id.now verdict.now by.now until }
     ensures body { IsBody verdict.now by.now }
     ensures fit { AreFit id.now.stack }
 {
+    // It tells the proof that the stack is one.
+    let _ = id.stack.headers();
     write_row(id, verdict, by.acts(), until, out);
 }
 
@@ -62,7 +67,7 @@ pub fn words_in_use(front: &[u64]) -> usize
 
 fn write_row(id: &Ufid, verdict: &Verdict, by: &[Act], until: Moment, out: &mut [u64])
     requires bare { IsBare verdict.now by.now }
-    requires few { length by.now ≤ 18 }
+    requires few { length (all_halves by.now) ≤ 18 }
     requires room { length out.old ≡ 73 }
     ensures words { out.new ≡ spec.row_words id.now verdict.now by.now until }
     ensures ranges { AreRanged by.now }
@@ -76,19 +81,42 @@ fn write_row(id: &Ufid, verdict: &Verdict, by: &[Act], until: Moment, out: &mut 
 }
 
 fn write_body(verdict: &Verdict, by: &[Act], until: Moment, out: &mut [u64])
-    requires few { length by.now ≤ 18 }
+    requires few { length (all_halves by.now) ≤ 18 }
     requires room { length out.old ≡ 57 }
     ensures words { out.new ≡ spec.body_words verdict.now by.now until }
     ensures ranges { AreRanged by.now }
     ensures numbers { IsVerdictFit verdict.now }
 {
-    out[..3].copy_from_slice(&[verdict_word(verdict), until.micros(), by.len() as u64]);
+    out[..3].copy_from_slice(&[verdict_word(verdict), until.micros(), count_of(by)]);
     write_last(verdict, by, &mut out[3..]);
+}
+
+/// The number of acts of the row.
+fn count_of(acts: &[Act]) -> u64
+    requires { length (all_halves acts.now) ≤ 18 }
+    ensures { result ≡ length (all_halves acts.now) }
+{
+    match acts.split_first() {
+        None => 0,
+        Some((first, rest)) => halves_of(first) + count_of(rest),
+    }
+}
+
+/// The number of acts of the row that tell an act.
+#[inline(always)]
+#[tactic(auto, using(crate::proofs::Halves::number_of))]
+fn halves_of(act: &Act) -> u64
+    ensures { result ≡ length (halves act.now) }
+{
+    match second_half(act) {
+        None => 1,
+        Some(_) => 2,
+    }
 }
 
 /// Writes what stands behind the number of acts.
 fn write_last(verdict: &Verdict, by: &[Act], out: &mut [u64])
-    requires few { length by.now ≤ 18 }
+    requires few { length (all_halves by.now) ≤ 18 }
     requires room { length out.old ≡ 54 }
     ensures words { out.new ≡ spec.last_words verdict.now by.now }
     ensures ranges { AreRanged by.now }
@@ -105,15 +133,33 @@ fn write_last(verdict: &Verdict, by: &[Act], out: &mut [u64])
 
 /// Writes the words of the acts, and 0 behind them.
 fn write_acts(acts: &[Act], out: &mut [u64])
-    requires room { 3 * length acts.now ≤ length out.old }
-    ensures words { out.new ≡ filled (length out.old) (acts_words acts.now) }
+    requires room { 3 * length (all_halves acts.now) ≤ length out.old }
+    ensures words { out.new ≡ filled (length out.old) (acts_words (all_halves acts.now)) }
     ensures ranges { AreRanged acts.now }
 {
     match acts.split_first() {
         None => out.fill(0),
         Some((first, rest)) => {
-            out[..3].copy_from_slice(&act_words(first));
-            write_acts(rest, &mut out[3..]);
+            let used = write_act(first, out);
+            write_acts(rest, &mut out[used..]);
+        }
+    }
+}
+
+/// Writes the words of an act to the front, and answers how many they are: three, or six for both addresses of IPv6.
+#[inline(always)]
+fn write_act(act: &Act, out: &mut [u64]) -> usize
+    requires room { 3 * length (halves act.now) ≤ length out.old }
+    ensures words { out.new ≡ acts_words (halves act.now) ++ drop (3 * length (halves act.now)) out.old }
+    ensures used { result ≡ 3 * length (halves act.now) }
+    ensures range { IsRanged act.now }
+{
+    out[..3].copy_from_slice(&act_words(act));
+    match second_half(act) {
+        None => 3,
+        Some(dst) => {
+            out[3..6].copy_from_slice(&second_words(dst));
+            6
         }
     }
 }

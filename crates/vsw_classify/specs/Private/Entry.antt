@@ -1,5 +1,5 @@
 -- What is entered of a group's rules.
-use Rattle.std.specs.Prelude.{◌≡◌, ◌<◌, ◌++◌, ◌⊎◌, ◌+◌, ℕ, List, [], ◌∷◌, length, map, filter_map, All, slice_get, true, Option, Some, None, if◌then◌else◌}
+use Rattle.std.specs.Prelude.{◌≡◌, ◌<◌, ◌++◌, ◌⊎◌, ◌+◌, ℕ, List, [], ◌∷◌, length, map, filter_map, All, slice_get, Bool, true, false, not, Option, Some, None, if◌then◌else◌}
 use Rattle.std.specs.List.{Contains}
 use Rattle.std.specs.List.Sorted.{IsNonDecreasing}
 use Rattle.vsw_base.specs.declared.header.Header.{Header}
@@ -9,7 +9,7 @@ use Rattle.vsw_rule.specs.declared.rule.Item.{Item}
 use Rattle.vsw_rule.specs.declared.rule.Item.TheVariants as item
 use Rattle.vsw_rule.specs.declared.rule.Cond.{Cond}
 use Rattle.vsw_rule.specs.declared.rule.Rule.{Rule}
-use Rattle.vsw_rule.specs.Field.{value_of}
+use Rattle.vsw_rule.specs.Field.{value_of, is_ip6}
 use Rattle.vsw_rule.specs.Match.{in_items}
 use Rattle.vsw_index.specs.declared.placed_range.PlacedRange.{PlacedRange}
 use Rattle.vsw_index.specs.declared.placed_prefix.PlacedPrefix.{PlacedPrefix}
@@ -24,6 +24,11 @@ entry_of rank f i = record { rank = rank; field = f; item = i }
 abbrev pub entries_of : ℕ → Option Cond → List Entry
 entries_of rank None = []
 entries_of rank (Some c) = map (entry_of rank c.field) c.items
+
+-- a rule may be entered under this condition: under none on IPv6 addresses, of which there is no index
+abbrev pub may_enter : Option Cond → Bool
+may_enter None = false
+may_enter (Some c) = not (is_ip6 c.field)
 
 -- what a rule adds that is entered under the condition at a place, or listed
 abbrev pub Enters : Option ℕ → Rule → ℕ → List ℕ → List Entry → List ℕ → List Entry → Type 0
@@ -49,10 +54,12 @@ pub record IsGathered (rules : List Rule) (keys listed : List ℕ) (entries : Li
 abbrev pub prefix_at : ℕ → Item → Option PlacedPrefix
 prefix_at rank (item.Range low high) = None
 prefix_at rank (item.Prefix p) = Some (record { place = rank; prefix = p })
+prefix_at rank (item.Prefix6 p) = None
 
 abbrev pub range_at : ℕ → Item → Option PlacedRange
 range_at rank (item.Range low high) = Some (record { place = rank; low = low; high = high })
 range_at rank (item.Prefix p) = None
+range_at rank (item.Prefix6 p) = None
 
 -- the prefix of an entry under this field
 abbrev pub prefix_in : Field → Entry → Option PlacedPrefix

@@ -4,8 +4,11 @@ ghost use Rattle.std.specs.Prelude.{◌<◌, ◌^◌, IsTrue};
 ghost use Rattle.vsw_rule.specs.Edit.{goes_on};
 ghost use Rattle.vsw_rule.specs.Match.{can_do};
 
-use crate::rule::samples::{ARP, IPV4, encap, ether, kept, plain, ports, query, sent, udp};
-use vsw_base::{Header, Ip4, Mac, Outer, Set, Stack};
+use crate::rule::samples::{
+    ARP, IPV4, encap, ether, kept, plain, plain6, ports, query, query6, sent, udp,
+};
+use crate::six_tests::{FAR, HIDDEN, OWN, WORLD};
+use vsw_base::{Header, Ip4, Ip6, Mac, Outer, Set, Stack};
 use vsw_rule::{Action, act_of, compose};
 use vsw_transpose::{Act, Change, Transposition};
 
@@ -39,6 +42,8 @@ fn nothing() -> Set {
         dst_ip: None,
         src_port: None,
         dst_port: None,
+        src_ip6: None,
+        dst_ip6: None,
     }
 }
 
@@ -218,4 +223,66 @@ fn what_a_frame_has_not_is_not_written(rt: HostRuntime) {
     let arp = [ether(0x0200_0000_0099, 0x0200_0000_0001, ARP)];
     let kept = kept_in_turn(&set_destination(), &Action::Allow, &arp, &arp);
     assert!(rt; kept == Some(0) && in_turn(&Action::Allow, &Action::Drop, &arp).is_none());
+    let first = set_over_ipv6(Some(HIDDEN), Some(WORLD));
+    let kept = kept_in_turn(&first, &Action::Allow, &plain(), &query(1, 1234));
+    assert!(rt; kept == Some(0));
+}
+
+/// These addresses of IPv6, and 0.0.0.1 as the source over IPv4.
+fn set_over_ipv6(src: Option<u128>, dst: Option<u128>) -> Action {
+    Action::Edit {
+        decap: false,
+        set: Set {
+            src_ip: Some(Ip4::of(1)),
+            src_ip6: address(src),
+            dst_ip6: address(dst),
+            ..nothing()
+        },
+        encap: None,
+    }
+}
+
+fn address(number: Option<u128>) -> Option<Ip6> {
+    match number {
+        Some(number) => Some(Ip6::of(number)),
+        None => None,
+    }
+}
+
+/// Two edits over IPv6, and the addresses that they leave.
+type Edits = (
+    (Option<u128>, Option<u128>),
+    (Option<u128>, Option<u128>),
+    (u128, u128),
+);
+
+const EDITS: [Edits; 5] = [
+    ((None, None), (Some(HIDDEN), None), (HIDDEN, FAR)),
+    ((Some(HIDDEN), None), (None, Some(WORLD)), (HIDDEN, WORLD)),
+    ((None, Some(WORLD)), (Some(HIDDEN), None), (HIDDEN, WORLD)),
+    ((Some(1), Some(2)), (Some(HIDDEN), None), (HIDDEN, 2)),
+    ((Some(1), Some(2)), (Some(OWN), Some(FAR)), (OWN, FAR)),
+];
+
+/// Whether two edits in turn leave these addresses, and the IPv4 address that they set beside is left out.
+fn is_left(edits: &Edits) -> bool {
+    let ((src, dst), (last_src, last_dst), (left_src, left_dst)) = *edits;
+    let first = set_over_ipv6(src, dst);
+    let second = set_over_ipv6(last_src, last_dst);
+    kept_in_turn(&first, &second, &plain6(), &query6(left_src, left_dst)) == Some(0)
+}
+
+/// The place of the first edits that leave others.
+fn wrong_edits(edits: &[Edits]) -> Option<usize> {
+    for place in 0..edits.len() {
+        if !is_left(&edits[place]) {
+            return Some(place);
+        }
+    }
+    None
+}
+
+#[test]
+fn addresses_of_ipv6_are_set_one_after_the_other(rt: HostRuntime) {
+    assert!(rt; wrong_edits(&EDITS) == None);
 }

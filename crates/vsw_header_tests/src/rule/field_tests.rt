@@ -3,20 +3,20 @@
 ghost use Rattle.std.specs.Prelude.{◌<◌};
 
 use crate::rule::samples::{
-    ARP, IPV4, asking, checked, encap, ether, holds, plain, prefix, query, range, sent, udp,
+    ARP, IPV4, asking, checked, encap, ether, holds, plain, plain6, prefix, query, range, sent, udp,
 };
 use std::alloc::{AllocError, Global};
 use vsw_base::{BadShape, Header, Ip4, Stack};
 use vsw_rule::{Action, BadRule, Field, Item};
 
 /// A field: whether its values are IPv4 addresses, the greatest that it can have, and its values on
-/// ARP, on a fragment, and on UDP under no, one and two encapsulations.
+/// ARP, on a fragment, on UDP under no, one and two encapsulations, and on UDP over IPv6.
 #[derive(Clone, Copy)]
 struct Row {
     field: Field,
     is_address: bool,
     greatest: u64,
-    values: [Option<u64>; 5],
+    values: [Option<u64>; 6],
 }
 
 /// The greatest values of an Ethernet address, of an IPv4 address and of 16 bits.
@@ -36,6 +36,8 @@ const SRC: Option<u64> = Some(0x0200_0000_0001);
 const ARP_KIND: Option<u64> = Some(0x0806);
 
 const IP_KIND: Option<u64> = Some(0x0800);
+
+const SIX_KIND: Option<u64> = Some(0x86dd);
 
 // IPv4: 10.0.0.5, which is 192.0.2.7 where it is encapsulated, to 10.0.0.9, by UDP.
 const FIVE: Option<u64> = Some(0x0a00_0005);
@@ -63,55 +65,55 @@ fn rows() -> [Row; 14] {
             field: Field::DstMac,
             is_address: false,
             greatest: MAC,
-            values: [ALL, DST, DST, DST, DST],
+            values: [ALL, DST, DST, DST, DST, DST],
         },
         Row {
             field: Field::SrcMac,
             is_address: false,
             greatest: MAC,
-            values: [SRC, SRC, SRC, SRC, SRC],
+            values: [SRC, SRC, SRC, SRC, SRC, SRC],
         },
         Row {
             field: Field::Kind,
             is_address: false,
             greatest: WORD,
-            values: [ARP_KIND, IP_KIND, IP_KIND, IP_KIND, IP_KIND],
+            values: [ARP_KIND, IP_KIND, IP_KIND, IP_KIND, IP_KIND, SIX_KIND],
         },
         Row {
             field: Field::SrcIp,
             is_address: true,
             greatest: ADDRESS,
-            values: [None, FIVE, FIVE, SEVEN, SEVEN],
+            values: [None, FIVE, FIVE, SEVEN, SEVEN, None],
         },
         Row {
             field: Field::DstIp,
             is_address: true,
             greatest: ADDRESS,
-            values: [None, NINE, NINE, NINE, NINE],
+            values: [None, NINE, NINE, NINE, NINE, None],
         },
         Row {
             field: Field::Proto,
             is_address: false,
             greatest: 255,
-            values: [None, UDP, UDP, UDP, UDP],
+            values: [None, UDP, UDP, UDP, UDP, UDP],
         },
         Row {
             field: Field::Part,
             is_address: false,
             greatest: 1,
-            values: [None, YES, NO, NO, NO],
+            values: [None, YES, NO, NO, NO, None],
         },
         Row {
             field: Field::SrcPort,
             is_address: false,
             greatest: WORD,
-            values: [None, None, PLAIN, OTHER, OTHER],
+            values: [None, None, PLAIN, OTHER, OTHER, PLAIN],
         },
         Row {
             field: Field::DstPort,
             is_address: false,
             greatest: WORD,
-            values: [None, None, DNS, DNS, DNS],
+            values: [None, None, DNS, DNS, DNS, DNS],
         },
         Row {
             field: Field::OuterDstMac,
@@ -123,6 +125,7 @@ fn rows() -> [Row; 14] {
                 None,
                 Some(0x200_0000_0a02),
                 Some(0x200_0000_0b02),
+                None,
             ],
         },
         Row {
@@ -135,25 +138,26 @@ fn rows() -> [Row; 14] {
                 None,
                 Some(0x200_0000_0a01),
                 Some(0x200_0000_0b01),
+                None,
             ],
         },
         Row {
             field: Field::OuterSrcIp,
             is_address: true,
             greatest: ADDRESS,
-            values: [None, None, None, Some(0xac10_0001), Some(0xac10_0003)],
+            values: [None, None, None, Some(0xac10_0001), Some(0xac10_0003), None],
         },
         Row {
             field: Field::OuterDstIp,
             is_address: true,
             greatest: ADDRESS,
-            values: [None, None, None, Some(0xac10_0002), Some(0xac10_0004)],
+            values: [None, None, None, Some(0xac10_0002), Some(0xac10_0004), None],
         },
         Row {
             field: Field::Vni,
             is_address: false,
             greatest: 0xff_ffff,
-            values: [None, None, None, Some(5001), Some(7)],
+            values: [None, None, None, Some(5001), Some(7), None],
         },
     ]
 }
@@ -190,7 +194,8 @@ fn stack(kind: usize) -> Result<Stack, BadShape> {
         1 => Stack::of(&fragment()),
         2 => Stack::of(&plain()),
         3 => Stack::of(&sent()),
-        _ => Stack::of(&twice()),
+        4 => Stack::of(&twice()),
+        _ => Stack::of(&plain6()),
     }
 }
 
@@ -254,7 +259,7 @@ fn wrong_field(
     kind: usize,
     stack: &Stack,
 ) -> Result<Option<usize>, AllocError>
-    requires { kind < 5 }
+    requires { kind < 6 }
 {
     for place in 0..rows.len() {
         let row = &rows[place];
@@ -267,7 +272,7 @@ fn wrong_field(
 
 /// The first kind of stack with a field that has another value, and the field's place.
 fn wrong_value(alloc: Global, rows: &[Row]) -> Option<Option<(usize, usize)>> {
-    for kind in 0..5 {
+    for kind in 0..6 {
         let stack = stack(kind).ok()?;
         if let Some(place) = wrong_field(alloc, rows, kind, &stack).ok()? {
             return Some(Some((kind, place)));

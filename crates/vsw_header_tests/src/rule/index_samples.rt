@@ -1,7 +1,7 @@
 //! Groups and packets that look random. Values are few, so that conditions often hold.
 
 use std::alloc::Global;
-use vsw_base::{Dir, Header, Headers, Ip4, Items, Mac, Prefix, Set, Stack};
+use vsw_base::{Dir, Header, Headers, Ip4, Ip6, Items, Mac, Prefix, Prefix6, Set, Stack};
 use vsw_rule::{Action, Choice, Cond, Field, Group, Item, Rule};
 
 /// The next state of a linear congruential generator (Knuth's MMIX).
@@ -18,6 +18,8 @@ pub struct Random {
 }
 
 const NETWORK: u32 = 0x0a00_0000;
+
+const NETWORK6: u128 = 0xfd00_0000_0000_0000_0000_0000_0000_0000;
 
 impl Random {
     pub fn new(seed: u64) -> Random {
@@ -43,13 +45,17 @@ impl Random {
         Ip4::of(NETWORK + self.next() % 16)
     }
 
+    fn ip6(&mut self) -> Ip6 {
+        Ip6::of(NETWORK6 + u128::from(self.next() % 16))
+    }
+
     fn port(&mut self) -> u16 {
         (self.next() % 16) as u16
     }
 }
 
 fn field(random: &mut Random) -> Field {
-    match random.next() % 16 {
+    match random.next() % 18 {
         0 => Field::DstMac,
         1 => Field::SrcMac,
         2 => Field::Kind,
@@ -63,6 +69,8 @@ fn field(random: &mut Random) -> Field {
         10 => Field::OuterDstIp,
         11 => Field::Vni,
         12 | 13 => Field::DstPort,
+        14 => Field::SrcIp6,
+        15 => Field::DstIp6,
         _ => Field::DstIp,
     }
 }
@@ -76,7 +84,17 @@ fn least(field: Field) -> u64 {
     }
 }
 
+fn prefix6(random: &mut Random) -> Item {
+    Item::Prefix6(Prefix6 {
+        value: random.ip6(),
+        bits: 122 + (random.next() % 8) as u8,
+    })
+}
+
 fn item(field: Field, random: &mut Random) -> Item {
+    if matches!(field, Field::SrcIp6 | Field::DstIp6) && !random.chance(8) {
+        return prefix6(random);
+    }
     if random.chance(3) {
         return Item::Prefix(Prefix {
             value: random.ip(),
@@ -119,6 +137,8 @@ fn unset() -> Set {
         dst_ip: None,
         src_port: None,
         dst_port: Some(7),
+        src_ip6: None,
+        dst_ip6: None,
     }
 }
 
@@ -193,16 +213,29 @@ fn add_encap(headers: &mut Headers, random: &mut Random) {
     add(headers, Header::Vxlan { vni });
 }
 
+fn add_six(headers: &mut Headers, proto: u8, random: &mut Random) {
+    add(headers, ether(0x86dd, random));
+    let src = random.ip6();
+    let dst = random.ip6();
+    add(headers, Header::Six { src, dst, proto });
+}
+
 /// The inner headers of UDP, TCP, another protocol or none.
 fn add_inner(headers: &mut Headers, random: &mut Random) {
     if random.chance(8) {
         add(headers, ether(0x0806, random));
         return;
     }
-    add(headers, ether(0x0800, random));
     let proto = [17u8, 17, 6, 1][random.next() as usize % 4];
-    let part = random.chance(8);
-    add(headers, ip(proto, part, random));
+    let part = if random.chance(3) {
+        add_six(headers, proto, random);
+        false
+    } else {
+        add(headers, ether(0x0800, random));
+        let part = random.chance(8);
+        add(headers, ip(proto, part, random));
+        part
+    };
     if !part && proto != 1 {
         let src = random.port();
         let dst = random.port();

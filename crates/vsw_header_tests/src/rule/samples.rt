@@ -2,8 +2,9 @@
 
 ghost use Rattle.std.specs.Prelude.{◌<◌, ◌^◌};
 
+use crate::six_tests::{FAR, OWN, ether6};
 use std::alloc::{AllocError, Global};
-use vsw_base::{Header, Ip4, Items, Mac, Prefix, Stack};
+use vsw_base::{Header, Ip4, Ip6, Items, Mac, Prefix, Prefix6, Stack};
 use vsw_rule::{Action, BadRule, Cond, Field, Item, Rule};
 use vsw_transpose::Transposition;
 
@@ -78,6 +79,31 @@ pub fn prefix(value: u32, bits: u8) -> Item {
         value: Ip4::of(value),
         bits,
     })
+}
+
+pub fn prefix6(value: u128, bits: u8) -> Item {
+    Item::Prefix6(Prefix6 {
+        value: Ip6::of(value),
+        bits,
+    })
+}
+
+/// UDP over IPv6 from port 1234 of one address to port 53 of another.
+pub fn query6(src: u128, dst: u128) -> [Header; 3] {
+    [
+        ether6(),
+        Header::Six {
+            src: Ip6::of(src),
+            dst: Ip6::of(dst),
+            proto: 17,
+        },
+        ports(1234, 53),
+    ]
+}
+
+/// From fd00::5 to fd00::9.
+pub fn plain6() -> [Header; 3] {
+    query6(OWN, FAR)
 }
 
 pub fn condition(alloc: Global, field: Field, item: Item) -> Result<Cond, AllocError> {

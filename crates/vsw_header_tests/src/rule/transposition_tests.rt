@@ -1,7 +1,8 @@
 //! Transpositions of frames that were read by hand, and acts that make none.
 
-use crate::rule::samples::{encap, ether, kept, plain, query, sent};
-use vsw_base::{Header, Ip4, Mac, Stack};
+use crate::rule::samples::{encap, ether, kept, plain, plain6, query, sent};
+use crate::six_tests::six;
+use vsw_base::{Header, Ip4, Ip6, Mac, Stack};
 use vsw_transpose::{Act, BadActs, Change, Transposition};
 
 fn twice() -> [Header; 9] {
@@ -141,6 +142,24 @@ fn redirect(place: usize) -> [Act; 6] {
     acts
 }
 
+/// The second header of three gets a source address of IPv6.
+fn source6() -> [Act; 3] {
+    let change = Change::Six {
+        src: Some(Ip6::of(1)),
+        dst: None,
+    };
+    [Act::Ignore, Act::Modify(change), Act::Ignore]
+}
+
+/// The second header of three gets a source address of IPv4.
+fn source4() -> [Act; 3] {
+    let change = Change::Ip {
+        src: Some(Ip4::of(1)),
+        dst: None,
+    };
+    [Act::Ignore, Act::Modify(change), Act::Ignore]
+}
+
 #[test]
 fn fields_are_written_into_inner_headers_of_their_kind(rt: HostRuntime) {
     let sent = sent();
@@ -152,6 +171,12 @@ fn fields_are_written_into_inner_headers_of_their_kind(rt: HostRuntime) {
         fits(&redirect(4), &sent),
     ];
     assert!(rt; found == [Some(true), Some(false), Some(false), Some(false)]);
+    let found = [
+        fits(&source6(), &plain6()),
+        fits(&source6(), &plain()),
+        fits(&source4(), &plain6()),
+    ];
+    assert!(rt; found == [Some(true), Some(false), Some(false)]);
 }
 
 fn is_refused(acts: &[Act]) -> bool {
@@ -195,6 +220,11 @@ fn other_headers_are_refused() -> bool {
     are_refused(&b, &a, &c)
         && are_refused(&a, &b, &Header::Vxlan { vni: 0x100_0000 })
         && are_refused(&ether(1, 2, 0x86dd), &b, &c)
+        && are_refused(&a, &six(17), &c)
+        && is_refused(&[Act::Modify(Change::Six {
+            src: None,
+            dst: None,
+        })])
 }
 
 #[test]

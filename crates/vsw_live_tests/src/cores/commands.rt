@@ -67,6 +67,8 @@ fn to_port(port: u16) -> Action {
         dst_ip: None,
         src_port: Some(port),
         dst_port: None,
+        src_ip6: None,
+        dst_ip6: None,
     };
     Action::Edit {
         decap: false,

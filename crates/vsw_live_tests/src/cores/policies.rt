@@ -42,6 +42,8 @@ const UNSET: Set = Set {
     dst_ip: None,
     src_port: None,
     dst_port: None,
+    src_ip6: None,
+    dst_ip6: None,
 };
 
 fn edit(set: Set) -> Action {

@@ -7,7 +7,7 @@ use crate::lean::layers::add_hiding;
 use crate::lean::packets::{FAR, FIRST, OWN, PUBLIC, SECOND, id, packet};
 use crate::lean::trial::{Change, Trial};
 use std::alloc::Global;
-use vsw_base::{Control, Crossing, Dir, Ufid};
+use vsw_base::{Addr, Control, Crossing, Dir, Ufid};
 
 /// One layer, whose pairs live for 240 seconds, and for 10 once they are closed.
 fn hiding(alloc: Global) -> Option<Trial> {
@@ -55,6 +55,8 @@ type Shaken = (bool, Change, bool);
 fn shakes(trial: &mut Trial, row: &Ufid, met: &Crossing) -> Option<Shaken> {
     let before = trial.row(row);
     let look = trial.first_look()?;
+    // The check finds the types within a look only where one of them is named beside the call.
+    let _address: &Addr = &look.key.src;
     let (shaken, change) = trial.meet(met, &look)?;
     let after = trial.row(row);
     Some((shaken, change, !before.is_same(&after)))

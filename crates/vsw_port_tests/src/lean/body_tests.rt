@@ -1,10 +1,12 @@
 //! Rows of passes and drops, and bodies read back from their words.
 
-ghost use Rattle.std.specs.Prelude.{◌≡◌};
+ghost use Rattle.std.specs.Prelude.{◌≡◌, true};
+ghost use Rattle.vsw_base.specs.declared.fate.Verdict.TheVariants.{Pass};
+ghost use Rattle.vsw_transpose.specs.Fits.{fits};
 ghost use Rattle.vsw_words.specs.Row.{IsBare};
 
-use crate::lean::samples::{QUERY, encap, query};
-use vsw_base::{Dir, Ip4, Moment, Stack, Ufid, Verdict};
+use crate::lean::samples::{QUERY, QUERY6, encap, query, query6};
+use vsw_base::{Dir, Header, Ip4, Ip6, Moment, Stack, Ufid, Verdict};
 use vsw_transpose::{Act, Change, Transposition};
 use vsw_words::{Body, body_of, body_to, row_of, words_in_use};
 
@@ -70,19 +72,138 @@ fn by_in() -> [u64; 57] {
     drop_words(3, 0xa_0001)
 }
 
-/// Whether the row of the query has these words and says that so many are in use.
-fn has_row(verdict: &Verdict, acts: &[Act], body: &[u64; 57], used: usize) -> bool
+/// A change of the addresses over IPv6.
+fn moved(src: Option<Ip6>, dst: Option<Ip6>) -> [Act; 3] {
+    let change = Change::Six { src, dst };
+    [Act::Ignore, Act::Modify(change), Act::Ignore]
+}
+
+/// The source becomes fd00::77.
+fn hide() -> [Act; 3] {
+    moved(
+        Some(Ip6::of(0xfd00_0000_0000_0000_0000_0000_0000_0077)),
+        None,
+    )
+}
+
+/// The destination becomes 2001:db8::7.
+fn send_on() -> [Act; 3] {
+    moved(
+        None,
+        Some(Ip6::of(0x2001_0db8_0000_0000_0000_0000_0000_0007)),
+    )
+}
+
+fn move_both() -> [Act; 3] {
+    moved(
+        Some(Ip6::of(0xfd00_0000_0000_0000_0000_0000_0000_0077)),
+        Some(Ip6::of(0x2001_0db8_0000_0000_0000_0000_0000_0007)),
+    )
+}
+
+/// The words from 16 on of a pass with so many acts until 240 seconds after the epoch, the first of which is none.
+fn pass_words(count: u64) -> [u64; 57] {
+    let mut words = [0; 57];
+    words[1] = 240_000_000;
+    words[2] = count;
+    words[3] = 8;
+    words
+}
+
+/// The same for those changes, typed by hand from the table: the source is of kind 9, and the destination of kind 10.
+fn hide_words() -> [u64; 57] {
+    let mut words = pass_words(3);
+    words[6] = 25;
+    words[7] = 0xfd00_0000_0000_0000;
+    words[8] = 0x77;
+    words[9] = 8;
+    words
+}
+
+fn on_words() -> [u64; 57] {
+    let mut words = pass_words(3);
+    words[6] = 42;
+    words[7] = 0x2001_0db8_0000_0000;
+    words[8] = 7;
+    words[9] = 8;
+    words
+}
+
+fn both_words() -> [u64; 57] {
+    let mut words = pass_words(4);
+    words[6] = 25;
+    words[7] = 0xfd00_0000_0000_0000;
+    words[8] = 0x77;
+    words[9] = 42;
+    words[10] = 0x2001_0db8_0000_0000;
+    words[11] = 7;
+    words[12] = 8;
+    words
+}
+
+/// A destination, a source, an act of nothing, and a destination again.
+fn apart_words() -> [u64; 57] {
+    let mut words = pass_words(5);
+    words[6] = 42;
+    words[7] = 0x2001_0db8_0000_0000;
+    words[8] = 7;
+    words[9] = 25;
+    words[10] = 0xfd00_0000_0000_0000;
+    words[11] = 0x77;
+    words[12] = 8;
+    words[15] = 42;
+    words[16] = 0x2001_0db8_0000_0000;
+    words[17] = 7;
+    words
+}
+
+/// Whether the acts may be done to packets of this stack, where they pass.
+fn may_be_done(verdict: &Verdict, by: &Transposition, stack: &Stack) -> bool
+    ensures { result ≡ true → verdict.now ≡ Pass → fits by.now stack.now ≡ true }
+{
+    match verdict {
+        Verdict::Pass => by.fits(stack),
+        Verdict::Rule { .. } | Verdict::Default { .. } => true,
+    }
+}
+
+/// An outbound packet's headers and the words of its key.
+#[derive(Drop)]
+struct Keyed {
+    headers: [Header; 3],
+    key: [u64; 16],
+}
+
+fn plain() -> Keyed {
+    Keyed {
+        headers: query(),
+        key: QUERY,
+    }
+}
+
+fn plain6() -> Keyed {
+    Keyed {
+        headers: query6(),
+        key: QUERY6,
+    }
+}
+
+/// Whether the row of a packet has these words and says that so many are in use.
+fn has_row(of: &Keyed, verdict: &Verdict, acts: &[Act], body: &[u64; 57], used: usize) -> bool
     requires { IsBare verdict.now acts.now }
 {
-    match (Stack::of(&query()), Transposition::of(acts)) {
+    match (Stack::of(&of.headers), Transposition::of(acts)) {
         (Ok(stack), Ok(by)) => {
+            if !may_be_done(verdict, &by, &stack) {
+                return false;
+            }
             let id = Ufid {
                 dir: Dir::Out,
                 stack,
             };
             let mut out = [9; 73];
             row_of(&id, verdict, &by, Moment::of(240_000_000), &mut out);
-            &out[..16] == QUERY.as_slice()
+            &out[..16] == of.key.as_slice()
                 && &out[16..] == body.as_slice()
                 && words_in_use(&out) == used
         }
@@ -136,12 +257,19 @@ const IN: Verdict = Verdict::Default {
 #[test]
 fn rows_are_those_of_the_table(rt: HostRuntime) {
     let found = [
-        has_row(&Verdict::Pass, &edit(), &edit_words(), 37),
-        has_row(&RULE, &[], &by_rule(), 20),
-        has_row(&OUT, &[], &by_out(), 20),
-        has_row(&IN, &[], &by_in(), 20),
+        has_row(&plain(), &Verdict::Pass, &edit(), &edit_words(), 37),
+        has_row(&plain(), &RULE, &[], &by_rule(), 20),
+        has_row(&plain(), &OUT, &[], &by_out(), 20),
+        has_row(&plain(), &IN, &[], &by_in(), 20),
     ];
     assert!(&rt; found == [true; 4]);
+    let over_ipv6 = [
+        has_row(&plain6(), &Verdict::Pass, &hide(), &hide_words(), 28),
+        has_row(&plain6(), &Verdict::Pass, &move_both(), &both_words(), 31),
+        has_row(&plain6(), &Verdict::Pass, &send_on(), &on_words(), 28),
+        has_row(&plain6(), &OUT, &[], &by_out(), 20),
+    ];
+    assert!(&rt; over_ipv6 == [true; 4]);
 }
 
 #[test]
@@ -153,6 +281,20 @@ fn bodies_are_read_back(rt: HostRuntime) {
         reads(&by_in(), &IN, &[]),
     ];
     assert!(&rt; found == [true; 4]);
+    let [ignored, on, _] = send_on();
+    let [_, from, _] = hide();
+    let over_ipv6 = [
+        reads(&hide_words(), &Verdict::Pass, &hide()),
+        reads(&both_words(), &Verdict::Pass, &move_both()),
+        reads(&on_words(), &Verdict::Pass, &send_on()),
+        // The destination before the source, and behind an act between.
+        reads(
+            &apart_words(),
+            &Verdict::Pass,
+            &[ignored, on, from, ignored, on],
+        ),
+    ];
+    assert!(&rt; over_ipv6 == [true; 4]);
 }
 
 /// Words of the edit that make it no body.
@@ -178,10 +320,23 @@ const WRONG: [(usize, u64); 19] = [
     (56, 1), // the last word
 ];
 
-/// The place of the first of these words with which the edit is a body, if there is one.
-fn first_body(wrong: &[(usize, u64)]) -> Option<usize> {
+/// Words of the change of both addresses over IPv6 that make it no body.
+const WRONG6: [(usize, u64); 9] = [
+    (2, 3), // an act too few
+    (2, 5), // an act too many
+    (6, 9), // a source that isn't there
+    (6, 0x29), // a destination of kind 9
+    (6, 0x39), // both of kind 9
+    (9, 10), // a destination that isn't there
+    (9, 0x1a), // a source of kind 10
+    (9, 0x3a), // both of kind 10
+    (9, 43), // no kind
+];
+
+/// The place of the first of these words with which a pass is a body, if there is one.
+fn first_body(words: &[u64; 57], wrong: &[(usize, u64)]) -> Option<usize> {
     for place in 0..wrong.len() {
-        if is_body_with(&edit_words(), wrong[place].0, wrong[place].1) {
+        if is_body_with(words, wrong[place].0, wrong[place].1) {
             return Some(place);
         }
     }
@@ -190,7 +345,8 @@ fn first_body(wrong: &[(usize, u64)]) -> Option<usize> {
 
 #[test]
 fn other_words_are_no_body(rt: HostRuntime) {
-    assert!(&rt; first_body(&WRONG) == None);
+    assert!(&rt; first_body(&edit_words(), &WRONG) == None);
+    assert!(&rt; first_body(&both_words(), &WRONG6) == None);
 }
 
 #[test]

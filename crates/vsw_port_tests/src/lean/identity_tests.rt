@@ -2,7 +2,8 @@
 
 ghost use Rattle.std.specs.Prelude.{◌<◌, ◌≡◌, length};
 
-use vsw_base::{Dir, Header, Ip4, Mac, Stack, Ufid};
+use crate::lean::samples::QUERY6;
+use vsw_base::{Dir, Header, Ip4, Ip6, Mac, Stack, Ufid};
 use vsw_words::{identity_to, key_words};
 
 const PLACE: Header = Header::Vxlan { vni: 0 };
@@ -21,6 +22,14 @@ fn ip(proto: u8, part: bool) -> Header {
         dst: Ip4::of(0x0a00_0009),
         proto,
         part,
+    }
+}
+
+fn six(proto: u8) -> Header {
+    Header::Six {
+        src: Ip6::of(0xffff_0000_0000_0000_8000_0000_0000_0001),
+        dst: Ip6::of(0xfd00_0000_0000_0000_0000_0000_0000_0009),
+        proto,
     }
 }
 
@@ -99,14 +108,20 @@ fn each_shape_is_read_back(rt: HostRuntime) {
     let fragment = [ether(3, 0x0800), ip(6, true), PLACE];
     let tcp = [ether(3, 0x0800), ip(6, false), ports(6)];
     let udp = [ether(3, 0x0800), ip(17, false), ports(17)];
+    let echo6 = [ether(3, 0x86dd), six(58), PLACE];
+    let tcp6 = [ether(3, 0x86dd), six(6), ports(6)];
+    let udp6 = [ether(3, 0x86dd), six(17), ports(17)];
     let found = [
         are_back(&bare, 1),
         are_back(&alone, 2),
         are_back(&fragment, 2),
         are_back(&tcp, 3),
         are_back(&udp, 3),
+        are_back(&echo6, 2),
+        are_back(&tcp6, 3),
+        are_back(&udp6, 3),
     ];
-    assert!(&rt; found == [true; 5]);
+    assert!(&rt; found == [true; 8]);
 }
 
 /// The words of a query over UDP from port 1234 to port 53, outbound in network 5001.
@@ -138,6 +153,44 @@ fn is_one(place: usize, bit: u64) -> bool
     identity_to(&key, &mut room())
 }
 
+/// Whether the words of a query over IPv6 are of an identity with this bit of this word turned.
+fn is_one6(place: usize, bit: u64) -> bool
+    requires { place < 16 }
+{
+    let mut key = QUERY6;
+    key[place] ^= bit;
+    identity_to(&key, &mut room())
+}
+
+/// Bits that make the query over IPv6 that of no identity, and bits that make it another's.
+fn bits_over_ipv6() -> ([bool; 11], [bool; 6]) {
+    let none = [
+        // IPv4 beside it; IPv6 or ports that are said not to be there; a fragment.
+        is_one6(0, 0x10),
+        is_one6(0, 0x80),
+        is_one6(0, 0x20),
+        is_one6(0, 0x40),
+        // Three encapsulations; another protocol or type than one with ports.
+        is_one6(0, 0x0c),
+        is_one6(0, 0x0100),
+        is_one6(0, 0x1_0000),
+        // Addresses of IPv4, and words without a name.
+        is_one6(8, 1),
+        is_one6(9, 1),
+        is_one6(10, 1),
+        is_one6(15, 1),
+    ];
+    let others = [
+        is_one6(0, 0),
+        is_one6(0, 2),
+        is_one6(11, 0x8000_0000_0000_0000),
+        is_one6(12, 1),
+        is_one6(13, 1),
+        is_one6(14, 0x8000_0000_0000_0000),
+    ];
+    (none, others)
+}
+
 #[test]
 fn words_of_no_identity_are_refused(rt: HostRuntime) {
     let good = is_one(0, 0);
@@ -167,6 +220,7 @@ fn words_of_no_identity_are_refused(rt: HostRuntime) {
         is_one(15, 0x8000_0000_0000_0000),
     ];
     assert!(&rt; found == [false; 17]);
+    assert!(&rt; bits_over_ipv6() == ([false; 11], [true; 6]));
 }
 
 #[test]

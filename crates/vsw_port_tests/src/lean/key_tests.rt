@@ -1,6 +1,8 @@
 //! Words of identities, and where the search for them begins.
 
-use crate::lean::samples::{ANSWER, QUERY, TWICE, encap, ether, ip, ports, query};
+use crate::lean::samples::{
+    ANSWER, COVERED6, ECHO6, QUERY, QUERY6, TWICE, encap, ether, ip, ports, query, query6, six,
+};
 use vsw_base::{Dir, Header, Stack, Ufid};
 use vsw_words::{key_words, slot_of};
 
@@ -35,6 +37,19 @@ fn query_twice() -> [Header; 9] {
     [a, b, c, d, e, f, g, h, i]
 }
 
+/// The query over IPv6 in network 5001.
+fn covered6() -> [Header; 6] {
+    let [a, b, c] = encap(5001);
+    let [d, e, f] = query6();
+    [a, b, c, d, e, f]
+}
+
+/// An echo request over IPv6.
+fn echo6() -> [Header; 2] {
+    let [ether, _, _] = query6();
+    [ether, six(58)]
+}
+
 /// A key of a frame without ports, of these first and last words.
 fn short(first: u64, addresses: u64) -> [u64; 16] {
     let (dst, src) = (0xffff_ffff_ffff, 0x0200_0000_0001);
@@ -60,6 +75,12 @@ fn words_are_those_of_the_table(rt: HostRuntime) {
         has_words(Dir::Out, &arp, &short(0x0806_0001, 0)),
     ];
     assert!(&rt; found == [true; 5]);
+    let over_ipv6 = [
+        has_words(Dir::Out, &query6(), &QUERY6),
+        has_words(Dir::In, &covered6(), &COVERED6),
+        has_words(Dir::Out, &echo6(), &ECHO6),
+    ];
+    assert!(&rt; over_ipv6 == [true; 3]);
 }
 
 #[test]

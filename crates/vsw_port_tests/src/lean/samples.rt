@@ -2,7 +2,7 @@
 
 ghost use Rattle.std.specs.Prelude.{◌<◌, ◌^◌};
 
-use vsw_base::{Header, Ip4, Mac};
+use vsw_base::{Header, Ip4, Ip6, Mac};
 
 pub fn ether(dst: u64, src: u64, kind: u16) -> Header
     requires dst { dst < 2 ^ 48 }
@@ -107,5 +107,83 @@ pub const TWICE: [u64; 16] = [
     0,
     0,
     0,
+    0,
+];
+
+/// From fd00::5 to fd00::9.
+pub fn six(proto: u8) -> Header {
+    Header::Six {
+        src: Ip6::of(0xfd00_0000_0000_0000_0000_0000_0000_0005),
+        dst: Ip6::of(0xfd00_0000_0000_0000_0000_0000_0000_0009),
+        proto,
+    }
+}
+
+/// The query of fd00::5, port 1234, to port 53 of fd00::9.
+pub fn query6() -> [Header; 3] {
+    [
+        ether(0x0200_0000_0099, 0x0200_0000_0001, 0x86dd),
+        six(17),
+        ports(1234, 53),
+    ]
+}
+
+/// Its words, outbound.
+pub const QUERY6: [u64; 16] = [
+    0x0035_04d2_86dd_11a1,
+    0,
+    0x0200_0000_0099,
+    0x0200_0000_0001,
+    0,
+    0,
+    0,
+    0,
+    0,
+    0,
+    0,
+    0xfd00_0000_0000_0000,
+    5,
+    0xfd00_0000_0000_0000,
+    9,
+    0,
+];
+
+/// Its words in network 5001, inbound.
+pub const COVERED6: [u64; 16] = [
+    0x0035_04d2_86dd_11a7,
+    5001,
+    0x0200_0000_0a02,
+    0x0200_0000_0a01,
+    0x0200_0000_0099,
+    0x0200_0000_0001,
+    0,
+    0,
+    0xac10_0001_ac10_0002,
+    0,
+    0,
+    0xfd00_0000_0000_0000,
+    5,
+    0xfd00_0000_0000_0000,
+    9,
+    0,
+];
+
+/// The words of an echo request over IPv6, outbound.
+pub const ECHO6: [u64; 16] = [
+    0x86dd_3a81,
+    0,
+    0x0200_0000_0099,
+    0x0200_0000_0001,
+    0,
+    0,
+    0,
+    0,
+    0,
+    0,
+    0,
+    0xfd00_0000_0000_0000,
+    5,
+    0xfd00_0000_0000_0000,
+    9,
     0,
 ];

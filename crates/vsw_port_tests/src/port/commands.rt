@@ -90,6 +90,8 @@ fn edit(mac: u64) -> Action {
         dst_ip: None,
         src_port: None,
         dst_port: None,
+        src_ip6: None,
+        dst_ip6: None,
     };
     Action::Edit {
         decap: false,

@@ -2,7 +2,9 @@
 
 use crate::memory::FORWARD;
 use crate::whole::frames::{FIN_IN, FIN_OUT, LAST_ACK, QUERY, SYN, SYN_ACK, SYN_AGAIN, TEXT};
-use crate::whole::policies::{ALLOWING, END, IDLE_100, LAYER, LAYER_END, PORT, STATEFUL};
+use crate::whole::policies::{
+    ALLOWING, EMPTY_GROUP, END, IDLE_100, LAYER, LAYER_END, PORT, PORT_OF_2, STATEFUL,
+};
 use crate::whole::running::{Wrong, host_over, tried};
 use std::alloc::Global;
 use std::sync::Wait;
@@ -148,5 +150,75 @@ fn commands_of_rounds_that_never_begin_do_not_run(rt: HostRuntime) -> Result<(),
         Status::ReadFault,
         report,
         complaint,
+    )
+}
+
+/// The policy of version 2, with a second group.
+const POLICY_OF_2: &[&str] = &[PORT_OF_2, LAYER, ALLOWING, EMPTY_GROUP, LAYER_END, END];
+
+/// The front of a command over several groups, up to its parts, and eleven parts of one group.
+const PUT_MANY: &str =
+    r#"{"at":1,"when":"before","controller":1,"port":1,"do":"put_many","parts":["#;
+
+const ELEVEN: &str = concat!(
+    r#"{"layer":10,"group":1,"rules":[]},{"layer":10,"group":1,"rules":[]},{"layer":10,"group":1,"rules":[]},"#,
+    r#"{"layer":10,"group":1,"rules":[]},{"layer":10,"group":1,"rules":[]},{"layer":10,"group":1,"rules":[]},"#,
+    r#"{"layer":10,"group":1,"rules":[]},{"layer":10,"group":1,"rules":[]},{"layer":10,"group":1,"rules":[]},"#,
+    r#"{"layer":10,"group":1,"rules":[]},{"layer":10,"group":1,"rules":[]}"#,
+);
+
+const NO_RULES: &str = r#"{"layer":10,"group":1,"rules":[]}"#;
+
+/// Rule 9 alone, which drops, in group 2 and in group 9.
+const RULE_9: &str =
+    r#",{"layer":10,"group":2,"rules":[{"rule":9,"priority":10,"when":[],"action":"drop","stateful":false,"last":false}]}"#;
+
+const RULE_9_ELSEWHERE: &str =
+    r#",{"layer":10,"group":9,"rules":[{"rule":9,"priority":10,"when":[],"action":"drop","stateful":false,"last":false}]}"#;
+
+/// What is put up to the command's line, of two queries.
+const FIRST: &str = "vsw report 1\nround 0\nport 1 0 0\nw0 0 @0 pass 44 ";
+
+#[test]
+fn rules_of_two_groups_are_put_at_once(rt: HostRuntime) -> Result<(), Wrong> {
+    let commands = &[PUT_MANY, NO_RULES, RULE_9, "]}"];
+    let report = &[
+        FIRST,
+        QUERY,
+        "\nloose\nround 1\nport 1 0 1\nc1 1 +0 ok\nw0 1 @1 drop rule 1/10/2/9\nloose\n",
+    ];
+    let frames = &[QUERY, QUERY];
+    check(&rt, rt.alloc(), POLICY_OF_2, commands, frames, report)?;
+    let commands = &[PUT_MANY, NO_RULES, RULE_9_ELSEWHERE, "]}"];
+    let report = &[
+        FIRST,
+        QUERY,
+        "\nloose\nround 1\nport 1 0 1\nc1 1 +0 refused 3 NoGroup\nw0 1 @1 pass 44 ",
+        QUERY,
+        "\nloose\n",
+    ];
+    check(&rt, rt.alloc(), POLICY_OF_2, commands, frames, report)
+}
+
+#[test]
+fn many_parts_and_those_of_one_group_are_refused(rt: HostRuntime) -> Result<(), Wrong> {
+    let commands = &[
+        PUT_MANY, ELEVEN, ",", ELEVEN, ",", ELEVEN, "]}\n", PUT_MANY, NO_RULES, ",", NO_RULES,
+        "]}\n", PUT_MANY, "]}",
+    ];
+    let report = &[
+        FIRST,
+        QUERY,
+        "\nloose\nround 1\nport 1 0 3\nc1 1 +0 refused 11 ManyParts\nc1 2 +1 refused 12 PartTwice\nc1 3 +2 ok\nw0 1 @3 pass 44 ",
+        QUERY,
+        "\nloose\n",
+    ];
+    check(
+        &rt,
+        rt.alloc(),
+        POLICY_OF_2,
+        commands,
+        &[QUERY, QUERY],
+        report,
     )
 }

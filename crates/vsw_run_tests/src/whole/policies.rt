@@ -7,6 +7,10 @@ pub const PORT: &str =
 const PORT_OF_THREE: &str =
     r#"{"version":1,"controllers":[1,2,3],"ports":[{"port":1,"mac":"02:00:00:00:00:01","rows":64,"layers":["#;
 
+/// The same port in a policy of version 2.
+pub const PORT_OF_2: &str =
+    r#"{"version":2,"controllers":[1],"ports":[{"port":1,"mac":"02:00:00:00:00:01","rows":64,"layers":["#;
+
 /// What stands after the layers of the only port.
 pub const END: &str = "]}]}";
 
@@ -51,6 +55,17 @@ pub const SETTING: &str =
 /// All packets go out, and those that come to 203.0.113.4 are told from others by their flow.
 pub const TURNING: &str =
     r#"{"group":1,"dir":"out","when":[],"rules":[{"rule":1,"priority":10,"when":[],"action":"allow","stateful":false,"last":false}]},{"group":2,"dir":"in","when":[],"rules":[{"rule":2,"priority":10,"when":[{"field":"dst_ip","any":["203.0.113.4"]}],"action":{"decap":false,"set":{"dst_ip":"10.0.0.5","dst_port":1234},"encap":null},"stateful":true,"last":false}]}"#;
+
+/// A rule that sends packets over IPv6 from port 40000, and keeps the state of each flow.
+pub const SETTING_PORT: &str =
+    r#"{"group":1,"dir":"out","when":[],"rules":[{"rule":1,"priority":10,"when":[{"field":"kind","any":[34525]}],"action":{"decap":false,"set":{"src_port":40000},"encap":null},"stateful":true,"last":false}]}"#;
+
+/// A rule that sends packets to fd00::/64 from fd00::77, and keeps the state of each flow.
+pub const HIDING: &str =
+    r#"{"group":1,"dir":"out","when":[],"rules":[{"rule":1,"priority":10,"when":[{"field":"dst_ip6","any":["fd00::/64"]}],"action":{"decap":false,"set":{"src_ip6":"fd00::77"},"encap":null},"stateful":true,"last":false}]}"#;
+
+/// A second outbound group, without rules.
+pub const EMPTY_GROUP: &str = r#",{"group":2,"dir":"out","when":[],"rules":[]}"#;
 
 /// Layers 10 and 20, which both take an encapsulation from what comes in.
 pub const UNWRAPPING: &str =

@@ -2,7 +2,7 @@
 
 use std::alloc::Global;
 use vsw_base::{Dir, Items, Moment};
-use vsw_policy::{Command, LayerSpec};
+use vsw_policy::{Command, LayerSpec, Part};
 use vsw_rule::{Action, Cond, Field, Item, Rule};
 
 /// What a command asks: of layer 10 and its group 1, where it names no others.
@@ -23,9 +23,29 @@ pub enum Ask {
     PutTwo(u16, (u16, u16), (u16, u16)),
     /// So many rules, numbered from 0, and then one of this number.
     PutMany(u16, u16),
+    /// Other rules in place of all in two groups.
+    PutBoth(Given, Given),
+    /// So many parts, all of one group.
+    PutSame(u16, Given),
+    /// A part without rules for so many groups of layer 10, from this number downwards, and one part more.
+    PutGroups(u16, u16, Given),
     SetDefault(Dir, bool),
     /// A sweep of this layer at a moment.
     Sweep(u16, u64),
+}
+
+/// The layer, the group and the rules of a part.
+pub type Given = (u16, u16, Rules);
+
+/// What rules a part has.
+#[derive(Clone, Copy)]
+pub enum Rules {
+    None,
+    /// One of this number and priority.
+    One(u16, u16),
+    Two((u16, u16), (u16, u16)),
+    /// So many rules, numbered from 0, and then one of this number.
+    Many(u16, u16),
 }
 
 /// Allows 16 pairs, which live for 240 or, closed, 10 seconds.
@@ -87,28 +107,66 @@ pub fn rule(alloc: Global, number: u16, priority: u16) -> Rule {
     }
 }
 
-fn put_two(alloc: Global, layer: u16, first: (u16, u16), second: (u16, u16)) -> Command {
+fn two(alloc: Global, first: (u16, u16), second: (u16, u16)) -> Items<Rule> {
     let mut rules = Items::new(alloc);
     let _ = rules.push(rule(alloc, first.0, first.1));
     let _ = rules.push(rule(alloc, second.0, second.1));
-    Command::PutRules {
-        layer,
-        group: 1,
-        rules,
-    }
+    rules
 }
 
-fn put_many(alloc: Global, count: u16, last: u16) -> Command {
+fn many(alloc: Global, count: u16, last: u16) -> Items<Rule> {
     let mut rules = Items::new(alloc);
     for number in 0..count {
         let _ = rules.push(rule(alloc, number, 10));
     }
     let _ = rules.push(rule(alloc, last, 10));
-    Command::PutRules {
-        layer: 10,
-        group: 1,
+    rules
+}
+
+fn one(alloc: Global, number: u16, priority: u16) -> Items<Rule> {
+    let mut rules = Items::new(alloc);
+    let _ = rules.push(rule(alloc, number, priority));
+    rules
+}
+
+fn part(alloc: Global, given: &Given) -> Part {
+    let (layer, group, rules) = *given;
+    let rules = match rules {
+        Rules::None => Items::new(alloc),
+        Rules::One(number, priority) => one(alloc, number, priority),
+        Rules::Two(first, second) => two(alloc, first, second),
+        Rules::Many(count, last) => many(alloc, count, last),
+    };
+    Part {
+        layer,
+        group,
         rules,
     }
+}
+
+fn put_both(alloc: Global, first: &Given, second: &Given) -> Command {
+    let mut parts = Items::new(alloc);
+    let _ = parts.push(part(alloc, first));
+    let _ = parts.push(part(alloc, second));
+    Command::PutMany { parts }
+}
+
+fn put_same(alloc: Global, count: u16, given: &Given) -> Command {
+    let mut parts = Items::new(alloc);
+    for _ in 0..count {
+        let _ = parts.push(part(alloc, given));
+    }
+    Command::PutMany { parts }
+}
+
+fn put_groups(alloc: Global, first: u16, count: u16, last: &Given) -> Command {
+    let mut parts = Items::new(alloc);
+    for place in 0..count {
+        let group = first.wrapping_sub(place);
+        let _ = parts.push(part(alloc, &(10, group, Rules::None)));
+    }
+    let _ = parts.push(part(alloc, last));
+    Command::PutMany { parts }
 }
 
 /// The command that asks this.
@@ -131,8 +189,19 @@ pub fn command(alloc: Global, ask: &Ask) -> Command {
             group: 1,
             number,
         },
-        Ask::PutTwo(layer, first, second) => put_two(alloc, layer, first, second),
-        Ask::PutMany(count, last) => put_many(alloc, count, last),
+        Ask::PutTwo(layer, first, second) => Command::PutRules {
+            layer,
+            group: 1,
+            rules: two(alloc, first, second),
+        },
+        Ask::PutMany(count, last) => Command::PutRules {
+            layer: 10,
+            group: 1,
+            rules: many(alloc, count, last),
+        },
+        Ask::PutBoth(first, second) => put_both(alloc, &first, &second),
+        Ask::PutSame(count, given) => put_same(alloc, count, &given),
+        Ask::PutGroups(first, count, last) => put_groups(alloc, first, count, &last),
         Ask::SetDefault(dir, allow) => Command::SetDefault {
             layer: 10,
             dir,

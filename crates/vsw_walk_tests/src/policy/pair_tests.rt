@@ -3,11 +3,11 @@
 ghost use Rattle.std.specs.Prelude.{◌≡◌, ◌+◌};
 ghost use Rattle.vsw_layerflow.specs.Pairs.{AllBelow};
 
-use crate::policy::commands::{Ask, command, rule, spec};
-use crate::policy::told::{Rules, told_rules};
+use crate::policy::commands::{Ask, Rules, command, rule, spec};
+use crate::policy::told::{Rules as ToldRules, told_rules};
 use crate::policy::wrong::Wrong;
 use std::alloc::Global;
-use vsw_base::{Dir, Ip4, Items, LayerKey, Moment, Set, Track};
+use vsw_base::{Addr, Dir, Ip4, Items, LayerKey, Moment, Set, Track};
 use vsw_layerflow::{Flows, Pair};
 use vsw_policy::{Groups, Layer, change};
 use vsw_rule::Group;
@@ -19,6 +19,8 @@ const UNSET: Set = Set {
     dst_ip: None,
     src_port: None,
     dst_port: None,
+    src_ip6: None,
+    dst_ip6: None,
 };
 
 /// TCP from 10.0.0.5 to port 80 of 10.0.0.9, and back.
@@ -27,8 +29,8 @@ pub fn there(port: u16) -> LayerKey {
         encaps: 0,
         vni_outer: 0,
         vni_second: 0,
-        src: Ip4::of(0x0a00_0005),
-        dst: Ip4::of(0x0a00_0009),
+        src: Addr::Four(Ip4::of(0x0a00_0005)),
+        dst: Addr::Four(Ip4::of(0x0a00_0009)),
         proto: 6,
         part: false,
         src_port: port,
@@ -41,8 +43,8 @@ pub fn back(port: u16) -> LayerKey {
         encaps: 0,
         vni_outer: 0,
         vni_second: 0,
-        src: Ip4::of(0x0a00_0009),
-        dst: Ip4::of(0x0a00_0005),
+        src: Addr::Four(Ip4::of(0x0a00_0009)),
+        dst: Addr::Four(Ip4::of(0x0a00_0005)),
         proto: 6,
         part: false,
         src_port: 80,
@@ -202,12 +204,33 @@ const RULES: [Case; 4] = [
     (Ask::PutTwo(11, (8, 10), (9, 10)), 12_345),
 ];
 
+const PARTS: [Case; 4] = [
+    // Rule 6 of group 1 stays as it was, and the rules of group 2 go.
+    (
+        Ask::PutBoth((10, 1, Rules::Two((5, 20), (6, 10))), (10, 2, Rules::None)),
+        2,
+    ),
+    (
+        Ask::PutBoth((10, 2, Rules::One(5, 10)), (10, 1, Rules::None)),
+        5,
+    ),
+    (
+        Ask::PutBoth(
+            (10, 2, Rules::One(5, 20)),
+            (10, 1, Rules::Two((7, 10), (5, 10))),
+        ),
+        134,
+    ),
+    (Ask::PutSame(0, (10, 1, Rules::None)), 12_345),
+];
+
 #[test]
 fn pairs_go_with_a_rule_that_goes_or_changes(rt: HostRuntime) -> Result<(), Wrong> {
     if left_first(rt.alloc()) != 12_345 {
         return Err(Wrong::Start);
     }
-    are_left(rt.alloc(), &RULES)
+    are_left(rt.alloc(), &RULES)?;
+    are_left(rt.alloc(), &PARTS)
 }
 
 const TIMES: [Case; 5] = [
@@ -225,7 +248,7 @@ fn pairs_go_with_their_group_their_rule_and_their_time(rt: HostRuntime) -> Resul
 }
 
 /// What is told of the rules of both groups after a command.
-fn rules_after(alloc: Global, ask: &Ask) -> [Option<Rules>; 2] {
+fn rules_after(alloc: Global, ask: &Ask) -> [Option<ToldRules>; 2] {
     let mut layers = layers(alloc);
     if does(alloc, &mut layers, ask) {
         [told_rules(&layers, 0), told_rules(&layers, 1)]
@@ -234,7 +257,7 @@ fn rules_after(alloc: Global, ask: &Ask) -> [Option<Rules>; 2] {
     }
 }
 
-const OTHERS: [Option<Rules>; 2] = [Some((6, 20, 2)), Some((7, 10, 3))];
+const OTHERS: [Option<ToldRules>; 2] = [Some((6, 20, 2)), Some((7, 10, 3))];
 
 #[test]
 fn other_rules_stand_in_place_of_all_of_one_group(rt: HostRuntime) {

@@ -5,7 +5,7 @@ ghost use Rattle.vsw_layerflow.specs.Pairs.{AllBelow, numbered, put_by_number};
 
 use crate::walk::wrong::Wrong;
 use std::alloc::Global;
-use vsw_base::{Dir, Ip4, LayerKey, Moment, Set, Track};
+use vsw_base::{Addr, Dir, Ip4, LayerKey, Moment, Set, Track};
 use vsw_layerflow::{Flows, Pair, due};
 
 /// The most pairs that a layer may have.
@@ -17,8 +17,8 @@ fn key(src: u32, dst: u32, src_port: u16, dst_port: u16) -> LayerKey {
         encaps: 0,
         vni_outer: 0,
         vni_second: 0,
-        src: Ip4::of(src),
-        dst: Ip4::of(dst),
+        src: Addr::Four(Ip4::of(src)),
+        dst: Addr::Four(Ip4::of(dst)),
         proto: 6,
         part: false,
         src_port,
@@ -43,6 +43,8 @@ fn set() -> Set {
         dst_ip: None,
         src_port: None,
         dst_port: None,
+        src_ip6: None,
+        dst_ip6: None,
     }
 }
 

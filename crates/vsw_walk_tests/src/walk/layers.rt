@@ -7,7 +7,7 @@ ghost use Rattle.std.specs.Prelude.{◌<◌, ◌^◌};
 
 use crate::given::give;
 use std::alloc::Global;
-use vsw_base::{Dir, Ip4, Items, Mac, Outer, Prefix, Set};
+use vsw_base::{Dir, Ip4, Ip6, Items, Mac, Outer, Prefix, Prefix6, Set};
 use vsw_policy::{Command, LayerSpec, Policy};
 use vsw_rule::{Action, Cond, Field, Item, Rule};
 
@@ -21,6 +21,8 @@ const UNSET: Set = Set {
     dst_ip: None,
     src_port: None,
     dst_port: None,
+    src_ip6: None,
+    dst_ip6: None,
 };
 
 fn hide_source() -> Action {
@@ -202,6 +204,49 @@ fn add_way_back(alloc: Global, policy: &mut Policy) -> bool {
     give(policy, 2, add_group(alloc, 20, 2, Dir::In))
         && give(policy, 2, add_rule(20, 2, out_of_network(alloc)))
         && give(policy, 2, add_rule(20, 2, web(alloc, 4, Field::SrcPort)))
+}
+
+/// The address that stands for those over IPv6.
+pub const HIDDEN: u128 = 0xfd00_0000_0000_0000_0000_0000_0000_0077;
+
+fn hide_address() -> Action {
+    Action::Edit {
+        decap: false,
+        set: Set {
+            src_ip6: Some(Ip6::of(HIDDEN)),
+            src_port: Some(40_000),
+            ..UNSET
+        },
+        encap: None,
+    }
+}
+
+/// The destination address is one of fd00::/64.
+fn is_near(alloc: Global) -> Cond {
+    let mut items = Items::new(alloc);
+    let _ = items.push(Item::Prefix6(Prefix6 {
+        value: Ip6::of(0xfd00_0000_0000_0000_0000_0000_0000_0000),
+        bits: 64,
+    }));
+    Cond {
+        field: Field::DstIp6,
+        items,
+    }
+}
+
+/// Rule 5 of one layer's group 1 has packets to fd00::/64 come from port 40000 of the hidden address, and rule 6 lets all
+/// others go. Both make pairs.
+pub fn hiding_layer(alloc: Global) -> Option<Policy> {
+    let Ok(mut policy) = Policy::new(alloc, &[1]) else {
+        return None;
+    };
+    let near = rule(5, only(alloc, is_near(alloc)), &hide_address(), true);
+    let others = rule(6, Items::new(alloc), &Action::Allow, true);
+    let added = give(&mut policy, 1, add_layer(10))
+        && give(&mut policy, 1, add_group(alloc, 10, 1, Dir::Out))
+        && give(&mut policy, 1, add_rule(10, 1, near))
+        && give(&mut policy, 1, add_rule(10, 1, others));
+    if added { Some(policy) } else { None }
 }
 
 /// Both layers, if memory suffices.

@@ -1,7 +1,7 @@
 //! What a walk looks for in two layers that have no pairs.
 
 use crate::walk::layers::{PUBLIC, two_layers};
-use crate::walk::packets::Packet;
+use crate::walk::packets::{At, Packet};
 use crate::walk::trial::{Step, tried};
 use crate::walk::wrong::Wrong;
 use vsw_base::{Dir, Verdict};
@@ -17,8 +17,8 @@ const QUERY: [Step; 3] = [
         Packet::Plain((OWN, 1234), (FAR, 53)),
         Verdict::Pass,
     ),
-    Step::Looks(0, Some((0, 0, OWN, 1234, None))),
-    Step::Looks(1, Some((1, 0, PUBLIC, 40_000, None))),
+    Step::Looks(0, Some((0, 0, At::Four(OWN), 1234, None))),
+    Step::Looks(1, Some((1, 0, At::Four(PUBLIC), 40_000, None))),
 ];
 
 #[test]
@@ -33,8 +33,8 @@ const RECEIVED: [Step; 4] = [
         Packet::Covered((FAR, 53), (PUBLIC, 40_000)),
         Verdict::Pass,
     ),
-    Step::Looks(0, Some((1, 1, FAR, 53, None))),
-    Step::Looks(1, Some((0, 0, FAR, 53, None))),
+    Step::Looks(0, Some((1, 1, At::Four(FAR), 53, None))),
+    Step::Looks(1, Some((0, 0, At::Four(FAR), 53, None))),
     Step::Looks(2, None),
 ];
 
@@ -54,7 +54,7 @@ const DROPPED: [Step; 3] = [
             dir: Dir::In,
         },
     ),
-    Step::Looks(0, Some((1, 0, FAR, 1234, None))),
+    Step::Looks(0, Some((1, 0, At::Four(FAR), 1234, None))),
     Step::Looks(1, None),
 ];
 

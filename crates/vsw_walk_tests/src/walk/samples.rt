@@ -2,7 +2,7 @@
 //! by hand.
 
 use std::alloc::Global;
-use vsw_base::{BadShape, Dir, Header, Ip4, Items, LayerKey, Mac, Moment, Set, Stack, Track};
+use vsw_base::{Addr, BadShape, Dir, Header, Ip4, Items, LayerKey, Mac, Moment, Set, Stack, Track};
 use vsw_layerflow::{Flows, Pair};
 use vsw_policy::{Groups, Layer, LayerSpec};
 use vsw_rule::{Action, Group, Rule};
@@ -79,6 +79,8 @@ pub fn nothing() -> Set {
         dst_ip: None,
         src_port: None,
         dst_port: None,
+        src_ip6: None,
+        dst_ip6: None,
     }
 }
 
@@ -114,8 +116,8 @@ fn key(src: u32, dst: u32, part: bool, src_port: u16, dst_port: u16) -> LayerKey
         encaps: 0,
         vni_outer: 0,
         vni_second: 0,
-        src: Ip4::of(src),
-        dst: Ip4::of(dst),
+        src: Addr::Four(Ip4::of(src)),
+        dst: Addr::Four(Ip4::of(dst)),
         proto: 6,
         part,
         src_port,

@@ -1,6 +1,8 @@
 //! Packets that cross layers without pairs one after the other, by a table.
 
-use crate::walk::packets::{Look, Packet, cross, looked, passes_as, places, stack_of, wanted};
+use crate::walk::packets::{
+    Back, Keyed, Look, Packet, cross, looked, passes_as, places, stack_of, wanted, wanted_back,
+};
 use crate::walk::wrong::Wrong;
 use std::alloc::Global;
 use vsw_base::{Dir, Moment, Stack, Verdict};
@@ -19,6 +21,8 @@ pub enum Step {
     WantsOne(u32, u32, u16),
     /// Two pairs, in the layers at these places.
     WantsTwo(u32, u32),
+    /// One pair, whose replies have this key and get this.
+    WantsBack(Keyed, Back),
     /// What the packet looked for in the layer that it met after so many others.
     Looks(usize, Option<Look>),
 }
@@ -60,6 +64,7 @@ fn is_left(scratch: &Scratch, step: &Step) -> bool {
         Step::WantsNothing => scratch.changes().is_empty(),
         Step::WantsOne(layer, number, rule) => wanted(scratch) == Some((layer, number, rule)),
         Step::WantsTwo(first, second) => places(scratch) == Some((first, second)),
+        Step::WantsBack(key, back) => wanted_back(scratch) == Some((key, back)),
         Step::Looks(met, look) => looked(scratch, met) == look,
         _ => false,
     }

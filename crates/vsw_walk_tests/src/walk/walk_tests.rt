@@ -1,7 +1,7 @@
 //! Walks over two layers, and over none.
 
-use crate::walk::layers::{PUBLIC, two_layers};
-use crate::walk::packets::{End, Packet};
+use crate::walk::layers::{HIDDEN, PUBLIC, hiding_layer, two_layers};
+use crate::walk::packets::{At, End, End6, Packet};
 use crate::walk::trial::{Step, tried};
 use crate::walk::wrong::Wrong;
 use vsw_base::{Dir, Verdict};
@@ -130,4 +130,77 @@ const FREE: [Step; 3] = [
 fn a_packet_passes_where_there_are_no_layers(rt: HostRuntime) -> Result<(), Wrong> {
     let alloc = rt.alloc();
     tried(alloc, Policy::new(alloc, &[1]).ok(), &FREE)
+}
+
+/// A port of fd00::5, the port that stands for it, and fd00::9.
+const OWN6: End6 = (0xfd00_0000_0000_0000_0000_0000_0000_0005, 1234);
+
+const HIDDEN_PORT: End6 = (HIDDEN, 40_000);
+
+const FAR6: u128 = 0xfd00_0000_0000_0000_0000_0000_0000_0009;
+
+/// 2001:db8::7, which no condition holds.
+const WORLD: End6 = (0x2001_0db8_0000_0000_0000_0000_0000_0007, 53);
+
+const STOPPED: Verdict = Verdict::Default {
+    controller: 1,
+    layer: 10,
+    dir: Dir::Out,
+};
+
+/// UDP and ICMPv6 that are translated, in an encapsulation too, packets that pass as they are, and one that has neither
+/// IPv4 nor IPv6, which no stateful rule lets go.
+const OVER_IPV6: [Step; 17] = [
+    Step::Passes(
+        Dir::Out,
+        Packet::Six(OWN6, (FAR6, 53)),
+        Packet::Six(HIDDEN_PORT, (FAR6, 53)),
+        0,
+    ),
+    Step::WantsOne(0, 0, 5),
+    Step::Looks(0, Some((0, 0, At::Six(OWN6.0), 1234, None))),
+    Step::WantsBack(
+        ((At::Six(FAR6), 53), (At::Six(HIDDEN), 40_000)),
+        (None, Some(OWN6.0), Some(1234)),
+    ),
+    Step::Passes(
+        Dir::Out,
+        Packet::Echo(OWN6.0, FAR6),
+        Packet::Echo(HIDDEN, FAR6),
+        0,
+    ),
+    Step::WantsOne(0, 0, 5),
+    Step::WantsBack(
+        ((At::Six(FAR6), 0), (At::Six(HIDDEN), 0)),
+        (None, Some(OWN6.0), None),
+    ),
+    Step::Passes(
+        Dir::Out,
+        Packet::CoveredSix(OWN6, (FAR6, 53)),
+        Packet::CoveredSix(HIDDEN_PORT, (FAR6, 53)),
+        1,
+    ),
+    Step::Looks(0, Some((0, 1, At::Six(OWN6.0), 1234, None))),
+    Step::Passes(
+        Dir::Out,
+        Packet::Six(OWN6, WORLD),
+        Packet::Six(OWN6, WORLD),
+        0,
+    ),
+    Step::WantsOne(0, 0, 6),
+    Step::WantsBack(
+        ((At::Six(WORLD.0), 53), (At::Six(OWN6.0), 1234)),
+        (None, None, None),
+    ),
+    Step::Meets(Dir::Out, Packet::Plain(OWN, (FAR, 53)), Verdict::Pass),
+    Step::WantsOne(0, 0, 6),
+    Step::Meets(Dir::Out, Packet::Arp, STOPPED),
+    Step::WantsNothing,
+    Step::Looks(0, Some((0, 0, At::Absent, 0, None))),
+];
+
+#[test]
+fn packets_over_ipv6_want_pairs_with_their_addresses(rt: HostRuntime) -> Result<(), Wrong> {
+    let alloc = rt.alloc();
+    tried(alloc, hiding_layer(alloc), &OVER_IPV6)
 }

@@ -1,8 +1,10 @@
-use Rattle.vsw_words.proofs.Leveled.{words_are, fit_are}
+use Rattle.std.proofs.Common.{◌∙◌, arith}
+use Rattle.vsw_words.proofs.Leveled.{short_fits, short_words}
 use Rattle.vsw_words.proofs.key.write_key.Goals as goal
 
-pub returns-clause-words : goal.returns-clause-words
-returns-clause-words c = words_are c.args.dir c.args.headers.now c.after.result.now c.after-2.result.now c.after-3.result.now c.inner_of.result.now c.head-first.result c.bit_of.result c.count-count.result c.write_levels.new.out c.requires c.write_levels.ensures.words c.after.ensures c.after-2.ensures c.after-3.ensures c.head-first.ensures.value c.bit_of.ensures.value c.count-count.ensures.count c.inner_of.ensures
+pub returns-then-headers-le3-clause-words : goal.returns-then-headers-le3-clause-words
+returns-then-headers-le3-clause-words c = c.write_plain.ensures.words ∙ short_words c.args.headers.now c.requires (omega (arith, c.if-headers-le3.true)) c.args.dir
 
-pub returns-clause-fit : goal.returns-clause-fit
-returns-clause-fit c = fit_are c.args.headers.now c.after.result.now c.after-2.result.now c.after-3.result.now c.inner_of.result.now c.requires c.after.ensures c.after-2.ensures c.after-3.ensures c.inner_of.ensures c.write_levels.ensures.one c.write_levels.ensures.two c.write_levels.ensures.three c.head-first.ensures.fits
+pub returns-then-headers-le3-clause-fit : goal.returns-then-headers-le3-clause-fit
+returns-then-headers-le3-clause-fit c =
+    short_fits c.args.headers.now c.requires (omega (arith, c.if-headers-le3.true)) c.write_plain.ensures.first c.write_plain.ensures.second c.write_plain.ensures.six c.write_plain.ensures.third

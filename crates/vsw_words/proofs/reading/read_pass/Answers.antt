@@ -11,10 +11,10 @@ returns-then-not-are_acts-clause-back c xs read form few =
     absurd (grind (arith, common_steps, never))
 
 pub rewrite-requires-clause-form : goal.rewrite-requires-clause-form
-rewrite-requires-clause-form c = (acts_are c.args.count c.args.words.now (omega (arith, c.if-count-gt18.false)) (sym c.are_acts.ensures ∙ c.if-not-are_acts.false)).1
+rewrite-requires-clause-form c = (acts_are c.args.count c.args.words.now (omega (arith, c.if-count-gt18.false)) (sym c.are_acts.ensures ∙ c.if-not-are_acts.false)).2
 
 pub returns-clause-told : goal.returns-clause-told
-returns-clause-told c done = (acts_are c.args.count c.args.words.now (omega (arith, c.if-count-gt18.false)) (sym c.are_acts.ensures ∙ c.if-not-are_acts.false)).0 ∙ ap Some (sym c.rewrite.ensures)
+returns-clause-told c done = (acts_are c.args.count c.args.words.now (omega (arith, c.if-count-gt18.false)) (sym c.are_acts.ensures ∙ c.if-not-are_acts.false)).1 ∙ ap Some (sym c.rewrite.ensures)
 
 pub returns-clause-form : goal.returns-clause-form
-returns-clause-form c done = subst (λ xs. is_form xs ≡ true) (sym c.rewrite.ensures) (acts_are c.args.count c.args.words.now (omega (arith, c.if-count-gt18.false)) (sym c.are_acts.ensures ∙ c.if-not-are_acts.false)).1
+returns-clause-form c done = subst (λ xs. is_form xs ≡ true) (sym c.rewrite.ensures) (acts_are c.args.count c.args.words.now (omega (arith, c.if-count-gt18.false)) (sym c.are_acts.ensures ∙ c.if-not-are_acts.false)).2

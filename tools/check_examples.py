@@ -1,26 +1,30 @@
 #!/usr/bin/env python3
 """Checks the examples of docs/GUIDE.md, the lines that it shows, and the copies of their files that the gate runs.
 
-    tools/check_examples.py [--copy]
+    tools/check_examples.py [--copy] [--unproved]
 
 Makes each capture anew and compares it; works each report out by the rules once more (tools/plain_switch.py); runs `./vsw`
-over each example and compares what it puts, complains and ends with; judges what it puts with four workers; compares the files that the crates `vsw` and
-`vsw_examples` run in the gate. `--copy` writes these files first.
+over each example and compares what it puts, complains and ends with; judges what it puts with four workers; runs each command that the guide shows behind
+`$`, in its order, and compares what it prints; compares the files that the crates `vsw` and `vsw_examples` run in the gate. `--copy` writes these files first. With
+`--unproved` all of it is by the program without a proof.
 """
 import os
 import re
 import shutil
 import subprocess
 import sys
+import tempfile
 
 import legal
 import plain_switch
 
 ROOT = os.path.dirname(os.path.dirname(os.path.abspath(__file__)))
 EXAMPLES = os.path.join(ROOT, "examples")
-FOLDERS = sorted(name for name in os.listdir(EXAMPLES) if name[0].isdigit())
-BAD = FOLDERS[-1]
+STEPS = {int(name.split("-")[0]): name for name in os.listdir(EXAMPLES) if name[0].isdigit()}
+BAD = "8-bad-files"
+FOLDERS = [STEPS[step] for step in sorted(STEPS) if STEPS[step] != BAD]
 STATUSES = {"refused": 5, "limit": 6}
+PROGRAM = [os.path.join(ROOT, "vsw"), *(word for word in sys.argv[1:] if word == "--unproved")]
 
 
 def read(*path):
@@ -40,7 +44,7 @@ def bad_files():
 
 def runs():
     """The runs in the gate's order: folder, policy, commands, what is put, what is complained."""
-    for folder in ["first", *FOLDERS[:-1]]:
+    for folder in ["first", *FOLDERS]:
         yield folder, "policy.json", "commands.jsonl", read(folder, "report.txt"), b""
     for folder, policy, commands, said in bad_files():
         yield folder, policy, commands, b"", said
@@ -78,14 +82,14 @@ def check_copies():
 
 
 def check_captures():
-    before = {folder: read(folder, "trace.pcap") for folder in [*FOLDERS, "flows"]}
+    before = {folder: read(folder, "trace.pcap") for folder in [*FOLDERS, BAD, "flows"]}
     subprocess.run([os.path.join(EXAMPLES, "make_traces.py")], check=True)
     for folder in before:
         yield compare(f"capture of {folder}", read(folder, "trace.pcap") == before[folder])
 
 
 def check_reports():
-    for folder in ["flows", *FOLDERS[:-1]]:
+    for folder in ["flows", *FOLDERS]:
         report = plain_switch.report(read(folder, "policy.json"), read(folder, "trace.pcap"), read(folder, "commands.jsonl"))
         yield compare(f"report of {folder} by the rules", report.encode() == read(folder, "report.txt"))
 
@@ -93,25 +97,47 @@ def check_reports():
 def check_guide():
     """The report's lines and the complaints that the guide shows are those of its examples."""
     with open(os.path.join(ROOT, "docs", "GUIDE.md"), encoding="utf-8") as file:
-        sections = {section[0]: section for section in re.split(r"\n## (?=\d)", file.read())[1:]}
-    for folder in FOLDERS:
-        section = sections[folder[0]]
+        sections = {int(section.split(".")[0]): section for section in re.split(r"\n## (?=\d)", file.read())[1:]}
+    for step, folder in sorted(STEPS.items()):
+        section = sections[step]
         if folder == BAD:
             shown = re.findall(r"^\| `([\w-]+)` \| `([^`]+)`", section, re.MULTILINE)
             is_well = all(read(folder, f"{name}.said") == f"vsw: {said}\n".encode() for name, said in shown)
         else:
-            lines = read(folder, "report.txt").decode().splitlines()
+            lines = [line for name in ("report.txt", "two-workers.txt") if os.path.exists(os.path.join(EXAMPLES, folder, name))
+                     for line in read(folder, name).decode().splitlines()]
             shown = re.findall(r"^    ([wc]\d+ .+?|port \d.+?|round \d.*?)(?:  .*)?$", section, re.MULTILINE)
             is_well = all(any(line.startswith(part[:-1]) if part.endswith("…") else line == part for line in lines)
                           for part in shown)
         yield compare(f"{len(shown)} lines of the guide on {folder}", bool(shown) and is_well)
 
 
+def shown_commands():
+    """The commands of the guide behind `$`, each with what it is shown to print: up to the next one, or to the next line of text."""
+    with open(os.path.join(ROOT, "docs", "GUIDE.md"), encoding="utf-8") as file:
+        blocks = re.findall(r"^    \$ .*\n(?:(?:    .*)?\n)*", file.read(), re.MULTILINE)
+    for block in blocks:
+        for part in re.split(r"^    \$ ", block, flags=re.MULTILINE)[1:]:
+            command, _, rest = part.partition("\n")
+            yield command, re.sub("^    ", "", rest, flags=re.MULTILINE).rstrip("\n")
+
+
+def check_commands():
+    """Each command that the guide shows prints what is shown, in a folder where all of the repository can be reached."""
+    with tempfile.TemporaryDirectory() as folder:
+        for name in ("crates", "crates.txt", "examples", "out", "tools", "vsw"):
+            os.symlink(os.path.join(ROOT, name), os.path.join(folder, name))
+        for command, wanted_text in shown_commands():
+            words = command.replace("./vsw --unproved", " ".join(PROGRAM))
+            ran = subprocess.run(words, shell=True, cwd=folder, stdout=subprocess.PIPE, stderr=subprocess.STDOUT)
+            yield compare(f"shown: {command}", ran.stdout.decode().rstrip("\n") == wanted_text)
+
+
 def check_runs():
     flows = ("flows", "policy.json", "commands.jsonl", read("flows", "report.txt"), b"")
     for folder, policy, commands, put, said in [flows, *runs()]:
         files = [os.path.join(EXAMPLES, folder, name) for name in (policy, commands, "trace.pcap")]
-        ran = subprocess.run([os.path.join(ROOT, "vsw"), "forward", *files], capture_output=True)
+        ran = subprocess.run([*PROGRAM, "forward", *files], capture_output=True)
         status = STATUSES[said.split()[1].decode()] if said else 0
         is_well = (ran.stdout, ran.stderr, ran.returncode) == (put, said, status)
         yield compare(f"run of {folder}/{policy} with {commands}", is_well)
@@ -119,19 +145,21 @@ def check_runs():
 
 def check_workers():
     """With four workers the order of calls is free: the report is legal (tools/legal.py)."""
-    for folder in ["flows", *FOLDERS[:-1]]:
+    for folder in ["flows", *FOLDERS]:
         names = [os.path.join(EXAMPLES, folder, name) for name in ("policy.json", "commands.jsonl", "trace.pcap")]
-        ran = subprocess.run([os.path.join(ROOT, "vsw"), "forward", "--workers=4", *names], capture_output=True)
+        ran = subprocess.run([*PROGRAM, "forward", "--workers=4", *names], capture_output=True)
         why = legal.fault(*(read(folder, os.path.basename(name)) for name in names), 4, ran.stdout.decode())
         yield compare(f"run of {folder} with four workers", ran.returncode == 0 and why is None)
+    files = [read("7-commands", name) for name in ("policy.json", "commands.jsonl", "trace.pcap")]
+    yield compare("the run of two workers that the guide shows", legal.fault(*files, 2, read("7-commands", "two-workers.txt").decode()) is None)
 
 
 def main():
-    if sys.argv[1:] not in ([], ["--copy"]):
+    if not set(sys.argv[1:]) <= {"--copy", "--unproved"}:
         sys.exit(__doc__)
-    if sys.argv[1:]:
+    if "--copy" in sys.argv:
         copy()
-    results = [*check_copies(), *check_captures(), *check_reports(), *check_guide(), *check_runs(), *check_workers()]
+    results = [*check_copies(), *check_captures(), *check_reports(), *check_guide(), *check_runs(), *check_workers(), *check_commands()]
     print(f"{sum(results)} of {len(results)} as they should be")
     sys.exit(0 if all(results) else 1)
 

@@ -1,14 +1,16 @@
 #!/usr/bin/env python3
 """Brings about each status of docs/FORMATS.md, and looks at what standard error says.
 
-    tools/check_statuses.py
+    tools/check_statuses.py [--unproved]
 
-What is complained is in no contract of the real host, which may say nothing: so it is looked at here. Exits with 1
-where a run ends or speaks otherwise.
+What is complained is in no contract of the real host, which may say nothing: so it is looked at here. `./vsw` ends alike, and may say
+more behind it; where nothing is built yet, it answers bad words and missing files as the program does, without a build. Exits
+with 1 where a run ends or speaks otherwise. With `--unproved` the program is the one without a proof.
 """
-import json, os, subprocess, sys, tempfile
+import json, os, re, shutil, subprocess, sys, tempfile
 
 TOP = os.path.dirname(os.path.dirname(os.path.abspath(__file__)))
+FRONT = [os.path.join(TOP, "vsw"), *sys.argv[1:]]
 EXAMPLE = os.path.join(TOP, "examples", "first")
 POLICY, COMMANDS, TRACE = (os.path.join(EXAMPLE, name) for name in ("policy.json", "commands.jsonl", "trace.pcap"))
 RECORDS = 1_048_576
@@ -31,9 +33,28 @@ def record(captured, original):
     return bytes(8) + captured.to_bytes(4, "little") + original.to_bytes(4, "little")
 
 
-def run(words, output=subprocess.DEVNULL, program=os.path.join(TOP, "vsw"), limit=None):
-    """Runs the program, with at most `limit` KiB of memory, and gives its status and what it complained."""
-    words = [program, *words]
+def find_program():
+    """The program that `./vsw` runs, which is built first where it isn't."""
+    subprocess.run([*FRONT, "generate", "1", "2"], stdout=subprocess.DEVNULL, check=True)
+    said = subprocess.run([FRONT[0], "--version"], capture_output=True, check=True).stdout.decode()
+    return re.search(f"^{'unproved' if FRONT[1:] else 'proved'} program: (/.*)$", said, re.MULTILINE)[1]
+
+
+def copy_front(folder):
+    """`./vsw` where nothing is built, and no toolchain is on the path."""
+    for name in ("vsw", "crates.txt"):
+        shutil.copy(os.path.join(TOP, name), folder)
+    os.symlink(os.path.join(TOP, "tools"), os.path.join(folder, "tools"))
+    for name in os.listdir(os.path.join(TOP, "crates")):
+        os.makedirs(os.path.join(folder, "crates", name))
+        if os.path.isdir(os.path.join(TOP, "crates", name, "src")):
+            os.symlink(os.path.join(TOP, "crates", name, "src"), os.path.join(folder, "crates", name, "src"))
+    return ["env", "PATH=/usr/bin:/bin", os.path.join(folder, "vsw"), *FRONT[1:]]
+
+
+def run(front, words, output=subprocess.DEVNULL, limit=None):
+    """Runs a program, with at most `limit` KiB of memory, and gives its status and what it complained."""
+    words = [*front, *words]
     if limit:
         words = ["sh", "-c", f'ulimit -v {limit}; exec "$@"', "sh", *words]
     done = subprocess.run(words, stdout=output, stderr=subprocess.PIPE)
@@ -71,7 +92,8 @@ def cases(folder):
         yield f"generate {words}", ["generate", *words], 2, b"vsw: usage\n"
     options = ["--workers=0"], ["--workers", "17"], ["--workers=2", "--workers=2"]
     words_of_options = [["forward", *option, POLICY, COMMANDS, TRACE] for option in options]
-    for words in [], ["help"], ["forward"], ["forward", "-x", COMMANDS, TRACE], ["forward", b"\xff", COMMANDS, TRACE], *words_of_options:
+    odd = ["forward", "-x", COMMANDS, TRACE], ["forward", "", COMMANDS, TRACE], ["forward", b"\xff", COMMANDS, TRACE], ["forward", "--", POLICY, COMMANDS]
+    for words in [], ["help"], ["forward"], *odd, *words_of_options:
         yield f"words {words}", words, 2, b"vsw: usage\n"
     for place in range(3):
         files = [POLICY, COMMANDS, TRACE]
@@ -91,25 +113,31 @@ def cases(folder):
 
 
 def main():
-    wrong = 0
+    if sys.argv[1:] not in ([], ["--unproved"]):
+        sys.exit(__doc__)
+    wrong, program = 0, [find_program()]
 
-    def look(what, got, status, complaint):
+    def look(what, got, status, complaint, may_say_more=False):
         nonlocal wrong
-        if got != (status, complaint):
+        is_said = got[1].startswith(complaint) if may_say_more else got[1] == complaint
+        if got[0] != status or not is_said:
             wrong += 1
             print(f"{what}: {got}, and not {(status, complaint)}")
 
-    run(["forward", POLICY, COMMANDS, TRACE])  # builds the program, where it isn't
-    with tempfile.TemporaryDirectory() as folder:
+    with tempfile.TemporaryDirectory() as folder, tempfile.TemporaryDirectory() as empty:
+        fresh = copy_front(empty)
         for what, words, status, complaint in cases(folder):
-            look(what, run(words), status, complaint)
+            look(what, run(program, words), status, complaint)
+            look(f"{what}, by ./vsw", run(FRONT, words), status, complaint, status in (2, 3))
+            if status in (2, 3):
+                look(f"{what}, before a build", run(fresh, words), status, complaint, True)
         large = ["forward", os.path.join(folder, "spaces"), COMMANDS, TRACE]
         with open(large[1], "wb") as out:
             out.write(b" " * 4_194_304)
-        look("little memory", run(large, program=os.path.join(TOP, "crates/vsw/out/vsw"), limit=4_096), 9, b"vsw: memory\n")
+        look("little memory", run(program, large, limit=4_096), 9, b"vsw: memory\n")
     with open("/dev/full", "wb") as full:
-        look("a full disk for a summary", run(["generate", "1", "2"], full), 4, b"vsw: write fault\n")
-        look("a full disk", run(["forward", POLICY, COMMANDS, TRACE], full), 4, b"vsw: write fault\n")
+        look("a full disk for a summary", run(FRONT, ["generate", "1", "2"], full), 4, b"vsw: write fault\n")
+        look("a full disk", run(FRONT, ["forward", POLICY, COMMANDS, TRACE], full), 4, b"vsw: write fault\n")
     sys.exit(1 if wrong else print("each status came, with its words") or 0)
 
 

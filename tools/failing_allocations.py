@@ -1,5 +1,5 @@
 #!/usr/bin/env python3
-"""Runs the example with one allocation refused at a time, and looks at what comes out.
+"""Runs examples with one allocation refused at a time, and looks at what comes out.
 
 Usage: tools/failing_allocations.py        (needs a C compiler)
 
@@ -15,8 +15,7 @@ import sys
 import tempfile
 
 TOP = os.path.dirname(os.path.dirname(os.path.abspath(__file__)))
-EXAMPLE = os.path.join(TOP, "examples", "7-commands")
-FILES = [os.path.join(EXAMPLE, name) for name in ("policy.json", "commands.jsonl", "trace.pcap")]
+EXAMPLES = ["7-commands", "10-ipv6", "11-roll-out"]
 
 # What a run tells that met the failure: of its own, or within the host's opening of a file.
 TOLD = [(9, b"vsw: memory\n"), (3, b"vsw: read fault\n")]
@@ -46,37 +45,46 @@ int posix_memalign(void **p, size_t a, size_t n) { REAL(posix_memalign); if (ref
 """
 
 
-def run(shim, number):
+def files_of(example):
+    return [os.path.join(TOP, "examples", example, name) for name in ("policy.json", "commands.jsonl", "trace.pcap")]
+
+
+def run(shim, number, example):
     environment = dict(os.environ, LD_PRELOAD=shim, REFUSED_ALLOCATION=str(number))
     program = os.path.join(TOP, "crates", "vsw", "out", "vsw")
-    return subprocess.run([program, "forward", *FILES], env=environment, capture_output=True)
+    return subprocess.run([program, "forward", *files_of(example)], env=environment, capture_output=True)
+
+
+def refuse_each(shim, example):
+    """Runs an example until no allocation is refused, and gives how often each status came."""
+    with open(os.path.join(TOP, "examples", example, "report.txt"), "rb") as file:
+        report = file.read()
+    # The first run builds the program.
+    good = subprocess.run([os.path.join(TOP, "vsw"), "forward", *files_of(example)], capture_output=True)
+    if good.returncode != 0 or good.stdout != report:
+        sys.exit(f"{example} doesn't give its report")
+    statuses, number = {}, 0
+    while True:
+        number += 1
+        made = run(shim, number, example)
+        if made.returncode == 0 and made.stdout == report:
+            return statuses
+        statuses[made.returncode] = statuses.get(made.returncode, 0) + 1
+        front = report.startswith(made.stdout) or WANT.search(made.stdout)
+        told = (made.returncode, made.stderr) in TOLD
+        if not front or not told:
+            sys.exit(f"{example}, allocation {number}: status {made.returncode}, {made.stderr!r}, a front of the report: {bool(front)}")
 
 
 def main():
-    with open(os.path.join(EXAMPLE, "report.txt"), "rb") as file:
-        report = file.read()
-    # The first run builds the program.
-    good = subprocess.run([os.path.join(TOP, "vsw"), "forward", *FILES], capture_output=True)
-    if good.returncode != 0 or good.stdout != report:
-        sys.exit("the example doesn't give its report")
-    statuses = {}
     with tempfile.TemporaryDirectory() as folder:
         source, shim = os.path.join(folder, "shim.c"), os.path.join(folder, "shim.so")
         with open(source, "w") as file:
             file.write(SHIM)
         subprocess.run(["cc", "-O1", "-shared", "-fPIC", "-o", shim, source, "-ldl"], check=True)
-        number = 0
-        while True:
-            number += 1
-            made = run(shim, number)
-            if made.returncode == 0 and made.stdout == report:
-                break
-            statuses[made.returncode] = statuses.get(made.returncode, 0) + 1
-            front = report.startswith(made.stdout) or WANT.search(made.stdout)
-            told = (made.returncode, made.stderr) in TOLD
-            if not front or not told:
-                sys.exit(f"allocation {number}: status {made.returncode}, {made.stderr!r}, a front of the report: {bool(front)}")
-    print(f"{number - 1} allocations refused, one at a time; runs by status: {statuses}")
+        for example in EXAMPLES:
+            statuses = refuse_each(shim, example)
+            print(f"{example}: {sum(statuses.values())} allocations refused, one at a time; runs by status: {statuses}")
 
 
 if __name__ == "__main__":

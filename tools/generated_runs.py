@@ -11,8 +11,9 @@ import os
 import subprocess
 import sys
 
-from packets import VXLAN_PORT, ether, ipv4, read_report, udp, vxlan, write_capture
+from packets import VXLAN_PORT, ether, ipv4, udp, vxlan, write_capture
 from plain_switch import Packet, flow_sum, report
+from vswlib.reports import parse_report
 
 TOP = os.path.dirname(os.path.dirname(os.path.abspath(__file__)))
 HERE, SERVER = "02:00:00:00:00:01", "02:00:00:00:00:99"
@@ -67,7 +68,7 @@ def policy():
 
 def wanted(start, packets):
     text = report(policy(), write_capture(list(workload(start, packets))))
-    sent = [told.sent() for told in read_report(text).values()]
+    sent = [told.fate.sent for told in parse_report("report", text.encode()).packets().values()]
     passed = [data for data in sent if data is not None]
     events = int([line for line in text.splitlines() if line.startswith("port ")][-1].split()[3])
     counts = packets, len(passed), len(sent) - len(passed), events, sum(map(len, passed))

@@ -4,14 +4,12 @@ Written from docs/MODEL.md and docs/FORMATS.md over the plain program's packets 
 switch. A port's lines tell its one history: entries in order, and before each the reads at its count. So the lines are gone
 through once. Each must be what the plain program gives where it stands, and change its port exactly where it is an entry.
 """
-import collections
 import json
-import re
 
 import plain_switch
 from packets import read_capture
-
-LINE = re.compile(r"([wc])(\d+) (\d+) ([@+])(\d+) (.+)")
+from vswlib.ending import Ending
+from vswlib.reports import CommandLine, parse_report
 
 
 class Illegal(Exception):
@@ -32,24 +30,30 @@ def carry(port, places, call, by, workers):
     return plain_switch.cross(port, call["way"], call["packet"], call["moment"])
 
 
+def named(call):
+    """The kind of a call, its caller, what it brings, and what it was told."""
+    if isinstance(call, CommandLine):
+        return "c", call.controller, call.number, call.reply
+    return "w", call.worker, call.packet, call.fate.text()
+
+
 def go_through(port, places, lines, calls, workers):
     """A port's lines of one round. `calls` has the packets and the commands, each of which has one line."""
     before = [item for (kind, item), call in calls.items() if kind == "c" and call["when"] == "before"]
     last, at = {}, None
     for number, line in enumerate(lines):
-        kind, by, item, mark, count, told = LINE.fullmatch(line).groups()
-        by, item, is_before = int(by), int(item), number < len(before)
-        expect(int(count), port["count"], f"count of {line}")
+        (kind, by, item, told), is_before, where = named(line), number < len(before), f"line {line.line}"
+        expect(line.count, port["count"], f"count of {where}")
         if is_before:
             expect((kind, item), ("c", before[number]), "command before the packets")
-        stands = (int(count), mark == "+", kind == "c", by)
-        expect(at is None or at <= stands, True, f"order at one count, at {line}")
-        expect(last.get((kind, by, is_before), -1) < item, True, f"order of its caller, at {line}")
-        expect((kind, item) in calls, True, f"one line each, at {line}")
+        stands = (line.count, line.is_entry, kind == "c", by)
+        expect(at is None or at <= stands, True, f"order at one count, at {where}")
+        expect(last.get((kind, by, is_before), -1) < item, True, f"order of its caller, at {where}")
+        expect((kind, item) in calls, True, f"one line each, at {where}")
         at, last[kind, by, is_before] = stands, item
         is_told = carry(port, places, calls.pop((kind, item)), by, workers)
-        expect((told, mark == "+"), is_told, line[:40])
-        port["count"] += mark == "+"
+        expect((told, line.is_entry), is_told, where)
+        port["count"] += line.is_entry
     expect(calls, {}, "without a line")
 
 
@@ -75,27 +79,22 @@ def go_over(policy_text, commands_text, trace, workers, text):
     places = {controller: place for place, controller in enumerate(policy["controllers"])}
     ports = plain_switch.opened_ports(policy, places)
     macs = {plain_switch.mac(port["mac"]): port for port in ports}
-    lines = collections.deque(text.split("\n"))
-    expect(lines.popleft(), "vsw report 1", "first line")
-    for first, following in plain_switch.rounds(records, commands):
+    told, rounds = parse_report("report", text.encode()).rounds, list(plain_switch.rounds(records, commands))
+    expect([one.first for one in told], [first for first, _ in rounds], "rounds")
+    for one, (first, following) in zip(told, rounds):
         calls, loose = calls_of(ports, macs, commands, records, first, following)
-        expect(lines.popleft(), f"round {first}", "round")
-        for port in ports:
-            name, number, begin, end = lines.popleft().split(" ")
-            expect((name, int(number), int(begin)), ("port", port["port"], port["count"]), "port")
-            own = []
-            while LINE.fullmatch(lines[0]):
-                own.append(lines.popleft())
-            go_through(port, places, own, calls[port["port"]], workers)
-            expect(int(end), port["count"], f"end of port {number}")
-        for line in ["loose", *loose]:
-            expect(lines.popleft(), line, "loose line")
-    expect(list(lines), [""], "behind the last round")
+        expect([part.port for part in one.ports], [port["port"] for port in ports], f"ports of round {first}")
+        for port, part in zip(ports, one.ports):
+            expect(part.before, port["count"], f"begin of port {part.port}")
+            go_through(port, places, part.calls, calls[port["port"]], workers)
+            expect(part.after, port["count"], f"end of port {part.port}")
+        expect(one.is_loose, True, f"line `loose` of round {first}")
+        expect([f"{line.packet} {line.fate.cause}" for line in one.loose], loose, "loose lines")
 
 
 def fault(*run):
     """What is wrong with the report of a policy, commands, a trace and a number of workers, None where nothing is."""
     try:
         return go_over(*run)
-    except (Illegal, AttributeError, IndexError, ValueError) as why:
+    except (Illegal, Ending) as why:
         return f"{type(why).__name__} {why}"

@@ -1,37 +1,74 @@
 """The switch's rules once more, in plain Python, to check what the examples expect.
 
-Written from docs/MODEL.md and docs/FORMATS.md alone, apart from the switch's code and definitions. It takes good policies,
-commands and traces, no fragments, and computes checksums anew where the switch updates them: frames need right ones.
+Written from docs/MODEL.md and docs/FORMATS.md alone, apart from the switch's code and definitions. It takes good policies
+of both versions, good commands and traces, and computes right checksums anew where the switch updates them.
 """
 import ipaddress
 import json
 import struct
 
-from packets import VXLAN_PORT, mac_bytes, ones_sum, pseudo, read_capture
+from packets import IPV4, IPV6, VXLAN_PORT, mac_bytes, ones_sum, pseudo, read_capture
 
 ROUND = 1_024
-SET_FIELDS = ["dst_mac", "src_mac", "src_ip", "dst_ip", "src_port", "dst_port"]
+LONGEST = 65_600
+SET_FIELDS = ["dst_mac", "src_mac", "src_ip", "dst_ip", "src_port", "dst_port", "src_ip6", "dst_ip6"]
 MIRROR = {"src_ip": "dst_ip", "dst_ip": "src_ip", "src_port": "dst_port", "dst_port": "src_port",
-          "src_mac": "dst_mac", "dst_mac": "src_mac"}
+          "src_mac": "dst_mac", "dst_mac": "src_mac", "src_ip6": "dst_ip6", "dst_ip6": "src_ip6"}
+FAULTS = ["ShortEther", "ShortIp", "IpVersion", "IpLength", "ShortTcp", "TcpOffset", "ShortUdp", "UdpLength", "TooLong", "ShortIp6",
+          "Ip6Version", "Ip6Length"]
 
 
-def address(text):
-    return int(ipaddress.IPv4Address(text))
+class Malformed(Exception):
+    """The first fault of bytes that are no frame."""
+
+
+def expect(is_well, fault):
+    if not is_well:
+        raise Malformed(f"{FAULTS.index(fault) + 1} {fault}")
 
 
 def mac(text):
     return int.from_bytes(mac_bytes(text), "big")
 
 
+def payload_ends(data):
+    """Where the IP payload of a frame begins and ends."""
+    if data[12:14] == IPV4.to_bytes(2, "big"):
+        return 14 + (data[14] & 15) * 4, 14 + struct.unpack(">H", data[16:18])[0]
+    return 54, 54 + struct.unpack(">H", data[18:20])[0]
+
+
+def ipv4_fields(data):
+    expect(len(data) >= 34, "ShortIp")
+    expect(data[14] >> 4 == 4, "IpVersion")
+    start, end = payload_ends(data)
+    expect(34 <= start <= end <= len(data), "IpLength")
+    part = int(struct.unpack(">H", data[20:22])[0] & 0x3FFF != 0)
+    return {"proto": data[23], "part": part, "src_ip": int.from_bytes(data[26:30], "big"), "dst_ip": int.from_bytes(data[30:34], "big")}
+
+
+def ipv6_fields(data):
+    expect(len(data) >= 54, "ShortIp6")
+    expect(data[14] >> 4 == 6, "Ip6Version")
+    expect(payload_ends(data)[1] <= len(data), "Ip6Length")
+    return {"proto": data[20], "src_ip6": int.from_bytes(data[22:38], "big"), "dst_ip6": int.from_bytes(data[38:54], "big")}
+
+
+def tcp_control(flags):
+    syn = ("SynAck" if flags & 0x10 else "Syn") if flags & 0x02 else None
+    return "Rst" if flags & 0x04 else "Fin" if flags & 0x01 else syn
+
+
 class Packet:
-    """A frame as its encapsulations, outermost first, and the fields of its innermost headers."""
+    """A frame as its encapsulations, outermost first, and the fields of its innermost headers. Malformed where it is none."""
 
     def __init__(self, data):
+        expect(len(data) <= LONGEST, "TooLong")
         self.encaps, self.control, self.sizes, self.whole, self.starts = [], None, [], data, [0]
         while True:
             self.sizes.append(len(data))
             fields, rest = self.headers(data)
-            is_vxlan = len(self.encaps) < 2 and fields.get("proto") == 17 and fields.get("dst_port") == VXLAN_PORT
+            is_vxlan = len(self.encaps) < 2 and "src_ip" in fields and fields["proto"] == 17 and fields.get("dst_port") == VXLAN_PORT
             if not (is_vxlan and len(rest) >= 8 and rest[0] & 8):
                 break
             self.encaps.append({**fields, "vni": int.from_bytes(rest[4:7], "big")})
@@ -40,23 +77,28 @@ class Packet:
         self.fields, self.data, self.kept, self.pushed = fields, data, len(self.encaps), []
 
     def headers(self, data):
-        """The fields of an Ethernet frame, with IPv4 and ports where it has them, and its UDP payload. A fragment has no ports."""
+        """The fields of an Ethernet frame, with IP and ports where it has them, and its UDP payload. A fragment has no ports."""
+        expect(len(data) >= 14, "ShortEther")
         fields = {"dst_mac": int.from_bytes(data[:6], "big"), "src_mac": int.from_bytes(data[6:12], "big")}
         fields["kind"] = struct.unpack(">H", data[12:14])[0]
-        if fields["kind"] != 0x0800:
+        if fields["kind"] not in (IPV4, IPV6):
             return fields, b""
-        start = 14 + (data[14] & 15) * 4
-        end = 14 + struct.unpack(">H", data[16:18])[0]
-        part = int(struct.unpack(">H", data[20:22])[0] & 0x3FFF != 0)
-        fields.update(proto=data[23], part=part, src_ip=int.from_bytes(data[26:30], "big"), dst_ip=int.from_bytes(data[30:34], "big"))
-        if part or fields["proto"] not in (6, 17):
+        fields.update(ipv4_fields(data) if fields["kind"] == IPV4 else ipv6_fields(data))
+        start, end = payload_ends(data)
+        if fields.get("part") or fields["proto"] not in (6, 17):
             return fields, b""
-        fields["src_port"], fields["dst_port"] = struct.unpack(">HH", data[start:start + 4])
+        payload, rest = data[start:end], b""
         if fields["proto"] == 6:
-            flags = data[start + 13]
-            syn = ("SynAck" if flags & 0x10 else "Syn") if flags & 0x02 else None
-            self.control = "Rst" if flags & 0x04 else "Fin" if flags & 0x01 else syn
-        return fields, data[start + 8:end]
+            expect(len(payload) >= 20, "ShortTcp")
+            expect(20 <= (payload[12] >> 4) * 4 <= len(payload), "TcpOffset")
+            self.control = tcp_control(payload[13])
+        else:
+            expect(len(payload) >= 8, "ShortUdp")
+            length = struct.unpack(">H", payload[4:6])[0]
+            expect(8 <= length <= len(payload), "UdpLength")
+            rest = payload[8:length]
+        fields["src_port"], fields["dst_port"] = struct.unpack(">HH", payload[:4])
+        return fields, rest
 
     def stack(self):
         """The encapsulations and innermost fields as the layers see them."""
@@ -74,15 +116,22 @@ def holds(condition, encaps, fields):
     return value is not None and any(lies(item, field, value) for item in condition["any"])
 
 
-def number(field, text):
-    return address(text) if field.endswith("_ip") else mac(text) if field.endswith("_mac") else text
+def address_of(field):
+    """The class of the addresses of a field, None where it has none."""
+    return ipaddress.IPv4Address if field.endswith("_ip") else ipaddress.IPv6Address if field.endswith("_ip6") else None
+
+
+def number(field, value):
+    if address_of(field):
+        return int(address_of(field)(value))
+    return mac(value) if field.endswith("_mac") else value
 
 
 def lies(item, field, value):
     if isinstance(item, list):
         return number(field, item[0]) <= value <= number(field, item[1])
-    if field.endswith("_ip"):
-        return ipaddress.IPv4Address(value) in ipaddress.ip_network(item, strict=False)
+    if address_of(field):
+        return address_of(field)(value) in ipaddress.ip_network(item, strict=False)
     return number(field, item) == value
 
 
@@ -90,7 +139,7 @@ def matches(rule, encaps, fields):
     edit = rule["action"] if isinstance(rule["action"], dict) else {"decap": False, "encap": None}
     if edit["decap"] and not encaps or edit["encap"] and not edit["decap"] and len(encaps) == 2:
         return False
-    if rule["stateful"] and "src_ip" not in fields:
+    if rule["stateful"] and "proto" not in fields:
         return False
     return all(holds(condition, encaps, fields) for condition in rule["when"])
 
@@ -113,7 +162,9 @@ def choose(layer, way, encaps, fields):
 # Pairs
 
 def key(encaps, fields):
-    return (tuple(encap["vni"] for encap in encaps), fields.get("src_ip", 0), fields.get("dst_ip", 0), fields.get("proto", 0),
+    """What a layer knows of a packet. An IPv4 address is no IPv6 address of the same number, and none is neither."""
+    ends = [[(kind, fields[end + kind]) for kind in ("_ip", "_ip6") if end + kind in fields] for end in ("src", "dst")]
+    return (tuple(encap["vni"] for encap in encaps), *ends, fields.get("proto", 0),
             fields.get("part", 0), fields.get("src_port", 0), fields.get("dst_port", 0))
 
 
@@ -184,7 +235,7 @@ NOTHING = {"decap": False, "set": {}, "encap": None}
 
 def flow_sum(fields):
     total = fields["kind"] + fields.get("proto", 0) + fields.get("src_port", 0) + fields.get("dst_port", 0)
-    for name, words in (("dst_mac", 3), ("src_mac", 3), ("src_ip", 2), ("dst_ip", 2)):
+    for name, words in (("dst_mac", 3), ("src_mac", 3), ("src_ip", 2), ("dst_ip", 2), ("src_ip6", 8), ("dst_ip6", 8)):
         total += sum(fields.get(name, 0) >> 16 * place & 0xFFFF for place in range(words))
     return total
 
@@ -201,25 +252,59 @@ def behind_kept(packet, data):
     return bytes(whole[start:end])
 
 
+def words(data):
+    return struct.unpack(f">{len(data) // 2}H", data)
+
+
+def renewed(value, other, was, becomes, is_udp=False):
+    """A checksum over `was` and `other` that is to be over `becomes` and `other`: worked out anew where it was right, else updated for the
+    words that differ (RFC 1624, equation 3)."""
+    if was == becomes:
+        return value
+    zero = 0xFFFF if is_udp else 0
+    if value == (ones_sum(was + other) or zero):
+        return ones_sum(becomes + other) or zero
+    total = value ^ 0xFFFF
+    for old, new in zip(words(was), words(becomes)):
+        total += (old ^ 0xFFFF) + new if old != new else 0
+    while total >> 16:
+        total = (total & 0xFFFF) + (total >> 16)
+    return total ^ 0xFFFF or zero
+
+
+def renew(data, at, other, was, becomes, is_udp=False):
+    value = int.from_bytes(data[at:at + 2], "big")
+    data[at:at + 2] = renewed(value, other, was, becomes, is_udp).to_bytes(2, "big")
+
+
+def write_ip(data, fields):
+    """Writes the addresses and ports of a frame, and its checksums."""
+    size, kind, at = (4, "_ip", 26) if "src_ip" in fields else (16, "_ip6", 22)
+    was, becomes = bytes(data[at:at + 2 * size]), b"".join(fields[end + kind].to_bytes(size, "big") for end in ("src", "dst"))
+    data[at:at + 2 * size] = becomes
+    start, end = payload_ends(data)
+    if size == 4:
+        renew(data, 24, bytes(data[14:24] + data[34:start]), was, becomes)
+    if "src_port" not in fields:
+        return
+    proto = fields["proto"]
+    was += bytes(data[start:start + 4])
+    data[start:start + 4] = struct.pack(">HH", fields["src_port"], fields["dst_port"])
+    becomes += bytes(data[start:start + 4])
+    at = start + (16 if proto == 6 else 6)
+    if proto == 17:
+        end = start + struct.unpack(">H", data[start + 4:start + 6])[0]
+    if proto == 6 or data[at:at + 2] != b"\0\0":
+        front = pseudo(was[:size], was[size:2 * size], proto, end - start)[2 * size:]
+        renew(data, at, front + bytes(data[start + 4:at] + data[at + 2:end]), was, becomes, proto == 17)
+
+
 def sent(packet):
     """The outgoing bytes."""
     fields, data = packet.fields, bytearray(packet.data)
     data[:12] = fields["dst_mac"].to_bytes(6, "big") + fields["src_mac"].to_bytes(6, "big")
-    if "src_ip" in fields:
-        start = 14 + (data[14] & 15) * 4
-        end = 14 + struct.unpack(">H", data[16:18])[0]
-        data[26:34] = fields["src_ip"].to_bytes(4, "big") + fields["dst_ip"].to_bytes(4, "big")
-        data[24:26] = b"\0\0"
-        data[24:26] = ones_sum(bytes(data[14:start])).to_bytes(2, "big")
-        if "src_port" in fields:
-            data[start:start + 4] = struct.pack(">HH", fields["src_port"], fields["dst_port"])
-            proto = fields["proto"]
-            at = start + (16 if proto == 6 else 6)
-            if proto == 6 or data[at:at + 2] != b"\0\0":
-                data[at:at + 2] = b"\0\0"
-                front = pseudo(fields["src_ip"], fields["dst_ip"], proto, end - start)
-                value = ones_sum(front + bytes(data[start:end]))
-                data[at:at + 2] = (value or (0xFFFF if proto == 17 else 0)).to_bytes(2, "big")
+    if "proto" in fields:
+        write_ip(data, fields)
     data = behind_kept(packet, bytes(data))
     for encap in reversed(packet.pushed):
         inner = len(data)
@@ -316,14 +401,16 @@ def cross(port, way, packet, moment):
 
 # Commands
 
-MOST = {"layers": 16, "groups": 32, "rules": 1_024}
+MOST = {"layers": 16, "groups": 32, "rules": 1_024, "parts": 32}
+REFUSALS = ["NoLayer", "LayerExists", "NoGroup", "GroupExists", "NoRule", "RuleExists", "ManyLayers", "ManyGroups", "ManyRules", "Memory",
+            "ManyParts", "PartTwice"]
 
 
 def plain_item(field, item):
     """An item of a condition, so that two are equal where they are one to the switch."""
-    if field.endswith("_ip") and isinstance(item, str):
+    if address_of(field) and isinstance(item, str):
         front, _, bits = item.partition("/")
-        return "prefix", address(front), int(bits or 32)
+        return "prefix", number(field, front), int(bits or address_of(field)(0).max_prefixlen)
     low, high = item if isinstance(item, list) else (item, item)
     return "range", number(field, low), number(field, high)
 
@@ -347,6 +434,8 @@ def named(things, name, wanted):
 
 def refused(port, command):
     """The first refusal that applies to a command, or None."""
+    if command["do"] == "put_many":
+        return refused_parts(port, command)
     do, own = command["do"], [layer for layer in port["layers"] if layer["controller"] == command["controller"]]
     layer = named(own, "layer", command["layer"])
     group = named(layer["groups"], "group", command["group"]) if layer and "group" in command else None
@@ -355,19 +444,38 @@ def refused(port, command):
     wants_group = do in ("remove_group", "put_rules", "add_rule", "remove_rule")
     number_of = command["rule"]["rule"] if do == "add_rule" else command.get("rule")
     rule = named(group["rules"], "rule", number_of) if group and do in ("add_rule", "remove_rule") else None
-    tests = [
-        do != "add_layer" and layer is None,
-        do == "add_layer" and is_new[do] is not None,
-        wants_group and group is None,
-        do == "add_group" and is_new[do] is not None,
-        do == "remove_rule" and rule is None,
-        do == "add_rule" and rule is not None or len({rule["rule"] for rule in rules}) < len(rules),
-        do == "add_layer" and len(own) >= MOST["layers"],
-        do == "add_group" and layer is not None and len(layer["groups"]) >= MOST["groups"],
-        do == "add_rule" and group is not None and len(group["rules"]) >= MOST["rules"] or len(rules) > MOST["rules"],
-    ]
-    names = ["NoLayer", "LayerExists", "NoGroup", "GroupExists", "NoRule", "RuleExists", "ManyLayers", "ManyGroups", "ManyRules"]
-    return next((f"{place} {name}" for place, (test, name) in enumerate(zip(tests, names), 1) if test), None)
+    return first_refusal({
+        "NoLayer": do != "add_layer" and layer is None,
+        "LayerExists": do == "add_layer" and is_new[do] is not None,
+        "NoGroup": wants_group and group is None,
+        "GroupExists": do == "add_group" and is_new[do] is not None,
+        "NoRule": do == "remove_rule" and rule is None,
+        "RuleExists": do == "add_rule" and rule is not None or has_twice(rule["rule"] for rule in rules),
+        "ManyLayers": do == "add_layer" and len(own) >= MOST["layers"],
+        "ManyGroups": do == "add_group" and layer is not None and len(layer["groups"]) >= MOST["groups"],
+        "ManyRules": do == "add_rule" and group is not None and len(group["rules"]) >= MOST["rules"] or len(rules) > MOST["rules"],
+    })
+
+
+def refused_parts(port, command):
+    """The least refusal of a put_many: of all its parts, each judged as a put_rules before any is done, and of the parts themselves."""
+    parts = command["parts"]
+    alone = [refused(port, put_of(command, part)) for part in parts]
+    has = {"ManyParts": len(parts) > MOST["parts"], "PartTwice": has_twice((part["layer"], part["group"]) for part in parts)}
+    return first_refusal({name: has.get(name) or f"{place} {name}" in alone for place, name in enumerate(REFUSALS, 1)})
+
+
+def put_of(command, part):
+    return {**{name: command[name] for name in ("controller", "port")}, "do": "put_rules", **part}
+
+
+def has_twice(things):
+    things = list(things)
+    return len(set(things)) < len(things)
+
+
+def first_refusal(applies):
+    return next((f"{place} {name}" for place, name in enumerate(REFUSALS, 1) if applies.get(name)), None)
 
 
 def forget(layer, is_gone):
@@ -381,6 +489,10 @@ def obey(port, places, command):
     if why is not None:
         return f"refused {why}"
     do, layers = command["do"], port["layers"]
+    if do == "put_many":
+        for part in command["parts"]:
+            obey(port, places, put_of(command, part))
+        return "ok"
     layer = next((one for one in layers if (one["controller"], one["layer"]) == (command["controller"], command["layer"])), None)
     group = named(layer["groups"], "group", command["group"]) if layer and "group" in command else None
     if do == "add_layer":
@@ -444,7 +556,10 @@ def met(macs, record):
     _, data, original = record
     if len(data) < original:
         return "snapped"
-    packet = Packet(data)
+    try:
+        packet = Packet(data)
+    except Malformed as fault:
+        return f"malformed {fault}"
     outermost = (packet.encaps or [packet.fields])[0]["src_mac"]
     port = macs.get(outermost) or macs.get(packet.fields["dst_mac"])
     return "noport" if port is None else (port, "out" if outermost in macs else "in", packet)

@@ -3,14 +3,15 @@
 
     tools/random_runs.py [RUNS] [SEED] [PROGRAM]
 
-The plain program is tools/plain_switch.py, written from docs/MODEL.md apart from the switch. Policies have up to four
-layers of three controllers on each of two ports; packets are ARP, UDP, TCP and ICMP, some of them fragments or in
-VXLAN, among few addresses and ports, and replies to what passed; commands come before and beside them, and past the
-last. Every run is made with 1 to 8 workers. The report of one worker is the plain program's; that of more is legal in
-the order that it tells (tools/legal.py). PROGRAM is ./vsw if it isn't given. Prints how often each fate and reply came,
-what the runs of many workers had, and the seed of a run whose report is wrong.
+The plain program is tools/plain_switch.py, written from docs/MODEL.md apart from the switch. Policies are of both versions, with
+up to four layers of three controllers on each of two ports. Packets are ARP, UDP, TCP and ICMP over IPv4 and, a third of them, over
+IPv6, among few addresses and ports; some are fragments, have extension headers, slack or a trailer, stand in VXLAN or are malformed;
+and there are replies to what passed. Commands come before and beside them, and past the last. Every run is made with 1 to 8 workers.
+The report of one worker is the plain program's; that of more is legal in the order that it tells (tools/legal.py). PROGRAM is
+./vsw if it isn't given. Prints how often each fate and reply came, what the runs had, and the seed of a run whose report is wrong.
 """
 import collections
+import ipaddress
 import json
 import os
 import random
@@ -21,21 +22,42 @@ import tempfile
 
 import legal
 import plain_switch
-from packets import ether, ipv4, ones_sum, read_report, tcp, udp, vxlan, write_capture
+from packets import IPV4, IPV6, VXLAN_PORT, ether, icmpv6, ipv4, ipv6, ones_sum, tcp, udp, vxlan, write_capture
+from vswlib.reports import PacketLine, parse_report
 
 ROOT = os.path.dirname(os.path.dirname(os.path.abspath(__file__)))
 PORT_MACS = ["02:00:00:00:00:01", "02:00:00:00:00:02"]
 GATEWAY, NEAR_END, FAR_END = "02:00:00:00:00:99", "02:00:00:00:0a:01", "02:00:00:00:0a:02"
 MACS = [*PORT_MACS, GATEWAY]
 ADDRESSES = ["10.0.0.5", "10.0.0.6", "10.0.0.9", "9.9.9.9", "192.0.2.7"]
+ADDRESSES6 = ["fd00::5", "fd00::6", "fd00:0:0:1::5", "2001:db8::7", "::"]
 PORTS = [53, 80, 22, 40_000]
-VALUES = {"src_ip": ADDRESSES, "dst_ip": ADDRESSES, "dst_mac": MACS, "proto": [6, 17], "src_port": PORTS, "dst_port": PORTS,
-          "kind": [0x0800, 0x0806], "vni": [5_001, 5_002], "part": [0, 1]}
 SETS = {"src_ip": ADDRESSES, "dst_ip": ADDRESSES, "src_port": PORTS, "dst_port": PORTS, "dst_mac": MACS, "src_mac": MACS}
+SETS6 = {"src_ip6": ADDRESSES6, "dst_ip6": ADDRESSES6}
+VALUES = {"src_ip": ADDRESSES, "dst_ip": ADDRESSES, "dst_mac": MACS, "proto": [6, 17, 58], "src_port": PORTS, "dst_port": PORTS,
+          "kind": [0x0800, 0x0806, 0x86DD], "vni": [5_001, 5_002], "part": [0, 1]}
 STEPS = [1_000, 100_000, 300_000, 1_200_000]
 
 
+def spelled(draw, address):
+    """A spelling of an IPv6 address (RFC 4291, section 2.2)."""
+    whole = ipaddress.IPv6Address(address).exploded
+    return draw.choice([address, address.upper(), whole, ":".join(f"{int(group, 16):x}" for group in whole.split(":"))])
+
+
+class Drawing(random.Random):
+    """Draws what a policy of one version may hold."""
+
+    def __init__(self, seed):
+        super().__init__(seed)
+        self.version = self.choice([1, 2])
+        self.values, self.sets = (VALUES, SETS) if self.version == 1 else ({**VALUES, **SETS6}, {**SETS, **SETS6})
+
+
 def item(draw, field):
+    if field.endswith("_ip6"):
+        bits = draw.choice(["", "/0", "/16", "/63", "/64", "/65", "/127", "/128"])
+        return spelled(draw, draw.choice(ADDRESSES6)) + bits
     if field.endswith("_ip") and draw.random() < 0.4:
         return f"{draw.choice(ADDRESSES)}/{draw.choice([0, 8, 24, 30, 32])}"
     ends = sorted(draw.choices(VALUES[field], k=2), key=lambda value: plain_switch.number(field, value))
@@ -43,7 +65,7 @@ def item(draw, field):
 
 
 def conditions(draw, chance):
-    fields = draw.choices(list(VALUES), k=draw.randint(1, 2)) if draw.random() < chance else []
+    fields = draw.choices(list(draw.values), k=draw.randint(1, 2)) if draw.random() < chance else []
     return [{"field": field, "any": [item(draw, field) for _ in range(draw.randint(0, 2) or 1)]} for field in fields]
 
 
@@ -53,10 +75,12 @@ def action(draw, is_stateful):
         return "allow"
     if kind < 0.55 and not is_stateful:
         return "drop"
-    values = {field: draw.choice(choices) for field, choices in SETS.items() if draw.random() < 0.25}
+    values = {field: draw.choice(choices) for field, choices in draw.sets.items() if draw.random() < 0.25}
+    values = {field: spelled(draw, value) if field in SETS6 else value for field, value in values.items()}
     encap = {"dst_mac": FAR_END, "src_mac": NEAR_END, "src_ip": "172.16.0.1", "dst_ip": "172.16.0.2", "vni": 5_001}
     encap = encap if not is_stateful and draw.random() < 0.4 else None
-    return {"decap": False, "set": values, "encap": encap} if values or encap else "allow"
+    decap = not is_stateful and draw.random() < 0.05
+    return {"decap": decap, "set": values, "encap": encap} if values or encap or decap else "allow"
 
 
 def rule(draw, number):
@@ -82,7 +106,7 @@ def layer(draw, controller, number):
 
 
 def outermost(draw):
-    """The layer that inbound packets meet first: it takes each encapsulation away, so that later layers see plain frames."""
+    """The layer that inbound packets meet first: it takes an encapsulation away, so that most later layers see plain frames."""
     decap = {"rule": 1, "priority": 1, "when": [], "action": {"decap": True, "set": {}, "encap": None}, "stateful": False, "last": False}
     bad = {**decap, "action": "drop"}
     return {"controller": 3, "layer": 1, "order": 9, "default_out": "allow", "default_in": draw.choice(["allow", "drop"]), "pairs": 0,
@@ -94,15 +118,36 @@ def policy(draw):
     ports = []
     for place, mac in enumerate(PORT_MACS):
         names = {(draw.randint(1, 2), draw.randint(1, 4)) for _ in range(draw.randint(0, 3))}
-        layers = [outermost(draw), *(layer(draw, *name) for name in sorted(names))]
+        layers = [*([outermost(draw)] if draw.random() < 0.85 else []), *(layer(draw, *name) for name in sorted(names))]
         draw.shuffle(layers)
         ports.append({"port": place + 1, "mac": mac, "rows": 64, "layers": layers})
-    return {"version": 1, "controllers": draw.sample([1, 2, 3], 3), "ports": ports}
+    return {"version": draw.version, "controllers": draw.sample([1, 2, 3], 3), "ports": ports}
+
+
+def part(draw, layers, own):
+    """A part of a put_many of this controller, which finds what it names more often than not."""
+    numbers = [number for _, controller, number in layers if controller == own] or [1]
+    number = draw.choice(numbers) if draw.random() < 0.9 else draw.randint(1, 4)
+    listed = [rule(draw, place + 1) for place in range(rules(draw) - 1)]
+    return {"layer": number, "group": draw.choice([1, 1, 2, 2, 3, 4]), "rules": listed + listed[:draw.random() < 0.05]}
+
+
+def parts(draw, layers, own):
+    """The parts of a put_many. Some are too many, or have too many rules, or are of one group."""
+    made = [part(draw, layers, own) for _ in range(draw.choice([0, 1, 2, 2, 3]))]
+    kind = draw.random()
+    if made and kind < 0.06:
+        return made[:1] * draw.choice([32, 33])
+    if made and kind < 0.12:
+        made[-1]["rules"] = [{**rule(draw, number), "when": []} for number in range(1, draw.choice([1_025, 1_026]))]
+    if kind > 0.5:
+        made = list({(one["layer"], one["group"]): one for one in made}.values())
+    return made
 
 
 def command(draw, layers):
     """A command that finds what it names more often than not."""
-    port, own, number = draw.choice(layers) if draw.random() < 0.8 else (draw.randint(1, 2), draw.randint(1, 3), draw.randint(1, 4))
+    port, own, number = draw.choice(layers) if layers and draw.random() < 0.8 else (draw.randint(1, 2), draw.randint(1, 3), draw.randint(1, 4))
     named = {"layer": number, "group": draw.randint(1, 4) if draw.random() < 0.5 else 1}
     ways = {"dir": draw.choice(["in", "out"])}
     made = layer(draw, own, named["layer"])
@@ -118,6 +163,7 @@ def command(draw, layers):
         {"do": "remove_rule", **named, "rule": draw.randint(1, draw.choice([5, 24]))},
         {"do": "set_default", "layer": named["layer"], **ways, "default": draw.choice(["allow", "drop"])},
         {"do": "sweep", "layer": named["layer"], "now": draw.randrange(60_000_000)},
+        *([{"do": "put_many", "parts": parts(draw, layers, own)}] * 3 if draw.version == 2 else []),
     ])
     return {"at": draw.randint(0, 60), "when": draw.choice(["before", "during"]), "controller": own, "port": port, **more}
 
@@ -134,28 +180,72 @@ def fragment(draw, packet):
     return front[:10] + struct.pack(">H", ones_sum(front)) + front[12:] + packet[20:]
 
 
-def frame(draw):
-    to, came, (src, dst) = draw.choice(MACS), draw.choice(MACS), draw.choices(ADDRESSES, k=2)
-    ports, payload, kind = draw.choices(PORTS, k=2), draw.randbytes(draw.randint(0, 9)), draw.random()
-    if kind < 0.08:
-        return ether(to, came, 0x0806, bytes(28))
-    if kind < 0.13:
-        made = ipv4(src, dst, 1, payload)
-    elif kind < 0.55:
-        made = ipv4(src, dst, 17, udp(src, dst, *ports, payload, draw.random() < 0.8))
+def segment(draw, src, dst):
+    """A UDP datagram or a TCP segment, and its protocol."""
+    ports, payload = draw.choices(PORTS, k=2), draw.randbytes(draw.randint(0, 9))
+    if draw.random() < 0.48:
+        return 17, udp(src, dst, *ports, payload, draw.random() < 0.8) + bytes(draw.random() < 0.05)
+    return 6, tcp(src, dst, *ports, draw.choice([0x02, 0x02, 0x12, 0x10, 0x10, 0x11, 0x04]), 1, 2, payload)
+
+
+def packet4(draw):
+    src, dst = draw.choices(ADDRESSES, k=2)
+    made = ipv4(src, dst, 1, draw.randbytes(9)) if draw.random() < 0.05 else ipv4(src, dst, *segment(draw, src, dst))
+    return fragment(draw, made) if draw.random() < 0.05 else made
+
+
+def packet6(draw):
+    """An IPv6 packet: some are ICMPv6, have an extension header, or are UDP to VXLAN's port, which is no VXLAN over IPv6."""
+    src, dst = draw.choices(ADDRESSES6, k=2)
+    kind = draw.random()
+    if kind < 0.1:
+        return ipv6(src, dst, 58, icmpv6(src, dst, 128, 0, draw.randbytes(8)))
+    if kind < 0.2:
+        proto, rest = segment(draw, src, dst)
+        return ipv6(src, dst, draw.choice([0, 43, 44, 60]), bytes([proto, 0, 1, 4, 0, 0, 0, 0]) + rest)
+    if kind < 0.3:
+        inner = ether(draw.choice(MACS), draw.choice(MACS), IPV4, packet4(draw))
+        return ipv6(src, dst, 17, udp(src, dst, 60_000, VXLAN_PORT, vxlan(5_001, inner)))
+    return ipv6(src, dst, *segment(draw, src, dst))
+
+
+def spoiled(draw, data):
+    """A frame with a field of its lengths or versions changed, or cut off: most such bytes are no frame."""
+    data = bytearray(data)
+    if draw.random() < 0.4:
+        del data[draw.randint(0, len(data)):]
     else:
-        made = ipv4(src, dst, 6, tcp(src, dst, *ports, draw.choice([0x02, 0x02, 0x12, 0x10, 0x10, 0x11, 0x04]), 1, 2, payload))
-    if draw.random() < 0.05:
-        made = fragment(draw, made)
-    made = ether(to, came, 0x0800, made)
-    if draw.random() < 0.15:
-        datagram = udp("172.16.0.2", "172.16.0.1", 60_000, 4_789, vxlan(draw.choice([5_001, 5_002]), made), False)
-        return ether(GATEWAY, FAR_END, 0x0800, ipv4("172.16.0.2", "172.16.0.1", 17, datagram))
+        at = draw.choice([14, 16, 17, 18, 19, 20, 23, 38, 39, 46, 58, 59, 66])
+        data[min(at, len(data) - 1)] = draw.choice([0, 4, 5, 6, 7, 0x40, 0x44, 0x60, 0x65, 17, draw.randrange(256)])
+    return bytes(data)
+
+
+def tunnelled(draw, inner):
+    datagram = udp("172.16.0.2", "172.16.0.1", 60_000, VXLAN_PORT, vxlan(draw.choice([5_001, 5_002]), inner), draw.random() < 0.2)
+    rest = ipv4("172.16.0.2", "172.16.0.1", 17, datagram + bytes(3 * (draw.random() < 0.1)))
+    return ether(GATEWAY, FAR_END, IPV4, rest) + bytes(5 * (draw.random() < 0.1))
+
+
+def frame(draw):
+    to, came, kind = draw.choice(MACS), draw.choice(MACS), draw.random()
+    if kind < 0.06:
+        made = ether(to, came, 0x0806, bytes(28))
+    elif kind < 0.4:
+        made = ether(to, came, IPV6, packet6(draw))
+    else:
+        made = ether(to, came, IPV4, packet4(draw))
+    made += bytes(draw.choice([0] * 9 + [4]))
+    if draw.random() < 0.06:
+        return spoiled(draw, made)
+    for _ in range(draw.choice([0] * 16 + [1, 1, 1, 2])):
+        made = tunnelled(draw, made)
     return made
 
 
 def reply(sent):
     """The frame with source and destination exchanged, None where it has no ports, is a fragment or is VXLAN."""
+    if sent[12:14] == b"\x86\xdd" and sent[20] in (6, 17):
+        return sent[6:12] + sent[:6] + sent[12:22] + sent[38:54] + sent[22:38] + sent[56:58] + sent[54:56] + sent[58:]
     if sent[12:14] != b"\x08\0" or sent[23] not in (6, 17) or int.from_bytes(sent[20:22], "big") & 0x3FFF or sent[36:38] == b"\x12\xb5":
         return None
     return sent[6:12] + sent[:6] + sent[12:26] + sent[30:34] + sent[26:30] + sent[36:38] + sent[34:36] + sent[38:]
@@ -163,7 +253,7 @@ def reply(sent):
 
 def drawn(seed):
     """A policy, commands, a capture and a number of workers, and the report of the plain program."""
-    draw = random.Random(seed)
+    draw = Drawing(seed)
     made, records, moment = policy(draw), [], 0
     text, lines, workers = json.dumps(made), commands(draw, made), draw.choice([1, 1, 2, 3, 4, 8])
     often = [frame(draw) for _ in range(8)]
@@ -172,8 +262,8 @@ def drawn(seed):
         data = draw.choice(often) if draw.random() < 0.6 else frame(draw)
         records.append((moment, data, len(data)))
     for _ in range(2):
-        told = read_report(plain_switch.report(text, write_capture(records), lines, workers))
-        sent = [told[packet].sent() for packet in sorted(told)]
+        told = parse_report("report", plain_switch.report(text, write_capture(records), lines, workers).encode()).packets()
+        sent = [told[packet].fate.sent for packet in sorted(told)]
         for data in filter(None, (reply(data) for data in sent if data and draw.random() < 0.2)):
             moment += 1_000
             records.append((moment, data, len(data)))
@@ -197,9 +287,26 @@ def fault(files, got, wanted):
     return legal.fault(*files, got)
 
 
+def became(files, got):
+    """What became of each packet and command of a run, in short."""
+    for told in parse_report("report", got.encode()).packets().values():
+        over = " over IPv6" if told.fate.sent and told.fate.sent[12:14] == b"\x86\xdd" else ""
+        if isinstance(told, PacketLine):
+            yield ("+" if told.is_entry else "@") + ("" if told.fate.is_pass else "drop ") + told.fate.kind + over
+        else:
+            yield told.fate.kind
+    lines = files[1].split(b"\n")
+    for line in got.splitlines():
+        if line.startswith("c"):
+            _, number, _, *reply = line.split()
+            many = "put_many " if b'"put_many"' in lines[int(number) - 1] else ""
+            yield many + " ".join(reply)
+
+
 def kinds(files, got, wanted):
-    """What a run of many workers had."""
+    """What a run had."""
     text, lines, _, workers = files
+    yield f"runs of version {json.loads(text)['version']}"
     if workers > 1:
         yield "runs of many workers"
         if b'"when": "during"' in lines:
@@ -223,9 +330,7 @@ def main():
             if why is not None:
                 wrong.append(seed)
                 print(f"seed {seed}, {files[3]} workers: {why}")
-            for told in read_report(got).values():
-                fates[told.mark + " ".join(told.fate.split()[:2 if told.fate.startswith("drop") else 1])] += 1
-            fates.update(" ".join(line.split()[3:]) for line in got.splitlines() if line.startswith("c"))
+            fates.update(became(files, got))
             had.update(kinds(files, got, wanted))
     for name, count in [*sorted(fates.items()), *had.items()]:
         print(name, count)

@@ -101,6 +101,14 @@ fn move_both() -> [Act; 3] {
     )
 }
 
+/// The destination before the source, and once more behind an act between.
+fn send_twice() -> [Act; 5] {
+    let [ignored, on, _] = send_on();
+    let [_, from, _] = hide();
+    let [between, again, _] = send_on();
+    [ignored, on, from, between, again]
+}
+
 /// The words from 16 on of a pass with so many acts until 240 seconds after the epoch, the first of which is none.
 fn pass_words(count: u64) -> [u64; 57] {
     let mut words = [0; 57];
@@ -281,18 +289,11 @@ fn bodies_are_read_back(rt: HostRuntime) {
         reads(&by_in(), &IN, &[]),
     ];
     assert!(&rt; found == [true; 4]);
-    let [ignored, on, _] = send_on();
-    let [_, from, _] = hide();
     let over_ipv6 = [
         reads(&hide_words(), &Verdict::Pass, &hide()),
         reads(&both_words(), &Verdict::Pass, &move_both()),
         reads(&on_words(), &Verdict::Pass, &send_on()),
-        // The destination before the source, and behind an act between.
-        reads(
-            &apart_words(),
-            &Verdict::Pass,
-            &[ignored, on, from, ignored, on],
-        ),
+        reads(&apart_words(), &Verdict::Pass, &send_twice()),
     ];
     assert!(&rt; over_ipv6 == [true; 4]);
 }

@@ -134,6 +134,8 @@ def check_commands():
 
 
 def check_runs():
+    # The first use builds the program, and says so.
+    subprocess.run([*PROGRAM, "generate", "1", "1"], stdout=subprocess.DEVNULL)
     flows = ("flows", "policy.json", "commands.jsonl", read("flows", "report.txt"), b"")
     for folder, policy, commands, put, said in [flows, *runs()]:
         files = [os.path.join(EXAMPLES, folder, name) for name in (policy, commands, "trace.pcap")]

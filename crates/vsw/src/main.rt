@@ -6,7 +6,7 @@ use std::env;
 use std::process::ExitCode;
 use vsw_app::{exit_code, run_process, status_without};
 use vsw_host::{Host, RealHost};
-use vsw_promise::{Status, Word};
+use vsw_run::{Status, Word};
 
 fn words(rt: &HostRuntime) -> Result<Vec<Word>, Status> {
     let given = env::args(rt).map_err(|error| status_without(error.kind()))?;

@@ -19,16 +19,16 @@ use Rattle.vsw_policy.specs.Sound.{Each}
 use Rattle.vsw_config.specs.Policy.{policy_file_of}
 use Rattle.vsw_config.specs.declared.file.ConfigFault.{ConfigFault}
 use Rattle.vsw_config.specs.declared.file.PolicyFile.{PolicyFile}
-use Rattle.vsw_promise.specs.Complaint.{status_of}
-use Rattle.vsw_promise.specs.Files.{InTurn, HasBadPolicy, HasBadCommands, Reaches}
-use Rattle.vsw_promise.specs.IsRun.{AreAdmitted, EndsByTrace, IsComplete, IsCompleteAlone, IsRun, Runs, RunsBy, RunsGenerated, TraceRead}
+use Rattle.vsw_run.specs.Complaint.{status_of}
+use Rattle.vsw_run.specs.Files.{InTurn, HasBadPolicy, HasBadCommands, Reaches}
+use Rattle.vsw_run.specs.IsRun.{AreAdmitted, EndsByTrace, IsComplete, IsCompleteAlone, IsRun, Runs, RunsBy, RunsGenerated, TraceRead}
 use Rattle.vsw_promise.specs.Jobs.{Setting}
-use Rattle.vsw_promise.specs.Trace.{All, Trace, IsRefused, HasBadHeader, HasBadRecord, HasMore, most_records}
-use Rattle.vsw_promise.specs.declared.ending.Ending.{Ending}
-use Rattle.vsw_promise.specs.declared.ending.Ending.TheVariants as ending
-use Rattle.vsw_promise.specs.declared.ending.Status.{Status}
-use Rattle.vsw_promise.specs.declared.ending.Status.TheVariants as status
-use Rattle.vsw_promise.specs.Words.{Request, Forward, Generate}
+use Rattle.vsw_run.specs.Trace.{All, Trace, IsRefused, HasBadHeader, HasBadRecord, HasMore, most_records}
+use Rattle.vsw_run.specs.declared.ending.Ending.{Ending}
+use Rattle.vsw_run.specs.declared.ending.Ending.TheVariants as ending
+use Rattle.vsw_run.specs.declared.ending.Status.{Status}
+use Rattle.vsw_run.specs.declared.ending.Status.TheVariants as status
+use Rattle.vsw_run.specs.Words.{Request, Forward, Generate}
 
 -- ---- a file that is a capture, of which a trace was read
 

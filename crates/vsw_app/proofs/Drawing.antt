@@ -2,9 +2,9 @@
 use Rattle.std.proofs.Common.{◌≡◌, ℕ, refl, sym, subst}
 use Rattle.vsw_host.specs.Outside.{Outside}
 use Rattle.vsw_host.proofs.CallerLemmas.{TellsSince-SameInputs}
-use Rattle.vsw_promise.specs.declared.ending.Ending.{Ending}
-use Rattle.vsw_promise.specs.declared.ending.Ending.TheVariants as ending
-use Rattle.vsw_promise.specs.IsRun.{EndsGenerated}
+use Rattle.vsw_run.specs.declared.ending.Ending.{Ending}
+use Rattle.vsw_run.specs.declared.ending.Ending.TheVariants as ending
+use Rattle.vsw_run.specs.IsRun.{EndsGenerated}
 use Rattle.vsw_replay.proofs.Summing.{nothing_put}
 use Rattle.vsw_replay.specs.declared.run.WorkloadEnd.{WorkloadEnd}
 use Rattle.vsw_replay.specs.declared.run.WorkloadEnd.TheVariants as end

@@ -7,14 +7,14 @@ use Rattle.vsw_host.specs.Told.{TellsSince}
 use Rattle.vsw_host.proofs.CallerLemmas.{TellsSince-SameInputs}
 use Rattle.vsw_config.specs.declared.file.ConfigFault.{ConfigFault}
 use Rattle.vsw_config.specs.declared.file.ConfigFault.TheVariants as policy
-use Rattle.vsw_promise.specs.Complaint.{policy_status, commands_status, status_of, complaint, Complains}
-use Rattle.vsw_promise.specs.Files.{Opens}
-use Rattle.vsw_promise.specs.IsRun.{Ends, EndsByTrace, EndsGenerated, BreaksOff, PutsSummary, TraceRead, RunsBy, IsRun}
-use Rattle.vsw_promise.specs.declared.ending.Ending.{Ending}
-use Rattle.vsw_promise.specs.declared.ending.Ending.TheVariants as ending
-use Rattle.vsw_promise.specs.declared.ending.Status.{Status}
-use Rattle.vsw_promise.specs.declared.ending.Status.TheVariants as status
-use Rattle.vsw_promise.specs.Words.{Request, Asked, Forward, Generate, asked_in}
+use Rattle.vsw_run.specs.Complaint.{policy_status, commands_status, status_of, complaint, Complains}
+use Rattle.vsw_run.specs.Files.{Opens}
+use Rattle.vsw_run.specs.IsRun.{Ends, EndsByTrace, EndsGenerated, BreaksOff, PutsSummary, TraceRead, RunsBy, IsRun}
+use Rattle.vsw_run.specs.declared.ending.Ending.{Ending}
+use Rattle.vsw_run.specs.declared.ending.Ending.TheVariants as ending
+use Rattle.vsw_run.specs.declared.ending.Status.{Status}
+use Rattle.vsw_run.specs.declared.ending.Status.TheVariants as status
+use Rattle.vsw_run.specs.Words.{Request, Asked, Forward, Generate, asked_in}
 use Rattle.vsw_app.specs.Speaks.{KeepsPut}
 use Rattle.vsw_app.specs.Stages.{HasEndedBy}
 use Rattle.vsw_app.proofs.Growing.{grows_none, grows_as, rose_as}

@@ -15,11 +15,11 @@ use Rattle.vsw_config.specs.Policy.{policy_file_of}
 use Rattle.vsw_config.specs.declared.file.ConfigFault.{ConfigFault}
 use Rattle.vsw_config.specs.declared.file.ConfigFault.TheVariants as policy
 use Rattle.vsw_config.specs.declared.file.PolicyFile.{PolicyFile}
-use Rattle.vsw_promise.specs.Files.{InTurn, IsPolicy, IsWhole, Opens, ShowsPolicy, ShowsCommands, most_policy, most_commands}
-use Rattle.vsw_promise.specs.IsRun.{Ends, Runs}
-use Rattle.vsw_promise.specs.declared.ending.Ending.{Ending}
-use Rattle.vsw_promise.specs.declared.ending.Ending.TheVariants as ending
-use Rattle.vsw_promise.specs.Words.{Request}
+use Rattle.vsw_run.specs.Files.{InTurn, IsPolicy, IsWhole, Opens, ShowsPolicy, ShowsCommands, most_policy, most_commands}
+use Rattle.vsw_run.specs.IsRun.{Ends, Runs}
+use Rattle.vsw_run.specs.declared.ending.Ending.{Ending}
+use Rattle.vsw_run.specs.declared.ending.Ending.TheVariants as ending
+use Rattle.vsw_run.specs.Words.{Request}
 use Rattle.vsw_app.specs.Stages.{JudgesPolicy, JudgesCommands, HasRead, HasPolicy, HasCommands, HasEnded, ReadsPolicy, ReadsCommands}
 use Rattle.vsw_app.proofs.Growing.{grows_same, rose_from}
 use Rattle.vsw_app.proofs.Limits.{policy_over, policy_long, commands_over, commands_long}

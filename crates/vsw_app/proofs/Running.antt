@@ -13,17 +13,17 @@ use Rattle.vsw_policy.specs.Sound.{Each, IsGoodRule, is_listed}
 use Rattle.vsw_config.specs.declared.file.PolicyFile.{PolicyFile}
 use Rattle.vsw_config.specs.declared.file.PortFile.{PortFile}
 use Rattle.vsw_promise.specs.Ports.{port_of, ports_of}
-use Rattle.vsw_promise.specs.Files.{HasTrace, InTurn, IsReadOf, Opens, Reaches}
-use Rattle.vsw_promise.specs.IsRun.{Ends, EndsByTrace, BreaksOff, TraceRead}
+use Rattle.vsw_run.specs.Files.{HasTrace, InTurn, IsReadOf, Opens, Reaches}
+use Rattle.vsw_run.specs.IsRun.{Ends, EndsByTrace, BreaksOff, TraceRead}
 use Rattle.vsw_promise.specs.Jobs.{Setting}
-use Rattle.vsw_promise.specs.Trace.{Reach, All as Whole, Fault, Stopped, Trace, Tells, MayTell}
-use Rattle.vsw_promise.specs.declared.ending.Ending.{Ending}
-use Rattle.vsw_promise.specs.declared.ending.Ending.TheVariants as ending
+use Rattle.vsw_run.specs.Trace.{Reach, All as Whole, Fault, Stopped, Trace, Tells, MayTell}
+use Rattle.vsw_run.specs.declared.ending.Ending.{Ending}
+use Rattle.vsw_run.specs.declared.ending.Ending.TheVariants as ending
 use Rattle.vsw_replay.specs.Runs.{Reads, OpensNothing, EndsSo, RunsTrace}
 use Rattle.vsw_replay.specs.Runs as runs
 use Rattle.vsw_replay.specs.declared.ending.TraceEnd.{TraceEnd}
 use Rattle.vsw_replay.specs.declared.ending.TraceEnd.TheVariants as end
-use Rattle.vsw_promise.specs.Words.{Request}
+use Rattle.vsw_run.specs.Words.{Request}
 use Rattle.vsw_app.specs.Ending.{ending_of}
 use Rattle.vsw_app.specs.Stages.{HasCommands, HasEnded}
 use Rattle.vsw_app.proofs.Growing.{grows_none, grows_as, rose_from, rose_as}

@@ -6,7 +6,7 @@ use Rattle.vsw_host.specs.declared.host.Failed.{Failed}
 use Rattle.vsw_config.specs.Path.{step_text}
 use Rattle.vsw_config.specs.declared.fault.Step.{Step}
 use Rattle.vsw_config.specs.declared.fault.Step.TheVariants.{Member, Place}
-use Rattle.vsw_promise.specs.Complaint.{Complains}
+use Rattle.vsw_run.specs.Complaint.{Complains}
 use Rattle.vsw_app.specs.Speaks.{Says, Speaks, KeepsPut, name_text}
 use Rattle.vsw_app.proofs.Growing.{grows_then, front_then, front_more, rose_from}
 

@@ -5,11 +5,11 @@ use Rattle.std.specs.declared.process.ExitCode.{ExitCode}
 use Rattle.std_io.specs.declared.io.kind.ErrorKind.{ErrorKind}
 use Rattle.std_io.specs.declared.io.kind.ErrorKind.TheVariants.{OutOfMemory}
 use Rattle.vsw_host.specs.Outside.{Outside, Rose}
-use Rattle.vsw_promise.specs.Complaint.{number_of}
-use Rattle.vsw_promise.specs.IsRun.{IsRun, IsComplete, IsCompleteAlone}
-use Rattle.vsw_promise.specs.declared.ending.Status.{Status}
-use Rattle.vsw_promise.specs.declared.ending.Status.TheVariants.{Usage, ReadFault, WriteFault, Memory}
-use Rattle.vsw_promise.specs.Words.{asked_in}
+use Rattle.vsw_run.specs.Complaint.{number_of}
+use Rattle.vsw_run.specs.IsRun.{IsRun, IsComplete, IsCompleteAlone}
+use Rattle.vsw_run.specs.declared.ending.Status.{Status}
+use Rattle.vsw_run.specs.declared.ending.Status.TheVariants.{Usage, ReadFault, WriteFault, Memory}
+use Rattle.vsw_run.specs.Words.{asked_in}
 
 -- how a run ends whose words can't be had: where there was no room for them, Memory; a word that isn't UTF-8 is of no grammar
 abbrev pub status_without : ErrorKind → Status

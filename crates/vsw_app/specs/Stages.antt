@@ -5,11 +5,11 @@ use Rattle.vsw_commandfile.specs.declared.line.Line.{Line}
 use Rattle.vsw_host.specs.Outside.{Opened, Outside, SameOutputs}
 use Rattle.vsw_config.specs.Policy.{policy_file_of}
 use Rattle.vsw_config.specs.declared.file.PolicyFile.{PolicyFile}
-use Rattle.vsw_promise.specs.Files.{AreCommands, AreCutShort, IsPolicy, Opens}
-use Rattle.vsw_promise.specs.IsRun.{Runs, RunsGenerated}
-use Rattle.vsw_promise.specs.declared.ending.Ending.{Ending}
-use Rattle.vsw_promise.specs.declared.ending.Ending.TheVariants as ending
-use Rattle.vsw_promise.specs.Words.{Request, Asked, Forward, Generate}
+use Rattle.vsw_run.specs.Files.{AreCommands, AreCutShort, IsPolicy, Opens}
+use Rattle.vsw_run.specs.IsRun.{Runs, RunsGenerated}
+use Rattle.vsw_run.specs.declared.ending.Ending.{Ending}
+use Rattle.vsw_run.specs.declared.ending.Ending.TheVariants as ending
+use Rattle.vsw_run.specs.Words.{Request, Asked, Forward, Generate}
 
 -- the bytes of a policy file, judged: what is wrong with them ends the run by that, and want of memory by that
 abbrev pub JudgesPolicy : List ℕ → Result PolicyFile Ending → Type 0

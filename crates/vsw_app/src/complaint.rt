@@ -3,7 +3,7 @@
 ghost use Rattle.std.specs.Prelude.{◌≡◌, ◌++◌, codes, decimal};
 ghost use Rattle.vsw_config.specs.Path.{step_text, steps_text, path_text};
 ghost use Rattle.vsw_pcap.specs.Fault.{trace_name};
-ghost use Rattle.vsw_promise.specs.Complaint.{byte_text, fault_text, policy_text, commands_text, complaint};
+ghost use Rattle.vsw_run.specs.Complaint.{byte_text, fault_text, policy_text, commands_text, complaint};
 ghost use Rattle.vsw_app.specs.Speaks.{name_text, Speaks};
 
 use itoa::Buffer;
@@ -11,7 +11,7 @@ use vsw_commandfile::CommandsFault;
 use vsw_config::{ConfigFault, Kind, Step};
 use vsw_host::{Failed, Host};
 use vsw_pcap::BadTrace;
-use vsw_promise::Ending;
+use vsw_run::Ending;
 
 /// Complains a piece of the words.
 fn say<H: Host>(host: &mut H, words: &[u8]) -> Result<(), Failed>

@@ -2,7 +2,7 @@
 
 ghost use Rattle.std.specs.Prelude.{◌≡◌};
 ghost use Rattle.vsw_host.specs.Outside.{SameInputs};
-ghost use Rattle.vsw_promise.specs.Complaint.{policy_status, commands_status, status_of, complaint, Complains};
+ghost use Rattle.vsw_run.specs.Complaint.{policy_status, commands_status, status_of, complaint, Complains};
 ghost use Rattle.vsw_app.specs.Ending.{drawn_ending, ending_of};
 ghost use Rattle.vsw_app.specs.Speaks.{KeepsPut};
 
@@ -10,8 +10,8 @@ use crate::complaint::say_ending;
 use vsw_commandfile::CommandsFault;
 use vsw_config::ConfigFault;
 use vsw_host::Host;
-use vsw_promise::{Ending, Status};
 use vsw_replay::{TraceEnd, WorkloadEnd};
+use vsw_run::{Ending, Status};
 
 /// The ending of a run by how its trace ended.
 pub fn ending_of(end: TraceEnd) -> Ending

@@ -2,7 +2,7 @@
 
 ghost use Rattle.std.specs.Prelude.{◌≡◌};
 ghost use Rattle.vsw_host.specs.Outside.{Outside};
-ghost use Rattle.vsw_promise.specs.Words.{Request};
+ghost use Rattle.vsw_run.specs.Words.{Request};
 ghost use Rattle.vsw_app.specs.Stages.{JudgesPolicy, JudgesCommands, HasPolicy, ReadsPolicy, ReadsCommands};
 
 use std::alloc::Global;
@@ -10,7 +10,7 @@ use vsw_base::Items;
 use vsw_commandfile::{CommandsFault, Line, read_commands};
 use vsw_config::{ConfigFault, PolicyFile, read_policy};
 use vsw_host::{Host, ReadEnd, read_file};
-use vsw_promise::Ending;
+use vsw_run::Ending;
 
 /// Bytes of the longest policy file.
 const POLICY_MAX: u64 = 4_194_304;

@@ -1,7 +1,7 @@
 //! What the process ends with, told from how its run ended.
 
 ghost use Rattle.std.specs.Prelude.{◌≡◌, ◌↔◌};
-ghost use Rattle.vsw_promise.specs.Complaint.{number_of};
+ghost use Rattle.vsw_run.specs.Complaint.{number_of};
 ghost use Rattle.vsw_app.specs.Exit.{status_without, Exits};
 
 use crate::open::Open;
@@ -12,7 +12,7 @@ use std::process::ExitCode;
 use std::sync::Wait;
 use std::thread::Threads;
 use vsw_host::Host;
-use vsw_promise::{Status, Word};
+use vsw_run::{Status, Word};
 
 /// How a run ends whose words can't be had: one that isn't UTF-8 is of no grammar.
 pub fn status_without(error: io::ErrorKind) -> Status

@@ -5,9 +5,9 @@ ghost use Rattle.vsw_host.specs.Outside.{Rose};
 ghost use Rattle.vsw_generate.specs.Policy.{policy_text};
 ghost use Rattle.vsw_config.specs.Good.{IsGoodPolicy};
 ghost use Rattle.vsw_config.specs.Policy.{policy_file_of};
-ghost use Rattle.vsw_promise.specs.IsRun.{IsRun, IsComplete, IsCompleteAlone};
-ghost use Rattle.vsw_promise.specs.Seen.{IsWithin, asked_seen, request_seen};
-ghost use Rattle.vsw_promise.specs.Words.{asked_in};
+ghost use Rattle.vsw_run.specs.IsRun.{IsRun, IsComplete, IsCompleteAlone};
+ghost use Rattle.vsw_run.specs.Seen.{IsWithin, asked_seen, request_seen};
+ghost use Rattle.vsw_run.specs.Words.{asked_in};
 ghost use Rattle.vsw_replay.specs.WorkloadRuns.{RunsWorkload};
 ghost use Rattle.vsw_app.specs.Stages.{HasEnded, HasEndedBy, HasGenerated};
 
@@ -20,8 +20,8 @@ use std::thread::Threads;
 use vsw_config::{PolicyFile, read_policy};
 use vsw_generate::Workload;
 use vsw_host::Host;
-use vsw_promise::{Asked, Ending, Request, Status, Word, read_words};
 use vsw_replay::{Switch, Watch, WorkloadEnd, run_workload};
+use vsw_run::{Asked, Ending, Request, Status, Word, read_words};
 use vsw_workers::Gate;
 
 /// Runs over the files that the words name, each read and judged before the next is opened.

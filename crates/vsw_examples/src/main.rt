@@ -9,7 +9,7 @@ use std::thread::Threads;
 use vsw_app::{Open, run_words};
 use vsw_base::{Items, Text};
 use vsw_host::{Host, MemoryFile, MemoryHost, ReadEnd, RealHost, are_distinct, read_file};
-use vsw_promise::Word;
+use vsw_run::Word;
 
 /// The files of each run: a folder, with its trace, and in it a policy and commands.
 const RUNS: &[[&str; 3]] = &[

@@ -2,16 +2,13 @@ pub mod MergingCallers
 pub mod MergedTexts
 pub mod Callers
 pub mod Covers
-pub mod Endings
 pub mod Entries
 pub mod Isolated
 pub mod Ones
 pub mod Replies
 pub mod Reports
-pub mod Runs
 pub mod Telling
 pub mod Values
-pub mod Wants
 pub mod Agrees
 pub mod Plain
 pub mod PlainRounds

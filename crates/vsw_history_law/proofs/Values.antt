@@ -1,5 +1,5 @@
 -- What one worker tells is one value.
-use Rattle.std.proofs.Common.{◌≡◌, ◌<◌, ◌≤◌, ℕ, suc, ◌+◌, ◌-◌, ◌==◌, ◌&&◌, ◌||◌, not, Bool, true, false, if◌then◌else◌, List, [], ◌∷◌, ◌++◌, length, map, filter, take, None, Ok, Err, Result, refl, ap, sym, ◌∙◌, subst, arith, eq-eqb}
+use Rattle.std.proofs.Common.{◌≡◌, ◌<◌, ◌≤◌, ℕ, suc, ◌+◌, ◌-◌, ◌==◌, ◌&&◌, ◌||◌, not, Bool, true, false, if◌then◌else◌, List, [], ◌∷◌, ◌++◌, length, map, filter, take, Ok, Err, Result, refl, ap, sym, ◌∙◌, subst, arith, eq-eqb}
 use Rattle.std.specs.List.{list_any}
 use Rattle.std.proofs.lemmas.Nat.{mod_below}
 use mathlib.Core.List.{IsPrefix}
@@ -20,13 +20,11 @@ use Rattle.vsw_port.specs.History.{Opening, replay, after, AreRight, AllRight}
 use Rattle.vsw_policy.specs.Layer.{LayerSeen}
 use Rattle.vsw_promise.specs.Jobs.{aim_of, Setting, Jobs, cuts, jobs_of, aimed_at, packet_jobs, worker_of, loose_among, macs_of, packets_between, crossing_by}
 use Rattle.vsw_port.specs.Order.{StandsOnce}
-use Rattle.vsw_pcap.proofs.Unique.{captures_are_unique}
-use Rattle.vsw_report.specs.Print.{report_text}
 use Rattle.vsw_promise.specs.Rounds.{opening_of, IsPortRound, ArePortRounds, AreRoundsAt, AreChained, AreHistories, end_before}
 use Rattle.vsw_promise.specs.Told.{callers, line_of, what_of, in_told_order, lines_of}
 use Rattle.vsw_report.specs.Short.{tells_short, is_short_port, is_short_round}
 use Rattle.vsw_promise.specs.Alone.{calls_from, history_from, port_round_from, all_of, port_rounds_from, histories_from, rounds_from, rounds_alone}
-use Rattle.vsw_history_law.specs.Law.{AreServed, OneValue, OneText}
+use Rattle.vsw_history_law.specs.Law.{AreServed, OneValue}
 use Rattle.vsw_port.proofs.Fronts.{prefix_take, take_prefix}
 use Rattle.vsw_port.proofs.Calls.{each_append, each_of_all}
 use Rattle.vsw_history_law.proofs.Callers.{worker_once, controller_once}
@@ -205,11 +203,3 @@ pub one_value : OneValue
 one_value s records cuts rounds w e run short =
     rounds_value s records run.histories w run.right (λ first next. all_stand s records first next 0 s.policy.ports (record { least = omega (arith, w); most = omega (arith, w); asked = e })) cuts rounds (map (λ p. 0) (ports_of s.policy)) (map length run.histories) run.are run.chained (any_none is_short_round rounds short)
     ∙ ap (λ g. rounds_from s records g cuts) (no_fronts (ports_of s.policy) run.histories run.right)
-
--- so is the text
-pub one_text : OneText
-one_text s t text other w e a b =
-    let same : a.records ≡ b.records = (captures_are_unique t.bytes a.records b.records None None a.capture b.capture).0 in
-    let first : a.rounds ≡ rounds_alone s a.records (cuts s.commands (length a.records)) = one_value s a.records (cuts s.commands (length a.records)) a.rounds w e a.are a.short_is in
-    let second : b.rounds ≡ rounds_alone s b.records (cuts s.commands (length b.records)) = one_value s b.records (cuts s.commands (length b.records)) b.rounds w e b.are b.short_is in
-    a.text_is ∙ (ap report_text (first ∙ (ap (λ rs. rounds_alone s rs (cuts s.commands (length rs))) same ∙ sym second)) ∙ sym b.text_is)

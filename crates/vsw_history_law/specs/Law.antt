@@ -1,9 +1,6 @@
 -- What holds of histories and reports.
-use Rattle.std.specs.Prelude.{◌≡◌, ◌≢◌, ◌<◌, ◌≤◌, ◌⊎◌, ℕ, ◌==◌, ◌&&◌, List, [], ◌∷◌, ◌++◌, length, map, filter, Some, Bool, true, false, codes, if◌then◌else◌}
+use Rattle.std.specs.Prelude.{◌≡◌, ◌<◌, ◌≤◌, ℕ, ◌==◌, ◌&&◌, List, [], ◌∷◌, ◌++◌, length, map, filter, Some, Bool, true, false, if◌then◌else◌}
 use Rattle.std.specs.List.{slice_get, list_any, flat_map}
-use Rattle.vsw_promise.specs.declared.ending.Status.{Status}
-use Rattle.vsw_promise.specs.declared.ending.Status.TheVariants as status
-use Rattle.vsw_host.specs.Outside.{Inputs, Outside, Rose}
 use Rattle.vsw_policy.specs.Layer.{LayerSeen}
 use Rattle.vsw_pcap.specs.declared.capture.Record.{Record}
 use Rattle.vsw_policy.specs.declared.command.Command.{Command}
@@ -22,11 +19,8 @@ use Rattle.vsw_report.specs.declared.told.ToldLine.{ToldLine}
 use Rattle.vsw_report.specs.declared.told.What.{What}
 use Rattle.vsw_report.specs.declared.told.What.TheVariants as what
 use Rattle.vsw_port.specs.Calls.{Job, Carry, Ask, Call, event_of, job_of, job_item, job_doer, jobs_by, calls_of, Legal, HasBytes}
-use Rattle.vsw_promise.specs.IsRun.{IsRun}
-use Rattle.vsw_promise.specs.Words.{Request, Forward, asked_in}
 use Rattle.vsw_promise.specs.Agree.{lines_at}
 use Rattle.vsw_promise.specs.Alone.{rounds_alone}
-use Rattle.vsw_promise.specs.Trace.{Trace, TellsAll}
 use Rattle.vsw_report.specs.Short.{are_short}
 use Rattle.vsw_promise.specs.Jobs.{Setting, Jobs, jobs_of}
 use Rattle.vsw_port.specs.Order.{StandsOnce}
@@ -107,47 +101,6 @@ pub record AreServed (s : Setting) : Type 0 where
 -- the rounds of one worker, in whose lines no want of memory stands, are those worked out
 abbrev pub OneValue : Type 0
 OneValue = (s : Setting) (records : List Record) (cuts : List ℕ) (rounds : List Round) → s.workers ≡ 1 → AreAsked s → AreRounds s records cuts rounds → are_short rounds ≡ false → rounds ≡ rounds_alone s records cuts
-
--- so what is put of a trace that ends cleanly is one text of the three files
-abbrev pub OneText : Type 0
-OneText = (s : Setting) (t : Trace) (text other : List ℕ) → s.workers ≡ 1 → AreAsked s → TellsAll s t false text → TellsAll s t false other → text ≡ other
-
--- ---- one run
-
--- two hosts hold the same files, and tell them
-pub record AreAlike (one two : Outside) : Type 0 where
-  pub files : Inputs
-  pub others : Inputs
-  pub told : one.inputs ≡ Some files
-  pub told_too : two.inputs ≡ Some others
-  pub same : files.files ≡ others.files
-
--- the host counted no fault of reading or putting
-pub record HasNoFault (old new : Outside) : Type 0 where
-  pub read : ¬ (Rose old.input_faults new.input_faults)
-  pub put : ¬ (Rose old.put_faults new.put_faults)
-
--- two runs of the same words over the same files end with one status, whatever the number of workers, unless a host counts a fault or memory is wanting
-abbrev pub OneStatus : Type 0
-OneStatus = (words : List (List ℕ)) (old new other last : Outside) (s t : Status) → AreAlike old other → HasNoFault old new → HasNoFault other last
-    → IsRun words old new s → IsRun words other last t → s ≢ status.Memory → t ≢ status.Memory → s ≡ t
-
--- want of memory stands in a text: a packet was dropped for it, or a command refused
-abbrev pub TellsWant : List ℕ → Type 0
-TellsWant text = (front : List ℕ) × (back : List ℕ) × ((text ≡ front ++ (codes " drop memory\n" ++ back)) ⊎ (text ≡ front ++ (codes " refused 10 Memory\n" ++ back)))
-
--- nothing was put before, and no want of memory stands in what was put since, which the host tells
-pub record PutsPlenty (old new : Outside) : Type 0 where
-  pub before : old.put ≡ Some []
-  pub text : List ℕ
-  pub now : new.put ≡ Some text
-  pub plenty : ¬ (TellsWant text)
-
--- with one worker they also put the same, unless want of memory stands in it
-abbrev pub OneRun : Type 0
-OneRun = (words : List (List ℕ)) (old new other last : Outside) (s t : Status) → AreAlike old other → HasNoFault old new → HasNoFault other last
-    → IsRun words old new s → IsRun words other last t → s ≢ status.Memory → t ≢ status.Memory
-    → ((q : Request) → asked_in words ≡ Some (Forward q) → q.workers ≡ 1) → PutsPlenty old new → PutsPlenty other last → (new.put ≡ last.put) × (s ≡ t)
 
 -- ---- controllers
 

@@ -1,7 +1,7 @@
-//! What holds of rounds, their lines, and runs.
+//! What holds of rounds and their lines.
 
 ghost use Rattle.vsw_history_law.specs.Cover.{CommandsAreCovered, PacketsAreCovered, RoundsAreSmall};
-ghost use Rattle.vsw_history_law.specs.Law.{EachEntryIsTold, LinesAreCalls, NoOtherLines, OneLineEach, OneRun, OneStatus, OneText, OneValue, OthersApart, RepliesAlone, RunsLegally, RunsRepliesAlone};
+ghost use Rattle.vsw_history_law.specs.Law.{EachEntryIsTold, LinesAreCalls, NoOtherLines, OneLineEach, OneValue, OthersApart, RepliesAlone, RunsLegally, RunsRepliesAlone};
 
 /// Each packet of a trace is in one round, and at each command's packet one round begins. No round has more than 1,024 packets.
 pub fn cover_laws()
@@ -20,12 +20,9 @@ pub fn report_laws()
     ensures entries { EachEntryIsTold }
 {}
 
-/// The status of a run is one value. With one worker so is its report, where memory suffices.
+/// The rounds of one worker are one value, where memory suffices.
 pub fn value_laws()
     ensures rounds { OneValue }
-    ensures text { OneText }
-    ensures status { OneStatus }
-    ensures run { OneRun }
 {}
 
 /// Controllers don't notice each other.

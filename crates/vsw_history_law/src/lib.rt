@@ -1,4 +1,4 @@
-//! What holds of every report: laws over histories, merged lines, runs, and runs of any number of workers.
+//! What holds of every report: laws over histories, merged lines, rounds, and rounds of any number of workers.
 #![tactic(auto)]
 
 mod agreement_law;

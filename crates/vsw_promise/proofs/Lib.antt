@@ -1,8 +1,3 @@
-pub mod Bounds
-pub mod Decimals
-pub mod Forwards
-pub mod Grammars
-pub mod Stops
 pub mod Firsts
 pub mod Groups
 pub mod Placing
@@ -11,7 +6,6 @@ pub mod Good
 pub mod Exists
 pub mod PortRounds
 pub mod Reports
-pub mod Wholes
 pub mod Counts
 pub mod Beside
 pub mod First

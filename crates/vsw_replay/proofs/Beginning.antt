@@ -11,35 +11,37 @@ use Rattle.vsw_host.specs.declared.source.Unopened.TheVariants as unopened
 use Rattle.vsw_host.specs.declared.host.Failed.{Failed}
 use Rattle.vsw_pcap.specs.Capture.{header_of, IsCapture}
 use Rattle.vsw_pcap.specs.Decides.{Decides}
-use Rattle.vsw_pcap.specs.Reader.{Waits}
 use Rattle.vsw_pcap.specs.declared.capture.Record.{Record}
 use Rattle.vsw_pcap.specs.declared.fault.BadTrace.{BadTrace}
 use Rattle.vsw_pcap.specs.declared.fault.BadTrace.TheVariants.{NotPcap, Version, LinkType, Cut, Huge}
 use Rattle.vsw_promise.specs.Ports.{ports_of}
 use Rattle.vsw_promise.specs.Jobs.{Setting, cuts_within}
-use Rattle.vsw_promise.specs.Trace.{most_records, Trace, All, Fault, Stopped}
-use Rattle.vsw_promise.specs.declared.ending.Ending.TheVariants as ending
+use Rattle.vsw_run.specs.Trace.{most_records, Trace, All, Fault, Stopped}
+use Rattle.vsw_run.specs.declared.ending.Ending.TheVariants as ending
 use Rattle.vsw_report.specs.Print.{head_line, report_text}
 use Rattle.vsw_crew.specs.Switch.{SwitchNow}
 use Rattle.vsw_replay.specs.declared.ending.TraceEnd.{TraceEnd}
 use Rattle.vsw_replay.specs.declared.ending.TraceEnd.TheVariants as end
-use Rattle.vsw_replay.specs.declared.reading.Reading.{Reading}
-use Rattle.vsw_replay.specs.declared.reading.Stop.{Stop}
-use Rattle.vsw_replay.specs.declared.reading.Stop.TheVariants as stop
+use Rattle.vsw_reading.specs.declared.reading.Reading.{Reading}
+use Rattle.vsw_reading.specs.declared.reading.Stop.{Stop}
+use Rattle.vsw_reading.specs.declared.reading.Stop.TheVariants as stop
 use Rattle.vsw_replay.specs.declared.trace.Run.{Run}
 use Rattle.vsw_replay.specs.declared.trace.Stretch.{Stretch}
 use Rattle.vsw_replay.specs.Private.Cut.{IsNextCut}
 use Rattle.vsw_replay.specs.Private.Going.{Since, IsFilled, IsOpened, IsFirst, unheaded_of}
-use Rattle.vsw_replay.specs.Private.Passed.{IsPassed}
-use Rattle.vsw_replay.specs.Private.Reads.{IsRead, IsOpen, Holds, Says}
+use Rattle.vsw_reading.specs.Passed.{IsPassed}
+use Rattle.vsw_reading.specs.Reads.{IsRead, Holds, Says}
 use Rattle.vsw_replay.specs.Runs.{Reads, RunsTrace}
 use Rattle.vsw_replay.specs.Private.SoFar.{AreSoFar}
 use Rattle.vsw_replay.proofs.Carried.{none_so_far}
 use Rattle.vsw_replay.proofs.Completing.{read_to, header_follows, some_tells}
 use Rattle.vsw_replay.proofs.Cuts.{within_none}
-use Rattle.vsw_replay.proofs.Filling.{passed_read, shows_of, FillsSo, reading_on}
+use Rattle.vsw_replay.proofs.Filling.{shows_of, reading_on}
+use Rattle.vsw_reading.proofs.Open.{FillsSo}
+use Rattle.vsw_reading.proofs.Passing.{passed_read, waits_passed}
 use Rattle.vsw_replay.proofs.Growing.{grows_none, grows_then, grows_is}
-use Rattle.vsw_replay.proofs.Sources.{reads_whole, reads_stopped, reads_fault, since_put, since_read, grows_read, reading_put, shows_put, runs_so, ends_so, breaks_off}
+use Rattle.vsw_replay.proofs.Sources.{reads_whole, reads_stopped, reads_fault, since_put, since_read, grows_read, shows_put, runs_so, ends_so, breaks_off}
+use Rattle.vsw_reading.proofs.Staying.{reading_put}
 
 -- ---- a header was accepted
 
@@ -56,10 +58,6 @@ bad_passed bytes all Version seen c e = absurd (cc e)
 bad_passed bytes all LinkType seen c e = absurd (cc e)
 bad_passed bytes all (Cut at) seen c e = record { form = c.0.form; rest = c.0.rest; header = c.0.header; splits = c.0.splits }
 bad_passed bytes all (Huge at) seen c e = record { form = c.form; rest = c.rest; header = c.header; splits = c.splits }
-
-waits_passed : (bytes : List ℕ) (all : List Record) → 24 ≤ length bytes → Waits bytes all → IsPassed bytes all
-waits_passed bytes all long (inl short) = absurd (omega (arith, long, short.0))
-waits_passed bytes all long (inr w) = record { form = w.1.form; rest = w.1.rest; header = w.1.header; splits = w.1.splits }
 
 -- the first round
 headed : (start now : Outside) (name : List ℕ) (r : Reading) (bytes : List ℕ) (most : ℕ) (st : Stop) → 0 < most → IsRead start now name r bytes r.batch → Says start now name r bytes r.batch most st → unheaded_of st r.seen ≡ None → IsPassed bytes r.batch
@@ -191,8 +189,3 @@ unopened_memory s start now name why e opens =
       inputs_later = omega (arith, o.1.input_faults);
       puts_later = omega (arith, o.0.put_faults);
     }
-
--- ---- nothing was read yet
-
-pub open_begun : (start now : Outside) (name : List ℕ) (r : Reading) → r.batch ≡ [] → IsRead start now name r [] [] → IsOpen now r
-open_begun start now name r e read = record { start = start; name = name; given = []; reads = record { bytes = []; read = subst (λ (b : List Record). IsRead start now name r [] b) (sym e) read } }

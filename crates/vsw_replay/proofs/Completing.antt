@@ -2,7 +2,6 @@
 use Rattle.std.proofs.Common.{◌≡◌, ◌<◌, ◌≤◌, ◌⊎◌, inl, inr, ◌+◌, ◌-◌, ℕ, Bool, true, false, nat_lt, None, Result, Ok, Err, List, [], ◌∷◌, ◌++◌, length, take, take_all, map, drop, refl, sym, ◌∙◌, ap, subst, arith, append_assoc, append-nil, length-append, length-drop}
 use Rattle.std.specs.List.{flat_map}
 use Rattle.std.proofs.lemmas.Grind.{common_steps}
-use Rattle.std.proofs.lemmas.List.{drop-append-le}
 use Rattle.vsw_port.specs.declared.event.Event.{Event}
 use Rattle.vsw_pcap.specs.Capture.{header_of, front_of, Splits, IsCapture}
 use Rattle.vsw_pcap.specs.declared.capture.Form.{Form}
@@ -11,40 +10,25 @@ use Rattle.vsw_pcap.specs.declared.capture.Front.TheVariants.{Whole, Part, Overs
 use Rattle.vsw_pcap.specs.declared.capture.Record.{Record}
 use Rattle.vsw_pcap.specs.declared.fault.BadTrace.{BadTrace}
 use Rattle.vsw_pcap.specs.declared.fault.BadTrace.TheVariants.{NotPcap, Version, LinkType, Cut, Huge}
-use Rattle.vsw_pcap.proofs.Format.{header_of-append, not_cut, not_huge, accepted_long, Splits-append}
+use Rattle.vsw_pcap.proofs.Format.{not_cut, not_huge}
 use Rattle.vsw_promise.specs.Ports.{ports_of}
 use Rattle.vsw_promise.specs.Jobs.{Setting, cuts, cuts_within}
-use Rattle.vsw_promise.specs.Trace.{most_records, Trace, Reach, All, Stopped, TellsAll, TellsWithin, MayTell}
-use Rattle.vsw_promise.specs.declared.ending.Ending.TheVariants as ending
+use Rattle.vsw_run.specs.Trace.{most_records, Trace, Reach, All, Stopped, TellsAll, TellsWithin, MayTell}
+use Rattle.vsw_run.specs.declared.ending.Ending.TheVariants as ending
 use Rattle.vsw_report.specs.Print.{head_line, round_text, report_text}
 use Rattle.vsw_report.specs.Short.{are_short}
 use Rattle.vsw_report.specs.declared.round.Round.{Round}
 use Rattle.vsw_replay.specs.Private.Cut.{IsCut, cuts_until, AreBehind}
-use Rattle.vsw_replay.specs.Private.Passed.{IsPassed}
+use Rattle.vsw_reading.specs.Passed.{IsPassed}
 use Rattle.vsw_replay.specs.Private.SoFar.{AreSoFar}
 use Rattle.vsw_replay.proofs.Ordered.{Has}
 use Rattle.vsw_replay.proofs.Cuts.{until_below, within_below, within_more, within_none, until_ascends, until_more}
 use Rattle.vsw_replay.proofs.Carried.{AreLow, low_of, none_so_far, rounds_follow, rounds_of}
-use Rattle.vsw_replay.proofs.Splitting.{splits_append, splits_at, splits_shorter, NotWhole, ends_within, stops_at}
+use Rattle.vsw_reading.proofs.Splitting.{splits_append, splits_shorter, NotWhole, ends_within, stops_at}
 
 -- a trace of which these bytes were read
 abbrev pub read_to : Reach → List ℕ → Trace
 read_to reach bytes = record { bytes = bytes; reach = reach }
-
--- ---- what was found
-
-pub passed_first : (bytes : List ℕ) (rs qs : List Record) → IsPassed bytes (rs ++ qs) → IsPassed bytes rs
-passed_first bytes rs qs p = let t = splits_at p.form (drop 24 bytes) rs qs p.rest p.splits in record { form = p.form; rest = t.mid; header = p.header; splits = t.first }
-
--- a good header and its records stay, whatever follows
-pub splits_more : (bytes more : List ℕ) (form : Form) (rs : List Record) (rest : List ℕ) → header_of bytes ≡ Ok form → Splits form (drop 24 bytes) rs rest → Splits form (drop 24 (bytes ++ more)) rs (rest ++ more)
-splits_more bytes more form rs rest h p = subst (λ b. Splits form b rs (rest ++ more)) (sym (drop-append-le 24 bytes more (accepted_long bytes form h))) (Splits-append form (drop 24 bytes) rs rest more p)
-
-pub header_more : (bytes more : List ℕ) (form : Form) → header_of bytes ≡ Ok form → header_of (bytes ++ more) ≡ Ok form
-header_more bytes more form h = header_of-append bytes more (accepted_long bytes form h) ∙ h
-
-pub passed_more : (bytes more : List ℕ) (rs : List Record) → IsPassed bytes rs → IsPassed (bytes ++ more) rs
-passed_more bytes more rs p = record { form = p.form; rest = p.rest ++ more; header = header_more bytes more p.form p.header; splits = splits_more bytes more p.form rs p.rest p.header p.splits }
 
 -- ---- texts
 

@@ -3,7 +3,7 @@ use Rattle.std.proofs.Common.{◌≡◌, ◌≤◌, ◌+◌, ◌-◌, ◌*◌, �
 use Rattle.vsw_generate.specs.Draws.{after, kind_of, size_of}
 use Rattle.vsw_generate.specs.Packets.{bytes_of, len_of}
 use Rattle.vsw_pcap.specs.declared.capture.Record.{Record}
-use Rattle.vsw_promise.specs.Generated.{whole_record}
+use Rattle.vsw_run.specs.Generated.{whole_record}
 use Rattle.vsw_replay.specs.Draws.{Draws, DrawsOne, records_left}
 
 -- a packet fits the room

@@ -1,39 +1,38 @@
 -- The records of a round were read, or the run ended in that.
-use Rattle.std.proofs.Common.{◌≡◌, ◌<◌, ◌≤◌, inl, inr, ◌+◌, ◌-◌, ℕ, Result, Ok, Err, List, [], ◌++◌, length, drop, refl, sym, ◌∙◌, ap, subst, arith, append-nil, length-append, length-drop}
+use Rattle.std.proofs.Common.{◌≡◌, ◌<◌, ◌≤◌, inl, inr, ◌+◌, ◌-◌, ℕ, Ok, Err, List, [], ◌++◌, length, drop, refl, sym, ◌∙◌, ap, subst, arith, append-nil, length-append, length-drop}
 use Rattle.vsw_commandfile.specs.declared.line.Line.{Line}
 use Rattle.vsw_base.specs.declared.fault.NoMemory.{NoMemory}
 use Rattle.vsw_host.specs.Outside.{Outside, SameOutputs}
 use Rattle.vsw_host.specs.Source.{IsReading}
 use Rattle.vsw_pcap.specs.Capture.{front_of, Splits}
 use Rattle.vsw_pcap.specs.Decides.{Decides}
-use Rattle.vsw_pcap.specs.Progress.{Progress}
-use Rattle.vsw_pcap.specs.Reader.{Stands, Waits}
+use Rattle.vsw_pcap.specs.Reader.{Waits}
 use Rattle.vsw_pcap.specs.declared.capture.Record.{Record}
 use Rattle.vsw_pcap.proofs.Format.{accepted_long}
 use Rattle.vsw_promise.specs.Jobs.{Setting, cuts_within}
-use Rattle.vsw_promise.specs.Trace.{most_records, Stopped}
-use Rattle.vsw_promise.specs.declared.ending.Ending.TheVariants as ending
+use Rattle.vsw_run.specs.Trace.{most_records, Stopped}
+use Rattle.vsw_run.specs.declared.ending.Ending.TheVariants as ending
 use Rattle.vsw_report.specs.Print.{report_text}
 use Rattle.vsw_crew.specs.Switch.{SwitchNow}
 use Rattle.vsw_replay.specs.declared.ending.TraceEnd.TheVariants as end
-use Rattle.vsw_replay.specs.declared.reading.Reading.{Reading}
-use Rattle.vsw_replay.specs.declared.reading.Stop.{Stop}
-use Rattle.vsw_replay.specs.declared.reading.Stop.TheVariants as stop
+use Rattle.vsw_reading.specs.declared.reading.Reading.{Reading}
+use Rattle.vsw_reading.specs.declared.reading.Stop.{Stop}
+use Rattle.vsw_reading.specs.declared.reading.Stop.TheVariants as stop
 use Rattle.vsw_replay.specs.declared.trace.Run.{Run}
 use Rattle.vsw_replay.specs.Private.Cut.{IsCut, IsNextCut}
 use Rattle.vsw_replay.specs.Private.Going.{ShowsStop, IsAsLong, IsFilled, IsBetween, CanRead, IsNear}
-use Rattle.vsw_replay.specs.Private.Passed.{IsPassed, Pauses}
-use Rattle.vsw_replay.specs.Private.Reads.{IsRead, IsOpen, Holds, Says, StopsSo, Fills, Peeks}
+use Rattle.vsw_replay.specs.Private.Pauses.{Pauses}
+use Rattle.vsw_reading.specs.Passed.{IsPassed}
+use Rattle.vsw_reading.specs.Reads.{IsRead, IsOpen, Says, StopsSo, Peeks}
 use Rattle.vsw_replay.specs.Runs.{RunsTrace}
 use Rattle.vsw_replay.specs.Private.SoFar.{AreSoFar}
-use Rattle.vsw_replay.proofs.Completing.{read_to, passed_first, passed_more, header_more, splits_more, tells_within, front_follows}
+use Rattle.vsw_replay.proofs.Completing.{read_to, tells_within, front_follows}
+use Rattle.vsw_reading.proofs.Passing.{passed_first, passed_more, header_more, splits_more, passed_read}
 use Rattle.vsw_replay.proofs.Sources.{reads_stopped, since_read, grows_read, runs_so, ends_so, breaks_after}
-use Rattle.vsw_replay.proofs.Splitting.{Passed, splits_shorter, stops_at, stands_passed}
+use Rattle.vsw_reading.proofs.Splitting.{Passed, splits_shorter, stops_at, stands_passed}
+use Rattle.vsw_reading.proofs.Open.{cleared, holds_cleared, FillsSo, PeeksSo}
 
 -- ---- why the reading stopped
-
-pub passed_read : (p : Progress) (bytes : List ℕ) (records : List Record) → 0 < length records → Stands p bytes records → IsPassed bytes records
-passed_read p bytes records some stands = let t = stands_passed p bytes records some stands in record { form = t.form; rest = p.left; header = t.header; splits = t.splits }
 
 -- a trace waits for more bytes behind an accepted header
 pauses_of : (bytes : List ℕ) (all : List Record) → IsPassed bytes all → length all < most_records → Waits bytes all → Pauses bytes all
@@ -51,16 +50,6 @@ next_few : (commands : List Line) (first next : ℕ) → first < most_records �
 next_few commands first next lt n = n.least most_records lt (inr (1024, refl))
 
 -- ---- the next round
-
--- the reading of which the batch was cleared
-abbrev pub cleared : Reading → Reading
-cleared r = record { source = r.source; reader = r.reader; batch = []; seen = r.seen }
-
-holds_cleared : (start now : Outside) (name : List ℕ) (r : Reading) (bytes : List ℕ) (records : List Record) → IsRead start now name r bytes records → Holds start now name (cleared r) records
-holds_cleared start now name r bytes records h = record { bytes = bytes; read = subst (λ w. IsRead start now name (cleared r) bytes w) (sym (append-nil records)) (record { reading = h.reading; stands = h.stands; seen = h.seen; end = h.end }) }
-
-pub open_cleared : (now : Outside) (r : Reading) → IsOpen now r → IsOpen now (cleared r)
-open_cleared now r o = record { start = o.start; name = o.name; given = o.given ++ r.batch; reads = holds_cleared o.start now o.name r o.reads.bytes (o.given ++ r.batch) o.reads.read }
 
 -- the run with this reading
 abbrev pub reading_on : Run → Reading → Run
@@ -87,10 +76,6 @@ filled s start old now name run switch first next st r bytes b outputs after rea
   puts = grows_read start old now (report_text b.rounds) outputs b.puts;
 }
 
--- the reading, whatever was given before
-abbrev pub FillsSo : Outside → Outside → Reading → Reading → ℕ → Result Stop NoMemory → Type 0
-FillsSo old now r new most result = (start : Outside) (name : List ℕ) (given : List Record) → Holds start old name r given → Fills start now name new given most result
-
 -- its records were read
 pub next_filled : (s : Setting) (start old now : Outside) (name : List ℕ) (run : Run) (switch : SwitchNow) (first next most : ℕ) (st : Stop) (r : Reading) → most + first ≡ next → first < most_records → IsNextCut s.commands first next → SameOutputs old now → FillsSo old now (cleared run.reading) r most (Ok st) → IsBetween s start old name run switch first
     → IsFilled s start now name (reading_on run r) switch (record { first = first; next = next; stop = st })
@@ -115,9 +100,6 @@ next_unfilled s start old now name run switch first most e r outputs fills b =
     (inr (inr (breaks_after s start now name (read_to Stopped (f.bytes ++ f.more)) (report_text b.rounds) (reads_stopped start now name r.source.file (f.bytes ++ f.more) f.reading) follows (grows_read start old now (report_text b.rounds) outputs b.puts))))
 
 -- ---- after as many records as a trace may have
-
-abbrev pub PeeksSo : Outside → Outside → Reading → Reading → Stop → Type 0
-PeeksSo old now r new st = (start : Outside) (name : List ℕ) (bytes : List ℕ) (records : List Record) → IsRead start old name r bytes records → Peeks start now name new bytes st
 
 -- a byte follows
 pub next_more : (s : Setting) (start old now : Outside) (name : List ℕ) (run : Run) (switch : SwitchNow) (first : ℕ) (r : Reading) → first ≡ most_records → r.reader ≡ run.reading.reader → SameOutputs old now → PeeksSo old now (cleared run.reading) r stop.Full → IsBetween s start old name run switch first → RunsTrace s start now name end.Records
@@ -204,19 +186,7 @@ near_none commands now run first next st r full none other after = record { low 
     by stop.Fault other = tt
     by (stop.Bad bad) other = tt
 
--- ---- the batch that was cleared
-
-abbrev pub with_batch : Reading → List Record → Reading
-with_batch r batch = record { source = r.source; reader = r.reader; batch = batch; seen = r.seen }
-
-pub open_with : (now : Outside) (r : Reading) (batch : List Record) → batch ≡ [] → IsOpen now r → IsOpen now (with_batch r batch)
-open_with now r batch e o = subst (λ w. IsOpen now (with_batch r w)) (sym e) (open_cleared now r o)
-
-pub fills_with : (old now : Outside) (r new : Reading) (batch : List Record) (most : ℕ) (result : Result Stop NoMemory) → batch ≡ [] → FillsSo old now (with_batch r batch) new most result → FillsSo old now (cleared r) new most result
-fills_with old now r new batch most result e fills = subst (λ w. FillsSo old now (with_batch r w) new most result) e fills
-
-pub peeks_with : (old now : Outside) (r new : Reading) (batch : List Record) (st : Stop) → batch ≡ [] → PeeksSo old now (with_batch r batch) new st → PeeksSo old now (cleared r) new st
-peeks_with old now r new batch st e peeks = subst (λ w. PeeksSo old now (with_batch r w) new st) e peeks
+-- ---- the cuts of the commands
 
 pub cut_as : (commands lines : List Line) (first next : ℕ) → commands ≡ lines → IsNextCut lines first next → IsNextCut commands first next
 cut_as commands lines first next e n = subst (λ ls. IsNextCut ls first next) (sym e) n

@@ -3,8 +3,8 @@ use Rattle.std.proofs.Common.{◌≡◌, ◌<◌, inl, inr, ◌+◌, ℕ, Bool, 
 use Rattle.vsw_commandfile.specs.declared.line.Line.{Line}
 use Rattle.vsw_host.specs.Outside.{Outside}
 use Rattle.vsw_promise.specs.Jobs.{Setting}
-use Rattle.vsw_promise.specs.Trace.{All}
-use Rattle.vsw_promise.specs.declared.ending.Ending.TheVariants as ending
+use Rattle.vsw_run.specs.Trace.{All}
+use Rattle.vsw_run.specs.declared.ending.Ending.TheVariants as ending
 use Rattle.vsw_report.specs.Print.{report_text}
 use Rattle.vsw_promise.specs.Schedule.{next_at}
 use Rattle.vsw_crew.specs.Switch.{SwitchNow}

@@ -1,9 +1,6 @@
 pub mod Ordered
 pub mod Cuts
-pub mod Pieces
-pub mod Steps
 pub mod Carried
-pub mod Splitting
 pub mod Completing
 pub mod Growing
 pub mod Sources

@@ -10,8 +10,8 @@ use Rattle.vsw_pcap.specs.declared.capture.Record.{Record}
 use Rattle.vsw_pcap.specs.declared.fault.BadTrace.{BadTrace}
 use Rattle.vsw_pcap.specs.declared.fault.BadTrace.TheVariants.{NotPcap, Version, LinkType, Cut, Huge}
 use Rattle.vsw_promise.specs.Jobs.{Setting, cuts_within}
-use Rattle.vsw_promise.specs.Trace.{most_records, Trace, All, Fault, Stopped, TellsWithin, HasFront, Tells}
-use Rattle.vsw_promise.specs.declared.ending.Ending.TheVariants as ending
+use Rattle.vsw_run.specs.Trace.{most_records, Trace, All, Fault, Stopped, TellsWithin, HasFront, Tells}
+use Rattle.vsw_run.specs.declared.ending.Ending.TheVariants as ending
 use Rattle.vsw_report.specs.Print.{round_text, report_text}
 use Rattle.vsw_report.specs.Short.{are_short, is_short_round}
 use Rattle.vsw_report.specs.declared.round.Round.{Round}
@@ -19,20 +19,23 @@ use Rattle.vsw_promise.specs.Schedule.{next_at}
 use Rattle.vsw_crew.specs.Switch.{SwitchNow, IsAt}
 use Rattle.vsw_replay.specs.declared.ending.TraceEnd.{TraceEnd}
 use Rattle.vsw_replay.specs.declared.ending.TraceEnd.TheVariants as end
-use Rattle.vsw_replay.specs.declared.reading.Reading.{Reading}
-use Rattle.vsw_replay.specs.declared.reading.Stop.{Stop}
-use Rattle.vsw_replay.specs.declared.reading.Stop.TheVariants as stop
+use Rattle.vsw_reading.specs.declared.reading.Reading.{Reading}
+use Rattle.vsw_reading.specs.declared.reading.Stop.{Stop}
+use Rattle.vsw_reading.specs.declared.reading.Stop.TheVariants as stop
 use Rattle.vsw_replay.specs.declared.trace.Run.{Run}
 use Rattle.vsw_replay.specs.declared.trace.Stretch.{Stretch}
 use Rattle.vsw_replay.specs.Private.Cut.{IsCut, IsNextCut, cuts_until, AreBehind}
 use Rattle.vsw_replay.specs.Private.Going.{Since, ShowsStop, IsAsLong, IsFilled, IsPast, AfterPut, PutsStretch, PutsRound, is_run_of}
-use Rattle.vsw_replay.specs.Private.Passed.{IsPassed, Pauses}
+use Rattle.vsw_replay.specs.Private.Pauses.{Pauses}
+use Rattle.vsw_reading.specs.Passed.{IsPassed}
 use Rattle.vsw_replay.specs.Runs.{Reads, RunsTrace}
 use Rattle.vsw_replay.specs.Private.SoFar.{AreSoFar}
 use Rattle.vsw_replay.proofs.Cuts.{next_some}
-use Rattle.vsw_replay.proofs.Completing.{read_to, passed_first, Follows, follows_none, tells_within, front_follows, past_follows}
+use Rattle.vsw_replay.proofs.Completing.{read_to, Follows, follows_none, tells_within, front_follows, past_follows}
+use Rattle.vsw_reading.proofs.Passing.{passed_first}
 use Rattle.vsw_replay.proofs.Growing.{grows_then, grows_is, front_then}
-use Rattle.vsw_replay.proofs.Sources.{reads_whole, reads_stopped, reads_fault, since_put, whole_put, reading_put, shows_put, runs_so, ends_so, breaks_off, breaks_after}
+use Rattle.vsw_replay.proofs.Sources.{reads_whole, reads_stopped, reads_fault, since_put, shows_put, runs_so, ends_so, breaks_off, breaks_after}
+use Rattle.vsw_reading.proofs.Staying.{whole_put, reading_put}
 use Rattle.vsw_replay.proofs.Turning.{RoundsFor, rounds_run, rounds_unrun, rounds_past, report_push, short_push}
 
 -- ---- a text follows, whatever stopped the reading

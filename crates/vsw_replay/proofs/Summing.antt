@@ -11,7 +11,7 @@ use Rattle.vsw_host.specs.declared.host.Failed.{Failed}
 use Rattle.vsw_config.specs.Policy.{policy_file_of}
 use Rattle.vsw_config.specs.declared.file.PolicyFile.{PolicyFile}
 use Rattle.vsw_promise.specs.Ports.{PortSeen, ports_of}
-use Rattle.vsw_promise.specs.Generated.{Summarizes, alone_under, generated_records, whole_record}
+use Rattle.vsw_run.specs.Generated.{Summarizes, alone_under, generated_records, whole_record}
 use Rattle.vsw_promise.specs.Jobs.{Setting, cuts, cuts_within}
 use Rattle.vsw_promise.specs.Rounds.{AreChained, AreRounds}
 use Rattle.vsw_promise.specs.Summary.{entries_after, five_lines, summary_text, total}

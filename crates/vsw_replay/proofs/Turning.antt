@@ -12,15 +12,15 @@ use Rattle.vsw_report.specs.declared.round.Round.{Round}
 use Rattle.vsw_crew.specs.Round.{TellsRound}
 use Rattle.vsw_promise.specs.Schedule.{next_at}
 use Rattle.vsw_crew.specs.Switch.{SwitchNow}
-use Rattle.vsw_replay.specs.declared.reading.Stop.{Stop}
-use Rattle.vsw_replay.specs.declared.reading.Stop.TheVariants as stop
+use Rattle.vsw_reading.specs.declared.reading.Stop.{Stop}
+use Rattle.vsw_reading.specs.declared.reading.Stop.TheVariants as stop
 use Rattle.vsw_replay.specs.Private.Cut.{is_named_by, IsCut, IsNextCut, cuts_until, AreBehind}
 use Rattle.vsw_replay.specs.Private.Going.{IsAsLong, is_run_of}
 use Rattle.vsw_replay.specs.Private.SoFar.{AreSoFar}
 use Rattle.vsw_replay.proofs.Cuts.{IsCutOf, cut_of, until_ascends, until_below, within_step, until_first, until_none, until_next, next_some}
 use Rattle.vsw_replay.proofs.Carried.{low_of, take_most, drop_size, numbered_size, drop_numbered, round_more, rounds_only}
 use Rattle.vsw_replay.proofs.Completing.{take_front, within_low, report_append}
-use Rattle.vsw_replay.proofs.Pieces.{none_left}
+use Rattle.vsw_reading.proofs.Pieces.{none_left}
 
 -- the rounds of these records, after the one at this cut
 abbrev pub RoundsFor : Setting → ℕ → List Record → List Round → List (List Event) → Stop → Type 0

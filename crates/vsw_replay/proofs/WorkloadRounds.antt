@@ -6,7 +6,7 @@ use Rattle.vsw_port.specs.declared.event.Event.{Event}
 use Rattle.vsw_pcap.specs.declared.capture.Record.{Record}
 use Rattle.vsw_promise.specs.Jobs.{Setting, cuts_within}
 use Rattle.vsw_promise.specs.Summary.{dropped, in_round, in_rounds, passed, size_of}
-use Rattle.vsw_replay.specs.declared.reading.Stop.TheVariants as stop
+use Rattle.vsw_reading.specs.declared.reading.Stop.TheVariants as stop
 use Rattle.vsw_replay.specs.Private.Cut.{is_named_by, IsCut, IsNextCut}
 use Rattle.vsw_replay.specs.Private.SoFar.{AreSoFar}
 use Rattle.vsw_replay.proofs.Turning.{rounds_run, short_push}

@@ -2,7 +2,7 @@
 use Rattle.std.specs.Prelude.{◌≡◌, ◌≤◌, ◌⊎◌, ◌+◌, ℕ, List, ◌++◌, length, map, Bool, true, false}
 use Rattle.vsw_generate.specs.Workload.{packets_from}
 use Rattle.vsw_pcap.specs.declared.capture.Record.{Record}
-use Rattle.vsw_promise.specs.Generated.{whole_record}
+use Rattle.vsw_run.specs.Generated.{whole_record}
 
 -- the records of the packets that are left
 abbrev pub records_left : ℕ × ℕ × ℕ → List Record

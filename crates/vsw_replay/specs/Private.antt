@@ -1,7 +1,6 @@
 -- What contracts of private functions are of. No caller need read it.
 pub mod Cut
-pub mod Passed
-pub mod Reads
+pub mod Pauses
 pub mod SoFar
 pub mod Going
 pub mod Runner

@@ -1,7 +1,7 @@
 -- What a run over a workload leaves, by how it ended.
 use Rattle.std.specs.Prelude.{◌≡◌, ◌≤◌, ◌⊎◌, ℕ, true, false}
 use Rattle.vsw_host.specs.Outside.{Outside, Rose, SameInputs}
-use Rattle.vsw_promise.specs.IsRun.{PutsNothing, PutsPart, PutsSummary}
+use Rattle.vsw_run.specs.IsRun.{PutsNothing, PutsPart, PutsSummary}
 use Rattle.vsw_replay.specs.declared.run.WorkloadEnd.{WorkloadEnd}
 use Rattle.vsw_replay.specs.declared.run.WorkloadEnd.TheVariants as end
 

@@ -4,7 +4,6 @@
 mod cut;
 mod draw;
 mod ending;
-mod reading;
 mod run;
 mod runner;
 mod summary;

@@ -8,7 +8,7 @@ ghost use Rattle.vsw_pcap.specs.declared.capture.Record.{Record};
 ghost use Rattle.vsw_config.specs.Policy.{policy_file_of};
 ghost use Rattle.vsw_config.specs.declared.file.PolicyFile.{PolicyFile};
 ghost use Rattle.vsw_promise.specs.Ports.{ports_of};
-ghost use Rattle.vsw_promise.specs.Generated.{Summarizes, alone_under};
+ghost use Rattle.vsw_run.specs.Generated.{Summarizes, alone_under};
 ghost use Rattle.vsw_promise.specs.Jobs.{Setting};
 ghost use Rattle.vsw_replay.specs.Switch.{AreServed, IsAt};
 ghost use Rattle.vsw_replay.specs.Going.{Goes, IsTurn, end_of};

@@ -7,13 +7,12 @@ ghost use Rattle.vsw_host.specs.Outside.{Outside, SameInputs};
 ghost use Rattle.vsw_promise.specs.Jobs.{Setting};
 ghost use Rattle.vsw_promise.specs.Ports.{ports_of};
 ghost use Rattle.vsw_replay.specs.Private.Going.{IsFilled, IsBetween, IsPast, IsOpened, IsFirst, IsNear, IsTurn, PutsRound, PutsStretch, PutsNext, GoesOn, is_run_of, unheaded_of, clean_of};
-ghost use Rattle.vsw_replay.specs.Private.Reads.{IsOpen};
+ghost use Rattle.vsw_reading.specs.Reads.{IsOpen};
 ghost use Rattle.vsw_replay.specs.Runs.{RunsTrace};
 ghost use Rattle.vsw_crew.specs.Switch.{AreServed, IsAt, SwitchNow};
 
 use crate::cut::{is_named, next_cut};
 use crate::ending::TraceEnd;
-use crate::reading::{HEADER_LEN, Reading, Stop, begin_reading, fill, peek};
 use crate::runner::Runner;
 use std::alloc::Global;
 use std::sync::Wait;
@@ -23,6 +22,7 @@ use vsw_crew::{Naming, Watch};
 use vsw_host::{Host, Source, Unopened};
 use vsw_pcap::BadTrace;
 use vsw_promise::Schedule;
+use vsw_reading::{HEADER_LEN, Reading, Stop, begin_reading, fill, peek};
 use vsw_report::HEAD_LINE;
 use vsw_workers::Gate;
 

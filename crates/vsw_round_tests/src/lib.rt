@@ -28,4 +28,4 @@ mod workers_tests;
 
 pub use carrying::{Load, Packet};
 pub use refusing::{Notes, Refusing};
-pub use samples::{commands, life, packets, replies, statuses};
+pub use samples::{commands, life, packets, replies};

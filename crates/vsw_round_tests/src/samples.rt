@@ -4,7 +4,6 @@ ghost use Rattle.vsw_round_tests.specs.Commands.{EndsEarly, PastTheEnd, RefusedC
 ghost use Rattle.vsw_round_tests.specs.Life.{LifeOfAPair};
 ghost use Rattle.vsw_round_tests.specs.OnePacket.{NoPacket, OnePacket};
 ghost use Rattle.vsw_round_tests.specs.Replies.{Replies};
-ghost use Rattle.vsw_round_tests.specs.Statuses.{StatusNumbers};
 
 /// One packet, and none.
 pub fn packets()
@@ -27,9 +26,4 @@ pub fn commands()
     ensures refused { RefusedCommands }
     ensures late { PastTheEnd }
     ensures early { EndsEarly }
-{}
-
-/// The number with which each status ends the process.
-pub fn statuses()
-    ensures numbers { StatusNumbers }
 {}

@@ -3,7 +3,7 @@
 use std::alloc::{AllocError, Global};
 use vsw_base::{Items, Text};
 use vsw_host::MemoryFile;
-use vsw_promise::Word;
+use vsw_run::Word;
 
 /// A capture's header: little-endian, microseconds, version 2.4, Ethernet (libpcap file format 2.4).
 pub const HEADER: &[u8] =

@@ -12,7 +12,7 @@ use Rattle.vsw_pcap.specs.declared.fault.BadTrace.{BadTrace}
 use Rattle.vsw_pcap.specs.declared.fault.BadTrace.TheVariants.{NotPcap, Version, LinkType, Cut, Huge}
 use Rattle.vsw_promise.specs.Ports.{ports_of}
 use Rattle.vsw_promise.specs.Jobs.{Setting, cuts_within}
-use Rattle.vsw_promise.specs.Trace.{most_records}
+use Rattle.vsw_run.specs.Trace.{most_records}
 use Rattle.vsw_report.specs.Print.{report_text}
 use Rattle.vsw_report.specs.Short.{are_short}
 use Rattle.vsw_report.specs.declared.round.Round.{Round}
@@ -20,14 +20,15 @@ use Rattle.vsw_crew.specs.Round.{TellsRound}
 use Rattle.vsw_crew.specs.Switch.{SwitchNow, IsAt}
 use Rattle.vsw_replay.specs.declared.ending.TraceEnd.{TraceEnd}
 use Rattle.vsw_replay.specs.declared.ending.TraceEnd.TheVariants as end
-use Rattle.vsw_replay.specs.declared.reading.Reading.{Reading}
-use Rattle.vsw_replay.specs.declared.reading.Stop.{Stop}
-use Rattle.vsw_replay.specs.declared.reading.Stop.TheVariants as stop
+use Rattle.vsw_reading.specs.declared.reading.Reading.{Reading}
+use Rattle.vsw_reading.specs.declared.reading.Stop.{Stop}
+use Rattle.vsw_reading.specs.declared.reading.Stop.TheVariants as stop
 use Rattle.vsw_replay.specs.declared.trace.Run.{Run}
 use Rattle.vsw_replay.specs.declared.trace.Stretch.{Stretch}
 use Rattle.vsw_replay.specs.Private.Cut.{is_named_by, IsCut, IsNextCut, cuts_until, AreBehind}
-use Rattle.vsw_replay.specs.Private.Passed.{IsPassed, Pauses}
-use Rattle.vsw_replay.specs.Private.Reads.{IsRead, IsOpen, StopsSo}
+use Rattle.vsw_replay.specs.Private.Pauses.{Pauses}
+use Rattle.vsw_reading.specs.Passed.{IsPassed}
+use Rattle.vsw_reading.specs.Reads.{IsRead, IsOpen, StopsSo}
 use Rattle.vsw_replay.specs.Runs.{RunsTrace}
 use Rattle.vsw_replay.specs.Private.SoFar.{AreSoFar}
 

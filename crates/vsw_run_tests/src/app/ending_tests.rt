@@ -9,7 +9,7 @@ use std::alloc::{AllocError, Global};
 use std::sync::Wait;
 use std::thread::Threads;
 use vsw_app::{Open, run_words};
-use vsw_promise::{Status, Word};
+use vsw_run::{Status, Word};
 
 #[test]
 fn a_cut_record_ends_the_run_after_the_packets_before_it(rt: HostRuntime) -> Result<(), Wrong> {

@@ -5,7 +5,7 @@ use crate::memory::FORWARD;
 use std::alloc::{AllocError, Global};
 use std::sync::Wait;
 use std::thread::Threads;
-use vsw_promise::Status;
+use vsw_run::Status;
 
 /// The pieces of a policy file: up to the layers of the only port, up to the rules of the only group, a
 /// rule, the end of a layer, and the end of the file.

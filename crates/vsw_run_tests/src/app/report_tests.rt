@@ -10,7 +10,7 @@ use crate::memory::{FORWARD, HEADER};
 use std::alloc::{AllocError, Global};
 use std::sync::Wait;
 use std::thread::Threads;
-use vsw_promise::Status;
+use vsw_run::Status;
 
 /// A trace of one packet, and its report: the lines of port 1, and the loose lines.
 fn check_packet<'a, R: Threads + Wait + Sync>(

@@ -2,7 +2,7 @@
 
 use std::alloc::{AllocError, Global};
 use std::test::Fail;
-use vsw_promise::{Asked, Word, read_words};
+use vsw_run::{Asked, Word, read_words};
 
 /// The words of a line, between single spaces.
 fn words_of(alloc: Global, line: &str) -> Result<Vec<Word>, AllocError> {

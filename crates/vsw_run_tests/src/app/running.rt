@@ -6,7 +6,7 @@ use std::sync::Wait;
 use std::thread::Threads;
 use vsw_app::{Open, run_words};
 use vsw_host::{MemoryFile, MemoryHost, are_distinct};
-use vsw_promise::{Status, Word};
+use vsw_run::{Status, Word};
 
 /// A policy of port 1 with one group of outbound rules, which stand between these two.
 pub const POLICY_START: &[u8] =

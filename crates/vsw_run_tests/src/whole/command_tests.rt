@@ -9,7 +9,7 @@ use crate::whole::running::{Wrong, host_over, tried};
 use std::alloc::Global;
 use std::sync::Wait;
 use std::thread::Threads;
-use vsw_promise::Status;
+use vsw_run::Status;
 
 /// The policy of one layer, number 10 of controller 1, whose rule 5 of group 1 allows 10.0.0.0/24.
 const POLICY: &[&str] = &[PORT, LAYER, ALLOWING, LAYER_END, END];

@@ -9,7 +9,7 @@ use crate::whole::policies::{
     END, HIDING, LAYER, LAYER_END, PORT, PORT_OF_2, SETTING_PORT, THREE_LAYERS, UNWRAPPING,
 };
 use crate::whole::running::{Wrong, check, host_over, tried};
-use vsw_promise::Status;
+use vsw_run::Status;
 
 /// A policy of version 1, which tells IPv6 by its Ethernet type.
 const BY_TYPE: &[&str] = &[PORT, LAYER, SETTING_PORT, LAYER_END, END];

@@ -7,7 +7,7 @@ use std::alloc::{AllocError, Global};
 use std::sync::Wait;
 use std::thread::Threads;
 use vsw_host::MemoryHost;
-use vsw_promise::Status;
+use vsw_run::Status;
 
 /// UDP from 10.0.0.5:1234 to 10.0.0.9:53 up to its payload, in IPv4 of 65,520 and of 65,485 bytes.
 const FRONT_65520: &str =

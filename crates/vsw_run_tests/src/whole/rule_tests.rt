@@ -8,7 +8,7 @@ use crate::whole::policies::{
 use crate::whole::running::{Wrong, add, check, host_of, tried};
 use std::alloc::Global;
 use vsw_host::MemoryHost;
-use vsw_promise::Status;
+use vsw_run::Status;
 
 /// The line of the query that passes as it came.
 const PASSES: &[&str] = &["w0 0 @0 pass 44 ", QUERY, "\n"];

@@ -6,7 +6,7 @@ use std::sync::Wait;
 use std::thread::Threads;
 use vsw_app::{Open, run_words};
 use vsw_host::{MemoryFile, MemoryHost, are_distinct};
-use vsw_promise::{Status, Word};
+use vsw_run::{Status, Word};
 
 /// How a run comes out otherwise.
 #[derive(Clone, Copy, Debug)]

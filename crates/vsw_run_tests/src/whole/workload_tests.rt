@@ -5,7 +5,7 @@ use std::alloc::Global;
 use std::sync::Wait;
 use std::thread::Threads;
 use vsw_host::MemoryHost;
-use vsw_promise::Status;
+use vsw_run::Status;
 
 /// A host without files, of whose calls these fail.
 fn host_of(alloc: Global, failing: &[u64]) -> Option<MemoryHost> {

@@ -10,7 +10,7 @@ use std::test::Fail;
 use std::thread::Threads;
 use vsw_app::{Watch, run_words};
 use vsw_host::{MemoryFile, MemoryHost, are_distinct};
-use vsw_promise::{Status, Word};
+use vsw_run::{Status, Word};
 use vsw_workers::Gate;
 
 /// Appends the record of a packet of this number, 1,000 microseconds after the one before it.

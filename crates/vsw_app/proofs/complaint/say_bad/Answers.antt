@@ -1,6 +1,6 @@
 use Rattle.std.proofs.Common.{◌++◌, ◌∙◌}
 use Rattle.std.specs.Prelude.{codes}
-use Rattle.vsw_promise.specs.Complaint.{byte_text}
+use Rattle.vsw_run.specs.Complaint.{byte_text}
 use Rattle.vsw_pcap.specs.Fault.{trace_name}
 use Rattle.vsw_app.proofs.Speaking.{speaks_then, speaks_part, speaks_is}
 use Rattle.vsw_app.proofs.complaint.say_bad.Goals as goal

@@ -1,6 +1,6 @@
 use Rattle.std.proofs.Common.{◌++◌}
 use Rattle.std.specs.Prelude.{codes, decimal}
-use Rattle.vsw_promise.specs.Complaint.{fault_text}
+use Rattle.vsw_run.specs.Complaint.{fault_text}
 use Rattle.vsw_app.proofs.Speaking.{speaks_then, speaks_part}
 use Rattle.vsw_app.proofs.complaint.say_bad_line.Goals as goal
 

@@ -1,5 +1,5 @@
 use Rattle.std.specs.Prelude.{codes}
-use Rattle.vsw_promise.specs.Complaint.{fault_text}
+use Rattle.vsw_run.specs.Complaint.{fault_text}
 use Rattle.vsw_app.proofs.Speaking.{speaks_then, speaks_part}
 use Rattle.vsw_app.proofs.complaint.say_bad_policy.Goals as goal
 

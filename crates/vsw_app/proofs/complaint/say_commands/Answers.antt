@@ -1,6 +1,6 @@
 use Rattle.std.proofs.Common.{sym, ap, ◌∙◌}
 use Rattle.std.specs.Prelude.{codes, decimal}
-use Rattle.vsw_promise.specs.Complaint.{commands_text, fault_text}
+use Rattle.vsw_run.specs.Complaint.{commands_text, fault_text}
 use Rattle.vsw_commandfile.specs.declared.fault.CommandsFault.{CommandsFault}
 use Rattle.vsw_commandfile.specs.declared.fault.CommandsFault.TheVariants as variant
 use Rattle.vsw_app.proofs.Speaking.{speaks_of, speaks_is, four}

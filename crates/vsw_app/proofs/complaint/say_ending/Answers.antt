@@ -1,8 +1,8 @@
 use Rattle.std.specs.Prelude.{codes}
 use Rattle.vsw_pcap.specs.Fault.{trace_name}
-use Rattle.vsw_promise.specs.Complaint.{complaint, byte_text}
-use Rattle.vsw_promise.specs.declared.ending.Ending.{Ending}
-use Rattle.vsw_promise.specs.declared.ending.Ending.TheVariants as variant
+use Rattle.vsw_run.specs.Complaint.{complaint, byte_text}
+use Rattle.vsw_run.specs.declared.ending.Ending.{Ending}
+use Rattle.vsw_run.specs.declared.ending.Ending.TheVariants as variant
 use Rattle.vsw_app.proofs.Speaking.{speaks_of, speaks_is, four}
 use Rattle.vsw_app.proofs.complaint.say_ending.Goals as goal
 

@@ -1,5 +1,5 @@
 use Rattle.std.proofs.Common.{sym, ap, ◌∙◌}
-use Rattle.vsw_promise.specs.Complaint.{policy_text}
+use Rattle.vsw_run.specs.Complaint.{policy_text}
 use Rattle.vsw_config.specs.declared.file.ConfigFault.{ConfigFault}
 use Rattle.vsw_config.specs.declared.file.ConfigFault.TheVariants as variant
 use Rattle.vsw_app.proofs.Speaking.{speaks_of}

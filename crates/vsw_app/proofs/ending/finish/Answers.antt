@@ -1,4 +1,4 @@
-use Rattle.vsw_promise.specs.Complaint.{complaint}
+use Rattle.vsw_run.specs.Complaint.{complaint}
 use Rattle.vsw_app.proofs.Speaking.{complains_of}
 use Rattle.vsw_app.proofs.ending.finish.Goals as goal
 

@@ -1,7 +1,7 @@
 use Rattle.std.proofs.Common.{refl}
 use Rattle.vsw_commandfile.proofs.LinesRead as lines
 use Rattle.vsw_config.proofs.Policies as policies
-use Rattle.vsw_promise.specs.Seen.{request_seen}
+use Rattle.vsw_run.specs.Seen.{request_seen}
 use Rattle.vsw_app.specs.Stages.{HasPolicy, HasCommands}
 use Rattle.vsw_app.proofs.Running.{traced_as}
 use Rattle.vsw_app.proofs.run.forward.Goals as goal

@@ -1,5 +1,5 @@
 use Rattle.std.proofs.Common.{sym}
-use Rattle.vsw_promise.specs.Seen.{asked_seen}
+use Rattle.vsw_run.specs.Seen.{asked_seen}
 use Rattle.vsw_app.proofs.Finishing.{run_asked, run_unasked}
 use Rattle.vsw_app.proofs.run.run.Goals as goal
 

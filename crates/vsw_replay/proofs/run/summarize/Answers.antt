@@ -1,5 +1,5 @@
 use Rattle.std.proofs.Common.{◌<◌, false, ◌++◌, refl, ap, ◌∙◌, arith}
-use Rattle.vsw_promise.specs.Generated.{alone_under, generated_records}
+use Rattle.vsw_run.specs.Generated.{alone_under, generated_records}
 use Rattle.vsw_promise.specs.Summary.{five_lines}
 use Rattle.vsw_replay.specs.declared.run.Run.{Run}
 use Rattle.vsw_replay.proofs.Summing.{begins, summarized}

@@ -1,7 +1,8 @@
 use Rattle.std.proofs.Common.{◌≡◌, ◌+◌, ◌-◌, ◌<◌, Ok, Err, refl, ◌∙◌, arith}
-use Rattle.vsw_promise.specs.Trace.{most_records}
-use Rattle.vsw_replay.specs.declared.reading.Stop.TheVariants.{Full}
-use Rattle.vsw_replay.proofs.Filling.{next_filled, next_unfilled, next_more, next_none, near_filled, near_none, cleared, open_cleared, open_with, fills_with, peeks_with, cut_as}
+use Rattle.vsw_run.specs.Trace.{most_records}
+use Rattle.vsw_reading.specs.declared.reading.Stop.TheVariants.{Full}
+use Rattle.vsw_replay.proofs.Filling.{next_filled, next_unfilled, next_more, next_none, near_filled, near_none, cut_as}
+use Rattle.vsw_reading.proofs.Open.{cleared, open_cleared, open_with, fills_with, peeks_with}
 use Rattle.vsw_replay.proofs.trace.read_next.Goals as goal
 
 pub peek-requires : goal.peek-requires

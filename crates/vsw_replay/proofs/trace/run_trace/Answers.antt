@@ -1,4 +1,5 @@
-use Rattle.vsw_replay.proofs.Beginning.{open_begun, unopened_fault, unopened_memory}
+use Rattle.vsw_replay.proofs.Beginning.{unopened_fault, unopened_memory}
+use Rattle.vsw_reading.proofs.Open.{open_begun}
 use Rattle.vsw_replay.proofs.trace.run_trace.Goals as goal
 
 pub returns-in-Err-Fault : goal.returns-in-Err-Fault

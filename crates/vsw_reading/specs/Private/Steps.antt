@@ -1,0 +1,27 @@
+-- A piece more of a trace, or a record more.
+use Rattle.std.specs.Prelude.{◌≡◌, ◌<◌, ℕ, List, [], ◌++◌, length, min, Bool, true, false, Option, Some, None, Result, Ok, Err}
+use Rattle.vsw_base.specs.declared.fault.NoMemory.{NoMemory}
+use Rattle.vsw_host.specs.Outside.{Outside, Rose}
+use Rattle.vsw_pcap.specs.Reader.{Stands}
+use Rattle.vsw_pcap.specs.declared.capture.Record.{Record}
+use Rattle.vsw_reading.specs.declared.reading.Reading.{Reading}
+use Rattle.vsw_reading.specs.declared.reading.Stop.{Stop}
+use Rattle.vsw_reading.specs.Reads.{IsRead, IsBehind, Holds, StopsSo}
+
+-- the reader was fed the piece that was read last, and told of the end if that is empty
+pub record Feeds (old new : Reading) : Type 0 where
+  pub stands : (bytes : List ℕ) (records : List Record) → Stands old.reader bytes records → Stands new.reader (bytes ++ old.source.piece) records
+  pub seen : (bytes : List ℕ) → old.seen ≡ min 24 (length bytes) → new.seen ≡ min 24 (length (bytes ++ old.source.piece))
+  pub end : new.reader.finished ≡ true → old.source.piece ≡ []
+
+-- a piece was read, or the host couldn't
+abbrev pub TakesPiece : Outside → Outside → List ℕ → Reading → List ℕ → List Record → Result Bool NoMemory → Type 0
+TakesPiece start now name r bytes records (Ok true) = (more : List ℕ) × IsRead start now name r (bytes ++ more) records
+TakesPiece start now name r bytes records (Ok false) = IsRead start now name r bytes records × Rose start.input_faults now.input_faults
+TakesPiece start now name r bytes records (Err e) = IsBehind start now name r records
+
+-- a step of the reading: it goes on while there is room, or stops
+abbrev pub Steps : Outside → Outside → List ℕ → Reading → List Record → ℕ → Result (Option Stop) NoMemory → Type 0
+Steps start now name r given most (Ok None) = Holds start now name r given × (length r.batch < most)
+Steps start now name r given most (Ok (Some s)) = StopsSo start now name r given most s
+Steps start now name r given most (Err e) = IsBehind start now name r (given ++ r.batch)

@@ -1,7 +1,0 @@
--- The numbers of the statuses, from the table of docs/FORMATS.md.
-use Rattle.std.specs.Prelude.{◌≡◌, [], ◌∷◌, map}
-use Rattle.vsw_promise.specs.Complaint.{number_of}
-use Rattle.vsw_promise.specs.declared.ending.Status.TheVariants.{Done, Usage, ReadFault, WriteFault, Refused, Limit, Memory}
-
-abbrev pub StatusNumbers : Type 0
-StatusNumbers = map number_of (Done ∷ Usage ∷ ReadFault ∷ WriteFault ∷ Refused ∷ Limit ∷ Memory ∷ []) ≡ 0 ∷ 2 ∷ 3 ∷ 4 ∷ 5 ∷ 6 ∷ 9 ∷ []

@@ -1,0 +1,98 @@
+-- Whole command lines: what the grammar says of them is worked out of them, and nothing else.
+use Rattle.std.proofs.Common.{◌≡◌, ℕ, Bool, true, false, List, [], ◌∷◌, Option, Some, None, cond, refl, sym, ap, ap₂, ◌∙◌, subst, arith}
+use Rattle.std.specs.Prelude.{codes, bytes_eq, option_map, option_and_then}
+use Rattle.std.proofs.lemmas.Option.{none-some, same_Some}
+use Rattle.std.proofs.lemmas.Slice.Eq.{bytes_eq-Decides}
+use Rattle.vsw_run.specs.Grammar.{IsGenerate, Asks}
+use Rattle.vsw_run.specs.GrammarLaw.{ReadsGrammar, RefusesOthers, ReadsForward, OneReading}
+use Rattle.vsw_run.specs.Words.{Request, Asked, Forward, Generate, number_in, forward_in, generate_in, asked_in, request_in}
+use Rattle.vsw_run.proofs.Decimals.{number_is, number_of}
+use Rattle.vsw_run.proofs.Forwards.{forward_reads, forward_is}
+
+-- ---- the words after `generate`
+
+generate_reads : (words : List (List ℕ)) (start packets : ℕ) → IsGenerate words start packets → generate_in words ≡ Some (Generate start packets)
+generate_reads words start packets g =
+    ap generate_in g.shape
+    ∙ ap₂ (λ s n. option_and_then (λ s. option_map (λ n. Generate s n) n) s) (number_of 0 2147483647 start (omega arith) (omega arith) g.start_is)
+    (number_of 1 1048576 packets (omega arith) g.packets_are.0 g.packets_are.1)
+
+-- two numbers
+record Numbers (words : List (List ℕ)) (asked : Asked) : Type 0 where
+  start : ℕ
+  packets : ℕ
+  is : Generate start packets ≡ asked
+  said : IsGenerate words start packets
+
+generate_is : (words : List (List ℕ)) (asked : Asked) → generate_in words ≡ Some asked → Numbers words asked
+generate_is [] asked e = absurd (none-some asked e)
+generate_is (a ∷ []) asked e = absurd (none-some asked e)
+generate_is (a ∷ b ∷ c ∷ words) asked e = absurd (none-some asked e)
+generate_is (a ∷ b ∷ []) asked e = first (number_in 0 2147483647 a) refl e where
+  second : (s : ℕ) → number_in 0 2147483647 a ≡ Some s → (r : Option ℕ) → number_in 1 1048576 b ≡ r → option_map (λ n. Generate s n) r ≡ Some asked → Numbers (a ∷ b ∷ []) asked
+  second s start None is e = absurd (none-some asked e)
+  second s start (Some n) is e =
+      let (written, low, most) = number_is 0 2147483647 a s start in
+      let (digits, least, high) = number_is 1 1048576 b n is in
+      record {
+        start = s;
+        packets = n;
+        is = same_Some (Generate s n) asked e;
+        said = record { shape = ap₂ (λ x y. x ∷ y ∷ []) written digits; start_is = most; packets_are = (least, high) };
+      }
+
+  first : (r : Option ℕ) → number_in 0 2147483647 a ≡ r → option_and_then (λ s. option_map (λ n. Generate s n) (number_in 1 1048576 b)) r ≡ Some asked → Numbers (a ∷ b ∷ []) asked
+  first None is e = absurd (none-some asked e)
+  first (Some s) is e = second s is (number_in 1 1048576 b) refl e
+
+-- ---- commands
+
+asked_reads : (words : List (List ℕ)) (asked : Asked) → Asks words asked → asked_in words ≡ Some asked
+asked_reads words (Forward q) h = ap asked_in h.2 ∙ ap (option_map Forward) (forward_reads h.1 q h.3)
+asked_reads words (Generate start packets) h = ap asked_in h.2 ∙ generate_reads h.1 start packets h.3
+
+forward_asks : (program command : List ℕ) (words : List (List ℕ)) (q : Request) → bytes_eq command (codes "forward") ≡ true → forward_in words ≡ Some q → Asks (program ∷ command ∷ words) (Forward q)
+forward_asks program command words q t e = (program, words, ap (λ c. program ∷ c ∷ words) ((bytes_eq-Decides command (codes "forward")).0 t), forward_is words q e)
+
+asked_is : (words : List (List ℕ)) (asked : Asked) → asked_in words ≡ Some asked → Asks words asked
+asked_is [] asked e = absurd (none-some asked e)
+asked_is (program ∷ []) asked e = absurd (none-some asked e)
+asked_is (program ∷ command ∷ words) asked e = first (bytes_eq command (codes "forward")) refl e where
+  forwards : bytes_eq command (codes "forward") ≡ true → (r : Option Request) → forward_in words ≡ r → option_map Forward r ≡ Some asked → Asks (program ∷ command ∷ words) asked
+  forwards t None is e = absurd (none-some asked e)
+  forwards t (Some q) is e = subst (Asks (program ∷ command ∷ words)) (same_Some (Forward q) asked e) (forward_asks program command words q t is)
+
+  second : (b : Bool) → bytes_eq command (codes "generate") ≡ b → cond b (generate_in words) None ≡ Some asked → Asks (program ∷ command ∷ words) asked
+  second false t e = absurd (none-some asked e)
+  second true t e =
+      let g = generate_is words asked e in
+      subst (Asks (program ∷ command ∷ words)) g.is (program, words, ap (λ c. program ∷ c ∷ words) ((bytes_eq-Decides command (codes "generate")).0 t), g.said)
+
+  first : (b : Bool) → bytes_eq command (codes "forward") ≡ b → cond b (option_map Forward (forward_in words)) (cond (bytes_eq command (codes "generate")) (generate_in words) None) ≡ Some asked → Asks (program ∷ command ∷ words) asked
+  first true t e = forwards t (forward_in words) refl e
+  first false t e = second (bytes_eq command (codes "generate")) refl e
+
+-- ---- the laws
+
+pub reads_grammar : ReadsGrammar
+reads_grammar words asked = (asked_is words asked, asked_reads words asked)
+
+pub refuses_others : RefusesOthers
+refuses_others words = (λ e asked h. none-some asked (sym e ∙ asked_reads words asked h), λ never. by never (asked_in words) refl) where
+  by : ((asked : Asked) → ¬ (Asks words asked)) → (r : Option Asked) → asked_in words ≡ r → asked_in words ≡ None
+  by never None e = e
+  by never (Some asked) e = absurd (never asked (asked_is words asked e))
+
+request_is : (words : List (List ℕ)) (q : Request) → request_in words ≡ Some q → Asks words (Forward q)
+request_is [] q e = absurd (none-some q e)
+request_is (program ∷ []) q e = absurd (none-some q e)
+request_is (program ∷ command ∷ words) q e = by (bytes_eq command (codes "forward")) refl e where
+  by : (b : Bool) → bytes_eq command (codes "forward") ≡ b → cond b (forward_in words) None ≡ Some q → Asks (program ∷ command ∷ words) (Forward q)
+  by true t e = forward_asks program command words q t e
+  by false t e = absurd (none-some q e)
+
+pub reads_forward : ReadsForward
+reads_forward words q = (request_is words q, λ h. ap request_in h.2 ∙ forward_reads h.1 q h.3)
+
+pub one_reading : OneReading
+one_reading words one other h k = same_Some one other (sym (asked_reads words one h) ∙ asked_reads words other k)

@@ -1,0 +1,9 @@
+pub mod Bounds
+pub mod Decimals
+pub mod Forwards
+pub mod Grammars
+pub mod Stops
+pub mod Endings
+pub mod Wants
+pub mod Runs
+pub mod Wholes

@@ -1,0 +1,95 @@
+-- The status of an ending, and the words that are complained.
+use Rattle.std.specs.Prelude.{◌⊎◌, ℕ, List, [], ◌++◌, take, codes, decimal}
+use Rattle.vsw_commandfile.specs.declared.fault.CommandsFault.{CommandsFault}
+use Rattle.vsw_commandfile.specs.declared.fault.CommandsFault.TheVariants as commands
+use Rattle.vsw_config.specs.declared.fault.Kind.{Kind}
+use Rattle.vsw_config.specs.declared.fault.Step.{Step}
+use Rattle.vsw_config.specs.Path.{path_text, kind_name}
+use Rattle.vsw_host.specs.Outside.{Outside, Grows, Rose}
+use Rattle.vsw_pcap.specs.Fault.{trace_name}
+use Rattle.vsw_pcap.specs.declared.fault.BadTrace.{BadTrace}
+use Rattle.vsw_pcap.specs.declared.fault.BadTrace.TheVariants.{NotPcap, Version, LinkType, Cut, Huge}
+use Rattle.vsw_config.specs.declared.file.ConfigFault.{ConfigFault}
+use Rattle.vsw_config.specs.declared.file.ConfigFault.TheVariants as policy
+use Rattle.vsw_run.specs.declared.ending.Ending.{Ending}
+use Rattle.vsw_run.specs.declared.ending.Ending.TheVariants as ending
+use Rattle.vsw_run.specs.declared.ending.Status.{Status}
+use Rattle.vsw_run.specs.declared.ending.Status.TheVariants as status
+
+-- a refused file has one status, a file over a limit another
+abbrev pub policy_status : ConfigFault → Status
+policy_status (policy.Bad kind path) = status.Refused
+policy_status policy.Memory = status.Memory
+policy_status _ = status.Limit
+
+abbrev pub commands_status : CommandsFault → Status
+commands_status (commands.Bad line kind path) = status.Refused
+commands_status commands.Memory = status.Memory
+commands_status _ = status.Limit
+
+-- the status of an ending
+abbrev pub status_of : Ending → Status
+status_of ending.Done = status.Done
+status_of ending.Usage = status.Usage
+status_of ending.ReadFault = status.ReadFault
+status_of ending.WriteFault = status.WriteFault
+status_of (ending.Policy why) = policy_status why
+status_of (ending.Commands why) = commands_status why
+status_of (ending.Trace bad) = status.Refused
+status_of ending.Records = status.Limit
+status_of ending.Memory = status.Memory
+
+-- the exit status: the number with which the program ends
+abbrev pub number_of : Status → ℕ
+number_of status.Done = 0
+number_of status.Usage = 2
+number_of status.ReadFault = 3
+number_of status.WriteFault = 4
+number_of status.Refused = 5
+number_of status.Limit = 6
+number_of status.Memory = 9
+
+-- the kind of a fault, and the path to it
+abbrev pub fault_text : Kind → List Step → List ℕ
+fault_text kind path = kind_name kind ++ codes " " ++ path_text path ++ codes "\n"
+
+abbrev pub memory_text : List ℕ
+memory_text = codes "vsw: memory\n"
+
+-- what is complained of a policy and of commands
+abbrev pub policy_text : ConfigFault → List ℕ
+policy_text (policy.Bad kind path) = codes "vsw: refused policy " ++ fault_text kind path
+policy_text policy.PolicyLimit = codes "vsw: limit policy\n"
+policy_text policy.PortsLimit = codes "vsw: limit ports\n"
+policy_text policy.ControllersLimit = codes "vsw: limit controllers\n"
+policy_text policy.Memory = memory_text
+
+abbrev pub commands_text : CommandsFault → List ℕ
+commands_text (commands.Bad line kind path) = codes "vsw: refused commands " ++ decimal line ++ codes " " ++ fault_text kind path
+commands_text commands.CommandsLimit = codes "vsw: limit commands\n"
+commands_text commands.LinesLimit = codes "vsw: limit lines\n"
+commands_text commands.Memory = memory_text
+
+-- the byte at which a record is cut or huge
+abbrev pub byte_text : BadTrace → List ℕ
+byte_text NotPcap = []
+byte_text Version = []
+byte_text LinkType = []
+byte_text (Cut at) = codes " " ++ decimal at
+byte_text (Huge at) = codes " " ++ decimal at
+
+-- the words that a run complains by its ending
+abbrev pub complaint : Ending → List ℕ
+complaint ending.Done = []
+complaint ending.Usage = codes "vsw: usage\n"
+complaint ending.ReadFault = codes "vsw: read fault\n"
+complaint ending.WriteFault = codes "vsw: write fault\n"
+complaint (ending.Policy why) = policy_text why
+complaint (ending.Commands why) = commands_text why
+complaint (ending.Trace bad) = codes "vsw: refused trace " ++ trace_name bad ++ byte_text bad ++ codes "\n"
+complaint ending.Records = codes "vsw: limit records\n"
+complaint ending.Memory = memory_text
+
+-- these words were complained, or a front of them if the host counted a fault
+abbrev pub Complains : Outside → Outside → List ℕ → Type 0
+Complains old new words = Grows old.complained new.complained words ⊎ ((n : ℕ) × Grows old.complained new.complained (take n words) × Rose old.complain_faults new.complain_faults)

@@ -1,0 +1,57 @@
+-- The command line as a grammar: `vsw forward [--workers N] POLICY COMMANDS TRACE` and `vsw generate START PACKETS`.
+use Rattle.std.specs.Prelude.{◌≡◌, ◌≢◌, ◌⊎◌, ◌≤◌, ℕ, List, [], ◌∷◌, ◌++◌, codes, decimal}
+use Rattle.std.specs.List.{All}
+use Rattle.vsw_run.specs.Words.{Request, Asked, Forward, Generate}
+
+-- a word of more than one byte that begins with a dash
+abbrev pub IsDashed : List ℕ → Type 0
+IsDashed word = (c : ℕ) × (cs : List ℕ) × (word ≡ 45 ∷ c ∷ cs)
+
+-- 1 to 16 workers
+abbrev pub IsCount : ℕ → Type 0
+IsCount n = (1 ≤ n) × (n ≤ 16)
+
+-- the option as two words or as one, or left out: then there is one worker. `decimal` writes no sign and no leading zero
+abbrev pub IsOption : List (List ℕ) → ℕ → Type 0
+IsOption words n =
+    (IsCount n × (words ≡ codes "--workers" ∷ decimal n ∷ []))
+    ⊎ (IsCount n × (words ≡ (codes "--workers=" ++ decimal n) ∷ []))
+    ⊎ ((n ≡ 1) × (words ≡ []))
+
+-- `--` and the names behind it, or neither
+abbrev pub IsBehind : List (List ℕ) → List (List ℕ) → Type 0
+IsBehind words names = (words ≡ codes "--" ∷ names) ⊎ ((words ≡ []) × (names ≡ []))
+
+-- the words after `forward`: names, the option, names, and perhaps `--` and further names. The names before `--` aren't dashed, so it is the first;
+-- those behind it may be. There are three names, none of them empty
+pub record IsForward (words : List (List ℕ)) (request : Request) : Type 0 where
+  pub before : List (List ℕ)
+  pub option : List (List ℕ)
+  pub after : List (List ℕ)
+  pub end : List (List ℕ)
+  pub behind : List (List ℕ)
+  pub shape : words ≡ before ++ option ++ after ++ end
+  pub option_is : IsOption option request.workers
+  pub end_is : IsBehind end behind
+  pub undashed : All (λ name. ¬ (IsDashed name)) (before ++ after)
+  pub names : before ++ after ++ behind ≡ request.policy ∷ request.commands ∷ request.trace ∷ []
+  pub nonempty : All (λ name. name ≢ []) (before ++ after ++ behind)
+
+-- the words after `generate`: the number that packets are drawn from, and how many packets
+pub record IsGenerate (words : List (List ℕ)) (start packets : ℕ) : Type 0 where
+  pub shape : words ≡ decimal start ∷ decimal packets ∷ []
+  pub start_is : start ≤ 2147483647
+  pub packets_are : (1 ≤ packets) × (packets ≤ 1048576)
+
+-- what the words after a command ask for
+abbrev pub IsAsked : List (List ℕ) → Asked → Type 0
+IsAsked words (Forward request) = IsForward words request
+IsAsked words (Generate start packets) = IsGenerate words start packets
+
+abbrev pub command_of : Asked → List ℕ
+command_of (Forward request) = codes "forward"
+command_of (Generate start packets) = codes "generate"
+
+-- a command line: the program's name, the command, and the words after it
+abbrev pub Asks : List (List ℕ) → Asked → Type 0
+Asks words asked = (program : List ℕ) × (rest : List (List ℕ)) × (words ≡ program ∷ command_of asked ∷ rest) × IsAsked rest asked

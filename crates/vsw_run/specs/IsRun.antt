@@ -1,0 +1,139 @@
+-- A run of the program: what it opens and reads, what it puts, what it complains, and its status.
+use Rattle.std.specs.Prelude.{◌≡◌, ◌⊎◌, ◌≤◌, ℕ, List, [], length, take, Bool, true, false, Option, Some, None, Ok}
+use Rattle.vsw_host.specs.Outside.{Inputs, Opened, Outside, Grows, Rose}
+use Rattle.vsw_host.specs.Told.{TellsSince}
+use Rattle.vsw_commandfile.specs.Commands.{commands_file_of}
+use Rattle.vsw_pcap.specs.Capture.{IsCapture}
+use Rattle.vsw_pcap.specs.declared.capture.Record.{Record}
+use Rattle.vsw_config.specs.Policy.{policy_file_of}
+use Rattle.vsw_run.specs.Complaint.{status_of, complaint, Complains}
+use Rattle.vsw_run.specs.declared.ending.Ending.{Ending}
+use Rattle.vsw_run.specs.declared.ending.Ending.TheVariants as ending
+use Rattle.vsw_run.specs.declared.ending.Status.{Status}
+use Rattle.vsw_run.specs.declared.ending.Status.TheVariants as status
+use Rattle.vsw_run.specs.Files.{Opens, HasBadPolicy, HasBadCommands, LacksTrace, HasTrace, IsReadOf}
+use Rattle.vsw_run.specs.Generated.{Summarizes}
+use Rattle.vsw_promise.specs.Jobs.{Setting}
+use Rattle.vsw_run.specs.Trace.{Trace, Tells, MayTell, most_records}
+use Rattle.vsw_run.specs.Words.{Request, Asked, Forward, Generate, asked_in}
+
+-- a text was put, or a front of it, or nothing
+abbrev pub Puts : Outside → Outside → List ℕ → Type 0
+Puts old new text = Grows old.put new.put text
+
+abbrev pub PutsFront : Outside → Outside → List ℕ → Type 0
+PutsFront old new text = (count : ℕ) × Puts old new (take count text)
+
+abbrev pub PutsNothing : Outside → Outside → Type 0
+PutsNothing old new = Puts old new []
+
+-- what was read of the trace
+pub record TraceRead (q : Request) (old new : Outside) (files : List Opened) : Type 0 where
+  pub setting : Setting
+  pub file : Opened
+  pub opened : HasTrace q files setting file
+  pub trace : Trace
+  pub read : IsReadOf old new file trace
+
+-- it gives this ending, and its text was put
+pub record EndsByTrace (q : Request) (old new : Outside) (files : List Opened) (end : Ending) : Type 0 where
+  pub reads : TraceRead q old new files
+  pub text : List ℕ
+  pub tells : Tells reads.setting reads.trace end text
+  pub puts : Puts old new text
+
+-- the run broke off, and put a front of a text that it might have put
+pub record BreaksOff (q : Request) (old new : Outside) (files : List Opened) : Type 0 where
+  pub reads : TraceRead q old new files
+  pub text : List ℕ
+  pub tells : MayTell reads.setting reads.trace text
+  pub puts : PutsFront old new text
+
+-- what a run over these files put, by how it ended. It ends by a read fault or a write fault only if the host counted one
+abbrev pub Ends : Request → Outside → Outside → List Opened → Ending → Type 0
+Ends q old new files (ending.Policy why) = HasBadPolicy files why × PutsNothing old new
+Ends q old new files (ending.Commands why) = HasBadCommands files why × PutsNothing old new
+Ends q old new files (ending.Trace bad) = EndsByTrace q old new files (ending.Trace bad)
+Ends q old new files ending.Records = EndsByTrace q old new files ending.Records
+Ends q old new files ending.Done = EndsByTrace q old new files ending.Done
+Ends q old new files ending.ReadFault = Rose old.input_faults new.input_faults × ((LacksTrace files × PutsNothing old new) ⊎ EndsByTrace q old new files ending.ReadFault)
+Ends q old new files ending.WriteFault = Rose old.put_faults new.put_faults × BreaksOff q old new files
+Ends q old new files ending.Memory = PutsNothing old new ⊎ EndsByTrace q old new files ending.Memory ⊎ BreaksOff q old new files
+Ends q old new files ending.Usage = ⊥
+
+-- the words ask for a run over files
+pub record Runs (q : Request) (old new : Outside) (end : Ending) : Type 0 where
+  pub files : List Opened
+  pub opens : Opens old new q files
+  pub ends : Ends q old new files end
+
+-- the words are outside the grammar: nothing was opened, and nothing put
+pub record RunsNot (old new : Outside) (end : Ending) : Type 0 where
+  pub usage : end ≡ ending.Usage
+  pub opens : TellsSince old.inputs new.inputs []
+  pub nothing : PutsNothing old new
+
+-- the whole summary was put, of rounds in which memory was wanting or not
+pub record PutsSummary (start packets : ℕ) (old new : Outside) (short : Bool) : Type 0 where
+  pub text : List ℕ
+  pub summarizes : Summarizes start packets short text
+  pub puts : Puts old new text
+
+-- a front of a summary was put
+pub record PutsPart (start packets : ℕ) (old new : Outside) : Type 0 where
+  pub short : Bool
+  pub text : List ℕ
+  pub summarizes : Summarizes start packets short text
+  pub puts : PutsFront old new text
+
+-- what a run over a generated workload put, by how it ended. It ends by a write fault only if the host counted one
+abbrev pub EndsGenerated : (start packets : ℕ) → Outside → Outside → Ending → Type 0
+EndsGenerated start packets old new ending.Done = PutsSummary start packets old new false
+EndsGenerated start packets old new ending.WriteFault = Rose old.put_faults new.put_faults × PutsPart start packets old new
+EndsGenerated start packets old new ending.Memory = PutsNothing old new ⊎ PutsSummary start packets old new true
+EndsGenerated start packets old new _ = ⊥
+
+-- the words ask for a run over a generated workload: nothing was opened
+pub record RunsGenerated (start packets : ℕ) (old new : Outside) (end : Ending) : Type 0 where
+  pub opens : TellsSince old.inputs new.inputs []
+  pub ends : EndsGenerated start packets old new end
+
+-- a run by what its words ask for
+abbrev pub RunsBy : Option Asked → Outside → Outside → Ending → Type 0
+RunsBy None old new end = RunsNot old new end
+RunsBy (Some (Forward q)) old new end = Runs q old new end
+RunsBy (Some (Generate start packets)) old new end = RunsGenerated start packets old new end
+
+-- the whole program: what a run of these words left, by its status
+pub record IsRun (words : List (List ℕ)) (old new : Outside) (status : Status) : Type 0 where
+  pub end : Ending
+  pub status_is : status ≡ status_of end
+  pub runs : RunsBy (asked_in words) old new end
+  pub complains : Complains old new (complaint end)
+
+-- the words ask for a run over three files that the host holds: a good policy, good commands, and a sound trace within its limit
+pub record AreAdmitted (words : List (List ℕ)) (inputs : Option Inputs) : Type 0 where
+  pub request : Request
+  pub asked : asked_in words ≡ Some (Forward request)
+  pub files : Inputs
+  pub told : inputs ≡ Some files
+  pub policy : List ℕ
+  pub commands : List ℕ
+  pub trace : List ℕ
+  pub policy_held : files.files request.policy ≡ Some policy
+  pub commands_held : files.files request.commands ≡ Some commands
+  pub trace_held : files.files request.trace ≡ Some trace
+  pub setting : Setting
+  pub policy_good : policy_file_of policy ≡ Ok setting.policy
+  pub commands_good : commands_file_of setting.policy commands ≡ Ok setting.commands
+  pub records : List Record
+  pub trace_good : IsCapture trace records None
+  pub few : length records ≤ most_records
+
+-- then nothing but a fault or want of memory keeps a run from its end
+abbrev pub IsComplete : List (List ℕ) → Outside → Outside → Status → Type 0
+IsComplete words old new s = AreAdmitted words old.inputs → ¬ (Rose old.input_faults new.input_faults) → ¬ (Rose old.put_faults new.put_faults) → (s ≡ status.Done) ⊎ (s ≡ status.Memory)
+
+-- the words ask for a generated workload: then nothing but a fault of putting or want of memory does so
+abbrev pub IsCompleteAlone : List (List ℕ) → Outside → Outside → Status → Type 0
+IsCompleteAlone words old new s = (start packets : ℕ) → asked_in words ≡ Some (Generate start packets) → ¬ (Rose old.put_faults new.put_faults) → (s ≡ status.Done) ⊎ (s ≡ status.Memory)

@@ -1,0 +1,12 @@
+pub mod Words
+pub mod Grammar
+pub mod GrammarLaw
+pub mod Plain
+pub mod Seen
+pub mod Trace
+pub mod Files
+pub mod Complaint
+pub mod Generated
+pub mod IsRun
+pub mod Law
+pub mod Statuses

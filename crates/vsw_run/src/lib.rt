@@ -1,0 +1,17 @@
+//! What a run of the program is: the words of its command line, what it opens, reads, puts and complains, and how it ends.
+#![tactic(auto)]
+
+mod ending;
+mod forward;
+mod grammar_law;
+mod law;
+mod numbers;
+mod reading;
+mod words;
+
+pub use ending::{Ending, Status};
+pub use forward::Request;
+pub use grammar_law::grammar_laws;
+pub use law::{program_laws, statuses};
+pub use reading::{Asked, read_words};
+pub use words::Word;

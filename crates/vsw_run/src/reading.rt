@@ -1,0 +1,59 @@
+//! The words of the command line.
+
+ghost use Rattle.std.specs.Prelude.{◌≡◌, IfSome, option_and_then, option_map};
+ghost use Rattle.vsw_run.specs.Seen.{IsWithin, asked_seen, forwarded};
+ghost use Rattle.vsw_run.specs.Words.{asked_in, generate_in, request_in};
+
+use crate::forward::{Request, read_forward};
+use crate::numbers::read_number;
+use crate::words::Word;
+
+/// The greatest number that packets are drawn from.
+const MOST_START: u32 = 2_147_483_647;
+
+/// Most packets of a workload.
+const MOST_PACKETS: u32 = 1_048_576;
+
+/// What the words ask for: to forward, or to generate so many packets, which are drawn from a number.
+#[derive(Clone, Copy)]
+pub enum Asked<'a> {
+    Forward(Request<'a>),
+    Generate { start: u32, packets: u32 },
+}
+
+fn read_generate(words: &[Word]) -> Option<Asked<'_>>
+    ensures { option_map asked_seen result ≡ generate_in words.now }
+{
+    match words {
+        [start, packets] => {
+            let start = read_number(start.text(), 0, MOST_START)?;
+            let packets = read_number(packets.text(), 1, MOST_PACKETS)?;
+            Some(Asked::Generate { start, packets })
+        }
+        _ => None,
+    }
+}
+
+fn read(words: &[Word]) -> Option<Asked<'_>>
+    ensures asked { option_map asked_seen result ≡ asked_in words.now }
+    ensures forward { option_and_then forwarded result ≡ request_in words.now }
+{
+    match words {
+        [_, command, rest @ ..] => match command.text() {
+            "forward" => Some(Asked::Forward(read_forward(rest)?)),
+            "generate" => read_generate(rest),
+            _ => None,
+        },
+        _ => None,
+    }
+}
+
+/// What the words ask for, if they are of the grammar. The first word is the program's name.
+#[tactic(auto, using(crate::proofs::Bounds::within))]
+pub fn read_words(words: &[Word]) -> Option<Asked<'_>>
+    ensures asked { option_map asked_seen result ≡ asked_in words.now }
+    ensures forward { option_and_then forwarded result ≡ request_in words.now }
+    ensures within { IfSome result IsWithin }
+{
+    read(words)
+}

@@ -3,6 +3,7 @@ pub mod Cuts
 pub mod Carried
 pub mod Completing
 pub mod Growing
+pub mod Puts
 pub mod Sources
 pub mod Turning
 pub mod Putting

@@ -15,6 +15,7 @@ use Rattle.vsw_run.specs.declared.ending.Ending.TheVariants as ending
 use Rattle.vsw_report.specs.Print.{round_text, report_text}
 use Rattle.vsw_report.specs.Short.{are_short, is_short_round}
 use Rattle.vsw_report.specs.declared.round.Round.{Round}
+use Rattle.vsw_report.specs.Whole.{whole_text}
 use Rattle.vsw_promise.specs.Schedule.{next_at}
 use Rattle.vsw_crew.specs.Switch.{SwitchNow, IsAt}
 use Rattle.vsw_replay.specs.declared.ending.TraceEnd.{TraceEnd}
@@ -209,16 +210,16 @@ stretch_put s start old now name run new switch after t (Ok u) runs same inputs 
     let ran = p.0.ran in
     let rounds = f.rounds ++ ran.round ∷ [] in
     after_for s start now name new after t f.bytes (f.given ++ run.reading.batch) rounds ran.histories t.stop (stopped_filled s start old now name run new switch t same inputs f)
-    (rounds_run s t.first t.next f.given run.reading.batch f.rounds f.histories after p.0.short [] new.text.items t.stop f.count f.cut f.next f.long runs f.so ran)
+    (rounds_run s t.first t.next f.given run.reading.batch f.rounds f.histories after p.0.short [] (whole_text new.text) t.stop f.count f.cut f.next f.long runs f.so ran)
     ran.at
-    (put_by start old now f.rounds ran.round new.text.items u run.short new.short p.0.short f.since f.short_is f.puts ran.text p.0.short_is ran.short_is p.1)
+    (put_by start old now f.rounds ran.round (whole_text new.text) u run.short new.short p.0.short f.since f.short_is f.puts ran.text p.0.short_is ran.short_is p.1)
 stretch_put s start old now name run new switch after t (Err end.WriteFault) runs same inputs put f =
     let p = put f.histories f.at in
     let ran = p.0.ran in
     let all = f.given ++ run.reading.batch in
     let stopped = stopped_filled s start old now name run new switch t same inputs f in
-    let so = rounds_run s t.first t.next f.given run.reading.batch f.rounds f.histories after p.0.short [] new.text.items t.stop f.count f.cut f.next f.long runs f.so ran in
-    fault_ends s start old now name f.rounds ran.round new.text.items p.1.0 f.since stopped.reading.later ran.text (continues_for s start now name new.reading f.bytes all t.first t.next (f.rounds ++ ran.round ∷ []) ran.histories t.stop stopped so) f.puts p.1.1
+    let so = rounds_run s t.first t.next f.given run.reading.batch f.rounds f.histories after p.0.short [] (whole_text new.text) t.stop f.count f.cut f.next f.long runs f.so ran in
+    fault_ends s start old now name f.rounds ran.round (whole_text new.text) p.1.0 f.since stopped.reading.later ran.text (continues_for s start now name new.reading f.bytes all t.first t.next (f.rounds ++ ran.round ∷ []) ran.histories t.stop stopped so) f.puts p.1.1
 stretch_put s start old now name run new switch after t (Err end.Memory) runs same inputs put f =
     let here = memory_ends s start old name f.rounds f.since f.reading.later (continues_before s start old name run switch t f) f.puts in
     subst (λ o. RunsTrace s start o name end.Memory) (sym (put f.histories f.at)) here
@@ -242,7 +243,7 @@ pub next_put : (s : Setting) (start old now : Outside) (name : List ℕ) (run ne
 next_put s start old now name run new switch after first next u none e inputs put f =
     let p = put f.histories f.at in
     let ran = p.0.ran in
-    let by = put_by start old now f.rounds ran.round new.text.items u run.short new.short p.0.short f.since f.short_is f.puts ran.text p.0.short_is ran.short_is p.1 in record {
+    let by = put_by start old now f.rounds ran.round (whole_text new.text) u run.short new.short p.0.short f.since f.short_is f.puts ran.text p.0.short_is ran.short_is p.1 in record {
       bytes = f.bytes;
       records = f.records;
       rounds = f.rounds ++ ran.round ∷ [];
@@ -253,7 +254,7 @@ next_put s start old now name run new switch after first next u none e inputs pu
       capture = f.capture;
       few = f.few;
       behind = behind_next s first next (length f.records) e f.behind;
-      so = rounds_past s first next f.records run.reading.batch f.rounds f.histories after p.0.short [] new.text.items none e f.behind f.so ran;
+      so = rounds_past s first next f.records run.reading.batch f.rounds f.histories after p.0.short [] (whole_text new.text) none e f.behind f.so ran;
       at = ran.at;
       short_is = by.short_is;
       puts = by.puts;
@@ -266,8 +267,8 @@ next_unput s start old now name run new switch after first next end.WriteFault n
     let p = put f.histories f.at in
     let ran = p.0.ran in
     let rounds = f.rounds ++ ran.round ∷ [] in
-    let so = rounds_past s first next f.records run.reading.batch f.rounds f.histories after p.0.short [] new.text.items none e f.behind f.so ran in
-    fault_ends s start old now name f.rounds ran.round new.text.items p.1.0 f.since (omega (arith, f.later, inputs.input_faults)) ran.text
+    let so = rounds_past s first next f.records run.reading.batch f.rounds f.histories after p.0.short [] (whole_text new.text) none e f.behind f.so ran in
+    fault_ends s start old now name f.rounds ran.round (whole_text new.text) p.1.0 f.since (omega (arith, f.later, inputs.input_faults)) ran.text
     (continues_past s start now name f.bytes f.records next rounds ran.histories (reads_whole start now name f.bytes (whole_put start old now name f.bytes inputs f.whole)) f.capture f.few (behind_next s first next (length f.records) e f.behind) so)
     f.puts
     p.1.1

@@ -11,6 +11,7 @@ use Rattle.vsw_replay.specs.Private.Cut.{is_named_by, IsCut, IsNextCut}
 use Rattle.vsw_replay.specs.Private.SoFar.{AreSoFar}
 use Rattle.vsw_replay.proofs.Turning.{rounds_run, short_push}
 use Rattle.vsw_report.specs.declared.round.Round.{Round}
+use Rattle.vsw_report.specs.Whole.{whole_text}
 use Rattle.vsw_replay.proofs.Totals.{total_append}
 use Rattle.vsw_replay.specs.Switch.{SwitchNow, IsAt}
 use Rattle.vsw_replay.specs.Tally.{both, tally_in}
@@ -59,8 +60,8 @@ rounds_so s first given rounds hs old new switch alone count cut most some few s
     all = omega (arith, length-append given old.batch, count)
 
     by : (length old.batch ≡ 1024) ⊎ (length old.batch < 1024) → AreSoFar s (given ++ old.batch) (cuts_within s.commands (length (given ++ old.batch))) (rounds ++ t.ran.tells.round ∷ []) t.ran.tells.histories
-    by (inl whole) = rounds_run s first (first + 1024) given old.batch rounds hs switch t.told [] new.text.items stop.Full count cut after (omega (arith, all, whole), omega (arith, few, whole)) (some_run (length old.batch) ((first == 0) || is_named_by s.commands first) some) so t.ran.tells
-    by (inr part) = rounds_run s first (first + 1024) given old.batch rounds hs switch t.told [] new.text.items stop.Fault count cut after (omega (arith, all, part)) (some_run (length old.batch) ((first == 0) || is_named_by s.commands first) some) so t.ran.tells
+    by (inl whole) = rounds_run s first (first + 1024) given old.batch rounds hs switch t.told [] (whole_text new.text) stop.Full count cut after (omega (arith, all, whole), omega (arith, few, whole)) (some_run (length old.batch) ((first == 0) || is_named_by s.commands first) some) so t.ran.tells
+    by (inr part) = rounds_run s first (first + 1024) given old.batch rounds hs switch t.told [] (whole_text new.text) stop.Fault count cut after (omega (arith, all, part)) (some_run (length old.batch) ((first == 0) || is_named_by s.commands first) some) so t.ran.tells
 
 -- a run before a round was drawn, and with it
 pub record HasDrawn (old run : Run) : Type 0 where

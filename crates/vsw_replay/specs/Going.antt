@@ -8,6 +8,7 @@ use Rattle.vsw_replay.specs.Private.Cut.{IsCut}
 use Rattle.vsw_replay.specs.Private.SoFar.{AreSoFar}
 use Rattle.vsw_report.specs.declared.round.Round.{Round}
 use Rattle.vsw_report.specs.Short.{are_short}
+use Rattle.vsw_report.specs.Whole.{whole_text}
 use Rattle.vsw_replay.specs.Round.{RunsRound}
 use Rattle.vsw_replay.specs.Close.{last_of}
 use Rattle.vsw_replay.specs.Switch.{SwitchNow, IsAt}
@@ -38,7 +39,7 @@ pub record Goes (s : Setting) (all : List Record) (first : ℕ) (run : Run) (swi
 -- the round of the batch was run
 pub record IsTurn (s : Setting) (hs : List (List Event)) (first : ℕ) (old new : Run) (switch : SwitchNow) : Type 0 where
   pub told : Bool
-  pub ran : RunsRound s hs first old.batch switch told [] new.text.items
+  pub ran : RunsRound s hs first old.batch switch told [] (whole_text new.text)
   pub short_is : new.short ≡ (old.short || told)
   pub tally_is : new.tally ≡ both old.tally (last_of switch.ports)
 

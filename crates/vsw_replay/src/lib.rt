@@ -4,6 +4,7 @@
 mod cut;
 mod draw;
 mod ending;
+mod putting;
 mod run;
 mod runner;
 mod summary;

@@ -23,6 +23,7 @@ use vsw_generate::Workload;
 use vsw_host::Host;
 use vsw_pcap::Batch;
 use vsw_promise::Schedule;
+use vsw_report::RoundText;
 
 /// How a run over a workload ended.
 #[derive(Clone, Copy)]
@@ -43,7 +44,7 @@ struct Run {
     /// The packets of a round.
     batch: Batch,
     /// The text of a round, which nobody reads, in room that the next round's text finds again.
-    text: Vec<u8>,
+    text: RoundText,
     /// What became of the packets.
     tally: Tally,
     /// Whether memory was wanting for one of them.
@@ -135,7 +136,7 @@ fn summarize(
     let mut run = Run {
         workload: Workload::new(start, packets),
         batch: Batch::new(alloc),
-        text: Vec::new(alloc),
+        text: RoundText::new(alloc),
         tally: Tally::none(),
         short: false,
     };

@@ -6,6 +6,7 @@ ghost use Rattle.vsw_crew.specs.Crew.{crew_now};
 ghost use Rattle.vsw_port.specs.declared.event.Event.{Event};
 ghost use Rattle.vsw_promise.specs.Jobs.{Setting};
 ghost use Rattle.vsw_crew.specs.Round.{TellsRound};
+ghost use Rattle.vsw_report.specs.Whole.{whole_text};
 ghost use Rattle.vsw_crew.specs.Switch.{AreServed, IsAt};
 
 use std::marker::Model;
@@ -15,6 +16,7 @@ use vsw_base::NoMemory;
 use vsw_crew::{Crew, Naming, Switch, Watch, run_round};
 use vsw_pcap::Batch;
 use vsw_promise::Schedule;
+use vsw_report::RoundText;
 use vsw_workers::Gate;
 
 /// Who does the work of a round.
@@ -71,16 +73,16 @@ impl<'g, J: Naming + Send + Sync, G: Gate + Watch + Sync> Runner<'g, J, G> {
         schedule: &Schedule,
         first: u32,
         packets: &Batch,
-        out: &mut Vec<u8>,
+        out: &mut RoundText,
     ) -> Result<bool, NoMemory>
         requires served { AreServed self.old schedule.now }
         requires numbers { first + length packets.now < 2 ^ 32 }
-        ensures runs { IfOk result (λ short. (s : Setting) (hs : List (List Event)) → s.commands ≡ schedule.now → IsAt s hs self.old → TellsRound s hs first packets.now self.new short out.old.items out.new.items) }
+        ensures runs { IfOk result (λ short. (s : Setting) (hs : List (List Event)) → s.commands ≡ schedule.now → IsAt s hs self.old → TellsRound s hs first packets.now self.new short (whole_text out.old) (whole_text out.new)) }
         ensures served { (lines : List Line) → AreServed self.old lines → AreServed self.new lines }
     {
         match &mut self.work {
             Work::Alone(switch) => run_round(switch, schedule, first, packets, out),
-            Work::Beside(crew) => crew.run_round(rt, schedule, first, packets, out),
+            Work::Beside(crew) => crew.run_round(rt, schedule, first, packets, &mut out.end),
         }
     }
 }

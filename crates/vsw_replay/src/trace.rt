@@ -13,6 +13,7 @@ ghost use Rattle.vsw_crew.specs.Switch.{AreServed, IsAt, SwitchNow};
 
 use crate::cut::{is_named, next_cut};
 use crate::ending::TraceEnd;
+use crate::putting::put_text;
 use crate::runner::Runner;
 use std::alloc::Global;
 use std::sync::Wait;
@@ -23,7 +24,7 @@ use vsw_host::{Host, Source, Unopened};
 use vsw_pcap::BadTrace;
 use vsw_promise::Schedule;
 use vsw_reading::{HEADER_LEN, Reading, Stop, begin_reading, fill, peek};
-use vsw_report::HEAD_LINE;
+use vsw_report::{HEAD_LINE, RoundText};
 use vsw_workers::Gate;
 
 /// The most records of a trace.
@@ -34,7 +35,7 @@ const RECORDS_MOST: u32 = 1_048_576;
 struct Run {
     reading: Reading,
     /// The text of a round, in room that the next round's text finds again.
-    text: Vec<u8>,
+    text: RoundText,
     /// Whether memory was wanting for a packet or a command of the rounds that were run.
     short: bool,
 }
@@ -74,7 +75,7 @@ fn run_text<'g, J: Naming + Send + Sync, G: Gate + Watch + Sync, R: Threads + Wa
     }
 }
 
-/// Runs the round of the batch and puts its text at once.
+/// Runs the round of the batch and puts its text.
 fn put_round<
     'g,
     J: Naming + Send + Sync,
@@ -97,7 +98,7 @@ fn put_round<
     ensures served { (lines : List Line) → AreServed runner.old lines → AreServed runner.new lines }
 {
     match run_text(rt, runner, schedule, run, first) {
-        Ok(()) => match host.put(run.text.as_slice()) {
+        Ok(()) => match put_text(host, &run.text) {
             Ok(()) => Ok(()),
             Err(_) => Err(TraceEnd::WriteFault),
         },
@@ -387,7 +388,7 @@ pub fn run_trace<
         Ok(source) => {
             let mut run = Run {
                 reading: begin_reading(alloc, source),
-                text: Vec::new(alloc),
+                text: RoundText::new(alloc),
                 short: false,
             };
             run_opened(rt, host, runner, schedule, &mut run)

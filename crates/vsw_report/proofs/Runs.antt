@@ -1,10 +1,12 @@
 -- Lines as marks over one text: what is appended to them, and what goes over from their front.
-use Rattle.std.proofs.Common.{◌≡◌, ℕ, suc, ◌+◌, ◌-◌, ◌≤◌, Bool, true, false, ◌||◌, if◌then◌else◌, Result, Ok, Err, OnOk, OnErr, List, [], ◌∷◌, ◌++◌, length, take, drop, slice_range, refl, sym, ap, ap₂, ◌∙◌, subst, arith}
+use Rattle.std.proofs.Common.{◌≡◌, ℕ, zero, suc, ◌+◌, ◌-◌, ◌<◌, ◌≤◌, Bool, true, false, ◌||◌, if◌then◌else◌, Result, Ok, Err, OnOk, OnErr, List, [], ◌∷◌, ◌++◌, length, take, drop, slice_range, nat_lt, refl, sym, ap, ap₂, ◌∙◌, subst, arith}
 use Rattle.std.proofs.lemmas.List.{append-nil, drop-drop, length-append, length-drop, take-append-le, drop-append-le, take_at, drop_at, take_all}
 use Rattle.std.proofs.Math.Seq.{take-add}
+use Rattle.std.proofs.lemmas.Bool.{ltb-true, ltb-false}
 use Rattle.vsw_base.specs.declared.fault.NoMemory.{NoMemory}
 use Rattle.vsw_report.specs.Line.{TextLine, are_short, texts}
-use Rattle.vsw_report.specs.Marks.{AreEnds, entry_end, entry_len, entry_short, is_entry_mark, is_read_mark, lines_in, reads_end, reads_len, reads_short}
+use Rattle.vsw_report.specs.Marks.{AreEnds, any_short, entry_end, entry_len, entry_short, is_entry_mark, is_read_mark, lines_in, reads_end, reads_len, reads_short}
+use Rattle.vsw_report.specs.Order.{has_lines}
 use Rattle.vsw_report.specs.Steps.{first_entry, first_reads, past_entry, past_reads}
 use Rattle.vsw_report.specs.declared.marks.Mark.{Mark}
 
@@ -194,3 +196,33 @@ pub line_told : (r : Result (Unit {0}) NoMemory) (passed from : ℕ) (marks mark
 line_told (Ok u) passed from marks marks1 m text line longer text1 lines b le ends t e is one marked whole =
     told_lines passed from marks marks1 m text line text1 le ends (whole ∙ t) (e ∙ ap length (sym whole)) marked ∙ ap₂ (λ (ls : List TextLine) (x : Bool). ls ++ record { entry = m.entry; count = m.count; short = x; text = line } ∷ []) is one
 line_told (Err u) passed from marks marks1 m text line longer text1 lines b le ends t e is one marked whole = tt
+
+-- ---- all lines
+
+pub all_texts : (from : ℕ) (ms : List Mark) (text : List ℕ) → AreEnds from ms (length text) → texts (lines_in from ms text) ≡ slice_range text from (length text)
+all_texts from [] text e = sym (ap (λ (k : ℕ). slice_range text from k) (sym e) ∙ part_none text from)
+all_texts from (m ∷ ms) text e =
+    ap (λ (t : List ℕ). slice_range text from m.end ++ t) (all_texts m.end ms text e.1) ∙ parts_join text from m.end (length text) e.0 (ends_up m.end (length text) ms e.1)
+
+pub all_short : (from : ℕ) (ms : List Mark) (text : List ℕ) → are_short (lines_in from ms text) ≡ any_short ms
+all_short from [] text = refl
+all_short from (m ∷ ms) text = ap (λ (b : Bool). m.short || b) (all_short m.end ms text)
+
+-- lines are left where marks are
+some_left : (from k : ℕ) (ms : List Mark) (text : List ℕ) → k < length ms → has_lines (lines_in from (drop k ms) text) ≡ true
+some_left from k [] text lt = absurd (omega (arith, lt))
+some_left from zero (m ∷ ms) text lt = refl
+some_left from (suc k) (m ∷ ms) text lt = some_left from k ms text (omega (arith, lt))
+
+none_left : (from k : ℕ) (ms : List Mark) (text : List ℕ) → length ms ≤ k → has_lines (lines_in from (drop k ms) text) ≡ false
+none_left from zero [] text le = refl
+none_left from (suc k) [] text le = refl
+none_left from zero (m ∷ ms) text le = absurd (omega (arith, le))
+none_left from (suc k) (m ∷ ms) text le = none_left from k ms text (omega (arith, le))
+
+pub lines_left : (from k : ℕ) (ms : List Mark) (text : List ℕ) → nat_lt k (length ms) ≡ has_lines (lines_in from (drop k ms) text)
+lines_left from k ms text = by (nat_lt k (length ms)) refl
+  where
+    by : (b : Bool) → nat_lt k (length ms) ≡ b → nat_lt k (length ms) ≡ has_lines (lines_in from (drop k ms) text)
+    by true e = e ∙ sym (some_left from k ms text (ltb-true k (length ms) e))
+    by false e = e ∙ sym (none_left from k ms text (ltb-false k (length ms) e))

@@ -1,5 +1,6 @@
 -- Lines as marks over one text.
 use Rattle.std.specs.Prelude.{◌≡◌, ◌≤◌, ◌==◌, ◌&&◌, ◌||◌, not, ℕ, suc, List, [], ◌∷◌, Bool, false, slice_range, if◌then◌else◌}
+use Rattle.std.specs.List.{list_any}
 use Rattle.vsw_report.specs.Line.{TextLine}
 use Rattle.vsw_report.specs.declared.marks.Mark.{Mark}
 
@@ -31,6 +32,10 @@ reads_end n from (m ∷ ms) = if is_read_mark n m then reads_end n m.end ms else
 abbrev pub reads_short : ℕ → List Mark → Bool
 reads_short n [] = false
 reads_short n (m ∷ ms) = if is_read_mark n m then m.short || reads_short n ms else false
+
+-- one of all the lines tells of want of memory
+abbrev pub any_short : List Mark → Bool
+any_short ms = list_any (λ m. m.short) ms
 
 -- the same of the entry of a count, if it is at the front
 abbrev pub entry_len : ℕ → List Mark → ℕ

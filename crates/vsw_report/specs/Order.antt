@@ -1,6 +1,6 @@
 -- The order of a port's lines in a round. Callers are the lists of lines of each worker, by number, and then of each controller, by number.
 use Rattle.std.specs.Prelude.{ℕ, zero, suc, ◌+◌, ◌≤◌, ◌==◌, ◌&&◌, not, Bool, true, false, List, [], ◌∷◌, ◌++◌, map, filter}
-use Rattle.std.specs.List.{flat_map}
+use Rattle.std.specs.List.{flat_map, list_any}
 use Rattle.vsw_report.specs.Line.{TextLine}
 
 abbrev pub is_read : ℕ → TextLine → Bool
@@ -35,6 +35,14 @@ InCounts low (l ∷ ls) high = (low ≤ l.count) × InCounts (l.count + rise_of 
 abbrev pub AllInCounts : ℕ → List (List TextLine) → ℕ → Type 0
 AllInCounts low [] high = Unit {0}
 AllInCounts low (ls ∷ callers) high = InCounts low ls high × AllInCounts low callers high
+
+-- a caller has lines, and one of them has
+abbrev pub has_lines : List TextLine → Bool
+has_lines [] = false
+has_lines (l ∷ ls) = true
+
+abbrev pub have_lines : List (List TextLine) → Bool
+have_lines callers = list_any has_lines callers
 
 -- as many callers, with no lines
 abbrev pub emptied : List (List TextLine) → List (List TextLine)

@@ -12,15 +12,17 @@ mod page;
 mod piece;
 mod print;
 mod round;
+mod sheets;
 mod text;
 mod told;
 
 pub use law::laws;
 pub use lines::Caller;
-pub use merging::merge;
+pub use merging::{merge, merge_text};
 pub use merging_law::merging_laws;
 pub use page::Page;
 pub use print::{HEAD_LINE, loose_part, port_line, print_round, round_line};
 pub use round::{Loose, LooseCause, PortRound, Round};
+pub use sheets::{RoundText, Sheets};
 pub use text::{append_hex, write_hex};
 pub use told::{By, ToldLine, What};

@@ -1,14 +1,17 @@
 //! The lines of one caller, which wait to be merged.
 
-ghost use Rattle.std.specs.Prelude.{◌≡◌, ◌++◌, ◌∷◌, [], OnOk, OnErr, IfOk};
+ghost use Rattle.std.specs.Prelude.{◌≡◌, ◌≤◌, ◌++◌, ◌∷◌, [], OnOk, OnErr, IfOk, length, slice_range};
 ghost use Rattle.vsw_report.specs.Line.{are_short, text_of, texts};
+ghost use Rattle.vsw_report.specs.Order.{has_lines};
+ghost use Rattle.vsw_report.specs.Whole.{whole_text};
 ghost use Rattle.vsw_report.specs.Steps.{first_entry, first_reads, past_entry, past_reads};
 ghost use Rattle.vsw_report.specs.Short.{drops_short, tells_short};
 ghost use Rattle.vsw_report.specs.declared.told.By.TheVariants as by;
 ghost use Rattle.vsw_report.specs.declared.told.What.TheVariants as what;
 
 use crate::Page;
-use crate::marks::{Mark, add_mark, copy, entry_from, reads_from};
+use crate::marks::{Mark, add_mark, copy, entry_from, is_any_short, reads_from};
+use crate::sheets::RoundText;
 use std::alloc::Global;
 use std::marker::Model;
 use vsw_base::{Cause, Fate, NoMemory};
@@ -37,6 +40,9 @@ impl Model for Caller {
     ghost view = { λ s. lines_in s.from (drop s.passed s.marks.items) s.text };
 }
 
+/// The shortest text whose room is taken. A shorter one is copied, which costs less than it does to put two pieces more.
+const TAKEN_LEN: usize = 16_384;
+
 /// Whether a packet was dropped for want of memory.
 fn is_short_fate(fate: &Fate) -> bool
     ensures { result ≡ drops_short fate.now }
@@ -49,6 +55,20 @@ fn is_short_reply(reply: Reply) -> bool
     ensures { result ≡ tells_short (what.Reply reply) }
 {
     matches!(reply, Reply::Refused(Refusal::Memory))
+}
+
+/// Appends a text from a place on. A long one isn't copied: its room is taken.
+fn move_text(out: &mut RoundText, text: &mut Page, from: usize) -> Result<(), NoMemory>
+    requires { from ≤ length text.old }
+    ensures text { OnOk result (whole_text out.new ≡ whole_text out.old ++ slice_range text.old from (length text.old)) }
+    ensures left { OnErr result (text.new ≡ text.old) }
+{
+    let len = text.as_slice().len();
+    if from == 0 && TAKEN_LEN <= len {
+        out.take(text)
+    } else {
+        copy(&mut out.end, text.as_slice(), from, len)
+    }
 }
 
 impl Caller {
@@ -127,6 +147,38 @@ impl Caller {
         self.passed = run.passed;
         self.from = run.end;
         Ok(run.short)
+    }
+
+    /// Whether there are lines that haven't gone over.
+    pub(crate) fn has_lines(&self) -> bool
+        ensures { result ≡ has_lines self.now }
+    {
+        self.passed < self.marks.len()
+    }
+
+    /// Appends all lines, and answers whether one tells of want of memory. A long text isn't copied: its room is taken.
+    pub(crate) fn move_all(&mut self, out: &mut RoundText) -> Result<bool, NoMemory>
+        ensures text { OnOk result (whole_text out.new ≡ whole_text out.old ++ texts self.old) }
+        ensures short { IfOk result (λ short. short ≡ are_short self.old) }
+        ensures rest { OnOk result (self.new ≡ []) }
+    {
+        let short = is_any_short(&self.marks, self.passed);
+        move_text(out, &mut self.text, self.from)?;
+        self.text.clear();
+        self.marks.clear();
+        self.passed = 0;
+        self.from = 0;
+        Ok(short)
+    }
+
+    /// With no lines, takes back the room that was taken of the port at a place.
+    pub fn take_room(&mut self, out: &mut RoundText, place: usize)
+        ensures same { self.new ≡ self.old }
+        ensures text { whole_text out.new ≡ whole_text out.old }
+    {
+        if self.marks.is_empty() && self.from == 0 {
+            out.lend(place, &mut self.text);
+        }
     }
 
     /// No lines again. The rooms stay.

@@ -1,7 +1,7 @@
 //! Marks: where each line of a text ends, and what places it in the report.
 
 ghost use Rattle.std.specs.Prelude.{◌≡◌, ◌≤◌, ◌+◌, ◌-◌, ◌++◌, ◌∷◌, [], OnOk, OnErr, length, take, drop, slice_range};
-ghost use Rattle.vsw_report.specs.Marks.{entry_end, entry_len, entry_short, is_entry_mark, is_read_mark, reads_end, reads_len, reads_short};
+ghost use Rattle.vsw_report.specs.Marks.{any_short, entry_end, entry_len, entry_short, is_entry_mark, is_read_mark, reads_end, reads_len, reads_short};
 
 use crate::Page;
 use vsw_base::NoMemory;
@@ -84,6 +84,21 @@ pub fn entry_from(marks: &[Mark], passed: usize, from: usize, count: u32) -> Run
         end: from,
         short: false,
     }
+}
+
+/// Whether one of the lines behind the first `passed` tells of want of memory.
+pub fn is_any_short(marks: &[Mark], passed: usize) -> bool
+    requires { passed ≤ length marks.now }
+    ensures { result ≡ any_short (drop passed marks.now) }
+{
+    let mut at = passed;
+    while at < marks.len() {
+        if marks[at].short {
+            return true;
+        }
+        at += 1;
+    }
+    false
 }
 
 /// Appends a part of a text.

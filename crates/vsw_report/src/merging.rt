@@ -3,10 +3,12 @@
 ghost use Rattle.std.specs.Prelude.{◌≡◌, ◌≤◌, ◌-◌, ◌++◌, ◌||◌, OnOk, IfOk, map};
 ghost use Rattle.std.specs.List.{flat_map, list_any};
 ghost use Rattle.vsw_report.specs.Line.{are_short, texts};
-ghost use Rattle.vsw_report.specs.Order.{AllInCounts, emptied, in_order};
+ghost use Rattle.vsw_report.specs.Order.{AllInCounts, emptied, have_lines, in_order};
 ghost use Rattle.vsw_report.specs.Steps.{first_entry, first_reads, lines_of_all, merged, past, past_entry, past_reads, reads_of_all};
+ghost use Rattle.vsw_report.specs.Whole.{whole_text};
 
 use crate::lines::Caller;
+use crate::sheets::RoundText;
 use vsw_base::NoMemory;
 
 fn either(one: bool, more: bool) -> bool
@@ -150,4 +152,37 @@ pub fn merge(
     clear(workers);
     clear(controllers);
     Ok(short)
+}
+
+/// Whether one of these callers has lines.
+fn have_lines(callers: &[Caller]) -> bool
+    ensures { result ≡ have_lines callers.now }
+{
+    for caller in callers {
+        if caller.has_lines() {
+            return true;
+        }
+    }
+    false
+}
+
+/// The same as `merge`, for a round's text. The lines of one worker alone stand in the order of the report, and aren't copied
+/// where they are many.
+pub fn merge_text(
+    workers: &mut [Caller],
+    controllers: &mut [Caller],
+    before: u32,
+    after: u32,
+    out: &mut RoundText,
+) -> Result<bool, NoMemory>
+    requires counts { before ≤ after }
+    ensures text { AllInCounts before (workers.old ++ controllers.old) after → OnOk result (whole_text out.new ≡ whole_text out.old ++ flat_map (λ l. l.text) (in_order (workers.old ++ controllers.old) before (after - before))) }
+    ensures short { AllInCounts before (workers.old ++ controllers.old) after → IfOk result (λ short. short ≡ list_any (λ l. l.short) (in_order (workers.old ++ controllers.old) before (after - before))) }
+    ensures workers { OnOk result (workers.new ≡ emptied workers.old) }
+    ensures controllers { OnOk result (controllers.new ≡ emptied controllers.old) }
+{
+    match workers {
+        [worker] if !have_lines(controllers) => worker.move_all(out),
+        _ => merge(workers, controllers, before, after, &mut out.end),
+    }
 }

@@ -11,6 +11,7 @@ use crate::piece::Front;
 use crate::told::By;
 use std::alloc::{AllocError, Global};
 use std::marker::Model;
+use std::mem::swap;
 use vsw_base::{Fate, NoMemory};
 use vsw_policy::Reply;
 
@@ -117,6 +118,28 @@ impl Page {
         ensures { result.now ≡ self.now }
     {
         &self.room[..self.len]
+    }
+
+    /// Has the text of another, which is empty then, and both have the other's room.
+    pub(crate) fn take_text(&mut self, text: &mut Vec<u8>)
+        ensures taken { self.new ≡ text.old.items }
+        ensures empty { text.new.items ≡ [] }
+    {
+        swap(&mut self.room, text);
+        self.len = self.room.len();
+        text.clear();
+    }
+
+    /// Takes the room of a page whose text is left over, if it is longer than its own, and gives its own for it.
+    pub(crate) fn take_room(&mut self, spare: &mut Page)
+        requires { self.old ≡ [] }
+        ensures { self.new ≡ [] }
+    {
+        if self.room.len() < spare.room.len() {
+            swap(&mut self.room, &mut spare.room);
+            self.len = 0;
+            spare.len = 0;
+        }
     }
 
     /// Cuts the text after so many bytes.

@@ -3,7 +3,7 @@
 use std::alloc::Global;
 use vsw_base::{Cause, Fate, NoMemory};
 use vsw_policy::{Refusal, Reply};
-use vsw_report::{Caller, loose_part, merge, port_line, round_line};
+use vsw_report::{Caller, RoundText, loose_part, merge, merge_text, port_line, round_line};
 
 const LONG: Fate = Fate::Drop(Cause::Long);
 
@@ -105,4 +105,64 @@ fn are_rounds(alloc: Global) -> bool {
 #[test]
 fn a_caller_begins_again_in_its_room(rt: HostRuntime) {
     assert!(&rt; are_rounds(rt.alloc()));
+}
+
+/// So many packets of 100 bytes, whose lines have some 220 bytes each.
+fn tell_many(worker: &mut Caller, packets: u32) -> Result<(), NoMemory> {
+    for packet in 0..packets {
+        worker.tell_packet(0, packet, false, 0, &Fate::Pass { len: 100 }, &[7; 100])?;
+    }
+    Ok(())
+}
+
+fn append(out: &mut Vec<u8>, text: &[u8]) -> Result<(), NoMemory> {
+    match out.extend_from_slice(text) {
+        Ok(()) => Ok(()),
+        Err(_) => Err(NoMemory),
+    }
+}
+
+fn append_all(out: &mut Vec<u8>, text: &RoundText) -> Result<(), NoMemory> {
+    for place in 0..text.sheets.len() {
+        append(out, text.sheets.text(place))?;
+    }
+    append(out, text.end.as_slice())
+}
+
+/// Whether a round of so many packets has a text of so many sheets, and the same as one that is merged in one piece.
+fn is_same(
+    alloc: Global,
+    worker: &mut [Caller; 1],
+    text: &mut RoundText,
+    packets: u32,
+    sheets: usize,
+) -> Result<bool, NoMemory> {
+    let mut plain = [Caller::new(alloc)];
+    let mut out = Vec::new(alloc);
+    tell_many(&mut plain[0], packets)?;
+    merge(&mut plain, &mut [], 0, 0, &mut out)?;
+    text.clear();
+    worker[0].take_room(text, 0);
+    tell_many(&mut worker[0], packets)?;
+    merge_text(worker, &mut [], 0, 0, text)?;
+    let mut whole = Vec::new(alloc);
+    append_all(&mut whole, text)?;
+    Ok(whole == out && text.sheets.len() == sheets)
+}
+
+/// Long rounds and short ones, one after the other in the same rooms.
+fn are_same(alloc: Global) -> Result<bool, NoMemory> {
+    let mut worker = [Caller::new(alloc)];
+    let mut text = RoundText::new(alloc);
+    for (packets, sheets) in [(300, 2), (200, 2), (3, 0), (500, 2), (0, 0)] {
+        if !is_same(alloc, &mut worker, &mut text, packets, sheets)? {
+            return Ok(false);
+        }
+    }
+    Ok(true)
+}
+
+#[test]
+fn a_long_text_in_pieces_is_the_text(rt: HostRuntime) {
+    assert!(&rt; are_same(rt.alloc()) == Ok(true));
 }

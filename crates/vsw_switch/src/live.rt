@@ -6,6 +6,7 @@ ghost use Rattle.vsw_port.specs.Calls.{Ask, Carry};
 ghost use Rattle.vsw_policy.specs.Obey.{rules_given};
 ghost use Rattle.vsw_policy.specs.Sound.{Each, IsGoodRule, is_listed};
 ghost use Rattle.vsw_promise.specs.Ports.{port_seen};
+ghost use Rattle.vsw_report.specs.Whole.{whole_text};
 ghost use Rattle.vsw_switch.specs.Close.{IsCounted, begun, is_short_now, text_now};
 ghost use Rattle.vsw_switch.specs.Does.{Does};
 ghost use Rattle.vsw_switch.specs.Stay.{CanOpen, port_at_first, standing};
@@ -21,7 +22,7 @@ use vsw_commandfile::Line;
 use vsw_frame::Frame;
 use vsw_port::ascending;
 use vsw_promise::Port;
-use vsw_report::{Caller, merge, port_line};
+use vsw_report::{Caller, RoundText, merge_text, port_line};
 use vsw_sole::{Room, SolePort, transit};
 
 /// The most rows of a port that are reconciled at the end of a round.
@@ -144,16 +145,26 @@ impl Live {
         tell_reply(&mut self.controllers, place, line, count, answer)
     }
 
+    /// Before a round its first worker takes the room back that was taken of the port at this place.
+    pub(crate) fn take_room(&mut self, out: &mut RoundText, place: usize)
+        ensures same { self.new ≡ self.old }
+        ensures text { whole_text out.new ≡ whole_text out.old }
+    {
+        if let Some((first, _)) = self.workers.split_first_mut() {
+            first.take_room(out, place);
+        }
+    }
+
     /// Appends its part of the round's text, and begins the next round. Answers whether want of memory is told.
-    pub(crate) fn close(&mut self, out: &mut Vec<u8>) -> Result<bool, NoMemory>
-        ensures text { IsCounted self.old → OnOk result (out.new.items ≡ out.old.items ++ text_now self.old) }
+    pub(crate) fn close(&mut self, out: &mut RoundText) -> Result<bool, NoMemory>
+        ensures text { IsCounted self.old → OnOk result (whole_text out.new ≡ whole_text out.old ++ text_now self.old) }
         ensures short { IsCounted self.old → IfOk result (λ short. short ≡ is_short_now self.old) }
         ensures begun { IsCounted self.old → OnOk result (self.new ≡ begun self.old) }
         ensures stays { standing self.new ≡ standing self.old }
     {
         let after = self.port.count();
-        port_line(out, self.number, self.before, after)?;
-        let short = merge(
+        port_line(&mut out.end, self.number, self.before, after)?;
+        let short = merge_text(
             &mut self.workers,
             &mut self.controllers,
             self.before,

@@ -6,6 +6,7 @@ ghost use Rattle.vsw_port.specs.declared.event.Event.{Event};
 ghost use Rattle.vsw_port.specs.Order.{numbered};
 ghost use Rattle.vsw_policy.specs.Sound.{Each};
 ghost use Rattle.vsw_promise.specs.Jobs.{Setting};
+ghost use Rattle.vsw_report.specs.Whole.{whole_text};
 ghost use Rattle.vsw_switch.specs.Round.{RunsRound};
 ghost use Rattle.vsw_switch.specs.Steps as steps;
 ghost use Rattle.vsw_switch.specs.Does.{Works, numbers_in, placed_line};
@@ -16,6 +17,7 @@ use vsw_base::NoMemory;
 use vsw_commandfile::Line;
 use vsw_pcap::Batch;
 use vsw_promise::Schedule;
+use vsw_report::RoundText;
 
 /// Whether a command runs beside the packets, or whether it runs before them.
 fn is_when(during: bool, line: &Line) -> bool
@@ -66,13 +68,14 @@ pub fn run_round(
     schedule: &Schedule,
     first: u32,
     packets: &Batch,
-    out: &mut Vec<u8>,
+    out: &mut RoundText,
 ) -> Result<bool, NoMemory>
     requires served { AreServed switch.old schedule.now }
     requires numbers { first + length packets.now < 2 ^ 32 }
-    ensures runs { IfOk result (λ short. (s : Setting) (hs : List (List Event)) → s.commands ≡ schedule.now → IsAt s hs switch.old → RunsRound s hs first packets.now switch.new short out.old.items out.new.items) }
+    ensures runs { IfOk result (λ short. (s : Setting) (hs : List (List Event)) → s.commands ≡ schedule.now → IsAt s hs switch.old → RunsRound s hs first packets.now switch.new short (whole_text out.old) (whole_text out.new)) }
     ensures served { (lines : List Line) → AreServed switch.old lines → AreServed switch.new lines }
 {
+    switch.take_rooms(out);
     let places = schedule.places(first);
     ask_all(switch, schedule, places, false)?;
     ask_all(switch, schedule, places, true)?;

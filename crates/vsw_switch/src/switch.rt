@@ -10,6 +10,7 @@ ghost use Rattle.vsw_policy.specs.Sound.{Each, IsGoodRule, are_distinct, is_list
 ghost use Rattle.vsw_config.specs.Good.{IsGoodPolicy};
 ghost use Rattle.vsw_promise.specs.Ports.{port_seen, ports_of};
 ghost use Rattle.vsw_promise.specs.Jobs.{crossing_by, worker_of};
+ghost use Rattle.vsw_report.specs.Whole.{whole_text};
 ghost use Rattle.vsw_switch.specs.Close.{AreCounted, IsCounted, begun, entries_in, is_short_now, last_of, next_round, round_now, text_now};
 ghost use Rattle.vsw_switch.specs.Does.{Asks, DoesAt, Forwards, numbers_in};
 ghost use Rattle.vsw_switch.specs.Stay.{ArePorts, Arrives, CanOpen, port_at_first, standing};
@@ -28,7 +29,7 @@ use vsw_frame::{Frame, read_frame};
 use vsw_header::choose_port;
 use vsw_pcap::Captured;
 use vsw_promise::{Port, macs, ports_of};
-use vsw_report::{Loose, LooseCause, loose_part, round_line};
+use vsw_report::{Loose, LooseCause, RoundText, loose_part, round_line};
 
 /// The ports of a switch in the midst of a run, and the round so far.
 #[derive(Drop)]
@@ -148,10 +149,21 @@ fn arrive(
     }
 }
 
+/// Before a round the ports take the rooms back that were taken of them.
+fn take_rooms(ports: &mut Vec<Live>, out: &mut RoundText)
+    ensures same { ports.new.items ≡ ports.old.items }
+    ensures text { whole_text out.new ≡ whole_text out.old }
+{
+    for place in 0..ports.len() {
+        let port = &mut ports[place];
+        port.take_room(out, place);
+    }
+}
+
 /// Appends the parts of ports of the round's text, and begins their next rounds. Answers whether want of memory is told
 /// of one.
-fn close_all(ports: &mut Vec<Live>, out: &mut Vec<u8>) -> Result<bool, NoMemory>
-    ensures text { Each IsCounted ports.old.items → OnOk result (out.new.items ≡ out.old.items ++ flat_map text_now ports.old.items) }
+fn close_all(ports: &mut Vec<Live>, out: &mut RoundText) -> Result<bool, NoMemory>
+    ensures text { Each IsCounted ports.old.items → OnOk result (whole_text out.new ≡ whole_text out.old ++ flat_map text_now ports.old.items) }
     ensures short { Each IsCounted ports.old.items → IfOk result (λ short. short ≡ list_any is_short_now ports.old.items) }
     ensures begun { Each IsCounted ports.old.items → OnOk result (ports.new.items ≡ map begun ports.old.items) }
     ensures stays { map standing ports.new.items ≡ map standing ports.old.items }
@@ -243,18 +255,26 @@ impl Switch {
         }
     }
 
+    /// Before a round takes the rooms back that the last one's text took. Nothing is seen of it.
+    pub fn take_rooms(&mut self, out: &mut RoundText)
+        ensures same { self.new ≡ self.old }
+        ensures text { whole_text out.new ≡ whole_text out.old }
+    {
+        take_rooms(&mut self.ports, out);
+    }
+
     /// Appends the text of the round, of which this is the first packet, and begins the next. Answers whether want of memory
     /// is told in it. After `NoMemory` nothing is said of what was appended.
-    pub fn close(&mut self, first: u32, out: &mut Vec<u8>) -> Result<bool, NoMemory>
-        ensures text { AreCounted self.old → OnOk result (out.new.items ≡ out.old.items ++ round_now first self.old) }
+    pub fn close(&mut self, first: u32, out: &mut RoundText) -> Result<bool, NoMemory>
+        ensures text { AreCounted self.old → OnOk result (whole_text out.new ≡ whole_text out.old ++ round_now first self.old) }
         ensures short { AreCounted self.old → IfOk result (λ short. short ≡ list_any is_short_now self.old.ports) }
         ensures next { AreCounted self.old → OnOk result (self.new ≡ next_round self.old) }
         ensures served { (lines : List Line) → AreServed self.old lines → AreServed self.new lines }
         ensures apart { OnOk result (are_distinct (numbers_in self.old) ≡ true) }
     {
-        round_line(out, first)?;
+        round_line(&mut out.end, first)?;
         let short = close_all(&mut self.ports, out)?;
-        loose_part(out, &self.loose)?;
+        loose_part(&mut out.end, &self.loose)?;
         self.loose.clear();
         Ok(short)
     }

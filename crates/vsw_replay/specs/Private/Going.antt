@@ -16,6 +16,7 @@ use Rattle.vsw_run.specs.Trace.{most_records}
 use Rattle.vsw_report.specs.Print.{report_text}
 use Rattle.vsw_report.specs.Short.{are_short}
 use Rattle.vsw_report.specs.declared.round.Round.{Round}
+use Rattle.vsw_report.specs.Whole.{whole_text}
 use Rattle.vsw_crew.specs.Round.{TellsRound}
 use Rattle.vsw_crew.specs.Switch.{SwitchNow, IsAt}
 use Rattle.vsw_replay.specs.declared.ending.TraceEnd.{TraceEnd}
@@ -140,13 +141,13 @@ PutsNext s start now name short switch (Err e) = RunsTrace s start now name e
 -- the round of the batch was run, and its text is in the room
 pub record IsTurn (s : Setting) (hs : List (List Event)) (first : ℕ) (old new : Run) (switch : SwitchNow) : Type 0 where
   pub short : Bool
-  pub ran : TellsRound s hs first old.reading.batch switch short [] new.text.items
+  pub ran : TellsRound s hs first old.reading.batch switch short [] (whole_text new.text)
   pub short_is : new.short ≡ (old.short || short)
 
 -- and was put, or a front of it
 abbrev pub PutsRound : Setting → List (List Event) → ℕ → Run → Run → SwitchNow → Outside → Outside → Result ⊤ TraceEnd → Type 0
-PutsRound s hs first old new switch before after (Ok u) = IsTurn s hs first old new switch × DoesPut before after new.text.items (Ok u)
-PutsRound s hs first old new switch before after (Err end.WriteFault) = IsTurn s hs first old new switch × ((e : Failed) × DoesPut before after new.text.items (Err e))
+PutsRound s hs first old new switch before after (Ok u) = IsTurn s hs first old new switch × DoesPut before after (whole_text new.text) (Ok u)
+PutsRound s hs first old new switch before after (Err end.WriteFault) = IsTurn s hs first old new switch × ((e : Failed) × DoesPut before after (whole_text new.text) (Err e))
 PutsRound s hs first old new switch before after (Err end.Memory) = after ≡ before
 PutsRound s hs first old new switch before after (Err e) = ⊥
 

@@ -22,6 +22,7 @@ pub answered_at : (l : Looking) (x : Crossing) (h : List Event) (q : Pass) (edit
 answered_at l x h q edited outcome count front seen a =
     let same : h ≡ q.front = prefix_whole h q.front front (omega (arith, seen, a.counted)) in (
       record {
+        control = a.control;
         reads = λ p bytes. subst (λ g. Reads (replay (opening_of l.1) g) (Carried x p outcome.fate bytes)) (sym same) (a.reads p bytes);
         edits = subst (λ g. EditsPass (replay (opening_of l.1) g) x edited outcome.kept outcome.fate) (sym same) a.edits;
         entry = a.entry;

@@ -2,6 +2,7 @@
 use Rattle.std.specs.Prelude.{◌≡◌, ℕ, List, false}
 use Rattle.vsw_base.specs.declared.flow.Crossing.{Crossing}
 use Rattle.vsw_base.specs.declared.header.Header.{Header}
+use Rattle.vsw_base.specs.declared.packet.Control.TheVariants as control
 use Rattle.vsw_base.specs.Frame.{Parts}
 use Rattle.vsw_sole.specs.Core.{Looking}
 use Rattle.vsw_port.specs.declared.event.Event.{Event}
@@ -11,8 +12,9 @@ use Rattle.vsw_port.specs.declared.crossing.Outcome.{Outcome}
 use Rattle.vsw_port.specs.Crossed.{EditsPass}
 use Rattle.vsw_sole.specs.Rows.{opening_of}
 
--- the outcome is that of the layers after this history, where the packet changes nothing
+-- the packet has no control, and the outcome is that of the layers after this history, where the packet changes nothing
 pub record AnsweredAt (l : Looking) (x : Crossing) (h : List Event) (edited : List Header) (outcome : Outcome) : Type 0 where
+  pub control : x.control ≡ control.None
   pub reads : (p : Parts) (bytes : List ℕ) → Reads (replay (opening_of l.1) h) (Carried x p outcome.fate bytes)
   pub edits : EditsPass (replay (opening_of l.1) h) x edited outcome.kept outcome.fate
   pub entry : outcome.entry ≡ false

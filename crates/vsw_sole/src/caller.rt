@@ -1,8 +1,9 @@
 //! A caller of a port: its pass, and what becomes of it with a call.
 
-ghost use Rattle.std.specs.Prelude.{◌≡◌, ◌≤◌, ◌<◌, ◌+◌, ◌-◌, ◌++◌, ℕ, List, not, true, length, IfSome, OnOk, OnErr};
+ghost use Rattle.std.specs.Prelude.{◌≡◌, ◌≤◌, ◌<◌, ◌+◌, ◌-◌, ◌++◌, ℕ, List, not, false, true, length, IfSome, OnOk, OnErr};
 ghost use mathlib.Core.List.{IsPrefix};
 ghost use Rattle.vsw_base.specs.Frame.{Parts};
+ghost use Rattle.vsw_base.specs.declared.packet.Control.TheVariants as control;
 ghost use Rattle.vsw_commandfile.specs.declared.line.Line.{Line};
 ghost use Rattle.vsw_sole.specs.Core.{IsOf, layers_of};
 ghost use Rattle.vsw_port.specs.declared.event.Event.TheVariants as event;
@@ -193,6 +194,7 @@ pub(crate) fn carry(
     requires permit { 0 < caller.old.permits }
     ensures done { (p : Parts) (bytes : List ℕ) → IsDone (opening_of lookup.now.1) core.old.writer.view.history (Carried crossing.now p result.fate bytes) result.entry }
     ensures edits { EditsPass (layers_of lookup.now.1 core.old) crossing.now (edited_by row.new desk.new core.new.edited) result.kept result.fate }
+    ensures row { row.new ≡ true → (crossing.now.control ≡ control.None) × (result.entry ≡ false) }
     ensures core { IsOf lookup.now core.new.writer }
     ensures history { core.new.writer.view.history ≡ core.old.writer.view.history ++ entered result.entry (event.Crossing crossing.now result.fate) }
     ensures caller { HasCalled lookup.now core.new.writer.view.history result.entry caller.old caller.new }

@@ -1,7 +1,8 @@
 //! A port as one thread has it.
 
-ghost use Rattle.std.specs.Prelude.{◌≡◌, ◌≤◌, ◌<◌, ◌+◌, ◌-◌, ◌^◌, ◌++◌, [], ℕ, List, not, true, length, IfOk, OnOk, OnErr};
+ghost use Rattle.std.specs.Prelude.{◌≡◌, ◌≤◌, ◌<◌, ◌+◌, ◌-◌, ◌^◌, ◌++◌, [], ℕ, List, not, false, true, length, IfOk, OnOk, OnErr};
 ghost use Rattle.vsw_base.specs.Frame.{Parts};
+ghost use Rattle.vsw_base.specs.declared.packet.Control.TheVariants as control;
 ghost use Rattle.vsw_commandfile.specs.declared.line.Line.{Line};
 ghost use Rattle.vsw_sole.specs.Core.{IsOf};
 ghost use Rattle.vsw_port.specs.declared.event.Event.TheVariants as event;
@@ -59,7 +60,7 @@ impl Model for SolePort {
 
     ghost Value = { SoleSeen };
 
-    ghost view = { λ s. record { opening = opening_of s.lookup.1; journal = s.core.writer.view.history; room = s.room; edited = edited_by s.row s.desk s.core.edited; workers = s.workers } };
+    ghost view = { λ s. record { opening = opening_of s.lookup.1; journal = s.core.writer.view.history; room = s.room; edited = edited_by s.row s.desk s.core.edited; by_row = s.row; workers = s.workers } };
 
     ghost invariant = { λ s. IsSole s.lookup s.core.writer s.controllers.items s.callers.items s.workers s.room };
 }
@@ -150,6 +151,7 @@ impl SolePort {
         ensures opening { IfOk result (λ port. port.opening ≡ opening_of policy) }
         ensures journal { IfOk result (λ port. port.journal ≡ []) }
         ensures workers { IfOk result (λ port. port.workers ≡ workers) }
+        ensures row { IfOk result (λ port. port.by_row ≡ false) }
     {
         let controllers = copied(alloc, policy.controllers())?;
         let Opened { lookup, mut writer } = Lookup::open(alloc, rows, &policy)?;
@@ -205,6 +207,7 @@ impl SolePort {
         ensures workers { self.new.workers ≡ self.old.workers }
         ensures room { OnOk result (more ≤ self.new.room) }
         ensures kept { self.old.room ≤ self.new.room }
+        ensures row { self.new.by_row ≡ self.old.by_row }
         ensures refused { OnErr result (self.new ≡ self.old) }
     {
         if more <= self.room {
@@ -227,6 +230,13 @@ impl SolePort {
         }
     }
 
+    /// Whether a row answered the last packet.
+    pub fn by_row(&self) -> bool
+        ensures { result ≡ self.now.by_row }
+    {
+        self.row
+    }
+
     /// A packet crosses the layers, or a row answers it as they do. It is an entry exactly where it changes them. Where
     /// it passes, `edited` tells its headers. Memory is taken only to make a pair.
     pub fn cross(&mut self, crossing: &Crossing) -> Outcome
@@ -236,6 +246,7 @@ impl SolePort {
         ensures exact { record { fate = result.fate; layers = layers_of self.new; entry = result.entry } ≡ crossed (is_short result.fate) (layers_of self.old) crossing.now }
         ensures memory { MayBeShort (is_short result.fate) (layers_of self.old) crossing.now }
         ensures edits { EditsPass (layers_of self.old) crossing.now self.new.edited result.kept result.fate }
+        ensures row { self.new.by_row ≡ true → (crossing.now.control ≡ control.None) × (result.entry ≡ false) }
         ensures journal { self.new.journal ≡ self.old.journal ++ entered result.entry (event.Crossing crossing.now result.fate) }
         ensures opening { self.new.opening ≡ self.old.opening }
         ensures workers { self.new.workers ≡ self.old.workers }
@@ -263,6 +274,7 @@ impl SolePort {
         requires room { 1 ≤ self.old.room }
         ensures done { (l : Line) → l.number ≡ line → l.controller ≡ controller → l.command ≡ command.now → IsDone self.old.opening self.old.journal (Asked l (reply_of result)) (not (is_memory result)) }
         ensures journal { self.new.journal ≡ self.old.journal ++ entered (not (is_memory result)) (event.Command controller line command.now (reply_of result)) }
+        ensures row { self.new.by_row ≡ self.old.by_row }
         ensures opening { self.new.opening ≡ self.old.opening }
         ensures workers { self.new.workers ≡ self.old.workers }
         ensures room { self.old.room ≤ self.new.room + 1 }

@@ -6,6 +6,7 @@ mod flows;
 mod gate_tests;
 mod judge;
 mod line;
+mod long_tests;
 mod meeting;
 mod notes;
 mod report_tests;

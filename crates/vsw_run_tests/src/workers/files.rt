@@ -8,6 +8,14 @@ pub const ONE_LAYER: &[&str] = &[
     "]}]}",
 ];
 
+/// One layer, which lets out what comes, and keeps the state of each flow for a second: a packet a quarter of that later renews it.
+pub const SHORT_LIFE: &[&str] = &[
+    r#"{"version":1,"controllers":[1],"ports":[{"port":1,"mac":"02:00:00:00:00:01","rows":64,"layers":["#,
+    r#"{"controller":1,"layer":10,"order":1,"default_out":"drop","default_in":"drop","pairs":100,"idle":1,"linger":1,"groups":["#,
+    r#"{"group":1,"dir":"out","when":[],"rules":[{"rule":5,"priority":10,"when":[],"action":"allow","stateful":true,"last":false}]}]}"#,
+    "]}]}",
+];
+
 /// Layers of three controllers: layer 10 keeps the state of each flow, layer 20 gives 10.0.0.5 another address and port and keeps
 /// the state, too, and layer 30 wraps what goes out to 10.0.0.0/16.
 pub const THREE_LAYERS: &[&str] = &[
@@ -29,3 +37,10 @@ pub const REMOVES: &str =
 /// Beside the packets layer 10 gets a rule that drops all, and its pairs go.
 pub const DROPS: &str =
     r#"{"at":0,"when":"during","controller":1,"port":1,"do":"put_rules","layer":10,"group":1,"rules":[{"rule":1,"priority":10,"when":[],"action":"drop","stateful":false,"last":false}]}"#;
+
+/// Before packet 16 layer 10 lets in what comes, so that no row is current any more. The command before packet 17 is refused, which leaves rows
+/// as they are: the round of packet 16 ends there.
+pub const OPENS: &str = concat!(
+    "{\"at\":16,\"when\":\"before\",\"controller\":1,\"port\":1,\"do\":\"set_default\",\"layer\":10,\"dir\":\"in\",\"default\":\"allow\"}\n",
+    "{\"at\":17,\"when\":\"before\",\"controller\":1,\"port\":1,\"do\":\"remove_group\",\"layer\":10,\"group\":9}\n",
+);

@@ -1,16 +1,45 @@
-//! What gates are told: two workers of a run are at work at once, and each actor has its own jobs.
+//! What gates are told: all workers of a run are at work at once, and each actor has its own jobs.
 
 use crate::workers::counts::Counts;
 use crate::workers::files::REMOVES;
 use crate::workers::meeting::Meeting;
 use crate::workers::running::report_of_flows;
+use std::alloc::Global;
+use std::process::Abort;
+use std::sync::Wait;
 use std::test::Fail;
+use std::thread::Threads;
+
+/// How many workers of a run with so many have seen all others in their first jobs.
+fn met<R: Abort + Threads + Wait + Sync>(
+    rt: &R,
+    alloc: Global,
+    workers: u32,
+    word: &str,
+) -> Result<u64, Fail> {
+    let meeting = Meeting::of(workers);
+    report_of_flows(rt, alloc, word, REMOVES, &meeting)?;
+    Ok(meeting.met())
+}
 
 #[test]
 fn two_workers_see_each_other_in_their_first_jobs(rt: HostRuntime) -> Result<(), Fail> {
-    let meeting = Meeting::new();
-    report_of_flows(&rt, rt.alloc(), "2", REMOVES, &meeting)?;
-    assert_eq!(rt; meeting.saw(), [1, 1]);
+    let met = met(&rt, rt.alloc(), 2, "2")?;
+    assert_eq!(rt; met, 2);
+    Ok(())
+}
+
+#[test]
+fn five_workers_have_a_thread_each(rt: HostRuntime) -> Result<(), Fail> {
+    let met = met(&rt, rt.alloc(), 5, "5")?;
+    assert_eq!(rt; met, 5);
+    Ok(())
+}
+
+#[test]
+fn sixteen_workers_have_a_thread_each(rt: HostRuntime) -> Result<(), Fail> {
+    let met = met(&rt, rt.alloc(), 16, "16")?;
+    assert_eq!(rt; met, 16);
     Ok(())
 }
 

@@ -1,51 +1,46 @@
-//! A gate at which two actors wait for each other.
+//! A gate at which so many actors wait for each other.
 
 use std::sync::atomic::{AtomicU64, Ordering};
 use vsw_app::{Answer, Watch};
 use vsw_workers::Gate;
 
-/// How often an actor looks for the other one before it gives up.
+/// How often an actor looks for the others before it gives up.
 const TURNS: u32 = 100_000_000;
 
-/// Where actors 0 and 1 wait for each other in their first jobs. Any thread may call it. An actor says that it is here by one store,
-/// and has seen the other from the load on that reads the other's.
+/// Where the first so many actors wait for each other in their first jobs. Any thread may call it. An actor says that it is here by one
+/// add, and has seen all others from the load on that reads how many there are. One thread that does the jobs of two never sees all.
 #[derive(Drop)]
 pub struct Meeting {
-    here: [AtomicU64; 2],
-    saw: [AtomicU64; 2],
-}
-
-fn words() -> [AtomicU64; 2] {
-    [AtomicU64::new(0), AtomicU64::new(0)]
+    actors: u32,
+    here: AtomicU64,
+    met: AtomicU64,
 }
 
 impl Meeting {
-    pub fn new() -> Meeting {
+    /// For so many actors.
+    pub fn of(actors: u32) -> Meeting {
         Meeting {
-            here: words(),
-            saw: words(),
+            actors,
+            here: AtomicU64::new(0),
+            met: AtomicU64::new(0),
         }
     }
 
-    /// Which of both has seen the other.
-    pub fn saw(&self) -> [u64; 2] {
-        [
-            self.saw[0].load(Ordering::SeqCst),
-            self.saw[1].load(Ordering::SeqCst),
-        ]
+    /// How many of them have seen all others.
+    pub fn met(&self) -> u64 {
+        self.met.load(Ordering::SeqCst)
     }
 }
 
 impl Gate for Meeting {
     fn enter(&self, actor: u32, job: u32) {
-        if job > 0 || actor > 1 {
+        if job > 0 || actor >= self.actors {
             return;
         }
-        let place = actor as usize;
-        self.here[place].store(1, Ordering::SeqCst);
+        self.here.fetch_add(1, Ordering::SeqCst);
         for _ in 0..TURNS {
-            if self.here[1 - place].load(Ordering::SeqCst) == 1 {
-                self.saw[place].store(1, Ordering::SeqCst);
+            if self.here.load(Ordering::SeqCst) == u64::from(self.actors) {
+                self.met.fetch_add(1, Ordering::SeqCst);
                 return;
             }
         }

@@ -35,9 +35,15 @@ pub fn files(
     Ok(Vec::from_array(alloc, [policy, commands, trace])?)
 }
 
-fn host_of(rt: &impl Abort, alloc: Global, held: Vec<MemoryFile>) -> Result<MemoryHost, Fail> {
+/// A host of these files, with room for so many bytes that are put.
+fn host_of(
+    rt: &impl Abort,
+    alloc: Global,
+    held: Vec<MemoryFile>,
+    room: usize,
+) -> Result<MemoryHost, Fail> {
     assert!(rt; are_distinct(&held));
-    Ok(MemoryHost::new(alloc, held, 262_144, Vec::new(alloc))?)
+    Ok(MemoryHost::new(alloc, held, room, Vec::new(alloc))?)
 }
 
 /// Runs, and gives what is put.
@@ -53,15 +59,16 @@ fn run_on<R: Abort + Threads + Wait + Sync, G: Gate + Watch + Sync>(
     host.written().to_vec(alloc)
 }
 
-/// What is put of a run with so many workers over these files, under this gate.
-pub fn report_of<R: Abort + Threads + Wait + Sync, G: Gate + Watch + Sync>(
+/// What is put of a run with so many workers over these files, under this gate, where it is at most so many bytes.
+pub fn report_within<R: Abort + Threads + Wait + Sync, G: Gate + Watch + Sync>(
     rt: &R,
     alloc: Global,
     workers: &str,
     held: Vec<MemoryFile>,
+    room: usize,
     gate: &G,
 ) -> Result<Vec<u8>, Fail> {
-    let mut host = host_of(rt, alloc, held)?;
+    let mut host = host_of(rt, alloc, held, room)?;
     let words = words_of(
         alloc,
         &[
@@ -75,6 +82,17 @@ pub fn report_of<R: Abort + Threads + Wait + Sync, G: Gate + Watch + Sync>(
         ],
     )?;
     Ok(run_on(rt, alloc, &words, &mut host, gate)?)
+}
+
+/// The same of at most 262,144 bytes.
+pub fn report_of<R: Abort + Threads + Wait + Sync, G: Gate + Watch + Sync>(
+    rt: &R,
+    alloc: Global,
+    workers: &str,
+    held: Vec<MemoryFile>,
+    gate: &G,
+) -> Result<Vec<u8>, Fail> {
+    report_within(rt, alloc, workers, held, 262_144, gate)
 }
 
 /// A capture of four packets of each flow.

@@ -1,8 +1,8 @@
 //! What a watch is told: each packet's answer once, by its worker.
 
 use crate::memory::empty_trace;
-use crate::workers::files::{ONE_LAYER, REMOVES};
-use crate::workers::flows::{PACKETS, flow_of, worker_of};
+use crate::workers::files::{ONE_LAYER, OPENS, REMOVES};
+use crate::workers::flows::{PACKETS, flow_of, sent, worker_of};
 use crate::workers::notes::Notes;
 use crate::workers::running::{add, files, report_of, report_of_flows};
 use std::alloc::Global;
@@ -71,5 +71,55 @@ fn each_packet_of_four_workers_is_told_once(rt: HostRuntime) -> Result<(), Fail>
     let notes = Notes::new(rt.alloc(), PACKETS)?;
     report_of_flows(&rt, rt.alloc(), "4", REMOVES, &notes)?;
     check_flows(&rt, &notes, 4);
+    Ok(())
+}
+
+/// How many flows leave rows before the first command, and ask for them behind the second.
+const FLOWS: u32 = 16;
+
+/// A frame of a round in which no packet leaves a row: it ends within its Ethernet header.
+const CUT: [u8; 4] = [2, 0, 0, 0];
+
+/// Packets of each flow before the two commands, one that is malformed between them, and one of each flow behind them.
+fn around(alloc: Global) -> Result<Vec<u8>, Fail> {
+    let mut trace = empty_trace(alloc)?;
+    for packet in 0..FLOWS {
+        add(&mut trace, packet, &sent(alloc, flow_of(packet))?)?;
+    }
+    add(&mut trace, FLOWS, &CUT)?;
+    for packet in 0..FLOWS {
+        let number = packet.wrapping_add(FLOWS + 1);
+        add(&mut trace, number, &sent(alloc, flow_of(packet))?)?;
+    }
+    Ok(trace)
+}
+
+/// How many packets from one on, up to another, were told once with this cause, where 0 is a row's answer and 2 a miss.
+fn count_with(notes: &Notes, from: u32, to: u32, cause: u64) -> u32 {
+    let mut count = 0u32;
+    for packet in from..to {
+        if notes.told(packet) % 100 == cause.wrapping_mul(10).wrapping_add(1) {
+            count = count.wrapping_add(1);
+        }
+    }
+    count
+}
+
+fn tell_around<R: Abort + Threads + Wait + Sync>(
+    rt: &R,
+    alloc: Global,
+    notes: &Notes,
+) -> Result<(), Fail> {
+    let held = files(alloc, ONE_LAYER, OPENS, around(alloc)?)?;
+    report_of(rt, alloc, "2", held, notes)?;
+    Ok(())
+}
+
+#[test]
+fn a_round_reconciles_all_rows_that_a_command_shook(rt: HostRuntime) -> Result<(), Fail> {
+    let notes = Notes::new(rt.alloc(), 2 * FLOWS + 1)?;
+    tell_around(&rt, rt.alloc(), &notes)?;
+    assert_eq!(rt; count_with(&notes, 0, FLOWS, 2), FLOWS);
+    assert_eq!(rt; count_with(&notes, FLOWS + 1, 2 * FLOWS + 1, 0), FLOWS);
     Ok(())
 }

@@ -1,0 +1,11 @@
+pub mod Steps
+pub mod Over
+pub mod Fit
+pub mod Bytes
+pub mod Cuts
+pub mod Alone
+pub mod Builds
+pub mod Examples
+pub mod Digits
+pub mod Levels
+pub mod Same

@@ -1,19 +1,19 @@
 -- A bad line is the one that is found, so there is one at most; and a report has none.
-use Rattle.std.proofs.Common.{◌≡◌, ℕ, suc, ◌+◌, ◌==◌, ◌&&◌, not, Bool, true, false, List, [], ◌∷◌, ◌++◌, length, Option, Some, None, refl, sym, ap, ap₂, ◌∙◌, subst, arith}
+use Rattle.std.proofs.Common.{◌≡◌, ◌⊎◌, inl, inr, ℕ, suc, ◌+◌, ◌==◌, ◌&&◌, not, Bool, true, false, List, [], ◌∷◌, ◌++◌, length, Option, Some, None, refl, sym, ap, ap₂, ◌∙◌, subst, arith}
 use Rattle.std.specs.Prelude.{bytes_eq, if◌then◌else◌}
 use Rattle.std.specs.List.{All}
 use Rattle.std.proofs.lemmas.Bool.{ne_eqb}
 use Rattle.std.proofs.lemmas.List.Splits.{slice_split_at, slice_split_none}
 use Rattle.vsw_report.specs.declared.round.Round.{Round}
 use Rattle.vsw_report.proofs.Free.{is_free, free_all, two}
-use Rattle.vsw_report.proofs.RoundsBack.{some_same}
-use Rattle.vsw_check.specs.Law.{OneBadLine, NoReportIsBad}
+use Rattle.vsw_report.proofs.RoundsBack.{one_report, some_same}
+use Rattle.vsw_check.specs.Law.{EachIsJudged, NoReportIsBad, OneBadLine, OneReport}
 use Rattle.vsw_check.specs.declared.place.Place.{Place}
 use Rattle.vsw_check.specs.declared.place.Place.TheVariants.{AtFirst}
-use Rattle.vsw_check.specs.Machine.{is_end, next, is_empty, bad_after, bad_line, bad_part, first_bad}
+use Rattle.vsw_check.specs.Private.Machine.{is_end, next, is_empty, bad_after, bad_line, bad_part, first_bad}
 use Rattle.vsw_check.specs.Report.{IsReport, lines_text, BeginsReport, Breaks, Wrong, Short, IsBadLine}
 use Rattle.vsw_check.proofs.Over.{both}
-use Rattle.vsw_check.proofs.Bytes.{AreFree, head_word, reads, reads_more, free_more, some_part, split_lines, one_more, begins, begun, ends_are_reports}
+use Rattle.vsw_check.proofs.Bytes.{AreFree, head_word, reads, reads_more, free_more, some_part, split_lines, one_more, begins, begun, ends_are_reports, bad_lines_are_bad}
 
 free_of : (xs : List ℕ) → All (λ b. ¬ (b ≡ 10)) xs → is_free 10 xs ≡ true
 free_of [] h = refl
@@ -89,3 +89,12 @@ found_bad bytes number h = ap first_bad h.split ∙ (bad_found h.front h.rest (f
 
 pub one_bad_line : OneBadLine
 one_bad_line bytes m n h k = some_same (sym (found_bad bytes m h) ∙ found_bad bytes n k)
+
+pub each_judged : EachIsJudged
+each_judged bytes = by (first_bad bytes) refl where
+  by : (o : Option ℕ) → first_bad bytes ≡ o → ((rounds : List Round) × IsReport bytes rounds) ⊎ ((number : ℕ) × IsBadLine bytes number)
+  by None e = let (rounds, q, is) = ends_are_reports bytes e in inl (rounds, is)
+  by (Some number) e = inr (number, bad_lines_are_bad bytes number e)
+
+pub one_report_of : OneReport
+one_report_of bytes rounds others h k = one_report rounds others h.proper k.proper (h.text ∙ sym k.text)

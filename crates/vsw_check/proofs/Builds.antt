@@ -9,16 +9,16 @@ use Rattle.vsw_report.specs.declared.round.PortRound.{PortRound}
 use Rattle.vsw_report.specs.declared.round.Round.{Round}
 use Rattle.vsw_report.specs.declared.told.ToldLine.{ToldLine}
 use Rattle.vsw_report.proofs.RoundsBack.{port_lines, ports_lines, round_lines, rounds_lines}
-use Rattle.vsw_check.specs.Built.{closed_port, closed_round, put, finished, IsEmpty, Takes, Ends, Reads, IsRead}
-use Rattle.vsw_check.specs.Report.{rank, IsReport, IsBadLine}
+use Rattle.vsw_check.specs.Private.Built.{closed_port, closed_round, put, finished, IsEmpty, Takes, Ends, Reads}
+use Rattle.vsw_check.specs.Report.{rank, IsReport, IsBadLine, IsRead}
 use Rattle.vsw_check.specs.declared.built.Built.{Built}
 use Rattle.vsw_check.specs.declared.place.Place.{Place}
 use Rattle.vsw_check.specs.declared.place.Place.TheVariants.{AtFirst, AtPorts, AtLines, AtLoose}
 use Rattle.vsw_check.specs.declared.report.BadReport.{BadReport}
 use Rattle.vsw_check.specs.declared.report.Report.{Report}
 use Rattle.vsw_check.specs.declared.report.BadReport.TheVariants as bad
-use Rattle.vsw_check.specs.Machine.{is_end, is_empty, step, next, opened, last_bad, bad_line, bad_part}
-use Rattle.vsw_check.specs.Parts.{IsCut}
+use Rattle.vsw_check.specs.Private.Machine.{is_end, is_empty, step, next, opened, last_bad, bad_line, bad_part}
+use Rattle.vsw_check.specs.Private.Parts.{IsCut}
 use Rattle.vsw_check.proofs.Bytes.{some_part, ends_are_reports, bad_lines_are_bad}
 use Rattle.vsw_check.proofs.Cuts.{head_goes}
 use Rattle.vsw_check.proofs.Steps.{none_some, opened_is, closed_is, told_is}

@@ -13,14 +13,25 @@ use Rattle.vsw_report.proofs.Free.{is_free, free_all, two}
 use Rattle.vsw_report.proofs.OnlyReports.{only_reports}
 use Rattle.vsw_report.proofs.RoundsBack.{reads_back, some_same}
 use Rattle.vsw_report.proofs.TextsBack.{AreFitLines, texts_of, texts_law}
-use Rattle.vsw_check.specs.Law.{EndsAreReports, BadLinesAreBad, ReportsEnd}
 use Rattle.vsw_check.specs.declared.place.Place.{Place}
 use Rattle.vsw_check.specs.declared.place.Place.TheVariants.{AtFirst}
-use Rattle.vsw_check.specs.Machine.{is_end, step, run, next, is_empty, bad_after, bad_line, bad_part}
+use Rattle.vsw_check.specs.Private.Machine.{is_end, step, run, next, is_empty, bad_after, bad_line, bad_part, first_bad}
 use Rattle.vsw_check.specs.Report.{AreTold, IsReport, lines_text, BeginsReport, Wrong, Short, IsBadLine}
 use Rattle.vsw_check.proofs.Fit.{line_fits}
 use Rattle.vsw_check.proofs.Over.{both, ends_tell, told_ends, run_joined, IsFit, ending, ending_fit, ending_runs, run_fit, tail_proper}
 use Rattle.vsw_check.proofs.Steps.{none_some, Suits}
+
+-- what is read to its end is a report
+abbrev pub EndsAreReports : Type 0
+EndsAreReports = (bytes : List ℕ) → first_bad bytes ≡ None → (rounds : List Round) × (rounds_in bytes ≡ Some rounds) × IsReport bytes rounds
+
+-- where reading stops, the line is bad
+abbrev pub BadLinesAreBad : Type 0
+BadLinesAreBad = (bytes : List ℕ) (number : ℕ) → first_bad bytes ≡ Some number → IsBadLine bytes number
+
+-- a report is read to its end
+abbrev pub ReportsEnd : Type 0
+ReportsEnd = (bytes : List ℕ) (rounds : List Round) → IsReport bytes rounds → first_bad bytes ≡ None
 
 abbrev is_feed : ℕ → Bool
 is_feed b = b == 10

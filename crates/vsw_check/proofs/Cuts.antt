@@ -10,8 +10,8 @@ use Rattle.vsw_policy.proofs.Firsts.{place-some, place-none}
 use Rattle.vsw_report.specs.Words.{Line, line_in}
 use Rattle.vsw_check.specs.declared.place.Place.{Place}
 use Rattle.vsw_check.specs.declared.place.Place.TheVariants.{AtFirst}
-use Rattle.vsw_check.specs.Machine.{kind_in, kind_of, step, step_kind, next, last_bad, bad_after, bad_line, bad_part, first_bad}
-use Rattle.vsw_check.specs.Parts.{IsCut}
+use Rattle.vsw_check.specs.Private.Machine.{kind_in, kind_of, step, step_kind, next, last_bad, bad_after, bad_line, bad_part, first_bad}
+use Rattle.vsw_check.specs.Private.Parts.{IsCut}
 use Rattle.vsw_check.proofs.Bytes.{some_part}
 
 abbrev behind : ℕ → List ℕ → List ℕ

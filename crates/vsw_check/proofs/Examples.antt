@@ -4,7 +4,7 @@ use Rattle.std.specs.Prelude.{codes}
 use Rattle.std.specs.Fmt.{digits}
 use Rattle.hex.specs.Hex.{decode_pairs, encode_with}
 use Rattle.vsw_report.specs.Print.{port_line, fault_text}
-use Rattle.vsw_check.specs.Machine.{first_bad}
+use Rattle.vsw_check.specs.Private.Machine.{first_bad}
 
 abbrev front : List ℕ
 front = codes "vsw report 1\nround 0\n"

@@ -6,7 +6,7 @@ use Rattle.vsw_base.specs.declared.fate.Cause.TheVariants.{Rule}
 use Rattle.vsw_report.specs.Words.{Line, of_told, layer_in, rule_in, told_with}
 use Rattle.vsw_report.specs.declared.told.By.{By}
 use Rattle.vsw_report.specs.declared.told.What.{What}
-use Rattle.vsw_check.specs.Words.{pair_in, four_in, at_with, told_at}
+use Rattle.vsw_check.specs.Private.Words.{pair_in, four_in, at_with, told_at}
 
 pub layer_is : (make : ℕ → ℕ → Cause) (ns : List (Option ℕ)) → layer_in make ns ≡ option_map (λ p. make p.0 p.1) (pair_in ns)
 layer_is make [] = refl

@@ -19,7 +19,7 @@ use Rattle.vsw_report.proofs.TextsBack.{AreFitLines}
 use Rattle.vsw_check.specs.Report.{rank, Tells}
 use Rattle.vsw_check.specs.declared.place.Place.{Place}
 use Rattle.vsw_check.specs.declared.place.Place.TheVariants.{AtFirst, AtPorts, AtLines, AtLoose}
-use Rattle.vsw_check.specs.Machine.{is_end, opened, read_next, entry_next, told_next, step, run}
+use Rattle.vsw_check.specs.Private.Machine.{is_end, opened, read_next, entry_next, told_next, step, run}
 use Rattle.vsw_check.proofs.Steps.{none_some, Suits, step_under, opens, opened_is, closed_is, told_is}
 
 -- ---- forth: of what suits the state, the line leads on to what suits the state behind it

@@ -13,7 +13,7 @@ use Rattle.vsw_report.proofs.RoundsBack.{some_same}
 use Rattle.vsw_check.specs.Report.{rank, Tells, IsTold, AreTold}
 use Rattle.vsw_check.specs.declared.place.Place.{Place}
 use Rattle.vsw_check.specs.declared.place.Place.TheVariants.{AtFirst, AtPorts, AtLines, AtLoose}
-use Rattle.vsw_check.specs.Machine.{opened, read_next, entry_next, told_next, step}
+use Rattle.vsw_check.specs.Private.Machine.{opened, read_next, entry_next, told_next, step}
 
 pub none_some : {A : Type 0} {x : A} → None ≡ Some x → ⊥
 none_some {A} {x} e = search (rules, e)

@@ -1,22 +1,20 @@
--- The reading of a report is exact.
-use Rattle.std.specs.Prelude.{◌≡◌, ℕ, List, Some, None}
+-- Bytes are a report, or they have one bad line.
+use Rattle.std.specs.Prelude.{◌≡◌, ◌⊎◌, ℕ, List}
 use Rattle.vsw_report.specs.declared.round.Round.{Round}
-use Rattle.vsw_report.specs.Reading.{rounds_in}
-use Rattle.vsw_check.specs.Machine.{first_bad}
 use Rattle.vsw_check.specs.Report.{IsReport, IsBadLine}
 
-abbrev pub EndsAreReports : Type 0
-EndsAreReports = (bytes : List ℕ) → first_bad bytes ≡ None → (rounds : List Round) × (rounds_in bytes ≡ Some rounds) × IsReport bytes rounds
+-- all bytes are one of the two
+abbrev pub EachIsJudged : Type 0
+EachIsJudged = (bytes : List ℕ) → ((rounds : List Round) × IsReport bytes rounds) ⊎ ((number : ℕ) × IsBadLine bytes number)
 
-abbrev pub BadLinesAreBad : Type 0
-BadLinesAreBad = (bytes : List ℕ) (number : ℕ) → first_bad bytes ≡ Some number → IsBadLine bytes number
+-- a report has no bad line
+abbrev pub NoReportIsBad : Type 0
+NoReportIsBad = (bytes : List ℕ) (rounds : List Round) (number : ℕ) → IsReport bytes rounds → IsBadLine bytes number → ⊥
 
-abbrev pub ReportsEnd : Type 0
-ReportsEnd = (bytes : List ℕ) (rounds : List Round) → IsReport bytes rounds → first_bad bytes ≡ None
-
--- what is asked says one thing: a bad line is the only one, and a report has none
+-- a bad line is the only one
 abbrev pub OneBadLine : Type 0
 OneBadLine = (bytes : List ℕ) (m n : ℕ) → IsBadLine bytes m → IsBadLine bytes n → m ≡ n
 
-abbrev pub NoReportIsBad : Type 0
-NoReportIsBad = (bytes : List ℕ) (rounds : List Round) (number : ℕ) → IsReport bytes rounds → IsBadLine bytes number → ⊥
+-- the rounds of a report are the only ones
+abbrev pub OneReport : Type 0
+OneReport = (bytes : List ℕ) (rounds others : List Round) → IsReport bytes rounds → IsReport bytes others → rounds ≡ others

@@ -1,7 +1,7 @@
 //! The rounds of the lines that were read so far.
 
 ghost use Rattle.std.specs.Prelude.{◌≡◌, ◌++◌, ◌∷◌, [], OnOk, List, IfOk};
-ghost use Rattle.vsw_check.specs.Built.{closed_port, closed_round, put, line_of, finished, IsEmpty};
+ghost use Rattle.vsw_check.specs.Private.Built.{closed_port, closed_round, put, line_of, finished, IsEmpty};
 
 use crate::place::Place;
 use crate::said::{At, Said};
@@ -120,11 +120,7 @@ impl Built {
                 at,
                 fate,
                 bytes,
-            } => self.put_line(
-                By::Worker(worker),
-                at,
-                What::Fate { fate, bytes },
-            )?,
+            } => self.put_line(By::Worker(worker), at, What::Fate { fate, bytes })?,
             Said::Command {
                 controller,
                 at,

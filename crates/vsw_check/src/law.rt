@@ -1,12 +1,12 @@
 //! What holds of the reading of reports.
 
-ghost use Rattle.vsw_check.specs.Law.{EndsAreReports, BadLinesAreBad, ReportsEnd, OneBadLine, NoReportIsBad};
+ghost use Rattle.vsw_check.specs.Law.{EachIsJudged, NoReportIsBad, OneBadLine, OneReport};
 
-/// Bytes that are read to their end are a report; the first line that is refused is the bad one; a report is read to its end.
+/// All bytes are a report or have a bad line, never both, and its rounds or that line are the only ones. So `read_report` answers `Ok` exactly
+/// where the bytes are a report, unless memory is wanting.
 pub fn laws()
-    ensures ends { EndsAreReports }
-    ensures bad { BadLinesAreBad }
-    ensures back { ReportsEnd }
-    ensures one { OneBadLine }
-    ensures none { NoReportIsBad }
+    ensures each { EachIsJudged }
+    ensures apart { NoReportIsBad }
+    ensures line { OneBadLine }
+    ensures rounds { OneReport }
 {}

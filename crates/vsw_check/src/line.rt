@@ -4,8 +4,8 @@ ghost use Rattle.std.specs.Prelude.{◌≡◌, ◌==◌, ◌^◌, ◌∷◌, [],
 ghost use Rattle.std.specs.List.{slice_split};
 ghost use Rattle.vsw_report.specs.Words.{fate_in, headed_in, lettered_in, line_of as line_of_words, loose_in, number_in, of_loose, reply_in, told_in, mark_in, behind};
 ghost use Rattle.vsw_report.specs.declared.told.By.TheVariants.{Controller, Worker};
-ghost use Rattle.vsw_check.specs.Built.{line_of};
-ghost use Rattle.vsw_check.specs.Words.{at_with};
+ghost use Rattle.vsw_check.specs.Private.Built.{line_of};
+ghost use Rattle.vsw_check.specs.Private.Words.{at_with};
 
 use crate::fate::{fate, reply};
 use crate::name::{behind, fault, mark};

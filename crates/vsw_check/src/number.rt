@@ -2,7 +2,7 @@
 
 ghost use Rattle.std.specs.Prelude.{◌≡◌, ◌^◌, map};
 ghost use Rattle.vsw_report.specs.Words.{number_in};
-ghost use Rattle.vsw_check.specs.Words.{pair_in, four_in};
+ghost use Rattle.vsw_check.specs.Private.Words.{pair_in, four_in};
 
 use crate::parts::Parts;
 

@@ -2,7 +2,7 @@
 
 ghost use Rattle.std.specs.Prelude.{◌≡◌, ◌==◌, ◌<◌, ℕ, length, option_map};
 ghost use Rattle.std.specs.List.{position, slice_split};
-ghost use Rattle.vsw_check.specs.Parts.{IsCut, IsNext};
+ghost use Rattle.vsw_check.specs.Private.Parts.{IsCut, IsNext};
 
 use std::marker::Model;
 
@@ -31,7 +31,7 @@ pub(crate) struct Parts<'a> {
 
 impl<'a> Model for Parts<'a> {
     ghost use Rattle.std.specs.Prelude.{List, ℕ, option_map};
-    ghost use Rattle.vsw_check.specs.Parts.{parts_of};
+    ghost use Rattle.vsw_check.specs.Private.Parts.{parts_of};
 
     ghost Value = { List (List ℕ) };
 

@@ -2,7 +2,7 @@
 
 ghost use Rattle.std.specs.Prelude.{◌≡◌};
 ghost use Rattle.vsw_check.specs.Report.{rank};
-ghost use Rattle.vsw_check.specs.Machine.{opened, told_step, step_kind, is_end};
+ghost use Rattle.vsw_check.specs.Private.Machine.{opened, told_step, step_kind, is_end};
 ghost use Rattle.vsw_check.specs.declared.place.Place.TheVariants.{AtLines};
 
 use crate::said::Kind;

@@ -2,7 +2,7 @@
 
 ghost use Rattle.std.specs.Prelude.{◌≡◌, ◌++◌, ◌∷◌, [], IfOk, bytes_eq, option_map};
 ghost use Rattle.vsw_report.specs.Words.{line_in, text_of};
-ghost use Rattle.vsw_check.specs.Built.{line_of};
+ghost use Rattle.vsw_check.specs.Private.Built.{line_of};
 
 use crate::line::read_words;
 use crate::said::{At, Said};
@@ -67,8 +67,14 @@ impl Reader {
                 fate,
                 bytes,
             } => {
-                self.page
-                    .packet_line(*worker, at.item, at.entry, at.count, fate, bytes.as_slice())?;
+                self.page.packet_line(
+                    *worker,
+                    at.item,
+                    at.entry,
+                    at.count,
+                    fate,
+                    bytes.as_slice(),
+                )?;
                 Ok(is_line(self.page.as_slice(), line))
             }
             Said::Command {

@@ -2,8 +2,9 @@
 
 ghost use Rattle.std.specs.Prelude.{◌≡◌, ◌≤◌, length, IfOk, codes, bytes_eq};
 ghost use Rattle.std.specs.List.{slice_split};
-ghost use Rattle.vsw_check.specs.Built.{Takes, Ends, Reads, IsRead};
-ghost use Rattle.vsw_check.specs.Machine.{is_feed};
+ghost use Rattle.vsw_check.specs.Private.Built.{Takes, Ends, Reads};
+ghost use Rattle.vsw_check.specs.Private.Machine.{is_feed};
+ghost use Rattle.vsw_check.specs.Report.{IsRead};
 
 use crate::built::Built;
 use crate::parts::cut;

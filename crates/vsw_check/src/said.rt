@@ -1,8 +1,8 @@
 //! A line of a report as a value.
 
 ghost use Rattle.std.specs.Prelude.{◌≡◌};
-ghost use Rattle.vsw_check.specs.Machine.{kind_of};
-ghost use Rattle.vsw_check.specs.Built.{line_of};
+ghost use Rattle.vsw_check.specs.Private.Machine.{kind_of};
+ghost use Rattle.vsw_check.specs.Private.Built.{line_of};
 
 use vsw_base::{Fate, Items};
 use vsw_policy::Reply;
@@ -22,7 +22,11 @@ pub enum Said {
     /// A round begins with the packet of this number.
     Round(u32),
     /// A port of this number, with its entries before and after the round.
-    Port { port: u16, before: u32, after: u32 },
+    Port {
+        port: u16,
+        before: u32,
+        after: u32,
+    },
     /// What became of a packet that a worker brought to the port.
     Packet {
         worker: u32,

@@ -1,18 +1,14 @@
-use Rattle.vsw_check.proofs.Alone.{one_bad_line, no_report_is_bad}
-use Rattle.vsw_check.proofs.Bytes.{ends_are_reports, bad_lines_are_bad, reports_end}
+use Rattle.vsw_check.proofs.Alone.{each_judged, no_report_is_bad, one_bad_line, one_report_of}
 use Rattle.vsw_check.proofs.law.laws.Goals as goal
 
-pub returns-clause-ends : goal.returns-clause-ends
-returns-clause-ends c = ends_are_reports
+pub returns-clause-each : goal.returns-clause-each
+returns-clause-each c = each_judged
 
-pub returns-clause-bad : goal.returns-clause-bad
-returns-clause-bad c = bad_lines_are_bad
+pub returns-clause-apart : goal.returns-clause-apart
+returns-clause-apart c = no_report_is_bad
 
-pub returns-clause-back : goal.returns-clause-back
-returns-clause-back c = reports_end
+pub returns-clause-line : goal.returns-clause-line
+returns-clause-line c = one_bad_line
 
-pub returns-clause-one : goal.returns-clause-one
-returns-clause-one c = one_bad_line
-
-pub returns-clause-none : goal.returns-clause-none
-returns-clause-none c = no_report_is_bad
+pub returns-clause-rounds : goal.returns-clause-rounds
+returns-clause-rounds c = one_report_of

@@ -1,7 +1,7 @@
 use Rattle.std.proofs.Common.{sym, subst, Some, ◌∙◌, arith}
 use Rattle.vsw_check.proofs.Cuts.{goes_on, stops}
 use Rattle.vsw_check.proofs.Builds.{carried, taken, end_reads}
-use Rattle.vsw_check.specs.Built.{Takes}
+use Rattle.vsw_check.specs.Private.Built.{Takes}
 use Rattle.vsw_check.proofs.report.behind_head.Goals as goal
 
 pub returns-in_default : goal.returns-in_default

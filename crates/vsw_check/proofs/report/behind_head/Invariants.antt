@@ -1,7 +1,7 @@
 use Rattle.std.proofs.Common.{◌≡◌, ◌≤◌, ◌+◌, length}
 use Rattle.std.specs.List.{slice_split}
 use Rattle.vsw_check.specs.declared.place.Place.TheVariants.{AtFirst}
-use Rattle.vsw_check.specs.Machine.{is_feed, bad_line}
+use Rattle.vsw_check.specs.Private.Machine.{is_feed, bad_line}
 use Rattle.vsw_check.proofs.Builds.{IsClean, Back}
 use Rattle.vsw_check.proofs.report.behind_head.Given as goal
 

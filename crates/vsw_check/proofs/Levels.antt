@@ -3,7 +3,7 @@ use Rattle.std.proofs.Common.{◌≡◌, ℕ, Bool, List, [], ◌∷◌, Option,
 use Rattle.std.specs.Prelude.{option_map}
 use Rattle.vsw_base.specs.declared.fate.Cause.{Cause}
 use Rattle.vsw_base.specs.declared.fate.Cause.TheVariants.{Rule}
-use Rattle.vsw_report.specs.Words.{Line, of_told, layer_in, rule_in, told_with}
+use Rattle.vsw_report.specs.Words.{layer_in, rule_in, told_with}
 use Rattle.vsw_report.specs.declared.told.By.{By}
 use Rattle.vsw_report.specs.declared.told.What.{What}
 use Rattle.vsw_check.specs.Private.Words.{pair_in, four_in, at_with, told_at}

@@ -27,8 +27,8 @@ fn text_with(alloc: Global, place: usize, line: &[u8]) -> Result<Vec<u8>, AllocE
 }
 
 /// The first bad line of the report with the line of this number changed.
-fn bad_with(alloc: Global, number: usize, line: &[u8]) -> Option<u32> {
-    match text_with(alloc, number.wrapping_sub(1), line) {
+fn bad_with(alloc: Global, number: u32, line: &[u8]) -> Option<u32> {
+    match text_with(alloc, number.wrapping_sub(1) as usize, line) {
         Ok(text) => bad_line(alloc, &text),
         Err(_) => None,
     }
@@ -47,7 +47,7 @@ fn small_report_is_read(rt: HostRuntime) {
 }
 
 /// Lines that are wrong wherever they stand, and lines that are wrong where they stand here.
-const CHANGES: [(usize, &[u8]); 41] = [
+const CHANGES: [(u32, &[u8]); 41] = [
     (1, b"vsw report 2"),
     (1, b"vsw report 1 "),
     (1, b""),
@@ -96,7 +96,7 @@ fn changed_line_is_told_by_its_number(rt: HostRuntime) {
     for (number, line) in CHANGES {
         assert_eq!(&rt;
             bad_with(rt.alloc(), number, line),
-            Some(number as u32),
+            Some(number),
             "line {number}"
         );
     }

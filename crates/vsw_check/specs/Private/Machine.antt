@@ -1,5 +1,5 @@
 -- A report read line by line. What is kept of the lines read is where they end, and at a port its counts alone.
-use Rattle.std.specs.Prelude.{ℕ, suc, ◌==◌, ◌&&◌, nat_lt, List, [], ◌∷◌, Bool, true, false, Option, Some, None, option_map, option_and_then, codes, ◌≡◌, ◌<◌, length, bytes_eq, if◌then◌else◌}
+use Rattle.std.specs.Prelude.{ℕ, suc, ◌==◌, ◌&&◌, nat_lt, List, [], ◌∷◌, Bool, true, false, Option, Some, None, option_map, option_and_then, codes, bytes_eq, if◌then◌else◌}
 use Rattle.std.specs.List.{slice_split}
 use Rattle.vsw_report.specs.Words.{Line, of_round, of_port, of_told, loose_begins, of_loose, line_in}
 use Rattle.vsw_report.specs.declared.told.ToldLine.{ToldLine}

@@ -11,5 +11,6 @@ mod memory_tests;
 mod packets;
 mod pair_tests;
 mod refusal_tests;
+mod row_tests;
 mod sole_trial;
 mod trial;

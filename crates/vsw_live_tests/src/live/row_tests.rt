@@ -51,6 +51,12 @@ enum Step {
         fate: Fate,
         count: u32,
     },
+    /// A row answers a packet out of the port while the port's lock is held.
+    RowWhileHeld {
+        moment: u64,
+        fate: Fate,
+        count: u32,
+    },
     /// The layers answer a packet, which is an entry or a read.
     Layers {
         dir: Dir,
@@ -99,8 +105,17 @@ fn packet(step: &Step) -> Option<Packet> {
             moment,
             ..
         } => Some(query(dir, control, moment)),
+        Step::RowWhileHeld { moment, .. } => Some(query(Dir::Out, Control::None, moment)),
         Step::Either { moment, .. } => Some(query(Dir::Out, Control::None, moment)),
         _ => None,
+    }
+}
+
+/// Whom the packet of a step asks.
+fn by_of(step: &Step) -> By {
+    match step {
+        Step::RowWhileHeld { .. } => By::Held,
+        _ => By::Two,
     }
 }
 
@@ -108,6 +123,7 @@ fn packet(step: &Step) -> Option<Packet> {
 fn is_told(answered: &Option<Answered>, step: &Step) -> bool {
     match *step {
         Step::Row { fate, count, .. } => is_answered(answered, fate, count, false, None),
+        Step::RowWhileHeld { fate, count, .. } => is_answered(answered, fate, count, false, None),
         Step::Layers {
             fate,
             count,
@@ -126,7 +142,7 @@ fn is_told(answered: &Option<Answered>, step: &Step) -> bool {
 /// Whether what the worker does comes out as a step says.
 fn comes_out<J: Naming, R: Wait>(rt: &R, worker: &mut Worker<'_, J>, step: &Step) -> bool {
     match packet(step) {
-        Some(packet) => is_told(&worker.send(rt, By::Two, &packet), step),
+        Some(packet) => is_told(&worker.send(rt, by_of(step), &packet), step),
         None => worker.left_as_it_came(),
     }
 }
@@ -311,6 +327,30 @@ const ANSWERS: [Step; 9] = [
 #[test]
 fn a_packet_leaves_a_row_that_answers_the_next_ones(rt: HostRuntime) {
     assert!(&rt; tried(&rt, rt.alloc(), &ANSWERS) == Some(None));
+}
+
+const HELD: [Step; 4] = [
+    Step::SetUp { stateful: false },
+    Step::Layers {
+        dir: Dir::Out,
+        control: Control::None,
+        moment: 0,
+        fate: PASS,
+        count: 3,
+        entry: false,
+        why: Why::Miss,
+    },
+    Step::RowWhileHeld {
+        moment: 1_000,
+        fate: PASS,
+        count: 3,
+    },
+    Step::Leaves,
+];
+
+#[test]
+fn a_row_answers_while_the_lock_is_held(rt: HostRuntime) {
+    assert!(&rt; tried(&rt, rt.alloc(), &HELD) == Some(None));
 }
 
 const LATE: [Step; 5] = [

@@ -36,10 +36,12 @@ fn told_of(answer: &Answer) -> Answered
     }
 }
 
-/// Whom a packet asks: `fast`, and `slow` where that didn't answer; or both by `forward`.
+/// Whom a packet asks: `fast`, and `slow` where that didn't answer; the same, and the port's lock is held until `fast` has answered; or
+/// both by `forward`.
 #[derive(Clone, Copy)]
 pub enum By {
     Two,
+    Held,
     One,
 }
 
@@ -63,6 +65,30 @@ fn by_two<J: Naming, R: Wait>(
     }
 }
 
+/// The same, and the port's lock is held until `fast` has answered.
+fn by_held<J: Naming, R: Wait>(
+    rt: &R,
+    port: &LivePort<J>,
+    pass: &mut Pass<PortStory>,
+    unit: &Unit<'_>,
+    desk: &mut Desk,
+    room: &mut Room,
+) -> Answer
+    requires pass { IsOf port.now.looking pass.old }
+    requires caller { unit.now.crossing.caller ≡ pass.old.view.number }
+    requires permit { 0 < pass.old.view.permits }
+    ensures calls { Calls result.entry pass.old pass.new }
+{
+    let fast = {
+        let _held = port.hold(rt);
+        port.fast(pass, unit, desk, room)
+    };
+    match fast {
+        Fast::Done(answer) => answer,
+        Fast::Slow(ticket) => port.slow(rt, pass, ticket, desk, room),
+    }
+}
+
 /// A packet crosses the port.
 fn cross<J: Naming, R: Wait>(
     rt: &R,
@@ -80,6 +106,7 @@ fn cross<J: Naming, R: Wait>(
 {
     match by {
         By::Two => told_of(&by_two(rt, port, pass, unit, desk, room)),
+        By::Held => told_of(&by_held(rt, port, pass, unit, desk, room)),
         By::One => told_of(&port.forward(rt, pass, unit, desk, room)),
     }
 }

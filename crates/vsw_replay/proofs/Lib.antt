@@ -4,6 +4,7 @@ pub mod Carried
 pub mod Completing
 pub mod Growing
 pub mod Puts
+pub mod Behind
 pub mod Sources
 pub mod Turning
 pub mod Putting

@@ -68,3 +68,7 @@ sheet_unput a b c n sheets piece u e lt is p q =
 
 pub sheets_put : (a b : Outside) (n : ℕ) (sheets : List (List ℕ)) (u : ⊤) → length sheets ≤ n → DoesPut a b (concat (take n sheets)) (Ok u) → DoesPut a b (concat sheets) (Ok u)
 sheets_put a b n sheets u le p = puts_is a b (concat (take n sheets)) (concat sheets) (Ok u) (ap concat (take_all n sheets le)) p
+
+-- the sheets were put, and the end behind them
+pub whole_put : (a b c : Outside) (sheets : List (List ℕ)) (end piece : List ℕ) (u : ⊤) (r : Result ⊤ Failed) → piece ≡ end → DoesPut a b (concat sheets) (Ok u) → DoesPut b c piece r → DoesPut a c (concat sheets ++ end) r
+whole_put a b c sheets end piece u r is p q = puts_is a c (concat sheets ++ piece) (concat sheets ++ end) r (ap (λ (t : List ℕ). concat sheets ++ t) is) (puts_then a b c (concat sheets) piece u r p q)

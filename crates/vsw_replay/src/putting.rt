@@ -21,6 +21,8 @@ fn put_sheets<H: Host>(host: &mut H, sheets: &Sheets) -> Result<(), Failed>
 pub fn put_text<H: Host>(host: &mut H, text: &RoundText) -> Result<(), Failed>
     ensures { DoesPut (H.outside host.old) (H.outside host.new) (whole_text text.now) result }
 {
-    put_sheets(host, &text.sheets)?;
-    host.put(text.end.as_slice())
+    match put_sheets(host, &text.sheets) {
+        Ok(()) => host.put(text.end.as_slice()),
+        Err(e) => Err(e),
+    }
 }

@@ -1,6 +1,6 @@
 -- Ports end their rounds, one after the other.
 use Rattle.std.proofs.Common.{◌≡◌, ◌<◌, ◌≤◌, ℕ, zero, suc, ◌+◌, ◌||◌, Bool, true, false, List, [], ◌∷◌, ◌++◌, length, map, take, get_or, refl, ap, ap₂, sym, ◌∙◌, subst, arith, append_assoc, append-nil}
-use Rattle.std.specs.List.{flat_map, list_any, slice_set}
+use Rattle.std.specs.List.{concat, flat_map, list_any, slice_set}
 use Rattle.vsw_policy.specs.Sound.{Each}
 use Rattle.vsw_switch.specs.Close.{IsCounted, begun, is_short_now, text_now}
 use Rattle.vsw_switch.specs.Switch.{PortNow}
@@ -89,3 +89,19 @@ closed_all n ps qs old new short le s =
       short_is = s.short_is ∙ ap (list_any is_short_now) whole;
       begun_are = s.begun_are ∙ begun_all n ps le;
     }
+
+-- ---- the whole text of a round
+
+-- the round's line and then that of `loose` stand in the end, and the ports' texts between them
+pub round_closed : (s t : List (List ℕ)) (end first closed last a b c ports l loose : List ℕ) → first ≡ end ++ a ++ b ++ c → concat t ++ closed ≡ (concat s ++ first) ++ ports → last ≡ closed ++ l ++ loose
+    → concat t ++ last ≡ (concat s ++ end) ++ (a ++ b ++ c ++ ports ++ l ++ loose)
+round_closed s t end first closed last a b c ports l loose one mid more =
+    ap (λ (x : List ℕ). concat t ++ x) more
+    ∙ (behind (concat t) closed l loose
+    ∙ (ap (λ (x : List ℕ). x ++ l ++ loose) (mid ∙ ap (λ (x : List ℕ). (concat s ++ x) ++ ports) one)
+    ∙ grouped (concat s) end a b c ports l loose)) where
+      behind : (x y z w : List ℕ) → x ++ (y ++ z ++ w) ≡ (x ++ y) ++ z ++ w
+      behind x y z w = simp append_assoc
+
+      grouped : (x e a b c p l w : List ℕ) → ((x ++ (e ++ a ++ b ++ c)) ++ p) ++ l ++ w ≡ (x ++ e) ++ (a ++ b ++ c ++ p ++ l ++ w)
+      grouped x e a b c p l w = simp append_assoc

@@ -34,6 +34,12 @@ pub does_ok : (xs : List PortNow) (i : ℕ) (x y : PortNow) (j : Job) (r : Resul
 does_ok xs i x y j (Ok u) lt here d = does_set xs i x y j lt here d
 does_ok xs i x y j (Err f) lt here d = tt
 
+-- an element that stays as it was
+pub set_here : {A : Type 0} (xs : List A) (i : ℕ) (x y : A) → x ≡ get_or xs i x → y ≡ x → slice_set xs i y ≡ xs
+set_here [] i x y here e = refl
+set_here (z ∷ zs) zero x y here e = ap (λ w. w ∷ zs) (e ∙ here)
+set_here (z ∷ zs) (suc i) x y here e = ap (λ w. z ∷ w) (set_here zs i x y here e)
+
 -- what the change at a place keeps
 pub set_same : {A B : Type 0} (f : A → B) (xs : List A) (i : ℕ) (x y : A) → x ≡ get_or xs i x → f y ≡ f x → map f (slice_set xs i y) ≡ map f xs
 set_same f [] i x y here e = refl

@@ -137,3 +137,11 @@ pub tells : (lines : List Line) (first : ℕ) (packets : List Record) (s w : Swi
     → IfOk r (λ short. (set : Setting) (hs : List (List Event)) → set.commands ≡ lines → IsAt set hs s → TellsRound set hs first packets w short old new)
 tells lines first packets s w (Err e) old new h = tt
 tells lines first packets s w (Ok short) old new h = λ set hs is stands. (h set hs is stands).tells
+
+-- the same where the rooms of the text were taken back before
+pub runs_from : (first : ℕ) (lines : List Line) (packets : List Record) (s s1 w : SwitchNow) (r : Result Bool NoMemory) (old old1 new : List ℕ) → s1 ≡ s → old1 ≡ old
+    → IfOk r (λ short. (set : Setting) (hs : List (List Event)) → set.commands ≡ lines → IsAt set hs s1 → RunsRound set hs first packets w short old1 new)
+    → IfOk r (λ short. (set : Setting) (hs : List (List Event)) → set.commands ≡ lines → IsAt set hs s → RunsRound set hs first packets w short old new)
+runs_from first lines packets s s1 w (Err e) old old1 new same text so = tt
+runs_from first lines packets s s1 w (Ok told) old old1 new same text so = λ set hs is stands.
+    subst (λ (o : List ℕ). RunsRound set hs first packets w told o new) text (so set hs is (subst (λ (x : SwitchNow). IsAt set hs x) (sym same) stands))

@@ -87,6 +87,18 @@ fn rows_after(tally: Tally) -> u32 {
     }
 }
 
+/// The first of these callers takes the room back that was taken of the port at a place.
+fn take_room(callers: &mut Vec<Caller>, out: &mut RoundText, place: usize)
+    ensures same { callers.new.items ≡ callers.old.items }
+    ensures text { whole_text out.new ≡ whole_text out.old }
+{
+    if callers.is_empty() {
+        return;
+    }
+    let first = &mut callers[0];
+    first.take_room(out, place);
+}
+
 impl Live {
     /// A port before the first round.
     pub(crate) fn open(alloc: Global, workers: u32, port: Port) -> Result<Live, NoMemory>
@@ -150,9 +162,7 @@ impl Live {
         ensures same { self.new ≡ self.old }
         ensures text { whole_text out.new ≡ whole_text out.old }
     {
-        if let Some((first, _)) = self.workers.split_first_mut() {
-            first.take_room(out, place);
-        }
+        take_room(&mut self.workers, out, place);
     }
 
     /// Appends its part of the round's text, and begins the next round. Answers whether want of memory is told.

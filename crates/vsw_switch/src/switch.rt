@@ -259,6 +259,7 @@ impl Switch {
     pub fn take_rooms(&mut self, out: &mut RoundText)
         ensures same { self.new ≡ self.old }
         ensures text { whole_text out.new ≡ whole_text out.old }
+        ensures served { (lines : List Line) → AreServed self.old lines → AreServed self.new lines }
     {
         take_rooms(&mut self.ports, out);
     }

@@ -1,6 +1,6 @@
 //! The shares of a round's callers: what each is dealt.
 
-ghost use Rattle.std.specs.Prelude.{◌≡◌, ◌≤◌, ◌<◌, ◌+◌, ◌^◌, ◌++◌, ◌∷◌, [], ℕ, List, IfOk, IsTrue, OnOk, length, replicate, true};
+ghost use Rattle.std.specs.Prelude.{◌≡◌, ◌≤◌, ◌<◌, ◌+◌, ◌^◌, ◌++◌, ◌∷◌, [], ℕ, List, IfOk, OnOk, length, replicate, true};
 ghost use Rattle.vsw_actors.specs.Actors.{placed_of};
 ghost use Rattle.vsw_port.specs.Calls.{controller_at};
 ghost use Rattle.vsw_port.specs.Order.{numbered};
@@ -225,14 +225,13 @@ fn deal_packets<'a>(
 
 /// Whether each share has fewer than 2^32 jobs.
 fn are_few<'a>(shares: &[Vec<Placed<Work<'a>>>]) -> bool
-    ensures { IsTrue result → AreFew shares.now }
+    ensures told { result ≡ true → AreFew shares.now }
+    ensures back { AreFew shares.now → result ≡ true }
 {
-    for share in shares {
-        if share.len() > u32::MAX as usize {
-            return false;
-        }
+    match shares.split_first() {
+        None => true,
+        Some((first, rest)) => first.len() <= u32::MAX as usize && are_few(rest),
     }
-    true
 }
 
 /// Deals the jobs of the round of these packets, the first of which has the number `first` in the trace: to each worker its packets, in

@@ -1,6 +1,6 @@
 //! All stations meet the ports between rounds.
 
-ghost use Rattle.std.specs.Prelude.{◌≡◌, ◌<◌, ◌++◌, ◌∷◌, [], length, map, IfOk, OnOk};
+ghost use Rattle.std.specs.Prelude.{◌≡◌, ◌<◌, ◌++◌, ◌∷◌, [], length, map, IfOk, OnErr, OnOk};
 ghost use Rattle.vsw_live.specs.Core.{IsOf};
 ghost use Rattle.vsw_dock.specs.Meeting.{AreHeld, AreLanes, LaneMeets, RowMeets};
 ghost use Rattle.vsw_dock.specs.Private.Met.{MetAt};
@@ -54,9 +54,10 @@ pub fn hold_all<'a, 'g, J: Naming, G, R: Wait>(
     Ok(helds)
 }
 
-/// How many entries a port has.
+/// How many entries a port has. That it has 2^32 or more counts as want of memory, and nothing else does.
 pub fn count_of<J: Naming>(held: &Held<'_, J>) -> Result<u32, NoMemory>
-    ensures { IfOk result (λ count. count ≡ length held.now.history) }
+    ensures count { IfOk result (λ count. count ≡ length held.now.history) }
+    ensures many { OnErr result (4294967296 ≤ length held.now.history) }
 {
     let count = held.journal().len();
     if count > u32::MAX as usize {

@@ -1,6 +1,6 @@
 //! Where a caller stands at a port.
 
-ghost use Rattle.std.specs.Prelude.{◌≡◌, ◌≤◌, ◌<◌, ◌+◌, [], true, length, IfOk, IsOk, OnErr, OnOk};
+ghost use Rattle.std.specs.Prelude.{◌≡◌, ◌≤◌, ◌<◌, ◌+◌, nat_lt, [], true, length, IfOk, IsOk, OnErr, OnOk};
 ghost use Rattle.vsw_live.specs.Core.{IsOf};
 ghost use Rattle.vsw_dock.specs.Meeting.{StationMeets};
 ghost use Rattle.vsw_dock.specs.Private.Does.{Does, Tells};
@@ -158,6 +158,13 @@ fn tell_reply(lines: &mut Caller, whole: &mut bool, line: &Line, answer: Told)
     mark(whole, told);
 }
 
+/// Whether a pass that was ever given so many permits may be given `more` of them.
+fn may_be_given(granted: u32, more: u32) -> bool
+    ensures { result ≡ nat_lt (granted + more) 134217729 }
+{
+    u64::from(granted) + u64::from(more) <= u64::from(GRANTED_MAX)
+}
+
 impl Station {
     /// A station with a pass that is new, and no lines.
     pub fn new(alloc: Global, pass: Pass<PortStory>) -> Result<Station, NoMemory>
@@ -261,15 +268,12 @@ impl Station {
         ensures refused { OnErr result (self.new ≡ self.old) }
     {
         let wanted = more.saturating_sub(self.left);
-        let Some(granted) = self.granted.checked_add(wanted) else {
-            return Err(NoMemory);
-        };
-        if granted > GRANTED_MAX {
+        if !may_be_given(self.granted, wanted) {
             return Err(NoMemory);
         }
         held.grant(&mut self.pass, wanted)?;
         self.left += wanted;
-        self.granted = granted;
+        self.granted += wanted;
         Ok(())
     }
 }

@@ -1,6 +1,6 @@
 //! A port in the midst of a run.
 
-ghost use Rattle.std.specs.Prelude.{◌≡◌, ◌≤◌, ◌<◌, ◌-◌, ◌^◌, ◌++◌, IfOk, OnOk, length, true};
+ghost use Rattle.std.specs.Prelude.{◌≡◌, ◌≤◌, ◌<◌, ◌-◌, ◌^◌, ◌++◌, nat_lt, IfOk, OnOk, length, true};
 ghost use Rattle.vsw_frame.specs.Frame.{parts};
 ghost use Rattle.vsw_port.specs.Calls.{Ask, Carry};
 ghost use Rattle.vsw_policy.specs.Obey.{rules_given};
@@ -60,6 +60,13 @@ impl Model for Live {
     ghost invariant = { λ s. IsPort s.port.opening s.listed.items s.before (length s.port.journal) s.port.workers s.workers.items s.controllers.items };
 }
 
+/// Whether a history of so many entries takes one more: each has a count below 2^32 - 1.
+fn has_count(entries: usize) -> bool
+    ensures { result ≡ nat_lt entries 4294967295 }
+{
+    entries < u32::MAX as usize
+}
+
 /// Takes room for one more entry, and answers its count. A history that has no such count takes no more entries.
 fn reserve(port: &mut SolePort) -> Result<u32, NoMemory>
     ensures count { IfOk result (λ count. count ≡ length port.old.journal) }
@@ -70,7 +77,7 @@ fn reserve(port: &mut SolePort) -> Result<u32, NoMemory>
     ensures workers { port.new.workers ≡ port.old.workers }
 {
     let count = port.journal().len();
-    if count >= u32::MAX as usize {
+    if !has_count(count) {
         return Err(NoMemory);
     }
     port.reserve(1)?;

@@ -9,3 +9,4 @@ pub mod Examples
 pub mod Digits
 pub mod Levels
 pub mod Same
+pub mod Hex

@@ -3,3 +3,4 @@ pub mod Machine
 pub mod Built
 pub mod Parts
 pub mod Words
+pub mod Decode

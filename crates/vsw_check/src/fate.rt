@@ -5,10 +5,10 @@ ghost use Rattle.hex.specs.Hex.{decode_of};
 ghost use Rattle.vsw_report.specs.Words.{bare_cause, cause_in, fate_in, long_cause, passed, pass_in, path_cause, reply_in};
 ghost use Rattle.vsw_report.specs.declared.told.What.TheVariants as what;
 
+use crate::decode::decode;
 use crate::name::{dir, refusal};
 use crate::number::{four, number, pair, short_number};
 use crate::parts::Parts;
-use hex::FromHexError;
 use std::alloc::Global;
 use vsw_base::{Cause, Fate, Items, NoMemory};
 use vsw_policy::Reply;
@@ -93,19 +93,16 @@ fn cause(words: &mut Parts<'_>) -> Option<Cause>
 }
 
 /// The bytes of a pass, as many as its length.
+#[tactic(auto, using(crate::proofs::Hex::not_decoded, crate::proofs::Hex::wrong_length, crate::proofs::Hex::is_decoded))]
 fn bytes(alloc: Global, len: u32, text: &[u8]) -> Result<Option<(Fate, Items<u8>)>, NoMemory>
     ensures { IfOk result (λ o. option_map (λ p. what.Fate p.0 p.1) o ≡ passed len (decode_of text.now)) }
 {
-    match hex::decode(alloc, text) {
-        Ok(bytes) => {
-            if bytes.len() == len as usize {
-                Ok(Some((Fate::Pass { len }, Items::of(bytes))))
-            } else {
-                Ok(None)
-            }
-        }
-        Err(FromHexError::OutOfMemory) => Err(NoMemory),
-        Err(_) => Ok(None),
+    if text.len() != 2 * len as usize {
+        return Ok(None);
+    }
+    match decode(alloc, text, len as usize)? {
+        Some(bytes) => Ok(Some((Fate::Pass { len }, Items::of(bytes)))),
+        None => Ok(None),
     }
 }
 

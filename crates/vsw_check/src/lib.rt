@@ -2,6 +2,7 @@
 #![tactic(auto)]
 
 mod built;
+mod decode;
 mod fate;
 mod law;
 mod line;

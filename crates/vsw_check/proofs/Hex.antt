@@ -1,5 +1,5 @@
 -- Hexadecimal text, read by a table and from its end.
-use Rattle.std.proofs.Common.{◌≡◌, ℕ, suc, ◌+◌, ◌*◌, ◌<◌, ◌≤◌, ◌==◌, ◌&&◌, ◌%◌, Bool, true, false, true≢false, List, [], ◌∷◌, length, drop, get_or, Option, Some, None, nat_lt, refl, sym, ap, ap₂, ◌∙◌, subst, arith, set, zero}
+use Rattle.std.proofs.Common.{◌≡◌, ℕ, suc, ◌+◌, ◌*◌, ◌<◌, ◌≤◌, ◌==◌, ◌&&◌, ◌%◌, Bool, true, false, List, [], ◌∷◌, length, drop, get_or, Option, Some, None, nat_lt, refl, sym, ap, ap₂, ◌∙◌, subst, arith, set, zero}
 use Rattle.std.specs.Prelude.{Result, Ok, Err, if◌then◌else◌}
 use Rattle.std.proofs.lemmas.Bool.{and_parts, eq-eqb, eqb-true, ltb-true}
 use Rattle.std.proofs.lemmas.List.{drop_all, drop_more, drop-set}

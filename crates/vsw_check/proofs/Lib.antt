@@ -10,3 +10,4 @@ pub mod Digits
 pub mod Levels
 pub mod Same
 pub mod Hex
+pub mod Fronts

@@ -1,15 +1,47 @@
 //! Bytes cut at a byte: a report into lines, a line into words, a path into numbers.
 
-ghost use Rattle.std.specs.Prelude.{◌≡◌, ◌==◌, ◌<◌, ℕ, length, option_map};
-ghost use Rattle.std.specs.List.{position, slice_split};
+ghost use Rattle.std.specs.Prelude.{◌≡◌, ◌==◌, ◌+◌, ◌<◌, ◌≤◌, ℕ, drop, length, option_map};
+ghost use Rattle.std.specs.List.{list_any, position, position_or_len, slice_split};
 ghost use Rattle.vsw_check.specs.Private.Parts.{IsCut, IsNext};
 
 use std::marker::Model;
 
-fn place_of(bytes: &[u8], separator: u8) -> Option<usize>
+fn has(block: &[u8], separator: u8) -> bool
+    ensures { result ≡ list_any (λ b. b == separator) block.now }
+{
+    block.contains(&separator)
+}
+
+/// How many of the first bytes, whole blocks of 64, are told at once to hold no separator.
+fn free_front(bytes: &[u8], separator: u8) -> usize
+    ensures within { result ≤ length bytes.now }
+    ensures front { position_or_len (λ b. b == separator) bytes.now ≡ result + position_or_len (λ b. b == separator) (drop result bytes.now) }
+{
+    let mut at = 0;
+    while bytes.len() - at >= 64 {
+        if has(&bytes[at..at + 64], separator) {
+            return at;
+        }
+        at += 64;
+    }
+    at
+}
+
+fn first_of(bytes: &[u8], separator: u8) -> Option<usize>
     ensures { result ≡ position (λ b. b == separator) bytes.now }
 {
     bytes.iter().position(|byte| *byte == separator)
+}
+
+/// The place of the first separator.
+fn place_of(bytes: &[u8], separator: u8) -> Option<usize>
+    ensures { result ≡ position (λ b. b == separator) bytes.now }
+{
+    let from = free_front(bytes, separator);
+    match first_of(&bytes[from..], separator) {
+        Some(more) => Some(from + more),
+        None => None,
+    }
 }
 
 /// The bytes before the first separator, and those behind it.

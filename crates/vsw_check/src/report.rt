@@ -99,7 +99,11 @@ fn is_head(line: &[u8]) -> bool
     line == b"vsw report 1".as_slice()
 }
 
-/// The rounds of which the bytes are the report.
+/// The rounds of which the bytes are the report, or its first bad line. Want of memory may be told at any line before that one.
+///
+/// Each line is read once, and none is kept as text. Memory goes to the values alone: 72 bytes a line, in rooms up to twice as long (thrice while
+/// they grow), and the bytes of a pass, half as many as their digits. That is 0.6 times the report where packets of 361 bytes passed, and at most
+/// some 20 times where all lines are of the shortest.
 pub fn read_report(alloc: Global, bytes: &[u8]) -> Result<Report, BadReport>
     requires { length bytes.now ≤ 268435456 }
     ensures { IsRead bytes.now result }

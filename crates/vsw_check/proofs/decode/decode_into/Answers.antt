@@ -1,4 +1,4 @@
-use Rattle.std.proofs.Common.{◌≡◌, ◌+◌, ◌-◌, ◌*◌, ◌<◌, length, drop, Some, subst, sym, arith, slice_set, length-set, ◌∙◌, ap}
+use Rattle.std.proofs.Common.{◌≡◌, ◌+◌, ◌-◌, ◌*◌, length, drop, Some, subst, sym, arith, slice_set, length-set, ◌∙◌, ap}
 use Rattle.vsw_check.specs.Private.Decode.{decoded}
 use Rattle.vsw_check.proofs.Hex.{not_a_pair, one_pair_more}
 use Rattle.vsw_check.proofs.decode.decode_into.Goals as goal

@@ -1,16 +1,15 @@
 -- Bytes cut at their first line feed, and a line's part in the search for the first bad one.
-use Rattle.std.proofs.Common.{◌≡◌, ℕ, ◌+◌, ◌-◌, ◌<◌, ◌==◌, suc, List, ◌∷◌, length, true, Option, Some, None, refl, sym, ap, subst, ◌∙◌, arith, take, drop, length-drop}
+use Rattle.std.proofs.Common.{◌≡◌, ℕ, ◌+◌, ◌-◌, ◌<◌, ◌==◌, suc, List, ◌∷◌, length, true, Some, None, sym, ap, subst, ◌∙◌, arith, take, drop, length-drop}
 use Rattle.std.proofs.lemmas.List.{take_all}
 use Rattle.std.proofs.lemmas.List.Quantifiers.{position-Some}
 use Rattle.std.proofs.lemmas.List.Sums.{fails_before_first}
 use Rattle.std.proofs.lemmas.List.Splits.{slice_split_first, slice_split_none}
-use Rattle.std.specs.Prelude.{codes, bytes_eq, option_and_then, option_map, if◌then◌else◌}
+use Rattle.std.specs.Prelude.{codes, bytes_eq, if◌then◌else◌}
 use Rattle.std.specs.List.{position, position_or_len, slice_split, before_first, after_first}
 use Rattle.vsw_policy.proofs.Firsts.{place-some, place-none}
-use Rattle.vsw_report.specs.Words.{Line, line_in}
 use Rattle.vsw_check.specs.declared.place.Place.{Place}
 use Rattle.vsw_check.specs.declared.place.Place.TheVariants.{AtFirst}
-use Rattle.vsw_check.specs.Private.Machine.{kind_in, kind_of, step, step_kind, next, last_bad, bad_after, bad_line, bad_part, first_bad}
+use Rattle.vsw_check.specs.Private.Machine.{next, last_bad, bad_after, bad_line, bad_part, first_bad}
 use Rattle.vsw_check.specs.Private.Parts.{IsCut}
 use Rattle.vsw_check.proofs.Bytes.{some_part}
 
@@ -32,12 +31,6 @@ pub cut_none : (s : ℕ) (bs : List ℕ) → position (λ b. b == s) bs ≡ None
 cut_none s bs e = slice_split_none (λ b. b == s) bs (λ k d lt. fails_before_first (λ b. b == s) bs k d (subst (λ n. k < n) (place-none (λ b. b == s) bs e) lt))
 
 -- ---- line by line
-
-pub next_of : (s : Place) (bytes : List ℕ) → next s bytes ≡ option_and_then (step_kind s) (kind_in bytes)
-next_of s bytes = by (line_in bytes) where
-  by : (o : Option Line) → option_and_then (step s) o ≡ option_and_then (step_kind s) (option_map kind_of o)
-  by None = refl
-  by (Some l) = refl
 
 bad_goes : (s : Place) (n : ℕ) (line more : List ℕ) → bad_line s n (line ∷ slice_split (λ b. b == 10) more) ≡ bad_after n (next s line) (λ r. bad_line r (suc n) (slice_split (λ b. b == 10) more))
 bad_goes s n line more =

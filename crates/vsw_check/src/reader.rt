@@ -1,15 +1,17 @@
 //! A reader of lines. A line is one only if it is printed as it stands.
 
 ghost use Rattle.std.specs.Prelude.{◌≡◌, ◌++◌, ◌∷◌, [], IfOk, bytes_eq, option_map};
+ghost use Rattle.vsw_report.specs.Print.{line_text};
 ghost use Rattle.vsw_report.specs.Words.{line_in, text_of};
+ghost use Rattle.vsw_report.specs.declared.told.By.TheVariants.{Worker};
+ghost use Rattle.vsw_report.specs.declared.told.What.TheVariants as what;
 ghost use Rattle.vsw_check.specs.Private.Built.{line_of};
 
 use crate::line::read_words;
 use crate::said::{At, Said};
 use std::alloc::Global;
 use vsw_base::{Fate, NoMemory};
-use vsw_policy::Reply;
-use vsw_report::{Loose, Page, loose_part, port_line, round_line};
+use vsw_report::{Page, loose_part, port_line, round_line};
 
 /// Whether a text is this line with its line feed.
 #[tactic(auto, using(crate::proofs::Same::same_line, crate::proofs::Same::other_line, crate::proofs::Same::short_line))]
@@ -42,6 +44,23 @@ impl Reader {
         }
     }
 
+    /// Whether the line is printed of this packet, on an empty page.
+    fn is_packet_line(
+        &mut self,
+        worker: u32,
+        at: At,
+        fate: &Fate,
+        bytes: &[u8],
+        line: &[u8],
+    ) -> Result<bool, NoMemory>
+        requires { self.old.page ≡ [] }
+        ensures { IfOk result (λ is. is ≡ bytes_eq (line_text (record { by = Worker worker; item = at.item; entry = at.entry; count = at.count; what = what.Fate fate.now bytes.now })) (line.now ++ 10 ∷ [])) }
+    {
+        self.page
+            .packet_line(worker, at.item, at.entry, at.count, fate, bytes)?;
+        Ok(is_line(self.page.as_slice(), line))
+    }
+
     /// Whether the line is printed of what it says.
     fn is_printed(&mut self, said: &Said, line: &[u8]) -> Result<bool, NoMemory>
         ensures { IfOk result (λ is. is ≡ bytes_eq (text_of (line_of said.now)) (line.now ++ 10 ∷ [])) }
@@ -66,17 +85,7 @@ impl Reader {
                 at,
                 fate,
                 bytes,
-            } => {
-                self.page.packet_line(
-                    *worker,
-                    at.item,
-                    at.entry,
-                    at.count,
-                    fate,
-                    bytes.as_slice(),
-                )?;
-                Ok(is_line(self.page.as_slice(), line))
-            }
+            } => self.is_packet_line(*worker, *at, fate, bytes.as_slice(), line),
             Said::Command {
                 controller,
                 at,

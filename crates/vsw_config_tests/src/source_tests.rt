@@ -36,23 +36,25 @@ fn host_of(alloc: Global, count: u32, failing: u64) -> Option<MemoryHost> {
 }
 
 /// The lengths of the next four pieces, whose bytes go to the end of `got`. A fault counts as no byte.
-fn read_four(host: &mut MemoryHost, source: &mut Source, got: &mut Vec<u8>) -> Option<[usize; 4]>
-    requires open { source.old.file < (outside host.old).opens }
+fn read_four(host: &mut MemoryHost, source: &Source, got: &mut Vec<u8>) -> Option<[usize; 4]>
+    requires open { source.now.file < (outside host.old).opens }
 {
     let mut lens = [0; 4];
+    let mut room = [0; 65_536];
     for turn in 0..4 {
-        let _ = source.next(host);
-        got.extend_from_slice(source.piece()).ok()?;
-        lens[turn] = source.piece().len();
+        if let Ok(count) = source.next(host, &mut room) {
+            got.extend_from_slice(room.get(..count)?).ok()?;
+            lens[turn] = count;
+        }
     }
     Some(lens)
 }
 
 /// The lengths of the first four pieces of the host's file, if it has these bytes.
 fn lens_of(alloc: Global, host: &mut MemoryHost, bytes: &[u8]) -> Option<[usize; 4]> {
-    let mut source = Source::open(alloc, host, "file").ok()?;
+    let source = Source::open(alloc, host, "file").ok()?;
     let mut got = Vec::new(alloc);
-    match read_four(host, &mut source, &mut got) {
+    match read_four(host, &source, &mut got) {
         Some(lens) if got.as_slice() == bytes => Some(lens),
         _ => None,
     }

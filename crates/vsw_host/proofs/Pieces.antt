@@ -1,9 +1,10 @@
 -- A file that is read in pieces.
-use Rattle.std.proofs.Common.{◌≡◌, ℕ, ◌<◌, List, ◌++◌, Option, Some, None, Ok, sym, ◌∙◌, ap, subst, length, take, arith, length-take}
-use Rattle.std.proofs.Math.Seq.{take-append_seam, take-length}
+use Rattle.std.proofs.Common.{◌≡◌, ℕ, ◌<◌, List, ◌++◌, Option, Some, None, Result, Ok, Err, sym, ap, subst, length, take, arith, length-take}
+use Rattle.std.proofs.Math.Seq.{take-length}
 use Rattle.vsw_host.specs.Outside.{Inputs, Outside, DoesRead, TellsRead}
-use Rattle.vsw_host.specs.Source.{IsNumbered, IsReading, SourceSeen, NextPiece}
+use Rattle.vsw_host.specs.Source.{IsNumbered, IsReading, NextPiece}
 use Rattle.vsw_host.specs.Told.{ReadsAll, ReadsFront}
+use Rattle.vsw_host.specs.declared.host.Failed.{Failed}
 use Rattle.vsw_host.proofs.CallerLemmas.{all_told}
 use Rattle.vsw_host.proofs.Ends.{told_whole}
 use Rattle.vsw_host.proofs.Going.{TellsPartly, told_on}
@@ -42,19 +43,34 @@ end start old new name file got buffer n room zero h r =
     let P : ℕ → Type 0 = λ k. TellsRead old.inputs new.inputs file buffer (Ok k) in
     all_told start.inputs new.inputs name got (told_whole start.inputs old.inputs new.inputs name file got buffer room (partly start.inputs old.inputs name file got r.front r.number) (subst P zero h.told))
 
-pub next_read : (old new : Outside) (source : SourceSeen) (buffer : List ℕ) (n : ℕ) → length buffer ≡ 65536 → source.piece ≡ take n buffer → DoesRead old new source.file buffer (Ok n) → NextPiece old new source (Ok tt)
-next_read old new source buffer n room e h = (
+pub next_read : (old new : Outside) (file : ℕ) (room : List ℕ) (n : ℕ) → 0 < length room → DoesRead old new file room (Ok n) → NextPiece old new file room (Ok n)
+next_read old new file room n some h = (
   h.outputs,
-  omega (arith, ap (λ (t : List ℕ). length t) e, length-take n buffer),
-  λ start name got r.
-      let more = read start old new name source.file got buffer n h r in
-      let P : List ℕ → Type 0 = λ t. IsReading start new name source.file (got ++ t) in
-      record {
-        reading = subst P (sym e) more;
-        end = λ none. end start old new name source.file got buffer n (omega arith) (omega (arith, h.within, length-take n buffer, ap (λ (t : List ℕ). length t) (sym e ∙ none))) h r;
-      },
+  h.within,
+  λ start name got r. record {
+    reading = read start old new name file got room n h r;
+    end = λ none. end start old new name file got room n some (omega (arith, h.within, length-take n room, ap (λ (t : List ℕ). length t) none)) h r;
+  },
 )
 
--- the front of a room that was written whole
-pub written : (xs ys : List ℕ) (n len : ℕ) → length xs ≡ len → take n (take len (xs ++ ys)) ≡ take n xs
-written xs ys n len e = ap (take n) (ap (λ (k : ℕ). take k (xs ++ ys)) (sym e) ∙ take-append_seam xs ys)
+front_same : (a b c : Option Inputs) (name : List ℕ) (file : ℕ) (got room : List ℕ) (e : Failed) → TellsRead b c file room (Err e) → ReadsFront a b name got → ReadsFront a c name got
+front_same None b c name file got room e t r = record { bytes = r.bytes; held = tt; since = tt; front = r.front }
+front_same (Some a) None c name file got room e t r = absurd r.since
+front_same (Some a) (Some b) None name file got room e t r = absurd t
+front_same (Some a) (Some b) (Some c) name file got room e t r = subst (λ i. ReadsFront (Some a) (Some i) name got) (sym t) r
+
+pub next_fault : (old new : Outside) (file : ℕ) (room : List ℕ) (e : Failed) → DoesRead old new file room (Err e) → NextPiece old new file room (Err e)
+next_fault old new file room e h = (
+  h.outputs,
+  h.cause.failed,
+  λ start name got r. record {
+    front = front_same start.inputs old.inputs new.inputs name file got room e h.told r.front;
+    number = r.number;
+    is_open = omega (arith, r.is_open, h.opens);
+    later = omega (arith, r.later, h.cause.later);
+  },
+)
+
+pub next_by : (old new : Outside) (file : ℕ) (room : List ℕ) (result : Result ℕ Failed) → 0 < length room → DoesRead old new file room result → NextPiece old new file room result
+next_by old new file room (Ok n) some h = next_read old new file room n some h
+next_by old new file room (Err e) some h = next_fault old new file room e h

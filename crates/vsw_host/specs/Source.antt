@@ -1,6 +1,7 @@
 -- A file that is read in pieces.
-use Rattle.std.specs.Prelude.{◌≡◌, ℕ, ◌≤◌, ◌<◌, List, [], ◌++◌, length, Option, Some, None, Result, Ok, Err, ⊤}
+use Rattle.std.specs.Prelude.{◌≡◌, ℕ, ◌≤◌, ◌<◌, List, [], ◌++◌, length, take, Option, Some, None, Result, Ok, Err}
 use Rattle.vsw_host.specs.Outside.{Inputs, Outside, Rose, SameInputs, SameOutputs}
+use Rattle.vsw_host.specs.Reading.{piece}
 use Rattle.vsw_host.specs.Told.{ReadsAll, ReadsFront, ReadsNothing}
 use Rattle.vsw_host.specs.declared.host.Failed.{Failed}
 use Rattle.vsw_host.specs.declared.source.Unopened.{Unopened}
@@ -18,14 +19,14 @@ pub record IsReading (start now : Outside) (name : List ℕ) (file : ℕ) (got :
   pub is_open : file < now.opens
   pub later : start.input_faults ≤ now.input_faults
 
--- what is seen of a file that is read in pieces: its number, and the piece that was read last
+-- what is seen of a file that is read in pieces: its number, and the room for a piece that it was opened with, until that is taken
 pub record SourceSeen : Type 0 where
   pub file : ℕ
-  pub piece : List ℕ
+  pub room : List ℕ
 
 -- a file was opened to be read in pieces, or it couldn't be
 abbrev pub OpensSource : Outside → Outside → List ℕ → Result SourceSeen Unopened → Type 0
-OpensSource old new name (Ok source) = SameOutputs old new × IsReading old new name source.file [] × (source.piece ≡ [])
+OpensSource old new name (Ok source) = SameOutputs old new × IsReading old new name source.file [] × (length source.room ≡ piece)
 OpensSource old new name (Err Fault) = SameOutputs old new × (old.input_faults ≤ new.input_faults) × Rose old.input_faults new.input_faults × ReadsNothing old.inputs new.inputs []
 OpensSource old new name (Err Memory) = SameOutputs old new × SameInputs old new
 
@@ -34,7 +35,8 @@ pub record ReadsPiece (start new : Outside) (name : List ℕ) (file : ℕ) (got 
   pub reading : IsReading start new name file (got ++ piece)
   pub end : piece ≡ [] → ReadsAll start.inputs new.inputs name got
 
--- the next piece was read, or a fault was counted, after which what was read is as it was
-abbrev pub NextPiece : Outside → Outside → SourceSeen → Result ⊤ Failed → Type 0
-NextPiece old new source (Ok u) = SameOutputs old new × (length source.piece ≤ 65536) × ((start : Outside) (name got : List ℕ) → IsReading start old name source.file got → ReadsPiece start new name source.file got source.piece)
-NextPiece old new source (Err failed) = SameOutputs old new × Rose old.input_faults new.input_faults × ((start : Outside) (name got : List ℕ) → IsReading start old name source.file got → IsReading start new name source.file got)
+-- the next piece was read to the front of a room, or a fault was counted, after which what was read is as it was. `room` is the room as
+-- the call leaves it
+abbrev pub NextPiece : Outside → Outside → ℕ → List ℕ → Result ℕ Failed → Type 0
+NextPiece old new file room (Ok n) = SameOutputs old new × (n ≤ length room) × ((start : Outside) (name got : List ℕ) → IsReading start old name file got → ReadsPiece start new name file got (take n room))
+NextPiece old new file room (Err failed) = SameOutputs old new × Rose old.input_faults new.input_faults × ((start : Outside) (name got : List ℕ) → IsReading start old name file got → IsReading start new name file got)

@@ -1,12 +1,13 @@
 //! Reading a file in pieces.
 
-ghost use Rattle.std.specs.Prelude.{◌≡◌, ◌<◌, [], OnErr};
+ghost use Rattle.std.specs.Prelude.{◌≡◌, ◌<◌, [], length};
 ghost use Rattle.vsw_host.specs.Source.{NextPiece, OpensSource};
 
 use crate::host::{Failed, Host};
 use crate::reading::{PIECE, zeros};
 use std::alloc::Global;
 use std::marker::Model;
+use std::mem::replace;
 
 /// Why a file wasn't opened.
 #[derive(Clone, Copy, Debug, PartialEq, Eq)]
@@ -17,68 +18,52 @@ pub enum Unopened {
     Memory,
 }
 
-/// A file that is read in pieces of at most 65,536 bytes, in a room that lives on.
+/// A file that is read in pieces, each into a room of the caller's.
 #[derive(Drop)]
 pub struct Source {
     file: u32,
-    /// The room. What was read last stands at its front.
-    buffer: Vec<u8>,
-    /// Bytes that were read last.
-    len: usize,
+    /// Room for a piece, until it is taken.
+    room: Vec<u8>,
 }
 
 impl Model for Source {
-    ghost use Rattle.std.specs.Prelude.{◌≡◌, ◌≤◌, length, take};
-    ghost use Rattle.vsw_host.specs.Reading.{piece};
     ghost use Rattle.vsw_host.specs.Source.{SourceSeen};
 
     ghost Value = { SourceSeen };
 
-    ghost view = { λ s. record { file = s.file; piece = take s.len s.buffer.items } };
-
-    ghost invariant = { λ s. (s.len ≤ length s.buffer.items) × (length s.buffer.items ≡ piece) };
+    ghost view = { λ s. record { file = s.file; room = s.room.items } };
 }
 
 impl Source {
-    /// Opens the file of this name. It takes memory for one piece.
+    /// Opens the file of this name. It takes memory for one piece of 65,536 bytes.
     pub fn open<H: Host>(alloc: Global, host: &mut H, name: &str) -> Result<Source, Unopened>
         ensures { OpensSource (H.outside host.old) (H.outside host.new) name.now result }
     {
-        let Ok(buffer) = zeros(alloc, PIECE) else {
+        let Ok(room) = zeros(alloc, PIECE) else {
             return Err(Unopened::Memory);
         };
         match host.open(name) {
-            Ok(file) => Ok(Source {
-                file,
-                buffer,
-                len: 0,
-            }),
+            Ok(file) => Ok(Source { file, room }),
             Err(_) => Err(Unopened::Fault),
         }
     }
 
-    /// Reads the next bytes of the file, at most 65,536; none at its end.
-    pub fn next<H: Host>(&mut self, host: &mut H) -> Result<(), Failed>
-        requires open { self.old.file < (H.outside host.old).opens }
-        ensures next { NextPiece (H.outside host.old) (H.outside host.new) self.new result }
-        ensures file { self.new.file ≡ self.old.file }
-        ensures opens { (H.outside host.new).opens ≡ (H.outside host.old).opens }
-        ensures none { OnErr result (self.new.piece ≡ []) }
+    /// Takes the room for a piece, and leaves none.
+    pub fn take_room(&mut self, alloc: Global) -> Vec<u8>
+        ensures room { result.items ≡ self.old.room }
+        ensures rest { self.new ≡ record self.old { room = [] } }
     {
-        self.len = 0;
-        match host.read(self.file, self.buffer.as_mut_slice()) {
-            Ok(count) => {
-                self.len = count;
-                Ok(())
-            }
-            Err(failed) => Err(failed),
-        }
+        replace(&mut self.room, Vec::new(alloc))
     }
 
-    /// The bytes that were read last; none after a fault.
-    pub fn piece(&self) -> &[u8]
-        ensures { result.now ≡ self.now.piece }
+    /// Reads the next bytes of the file to the front of a room, as many as come at once, and answers how many; none at the end of
+    /// the file.
+    pub fn next<H: Host>(&self, host: &mut H, room: &mut [u8]) -> Result<usize, Failed>
+        requires open { self.now.file < (H.outside host.old).opens }
+        requires some { 0 < length room.old }
+        ensures next { NextPiece (H.outside host.old) (H.outside host.new) self.now.file room.new result }
+        ensures opens { (H.outside host.new).opens ≡ (H.outside host.old).opens }
     {
-        &self.buffer[..self.len]
+        host.read(self.file, room)
     }
 }

@@ -62,7 +62,7 @@ impl Model for Batch {
 }
 
 /// Appends a slice; where there is no memory for it, nothing changes.
-pub(crate) fn append(bytes: &mut Vec<u8>, more: &[u8]) -> Result<(), NoMemory>
+fn append(bytes: &mut Vec<u8>, more: &[u8]) -> Result<(), NoMemory>
     ensures ok { OnOk result (bytes.new.items ≡ bytes.old.items ++ more.now) }
     ensures err { OnErr result (bytes.new.items ≡ bytes.old.items) }
 {

@@ -1,19 +1,20 @@
 //! The reader of a capture that comes in pieces.
 
-ghost use Rattle.std.specs.Prelude.{◌≡◌, ◌≤◌, ◌^◌, ◌+◌, nat_lt, ℕ, List, length, drop, ◌++◌, [], false, true, Some, Ok, OnOk, OnErr, IfOk};
+ghost use Rattle.std.specs.Prelude.{◌≡◌, ◌≤◌, ◌<◌, ◌^◌, ◌+◌, ◌-◌, nat_lt, ℕ, List, length, take, drop, ◌++◌, [], false, true, Some, Ok, OnOk, OnErr, IfOk};
 ghost use Rattle.vsw_pcap.specs.Capture.{front_of};
 ghost use Rattle.vsw_pcap.specs.Reader.{start_of, pause_of, answer_at, after_at, next_of, after_next, unfed, fed_with, finished_at, BeginsIn, Moves, Stands, Tells};
 ghost use Rattle.vsw_pcap.specs.Batch.{found_of, with_next, MovesTo, ReadsInto};
 ghost use Rattle.vsw_pcap.specs.declared.capture.Record.{Record};
 ghost use Rattle.vsw_pcap.specs.declared.fault.BadTrace.{BadTrace};
 
-use crate::batch::{Batch, Found, append};
+use crate::batch::{Batch, Found};
 use crate::capture::{
     Form, Front, HEADER_LEN, RECORD_LEN, Record, copy_record, read_front, read_header, read_record,
 };
 use crate::fault::BadTrace;
 use std::alloc::Global;
 use std::marker::Model;
+use std::mem::replace;
 use vsw_base::NoMemory;
 
 /// What a reader finds next.
@@ -40,14 +41,16 @@ enum Start {
 
 /// A reader of a capture, which takes the capture's bytes in pieces of any lengths.
 ///
-/// Consumed bytes are given back when a piece is fed, once they are at least as many as the bytes
-/// left. So no more bytes are moved than were consumed, and the buffer never holds more than twice
-/// the bytes that were in hand after the last piece.
+/// A piece is read by its caller right behind the bytes in hand, in the reader's own room (`lend`, `take_back`), or copied there
+/// (`feed`). The bytes in hand are first moved to the room's front: where a piece comes only after the answer More, they are less than
+/// one record.
 #[derive(Drop)]
 pub struct Reader {
     alloc: Global,
-    buffer: Vec<u8>,
-    /// Bytes of the buffer that are consumed.
+    /// The room. The bytes that came are its first `filled`; what stands behind them is left over.
+    room: Vec<u8>,
+    filled: usize,
+    /// Bytes of the room that are consumed.
     from: usize,
     /// Bytes of the capture that are consumed.
     at: u64,
@@ -57,24 +60,42 @@ pub struct Reader {
 }
 
 impl Model for Reader {
-    ghost use Rattle.std.specs.Prelude.{◌<◌, ◌≤◌, ◌+◌, ◌^◌, length, drop};
+    ghost use Rattle.std.specs.Prelude.{◌<◌, ◌≤◌, ◌+◌, ◌^◌, length, take, drop};
     ghost use Rattle.vsw_pcap.specs.Progress.{Progress};
 
     ghost Value = { Progress };
 
-    ghost view = { λ r. record { form = r.form; at = r.at; left = drop r.from r.buffer.items; finished = r.finished } };
+    ghost view = { λ r. record { form = r.form; at = r.at; left = drop r.from (take r.filled r.room.items); finished = r.finished } };
 
-    ghost invariant = { λ r. (r.from ≤ length r.buffer.items) × (r.at + length (drop r.from r.buffer.items) < 2 ^ 64) };
+    ghost invariant = { λ r. (r.from ≤ r.filled) × (r.filled ≤ length r.room.items) × (r.at + length (drop r.from (take r.filled r.room.items)) < 2 ^ 64) };
 }
 
-/// Takes the first `count` bytes off the front.
-fn drop_front(buffer: &mut Vec<u8>, count: usize)
-    requires { count ≤ length buffer.old.items }
-    ensures { buffer.new.items ≡ drop count buffer.old.items }
+/// Moves the bytes from one place up to another to the front.
+fn move_front(room: &mut Vec<u8>, from: usize, end: usize)
+    requires order { from ≤ end }
+    requires within { end ≤ length room.old.items }
+    ensures moved { take (end - from) room.new.items ≡ drop from (take end room.old.items) }
+    ensures whole { length room.new.items ≡ length room.old.items }
 {
-    let left = buffer.len() - count;
-    buffer.copy_within(count.., 0);
-    buffer.truncate(left);
+    if from == 0 {
+        return;
+    }
+    room.copy_within(from..end, 0);
+}
+
+/// Makes a room longer, to twice the length that is wanted.
+fn lengthen(room: &mut Vec<u8>, end: usize) -> Result<(), NoMemory>
+    ensures long { OnOk result (end ≤ length room.new.items) }
+    ensures kept { (k : ℕ) → k ≤ length room.old.items → take k room.new.items ≡ take k room.old.items }
+    ensures whole { length room.old.items ≤ length room.new.items }
+{
+    if end <= room.len() {
+        return Ok(());
+    }
+    match room.resize(end.saturating_mul(2), 0) {
+        Ok(()) => Ok(()),
+        Err(_) => Err(NoMemory),
+    }
 }
 
 /// Whether the place after so many bytes more can be told.
@@ -115,9 +136,18 @@ impl Reader {
         ensures value { result ≡ unfed }
         ensures stands { Stands result [] [] }
     {
+        Reader::in_room(alloc, Vec::new(alloc))
+    }
+
+    /// A reader that was fed nothing, and whose room is this one.
+    pub fn in_room(alloc: Global, room: Vec<u8>) -> Reader
+        ensures value { result ≡ unfed }
+        ensures stands { Stands result [] [] }
+    {
         Reader {
             alloc,
-            buffer: Vec::new(alloc),
+            room,
+            filled: 0,
             from: 0,
             at: 0,
             form: None,
@@ -125,7 +155,38 @@ impl Reader {
         }
     }
 
-    /// Takes the next bytes of the capture. Bytes past 2^64 count as want of memory.
+    /// Lends its room, of which the first bytes are those in hand, and behind them are at least so many more. Until bytes are taken
+    /// back it holds none. Bytes past 2^64 count as want of memory.
+    pub fn lend(&mut self, more: usize) -> Result<Vec<u8>, NoMemory>
+        ensures bytes { IfOk result (λ room. take (length self.old.left) room.items ≡ self.old.left) }
+        ensures long { IfOk result (λ room. length self.old.left + more ≤ length room.items) }
+        ensures place { OnOk result (self.old.at + (length self.old.left + more) < 2 ^ 64) }
+        ensures ok { OnOk result (self.new ≡ record self.old { left = [] }) }
+        ensures err { OnErr result (self.new ≡ self.old) }
+    {
+        let len = self.left();
+        if !has_place(self.at + len as u64, more) {
+            return Err(NoMemory);
+        }
+        lengthen(&mut self.room, len + more)?;
+        move_front(&mut self.room, self.from, self.filled);
+        self.from = 0;
+        self.filled = 0;
+        Ok(replace(&mut self.room, Vec::new(self.alloc)))
+    }
+
+    /// Takes a room, of which the first so many bytes are from now on those in hand.
+    pub fn take_back(&mut self, room: Vec<u8>, len: usize)
+        requires within { len ≤ length room.items }
+        requires place { self.old.at + len < 2 ^ 64 }
+        ensures { self.new ≡ record self.old { left = take len room.items } }
+    {
+        self.room = room;
+        self.from = 0;
+        self.filled = len;
+    }
+
+    /// Takes the next bytes of the capture, and copies them. Bytes past 2^64 count as want of memory.
     pub fn feed(&mut self, piece: &[u8]) -> Result<(), NoMemory>
         requires open { self.old.finished ≡ false }
         ensures ok { OnOk result (self.new ≡ fed_with piece.now self.old) }
@@ -137,11 +198,20 @@ impl Reader {
         // A refused capture stays refused.
         ensures refused { OnOk result ((bad : BadTrace) → next_of self.old ≡ Next.Bad bad → next_of self.new ≡ Next.Bad bad) }
     {
-        if !has_place(self.at + self.left() as u64, piece.len()) {
-            return Err(NoMemory);
-        }
-        self.give_back();
-        append(&mut self.buffer, piece)
+        self.copy_in(piece)
+    }
+
+    /// Copies a piece behind the bytes in hand.
+    fn copy_in(&mut self, piece: &[u8]) -> Result<(), NoMemory>
+        ensures ok { OnOk result (self.new ≡ fed_with piece.now self.old) }
+        ensures err { OnErr result (self.new ≡ self.old) }
+    {
+        let len = self.left();
+        let end = len.saturating_add(piece.len());
+        let mut room = self.lend(piece.len())?;
+        room[len..end].copy_from_slice(piece);
+        self.take_back(room, end);
+        Ok(())
     }
 
     /// Says that no byte follows.
@@ -188,17 +258,14 @@ impl Reader {
     pub fn left(&self) -> usize
         ensures { result ≡ length self.now.left }
     {
-        self.buffer.len() - self.from
+        self.filled - self.from
     }
 
-    /// Gives back the consumed bytes, where they are at least as many as the bytes left.
-    fn give_back(&mut self)
-        ensures { self.new ≡ self.old }
+    /// The bytes in hand that no record has taken.
+    fn in_hand(&self) -> &[u8]
+        ensures { result.now ≡ self.now.left }
     {
-        if self.from >= self.buffer.len() - self.from {
-            drop_front(&mut self.buffer, self.from);
-            self.from = 0;
-        }
+        &self.room[..self.filled][self.from..]
     }
 
     /// The byte of the capture that stands after so many of those in hand.
@@ -227,7 +294,7 @@ impl Reader {
         if let Some(form) = self.form {
             return Start::Records(form, 0);
         }
-        let left = &self.buffer[self.from..];
+        let left = self.in_hand();
         if left.len() < HEADER_LEN && !self.finished {
             return Start::Unknown;
         }
@@ -258,7 +325,7 @@ impl Reader {
         ensures after { OnOk result (self.new ≡ after_at (front_of form (drop header self.old.left)) form header self.old) }
         ensures err { OnErr result (self.new ≡ self.old) }
     {
-        let left = &self.buffer[self.from + header..];
+        let left = &self.in_hand()[header..];
         let at = self.place(header);
         match read_front(form, left) {
             Front::Whole(captured) => {
@@ -301,7 +368,7 @@ impl Reader {
         ensures err { OnErr result (self.new ≡ self.old) }
         ensures same { OnErr result (batch.new ≡ batch.old) }
     {
-        let left = &self.buffer[self.from + header..];
+        let left = &self.in_hand()[header..];
         let at = self.place(header);
         match read_front(form, left) {
             Front::Whole(captured) => {

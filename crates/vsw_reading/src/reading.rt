@@ -6,15 +6,18 @@ ghost use Rattle.vsw_host.specs.Source.{IsReading};
 ghost use Rattle.vsw_pcap.specs.declared.capture.Record.{Record};
 ghost use Rattle.vsw_reading.specs.declared.reading.Stop.TheVariants.{Full};
 ghost use Rattle.vsw_reading.specs.Reads.{IsRead, IsOpen, Holds, Fills, Peeks};
-ghost use Rattle.vsw_reading.specs.Private.Steps.{Feeds, TakesPiece, Steps};
+ghost use Rattle.vsw_reading.specs.Private.Steps.{ReadsBehind, Counts, TakesPiece, Steps};
 
 use std::alloc::Global;
 use vsw_base::NoMemory;
-use vsw_host::{Host, Source};
+use vsw_host::{Failed, Host, Source};
 use vsw_pcap::{BadTrace, Batch, Found, Reader};
 
 /// Bytes of a capture's header.
 pub const HEADER_LEN: usize = 24;
+
+/// The most bytes of a piece.
+const PIECE: usize = 65_536;
 
 /// Why no further record is read.
 #[derive(Clone, Copy)]
@@ -40,38 +43,55 @@ pub struct Reading {
 }
 
 /// A trace of which nothing was read.
-pub fn begin_reading(alloc: Global, source: Source) -> Reading
+pub fn begin_reading(alloc: Global, mut source: Source) -> Reading
     ensures read { (start now : Outside) (name : List ℕ) → IsReading start now name source.file [] → IsRead start now name result [] [] }
     ensures batch { result.batch ≡ [] }
 {
+    let room = source.take_room(alloc);
     Reading {
         source,
-        reader: Reader::new(alloc),
+        reader: Reader::in_room(alloc, room),
         batch: Batch::new(alloc),
         seen: 0,
     }
 }
 
-/// Feeds the reader the piece that was read last, or tells it of the end, where the piece is empty.
-fn feed_piece(reading: &mut Reading) -> Result<(), NoMemory>
+/// Reads the next piece behind the bytes that the reader has in hand. Answers how many bytes came.
+fn read_behind<H: Host>(
+    host: &mut H,
+    source: &Source,
+    reader: &mut Reader,
+) -> Result<Result<usize, Failed>, NoMemory>
+    requires open { source.now.file < (H.outside host.old).opens }
+    ensures reads { ReadsBehind (H.outside host.old) (H.outside host.new) source.now.file reader.old reader.new result }
+    ensures outputs { SameOutputs (H.outside host.old) (H.outside host.new) }
+{
+    let len = reader.left();
+    let mut room = reader.lend(PIECE)?;
+    match source.next(host, &mut room[len..len + PIECE]) {
+        Ok(count) => {
+            reader.take_back(room, len + count);
+            Ok(Ok(count))
+        }
+        Err(failed) => {
+            reader.take_back(room, len);
+            Ok(Err(failed))
+        }
+    }
+}
+
+/// Counts the bytes of a piece, or tells the reader of the end, where the piece is empty.
+fn count_piece(reading: &mut Reading, count: usize)
     requires unfinished { reading.old.reader.finished ≡ false }
-    ensures feeds { OnOk result (Feeds reading.old reading.new) }
+    ensures counts { Counts reading.old reading.new count }
     ensures source { reading.new.source ≡ reading.old.source }
     ensures batch { reading.new.batch ≡ reading.old.batch }
-    ensures err { OnErr result (reading.new.reader ≡ reading.old.reader) }
 {
-    let piece = reading.source.piece();
-    if piece.is_empty() {
+    if count == 0 {
         reading.reader.finish();
-        return Ok(());
+        return;
     }
-    match reading.reader.feed(piece) {
-        Ok(()) => {
-            reading.seen = HEADER_LEN.min(reading.seen.saturating_add(piece.len()));
-            Ok(())
-        }
-        Err(_) => Err(NoMemory),
-    }
+    reading.seen = HEADER_LEN.min(reading.seen.saturating_add(count));
 }
 
 /// Reads the next piece, where the bytes in hand don't tell what follows. Answers whether the host could.
@@ -82,12 +102,13 @@ fn read_piece<H: Host>(host: &mut H, reading: &mut Reading) -> Result<bool, NoMe
     ensures batch { reading.new.batch ≡ reading.old.batch }
     ensures outputs { SameOutputs (H.outside host.old) (H.outside host.new) }
 {
-    match reading.source.next(host) {
-        Ok(()) => match feed_piece(reading) {
-            Ok(()) => Ok(true),
-            Err(_) => Err(NoMemory),
-        },
-        Err(_) => Ok(false),
+    match read_behind(host, &reading.source, &mut reading.reader) {
+        Ok(Ok(count)) => {
+            count_piece(reading, count);
+            Ok(true)
+        }
+        Ok(Err(_)) => Ok(false),
+        Err(_) => Err(NoMemory),
     }
 }
 
@@ -139,7 +160,7 @@ pub fn fill<H: Host>(host: &mut H, reading: &mut Reading, most: u32) -> Result<S
     Err(NoMemory)
 }
 
-/// What follows the last record that a trace may have: a byte, in hand or in the next piece, or why there is none.
+/// What follows the last record that a trace may have: a byte, in hand or behind what was read, or why there is none.
 pub fn peek<H: Host>(host: &mut H, reading: &mut Reading) -> Stop
     requires near { IsOpen (H.outside host.old) reading.old }
     ensures peeks { (start : Outside) (name : List ℕ) (bytes : List ℕ) (records : List Record) → IsRead start (H.outside host.old) name reading.old bytes records → Peeks start (H.outside host.new) name reading.new bytes result }
@@ -150,9 +171,10 @@ pub fn peek<H: Host>(host: &mut H, reading: &mut Reading) -> Stop
     if reading.reader.left() > 0 {
         return Stop::Full;
     }
-    match reading.source.next(host) {
+    let mut byte = [0; 1];
+    match reading.source.next(host, &mut byte) {
         Err(_) => Stop::Fault,
-        Ok(()) if reading.source.piece().is_empty() => Stop::End,
-        Ok(()) => Stop::Full,
+        Ok(0) => Stop::End,
+        Ok(_) => Stop::Full,
     }
 }

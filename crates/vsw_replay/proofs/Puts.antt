@@ -52,7 +52,9 @@ puts_is a b xs ys r e p = subst (λ (t : List ℕ). DoesPut a b t r) e p
 one_more : (n : ℕ) (sheets : List (List ℕ)) → n < length sheets → concat (take n sheets) ++ get_or sheets n [] ≡ concat (take (n + 1) sheets)
 one_more n [] lt = absurd (omega (arith, lt))
 one_more zero (x ∷ xs) lt = sym (append-nil x)
-one_more (suc n) (x ∷ xs) lt = append_assoc x (concat (take n xs)) (get_or xs n []) ∙ ap (λ (t : List ℕ). x ++ t) (one_more n xs (omega (arith, lt)))
+one_more (suc n) (x ∷ xs) lt =
+    let next : suc n + 1 ≡ suc (n + 1) = omega arith in
+    append_assoc x (concat (take n xs)) (get_or xs n []) ∙ (ap (λ (t : List ℕ). x ++ t) (one_more n xs (omega (arith, lt))) ∙ ap (λ (k : ℕ). concat (take k (x ∷ xs))) (sym next))
 
 pub sheet_put : (a b c : Outside) (n : ℕ) (sheets : List (List ℕ)) (piece : List ℕ) (u v : ⊤) → n < length sheets → piece ≡ get_or sheets n [] → DoesPut a b (concat (take n sheets)) (Ok u) → DoesPut b c piece (Ok v) → DoesPut a c (concat (take (n + 1) sheets)) (Ok v)
 sheet_put a b c n sheets piece u v lt is p q =
@@ -72,3 +74,6 @@ sheets_put a b n sheets u le p = puts_is a b (concat (take n sheets)) (concat sh
 -- the sheets were put, and the end behind them
 pub whole_put : (a b c : Outside) (sheets : List (List ℕ)) (end piece : List ℕ) (u : ⊤) (r : Result ⊤ Failed) → piece ≡ end → DoesPut a b (concat sheets) (Ok u) → DoesPut b c piece r → DoesPut a c (concat sheets ++ end) r
 whole_put a b c sheets end piece u r is p q = puts_is a c (concat sheets ++ piece) (concat sheets ++ end) r (ap (λ (t : List ℕ). concat sheets ++ t) is) (puts_then a b c (concat sheets) piece u r p q)
+
+pub whole_unput : (a b : Outside) (sheets : List (List ℕ)) (end : List ℕ) (e : Failed) → DoesPut a b (concat sheets) (Err e) → DoesPut a b (concat sheets ++ end) (Err e)
+whole_unput a b sheets end e p = puts_front a b (concat sheets) end e p

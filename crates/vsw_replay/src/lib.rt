@@ -4,9 +4,9 @@
 mod cut;
 mod draw;
 mod ending;
-mod putting;
 mod run;
 mod runner;
+mod sheets;
 mod summary;
 mod trace;
 

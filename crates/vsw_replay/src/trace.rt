@@ -13,8 +13,8 @@ ghost use Rattle.vsw_crew.specs.Switch.{AreServed, IsAt, SwitchNow};
 
 use crate::cut::{is_named, next_cut};
 use crate::ending::TraceEnd;
-use crate::putting::put_text;
 use crate::runner::Runner;
+use crate::sheets::put_text;
 use std::alloc::Global;
 use std::sync::Wait;
 use std::thread::Threads;

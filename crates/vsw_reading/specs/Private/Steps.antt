@@ -1,18 +1,27 @@
 -- A piece more of a trace, or a record more.
-use Rattle.std.specs.Prelude.{◌≡◌, ◌<◌, ℕ, List, [], ◌++◌, length, min, Bool, true, false, Option, Some, None, Result, Ok, Err}
+use Rattle.std.specs.Prelude.{◌≡◌, ◌<◌, ℕ, ◌+◌, List, [], ◌++◌, length, take, min, Bool, true, false, Option, Some, None, Result, Ok, Err}
 use Rattle.vsw_base.specs.declared.fault.NoMemory.{NoMemory}
 use Rattle.vsw_host.specs.Outside.{Outside, Rose}
-use Rattle.vsw_pcap.specs.Reader.{Stands}
+use Rattle.vsw_host.specs.Source.{NextPiece}
+use Rattle.vsw_host.specs.declared.host.Failed.{Failed}
+use Rattle.vsw_pcap.specs.Progress.{Progress}
+use Rattle.vsw_pcap.specs.Reader.{Stands, fed_with}
 use Rattle.vsw_pcap.specs.declared.capture.Record.{Record}
 use Rattle.vsw_reading.specs.declared.reading.Reading.{Reading}
 use Rattle.vsw_reading.specs.declared.reading.Stop.{Stop}
 use Rattle.vsw_reading.specs.Reads.{IsRead, IsBehind, Holds, StopsSo}
 
--- the reader was fed the piece that was read last, and told of the end if that is empty
-pub record Feeds (old new : Reading) : Type 0 where
-  pub stands : (bytes : List ℕ) (records : List Record) → Stands old.reader bytes records → Stands new.reader (bytes ++ old.source.piece) records
-  pub seen : (bytes : List ℕ) → old.seen ≡ min 24 (length bytes) → new.seen ≡ min 24 (length (bytes ++ old.source.piece))
-  pub end : new.reader.finished ≡ true → old.source.piece ≡ []
+-- the reader was fed what was read to the front of some room; or the host couldn't read; or there was no room, and nothing was done
+abbrev pub ReadsBehind : Outside → Outside → ℕ → Progress → Progress → Result (Result ℕ Failed) NoMemory → Type 0
+ReadsBehind old now file p q (Ok (Ok n)) = (room : List ℕ) × NextPiece old now file room (Ok n) × (q ≡ fed_with (take n room) p)
+ReadsBehind old now file p q (Ok (Err failed)) = NextPiece old now file [] (Err failed) × (q ≡ p)
+ReadsBehind old now file p q (Err e) = (now ≡ old) × (q ≡ p)
+
+-- so many bytes more were counted, and the reader was told of the end if there was none
+pub record Counts (old new : Reading) (count : ℕ) : Type 0 where
+  pub stands : (bytes : List ℕ) (records : List Record) → Stands old.reader bytes records → Stands new.reader bytes records
+  pub seen : (size : ℕ) → old.seen ≡ min 24 size → new.seen ≡ min 24 (size + count)
+  pub end : new.reader.finished ≡ true → count ≡ 0
 
 -- a piece was read, or the host couldn't
 abbrev pub TakesPiece : Outside → Outside → List ℕ → Reading → List ℕ → List Record → Result Bool NoMemory → Type 0

@@ -12,7 +12,10 @@ fn put_sheets<H: Host>(host: &mut H, sheets: &Sheets) -> Result<(), Failed>
     ensures { DoesPut (H.outside host.old) (H.outside host.new) (concat sheets.now) result }
 {
     for place in 0..sheets.len() {
-        host.put(sheets.text(place))?;
+        match host.put(sheets.text(place)) {
+            Ok(()) => {}
+            Err(e) => return Err(e),
+        }
     }
     Ok(())
 }

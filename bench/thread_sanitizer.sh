@@ -33,7 +33,7 @@ cc -O1 -fno-builtin -c "$work/shims.c" -o "$work/shims.o"
 cc -fsanitize=thread -o "$work/program" "$work/threads.o" "$work/shims.o" "$kit/c/libos_c.a" "$kit/c/liblibc_c.a" -lpthread -lm
 
 cc -O2 -o "$work/make_trace" "$root/bench/make_trace.c"
-"$work/make_trace" -n "$packets" -6 33 "$work/trace.pcap" > "$work/made"
+"$work/make_trace" -n "$packets" -6 33 "$work/trace.pcap" > "$work/made" 2>&1
 WORK=$work PACKETS=$packets python3 - << 'END'
 import json, os
 work, packets = os.environ["WORK"], int(os.environ["PACKETS"])

@@ -27,6 +27,10 @@ pub trait Host {
     fn put(&mut self, bytes: &[u8]) -> Result<(), Failed>
         ensures puts { DoesPut (outside self.old) (outside self.new) bytes.now result };
 
+    /// Fills the buffer with bytes that strangers can't guess, where the host has a source of such. Else it stays
+    /// as it is. No answer may depend on them: of their values nothing is known.
+    fn fill_secret(&self, _buffer: &mut [u8]) {}
+
     /// Writes bytes to the error output.
     fn complain(&mut self, bytes: &[u8]) -> Result<(), Failed>
         ensures complains { DoesComplain (outside self.old) (outside self.new) bytes.now result };

@@ -7,6 +7,7 @@ mod memory_host;
 mod opening;
 mod reading;
 mod real_host;
+mod retrying;
 mod source;
 
 pub use host::{Failed, Host};
@@ -14,4 +15,5 @@ pub use memory_file::{MemoryFile, are_distinct};
 pub use memory_host::MemoryHost;
 pub use reading::{ReadEnd, read_file};
 pub use real_host::RealHost;
+pub use retrying::{read_some, write_some, write_whole};
 pub use source::{Source, Unopened};

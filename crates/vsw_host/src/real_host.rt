@@ -1,12 +1,11 @@
 //! The host that is really there: files of the system, standard output and standard error.
 
-ghost use Rattle.vsw_host.specs.Outside.{Writes};
-
 use crate::host::{Failed, Host};
+use crate::retrying::{read_some, write_whole};
 use std::alloc::Global;
 use std::fs;
 use std::fs::File;
-use std::io::{Read, Write};
+use std::random::RandomSource;
 
 /// Files, standard output and standard error. It counts its faults, and tells no contents: that the
 /// system reads and writes what it is asked to is trusted.
@@ -37,23 +36,6 @@ impl RealHost {
     }
 }
 
-/// Writes all of the bytes. A write that takes none is a fault.
-fn write_whole<W: Write>(writer: &mut W, bytes: &[u8]) -> Result<(), Failed>
-    ensures { Writes (W.contents writer.old) (W.contents writer.new) bytes.now result }
-{
-    let mut rest = bytes;
-    while !rest.is_empty() {
-        let Ok(count) = writer.write(rest) else {
-            return Err(Failed);
-        };
-        if count == 0 {
-            return Err(Failed);
-        }
-        rest = &rest[count..];
-    }
-    Ok(())
-}
-
 impl Host for RealHost {
     ghost use Rattle.vsw_host.specs.Real.{outside};
 
@@ -71,13 +53,18 @@ impl Host for RealHost {
     }
 
     fn read(&mut self, file: u32, buffer: &mut [u8]) -> Result<usize, Failed> {
-        match self.files[file as usize].read(buffer) {
+        match read_some(&mut self.files[file as usize], buffer) {
             Ok(count) => Ok(count),
             Err(_) => {
                 self.input_faults = self.input_faults.saturating_add(1);
                 Err(Failed)
             }
         }
+    }
+
+    fn fill_secret(&self, buffer: &mut [u8]) {
+        // A system without a source of random bytes leaves them as they are.
+        let _ = self.rt.fill_bytes(buffer);
     }
 
     fn put(&mut self, bytes: &[u8]) -> Result<(), Failed> {

@@ -61,10 +61,16 @@ fn is_plain(headers: &[Header]) -> bool
     ensures { result ≡ shape.is_plain headers.now }
 {
     match headers {
-        [Header::Ether { kind: 0x0800, .. }, rest @ ..] => is_packet(rest),
-        [Header::Ether { kind: 0x86dd, .. }, rest @ ..] => is_packet6(rest),
-        [Header::Ether { .. }] => true,
-        _ => false,
+        [Header::Ether { kind, .. }, rest @ ..] => match *kind {
+            0x0800 => is_packet(rest),
+            0x86dd => is_packet6(rest),
+            _ => rest.is_empty(),
+        },
+        []
+        | [
+            Header::Ip { .. } | Header::Vxlan { .. } | Header::Ports { .. } | Header::Six { .. },
+            ..
+        ] => false,
     }
 }
 
@@ -72,18 +78,18 @@ fn is_packet(headers: &[Header]) -> bool
     ensures { result ≡ shape.is_packet headers.now }
 {
     match headers {
-        [
-            Header::Ip {
-                proto,
-                part: false,
-                ..
-            },
-            rest @ ..,
-        ] if *proto == 6 || *proto == 17 => {
-            matches!(rest, [Header::Ports { proto: p, .. }] if p == proto)
+        [Header::Ip { proto, part, .. }, rest @ ..] => {
+            if !*part && (*proto == 6 || *proto == 17) {
+                is_ports(*proto, rest)
+            } else {
+                rest.is_empty()
+            }
         }
-        [Header::Ip { .. }] => true,
-        _ => false,
+        []
+        | [
+            Header::Ether { .. } | Header::Vxlan { .. } | Header::Ports { .. } | Header::Six { .. },
+            ..
+        ] => false,
     }
 }
 
@@ -91,11 +97,32 @@ fn is_packet6(headers: &[Header]) -> bool
     ensures { result ≡ shape.is_packet6 headers.now }
 {
     match headers {
-        [Header::Six { proto, .. }, rest @ ..] if *proto == 6 || *proto == 17 => {
-            matches!(rest, [Header::Ports { proto: p, .. }] if p == proto)
+        [Header::Six { proto, .. }, rest @ ..] => {
+            if *proto == 6 || *proto == 17 {
+                is_ports(*proto, rest)
+            } else {
+                rest.is_empty()
+            }
         }
-        [Header::Six { .. }] => true,
-        _ => false,
+        []
+        | [
+            Header::Ether { .. } | Header::Ip { .. } | Header::Vxlan { .. } | Header::Ports { .. },
+            ..
+        ] => false,
+    }
+}
+
+/// Whether ports of this protocol stand there, and nothing behind them.
+fn is_ports(proto: u8, headers: &[Header]) -> bool
+    ensures { result ≡ shape.is_ports proto headers.now }
+{
+    match headers {
+        [Header::Ports { proto: of, .. }, rest @ ..] => *of == proto && rest.is_empty(),
+        []
+        | [
+            Header::Ether { .. } | Header::Ip { .. } | Header::Vxlan { .. } | Header::Six { .. },
+            ..
+        ] => false,
     }
 }
 
@@ -104,15 +131,26 @@ fn is_encap(headers: &[Header]) -> bool
 {
     match headers {
         [
-            Header::Ether { kind: 0x0800, .. },
-            Header::Ip {
-                proto: 17,
-                part: false,
-                ..
-            },
+            Header::Ether { kind, .. },
+            Header::Ip { proto, part, .. },
             Header::Vxlan { vni },
-        ] => *vni < 0x100_0000,
-        _ => false,
+        ] => *kind == 0x0800 && *proto == 17 && !*part && *vni < 0x100_0000,
+        [] | [_] | [_, _] | [_, _, _, _, ..] => false,
+        [
+            Header::Ip { .. } | Header::Vxlan { .. } | Header::Ports { .. } | Header::Six { .. },
+            _,
+            _,
+        ] => false,
+        [
+            Header::Ether { .. },
+            Header::Ether { .. } | Header::Vxlan { .. } | Header::Ports { .. } | Header::Six { .. },
+            _,
+        ] => false,
+        [
+            Header::Ether { .. },
+            Header::Ip { .. },
+            Header::Ether { .. } | Header::Ip { .. } | Header::Ports { .. } | Header::Six { .. },
+        ] => false,
     }
 }
 
@@ -121,7 +159,16 @@ fn is_encap(headers: &[Header]) -> bool
 fn is_covered(headers: &[Header]) -> bool
     ensures { result ≡ is_covered headers.now }
 {
-    matches!(headers, [_, _, Header::Vxlan { .. }, ..])
+    match headers {
+        [_, _, Header::Vxlan { .. }, ..] => true,
+        [] | [_] | [_, _] => false,
+        [
+            _,
+            _,
+            Header::Ether { .. } | Header::Ip { .. } | Header::Ports { .. } | Header::Six { .. },
+            ..
+        ] => false,
+    }
 }
 
 /// The number of encapsulations in front of the headers of a stack. It looks at two places.
@@ -135,7 +182,7 @@ fn count(headers: &[Header]) -> u8
     }
     match headers {
         [_, _, _, rest @ ..] => 1 + u8::from(is_covered(rest)),
-        _ => 0,
+        [] | [_] | [_, _] => 0,
     }
 }
 

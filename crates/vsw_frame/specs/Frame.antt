@@ -6,7 +6,7 @@ use Rattle.vsw_frame.specs.Levels.{level_fields, more_levels}
 use Rattle.vsw_frame.specs.declared.frame.Frame.{Frame}
 
 abbrev pub parts : Frame → definition.Parts
-parts f = record { stack = f.stack; control = f.control; levels = level_fields f.first ∷ (more_levels f.second ++ more_levels f.third); payload = f.payload.now }
+parts f = record { stack = f.stack.now; control = f.control; levels = level_fields f.first ∷ (more_levels f.second ++ more_levels f.third); payload = f.payload.now }
 
 abbrev pub seen : Result Frame BadFrame → Result definition.Parts BadFrame
 seen (Ok f) = Ok (parts f)

@@ -1,13 +1,29 @@
 -- Levels of a frame, in the words of the definition of a frame.
-use Rattle.std.specs.Prelude.{◌≤◌, length, List, [], ◌∷◌, ◌++◌, Option, Some, None}
+use Rattle.std.specs.Prelude.{ℕ, ◌≤◌, length, List, [], ◌∷◌, ◌++◌, Option, Some, None, Result, Ok, Err}
+use Rattle.vsw_base.specs.declared.fault.BadFrame.{BadFrame}
 use Rattle.vsw_base.specs.Frame as frame
 use Rattle.vsw_frame.specs.declared.frame.Level.{Level}
 use Rattle.vsw_frame.specs.declared.frame.Levels.{Levels}
 use Rattle.vsw_base.specs.declared.header.Header.{Header}
 use Rattle.vsw_frame.specs.Layout.{AreLaid}
 
+abbrev pub trailer_in : Result frame.Opened BadFrame → List ℕ
+trailer_in (Ok o) = o.trailer
+trailer_in (Err e) = []
+
+abbrev pub slack_in : Result frame.Opened BadFrame → List ℕ
+slack_in (Ok o) = frame.slack_in o.end
+slack_in (Err e) = []
+
+-- what stands in a frame after the length that IPv4 or IPv6 says, and after the UDP length
+unfoldable pub trailer_of : List ℕ → List ℕ
+trailer_of bytes = trailer_in (frame.opened_of bytes)
+
+unfoldable pub slack_of : List ℕ → List ℕ
+slack_of bytes = slack_in (frame.opened_of bytes)
+
 abbrev pub level_fields : Level → frame.Level
-level_fields l = record { bytes = l.bytes.now; trailer = l.trailer.now; slack = l.slack.now }
+level_fields l = record { bytes = l.bytes.now; trailer = trailer_of l.bytes.now; slack = slack_of l.bytes.now }
 
 abbrev pub more_levels : Option Level → List frame.Level
 more_levels None = []

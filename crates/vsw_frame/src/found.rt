@@ -1,10 +1,9 @@
 //! What is found in a frame: its headers from the outside inwards, and its levels from the inside outwards.
 
-ghost use Rattle.std.specs.Prelude.{◌≡◌, ◌≤◌, ◌<◌, ◌^◌, ◌+◌, ◌*◌, ◌++◌, ◌∷◌, [], ℕ, List, None, IfOk, IsTrue, OnOk, length};
+ghost use Rattle.std.specs.Prelude.{◌≡◌, ◌≤◌, ◌<◌, ◌^◌, ◌+◌, ◌*◌, ◌++◌, ◌∷◌, [], ℕ, List, None, Ok, IfOk, IsTrue, OnOk, length};
 ghost use Rattle.vsw_base.specs.declared.header.Header.{Header};
 ghost use Rattle.vsw_base.specs.declared.header.Header.TheVariants.{Vxlan};
-ghost use Rattle.vsw_base.specs.Frame.{frame_in, plain_parts, encap_parts, ports, control_in, payload_in, slack_in};
-ghost use Rattle.vsw_frame.specs.Levels.{level_fields};
+ghost use Rattle.vsw_base.specs.Frame.{frame_in, plain_parts, encap_parts, opened_of, ports, control_in, payload_in};
 ghost use Rattle.vsw_frame.specs.Seen.{added, Adds, end_fields, opened_fields, found_parts, found_seen, Finds};
 
 use crate::frame::Level;
@@ -64,33 +63,19 @@ fn payload<'a>(end: &End<'a>) -> &'a [u8]
     }
 }
 
-#[inline(always)]
-fn slack<'a>(end: &End<'a>) -> &'a [u8]
-    ensures { result.now ≡ slack_in (end_fields end.now) }
-{
-    match end {
-        End::OverUdp(udp) | End::OverUdp6(udp) => udp.slack,
-        End::Rest(_) | End::OverTcp(_) => &[],
-    }
-}
-
 /// A frame in which no encapsulation is looked for, or found. Its ports are pushed.
 #[inline(always)]
 fn plain<'a>(bytes: &'a [u8], opened: &Opened<'a>, headers: &mut Headers) -> Found<'a>
     requires room { length headers.old ≤ 8 }
     ensures pushed { headers.new ≡ headers.old ++ ports (end_fields opened.now.end) }
-    ensures parts { (front : List Header) → found_parts (front ++ ports (end_fields opened.now.end)) result ≡ plain_parts bytes.now (opened_fields front opened.now) }
+    ensures parts { (front : List Header) → Ok (opened_fields front opened.now) ≡ opened_of bytes.now → found_parts (front ++ ports (end_fields opened.now.end)) result ≡ plain_parts bytes.now (opened_fields front opened.now) }
     ensures first { result.first.bytes.now ≡ bytes.now }
     ensures single { (result.second ≡ None) × (result.third ≡ None) }
 {
     push_ports(headers, &opened.end);
     Found {
         control: control(&opened.end),
-        first: Level {
-            bytes,
-            trailer: opened.trailer,
-            slack: slack(&opened.end),
-        },
+        first: Level { bytes },
         second: None,
         third: None,
         payload: payload(&opened.end),
@@ -101,18 +86,14 @@ fn plain<'a>(bytes: &'a [u8], opened: &Opened<'a>, headers: &mut Headers) -> Fou
 #[inline(always)]
 fn encapsulated<'a>(bytes: &'a [u8], opened: &Opened<'a>, inner: &Found<'a>) -> Found<'a>
     requires levels { inner.now.third ≡ None }
-    ensures parts { (front hs : List Header) (vni : ℕ) → found_parts (front ++ Vxlan vni ∷ hs) result ≡ encap_parts bytes.now (opened_fields front opened.now) vni (found_parts hs inner.now) }
+    ensures parts { (front hs : List Header) (vni : ℕ) → Ok (opened_fields front opened.now) ≡ opened_of bytes.now → found_parts (front ++ Vxlan vni ∷ hs) result ≡ encap_parts bytes.now (opened_fields front opened.now) vni (found_parts hs inner.now) }
     ensures first { result.first.bytes.now ≡ bytes.now }
     ensures second { result.second ≡ Some inner.now.first }
     ensures third { result.third ≡ inner.now.second }
 {
     Found {
         control: inner.control,
-        first: Level {
-            bytes,
-            trailer: opened.trailer,
-            slack: slack(&opened.end),
-        },
+        first: Level { bytes },
         second: Some(inner.first),
         third: inner.second,
         payload: inner.payload,

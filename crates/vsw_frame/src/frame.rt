@@ -3,18 +3,13 @@
 ghost use Rattle.std.specs.Prelude.{◌≡◌, ◌≤◌};
 ghost use Rattle.vsw_frame.specs.Read.{IsRead};
 
-use vsw_base::{Control, Sizes, Stack};
+use vsw_base::{Control, Headers, Sizes, Stack};
 
-/// What is left of a frame without its first encapsulations, and those bytes of it that no length
-/// covers.
+/// What is left of a frame without its first encapsulations. What stands in it after its lengths is told by its bytes.
 #[derive(Clone, Copy, Debug)]
 pub struct Level<'a> {
     /// From the Ethernet header on.
     pub bytes: &'a [u8],
-    /// After the length that IPv4 or IPv6 says.
-    pub trailer: &'a [u8],
-    /// After the UDP length, within the length that IPv4 or IPv6 says.
-    pub slack: &'a [u8],
 }
 
 /// What is left of a frame once encapsulations went, outermost level first.
@@ -25,10 +20,27 @@ pub(crate) struct Levels<'a> {
     pub third: Option<Level<'a>>,
 }
 
-/// A frame that was read. It borrows the frame's bytes.
+/// Room for the headers of a frame. It lives on: make it once, and read each frame into it.
+#[derive(Drop)]
+pub struct FrameRoom {
+    pub(crate) headers: Headers,
+    pub(crate) stack: Stack,
+}
+
+impl FrameRoom {
+    /// It clears eighteen places.
+    pub fn new() -> FrameRoom {
+        FrameRoom {
+            headers: Headers::new(),
+            stack: Stack::room(),
+        }
+    }
+}
+
+/// A frame that was read. It borrows the frame's bytes, and the room in which its headers stand.
 #[derive(Drop)]
 pub struct Frame<'a> {
-    pub(crate) stack: Stack,
+    pub(crate) stack: &'a Stack,
     pub(crate) control: Control,
     pub(crate) sizes: Sizes,
     /// The levels, outermost first.
@@ -36,7 +48,7 @@ pub struct Frame<'a> {
     pub(crate) second: Option<Level<'a>>,
     pub(crate) third: Option<Level<'a>>,
     pub(crate) payload: &'a [u8],
-    ghost read: { ∥ IsRead stack control sizes first second third payload.now ∥₁ },
+    ghost read: { ∥ IsRead stack.now control sizes first second third payload.now ∥₁ },
 }
 
 impl<'a> Frame<'a> {
@@ -48,7 +60,7 @@ impl<'a> Frame<'a> {
     pub fn stack(&self) -> &Stack
         ensures { result.now ≡ (parts self.now).stack }
     {
-        &self.stack
+        self.stack
     }
 
     /// What the flags of an unfragmented innermost TCP header ask for.

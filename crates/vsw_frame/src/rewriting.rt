@@ -5,7 +5,7 @@ ghost use Rattle.vsw_base.specs.Frame.{frame_of};
 ghost use Rattle.vsw_frame.specs.Rewritten.{IsRewritten, length_written};
 
 use crate::numbers::numbers_fit;
-use crate::{read_frame, rewrite};
+use crate::{FrameRoom, read_frame, rewrite};
 use vsw_transpose::Transposition;
 
 /// Writes what the transposition makes of the frame that these bytes are at the front of `out`, and answers
@@ -19,7 +19,8 @@ pub fn rewrite_bytes(bytes: &[u8], by: &Transposition, out: &mut [u8]) -> Option
     // Both calls tell of what a transposition keeps: the order of its acts, and the ranges of their numbers.
     let _acts = by.acts();
     numbers_fit(by);
-    let read = read_frame(bytes);
+    let mut room = FrameRoom::new();
+    let read = read_frame(bytes, &mut room);
     let Ok(frame) = &read else {
         return None;
     };

@@ -1,6 +1,6 @@
 //! Rewriting frames.
 
-ghost use Rattle.std.specs.Prelude.{◌≡◌, ◌≤◌, ◌<◌, ◌+◌, ◌*◌, IfOk, IsTrue, OnOk, OnErr, length, take};
+ghost use Rattle.std.specs.Prelude.{◌≡◌, ◌≤◌, ◌<◌, ◌+◌, ◌*◌, IfOk, IsTrue, OnOk, OnErr, drop, length, take};
 ghost use Rattle.vsw_base.specs.Shape as shape;
 ghost use Rattle.vsw_base.specs.Shape.{encaps, inner, is_stack};
 ghost use Rattle.vsw_frame.specs.Push.{pushed, AreEncaps};
@@ -62,6 +62,21 @@ fn outer(stack: &Stack, encaps: u8) -> &[Header]
     &stack.headers()[..before]
 }
 
+/// Writes the first encapsulations of a stack in front of the frame that stands behind their room. Where there is none, no source port
+/// is made.
+#[inline(always)]
+#[tactic(auto, using(crate::proofs::Edits::none_pushed))]
+fn push_encaps(out: &mut [u8], edited: &Stack, pushes: u8)
+    requires few { pushes ≤ encaps edited.now }
+    requires room { 50 * pushes ≤ length out.old }
+    requires fits { 0 < pushes → length out.old ≤ 65549 }
+    ensures { out.new ≡ pushed (bytes.source_port edited.now) (take (3 * pushes) edited.now) (drop (50 * pushes) out.old) }
+{
+    if pushes > 0 {
+        write_encaps(out, source_port(edited), outer(edited, pushes));
+    }
+}
+
 /// Fills `out` with the changed levels behind pushed encapsulations.
 fn write(out: &mut [u8], levels: &Levels<'_>, from: &[Header], edited: &Stack, pushes: u8)
     requires stand { Stand from.now levels.now }
@@ -74,7 +89,7 @@ fn write(out: &mut [u8], levels: &Levels<'_>, from: &[Header], edited: &Stack, p
     let room = ENCAP_LEN * usize::from(pushes);
     out[room..].copy_from_slice(levels.first.bytes);
     change_levels(&mut out[room..], levels, from, edited.inner());
-    write_encaps(out, source_port(edited), outer(edited, pushes));
+    push_encaps(out, edited, pushes);
 }
 
 /// Writes the stack that a transposition makes of one that it fits.

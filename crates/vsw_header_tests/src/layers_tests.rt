@@ -6,7 +6,7 @@ ghost use Rattle.vsw_rule.specs.Match.{can_do};
 
 use crate::whole_frames::{DELIVERED, OLD, QUERY, REPLY, ROOM, SENT, begins};
 use vsw_base::{Ip4, Mac, Outer, Set, Stack};
-use vsw_frame::{read_frame, rewrite};
+use vsw_frame::{FrameRoom, read_frame, rewrite};
 use vsw_rule::{Action, act_of, compose};
 use vsw_transpose::Transposition;
 
@@ -105,7 +105,8 @@ fn in_turn(first: &Action, second: &Action, stack: &Stack) -> Option<Transpositi
 fn write(out: &mut [u8], bytes: &[u8], first: &Action, second: &Action) -> Option<(usize, u8)>
     requires { 65700 ≤ length out.old }
 {
-    let frame = match read_frame(bytes) {
+    let mut room = FrameRoom::new();
+    let frame = match read_frame(bytes, &mut room) {
         Ok(frame) => frame,
         Err(_) => return None,
     };

@@ -7,7 +7,7 @@ use crate::six_frames::{INSIDE, SEGMENT6};
 use crate::whole_frames::{REPLY, nested};
 use std::alloc::{AllocError, Global};
 use vsw_base::{Control, Header, Headers, Ip4, Ip6, Mac, Sizes};
-use vsw_frame::{Frame, read_frame};
+use vsw_frame::{Frame, FrameRoom, read_frame};
 
 /// TCP with 4 bytes of options and 2 of payload, from port 1234 of 10.0.0.5 to port 80 of 10.0.0.9.
 const SEGMENT: [u8; 60] = [
@@ -289,7 +289,8 @@ fn widened(sizes: Sizes) -> [usize; 3] {
 
 /// The number of a frame's fault, 0 where there is none.
 fn fault(bytes: &[u8]) -> u8 {
-    match read_frame(bytes) {
+    let mut room = FrameRoom::new();
+    match read_frame(bytes, &mut room) {
         Ok(_) => 0,
         Err(fault) => fault.number(),
     }
@@ -307,10 +308,13 @@ fn agree(frame: &Frame<'_>, said: &Said<'_>) -> bool {
 fn compare(bytes: &[u8]) -> bool {
     match plain(bytes) {
         Err(number) => fault(bytes) == number,
-        Ok(said) => match read_frame(bytes) {
-            Ok(frame) => agree(&frame, &said),
-            Err(_) => false,
-        },
+        Ok(said) => {
+            let mut room = FrameRoom::new();
+            match read_frame(bytes, &mut room) {
+                Ok(frame) => agree(&frame, &said),
+                Err(_) => false,
+            }
+        }
     }
 }
 

@@ -2,7 +2,7 @@
 
 use crate::whole_frames::{DELIVERED, QUERY, REPLY, SENT, nested, outer};
 use vsw_base::{BadFrame, Control, Header, Ip4, Mac, Sizes};
-use vsw_frame::{Frame, read_frame};
+use vsw_frame::{Frame, FrameRoom, read_frame};
 
 /// TCP from port 1234 to port 80 with SYN and ACK and no payload.
 const SYN_ACK: [u8; 20] = [
@@ -60,7 +60,8 @@ fn says(frame: &Frame<'_>, headers: &[Header], bytes: &[u8], payload: &[u8], siz
 
 /// Whether a frame of these headers, payload and sizes is read.
 pub fn reads(bytes: &[u8], headers: &[Header], payload: &[u8], sizes: Sizes) -> bool {
-    match read_frame(bytes) {
+    let mut room = FrameRoom::new();
+    match read_frame(bytes, &mut room) {
         Ok(frame) => says(&frame, headers, bytes, payload, sizes),
         Err(_) => false,
     }
@@ -72,7 +73,8 @@ pub fn sizes(whole: u32, one: u32, two: u32) -> Sizes {
 
 /// The control that a frame asks for, or its fault.
 pub fn control(bytes: &[u8]) -> Result<Control, BadFrame> {
-    match read_frame(bytes) {
+    let mut room = FrameRoom::new();
+    match read_frame(bytes, &mut room) {
         Ok(frame) => Ok(frame.control()),
         Err(fault) => Err(fault),
     }
@@ -223,7 +225,8 @@ fn frames_up_to_65600_bytes_are_read(rt: HostRuntime) {
 
 /// Whether these are a frame's headers.
 fn has(bytes: &[u8], headers: &[Header]) -> bool {
-    match read_frame(bytes) {
+    let mut room = FrameRoom::new();
+    match read_frame(bytes, &mut room) {
         Ok(frame) => frame.stack().headers() == headers,
         Err(_) => false,
     }

@@ -4,7 +4,7 @@ ghost use Rattle.std.specs.Prelude.{◌≡◌, ◌≤◌, ◌<◌, length};
 
 use crate::whole_frames::{DELIVERED, OLD, QUERY, REPLY, ROOM, SENT, begins, outer, put};
 use vsw_base::{Ip4, Long, Mac};
-use vsw_frame::{read_frame, rewrite, rewrite_bytes};
+use vsw_frame::{FrameRoom, read_frame, rewrite, rewrite_bytes};
 use vsw_transpose::{Act, Change, Transposition};
 
 /// "hello" over TCP from port 1234 of 10.0.0.5 to port 80 of 10.0.0.9.
@@ -79,7 +79,8 @@ fn written(bytes: &[u8], acts: &[Act], out: &mut [u8]) -> Option<Result<usize, L
     requires { 65700 ≤ length out.old }
 {
     let by = Transposition::of(acts).ok()?;
-    match read_frame(bytes) {
+    let mut room = FrameRoom::new();
+    match read_frame(bytes, &mut room) {
         Ok(frame) => {
             if by.fits(frame.stack()) {
                 Some(rewrite(&frame, &by, out))

@@ -6,12 +6,12 @@ pub returns-clause-count : goal.returns-clause-count
 returns-clause-count c =
     let f = c.args.frame.now in
     let l : Levels = record { first = f.first; second = f.second; third = f.third } in
-    let k : Known f.stack f.sizes l = known f.stack f.control f.sizes l f.payload.now f.read in
+    let k : Known f.stack.now f.sizes l = known f.stack.now f.control f.sizes l f.payload.now f.read in
     k.count
 
 pub returns-clause-stand : goal.returns-clause-stand
 returns-clause-stand c =
     let f = c.args.frame.now in
     let l : Levels = record { first = f.first; second = f.second; third = f.third } in
-    let k : Known f.stack f.sizes l = known f.stack f.control f.sizes l f.payload.now f.read in
+    let k : Known f.stack.now f.sizes l = known f.stack.now f.control f.sizes l f.payload.now f.read in
     record { in_order = k.order; laid = k.laid; short = k.short }

@@ -8,5 +8,5 @@ use Rattle.vsw_frame.proofs.read.read_frame.Goals as goal
 
 pub returns-in-Ok-clause-tiles : goal.returns-in-Ok-clause-tiles
 returns-in-Ok-clause-tiles c =
-    let all : added c.new-headers.result c.find.new.headers ≡ c.find.new.headers = added_first c.new-headers.result c.find.new.headers c.new-headers.ensures in
+    let all : added c.clear.new.self c.find.new.headers ≡ c.find.new.headers = added_first c.clear.new.self c.find.new.headers c.clear.ensures in
     frame_tiles 2 c.args.bytes.now (parts c.framed.result) (sym (ap Ok c.framed.ensures.same ∙ ap (λ (hs : List Header). Ok (found_parts hs c.in-Ok.found)) (sym all) ∙ c.in-Ok.ensures.parts))

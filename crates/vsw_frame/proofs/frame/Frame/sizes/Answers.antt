@@ -8,5 +8,5 @@ pub returns : goal.returns
 returns c =
     let f = c.args.self.now in
     let l : Levels = record { first = f.first; second = f.second; third = f.third } in
-    let k : Known f.stack f.sizes l = known f.stack f.control f.sizes l f.payload.now f.read in
+    let k : Known f.stack.now f.sizes l = known f.stack.now f.control f.sizes l f.payload.now f.read in
     sizes_same f.sizes (sizes_of (levels_of l)) k.whole k.one k.two

@@ -2,7 +2,7 @@
 
 use crate::{Kind, Step};
 use vsw_base::{Items, Mac};
-use vsw_policy::LayerSpec;
+use vsw_policy::{HashSeed, LayerSpec};
 use vsw_rule::Group;
 
 /// A layer of a port.
@@ -31,6 +31,8 @@ pub struct PolicyFile {
     pub version: u8,
     pub controllers: Items<u16>,
     pub ports: Items<PortFile>,
+    /// What the ports hash from that strangers pick. It is drawn from the bytes of the file.
+    pub seed: HashSeed,
 }
 
 /// Why a policy file is refused.

@@ -14,6 +14,7 @@ use crate::{
 use serde_json::Value;
 use std::alloc::Global;
 use vsw_base::Items;
+use vsw_policy::HashSeed;
 
 /// Bytes of the longest policy file that is read.
 const MOST_BYTES: usize = 4_194_304;
@@ -72,7 +73,7 @@ fn ports_in(
 }
 
 #[tactic(auto, unfolding(crate::specs::Policy::policy_of))]
-fn policy(alloc: Global, value: &Value) -> Result<PolicyFile, ConfigFault>
+fn policy(alloc: Global, seed: HashSeed, value: &Value) -> Result<PolicyFile, ConfigFault>
     ensures { Tells result (policy_of (view value.now)) }
 {
     let object = object_in(alloc, &FILE_WORDS, value)?;
@@ -83,6 +84,7 @@ fn policy(alloc: Global, value: &Value) -> Result<PolicyFile, ConfigFault>
         version,
         controllers,
         ports,
+        seed,
     })
 }
 
@@ -93,7 +95,8 @@ fn whole_file(alloc: Global, bytes: &[u8]) -> Result<PolicyFile, ConfigFault>
         return Err(ConfigFault::PolicyLimit);
     }
     let value = json(alloc, bytes)?;
-    let policy = policy(alloc, &value)?;
+    let seed = HashSeed::known().with_bytes(bytes);
+    let policy = policy(alloc, seed, &value)?;
     Ok(policy)
 }
 

@@ -5,7 +5,7 @@ use std::alloc::Global;
 use std::process::Abort;
 use vsw_base::{Dir, Ip4, Ip6, Items, Mac, Outer, Prefix, Prefix6, Set};
 use vsw_config::{LayerFile, PolicyFile, PortFile, read_policy};
-use vsw_policy::LayerSpec;
+use vsw_policy::{HashSeed, LayerSpec};
 use vsw_rule::{Action, Cond, Field, Group, Item, Rule};
 
 /// This item alone. Where memory is wanting an item is missing, and then the value is no file that is read.
@@ -105,6 +105,7 @@ fn file(
         version,
         controllers,
         ports,
+        seed: HashSeed::known(),
     }
 }
 

@@ -1,4 +1,4 @@
--- What a probe feeds a hasher: few numbers, as each takes a multiplication.
+-- What a probe feeds a hasher: few words of 64 bits, as each takes a round of SipHash.
 use Rattle.std.specs.Prelude.{ℕ, ◌+◌, ◌*◌, ◌^◌, ◌++◌, [], cond}
 use Rattle.std.specs.Hash as fed
 use Rattle.vsw_base.specs.declared.address.Addr.{Addr}
@@ -24,11 +24,22 @@ rest_number p = dir_bit p.dir * 2 ^ 56 + p.key.encaps * 2 ^ 48 + p.key.proto * 2
 abbrev pub fields_number : Probe → ℕ
 fields_number p = vnis_number p.key * 2 ^ 64 + rest_number p
 
--- an address is fed as a number of its kind's length, and an absent one not at all
+-- an address of IPv4 is one word, one of IPv6 two, and an absent one none
 abbrev pub address_input : Addr → fed.HashWrites
 address_input addr.Absent = []
-address_input (addr.Four a) = fed.u32 a
+address_input (addr.Four a) = fed.u64 a
 address_input (addr.Six a) = fed.u128 a
 
+-- an address of IPv4 and the one behind it: two of IPv4 are one word
+abbrev pub after_four : ℕ → Addr → fed.HashWrites
+after_four a addr.Absent = fed.u64 a
+after_four a (addr.Four b) = fed.u64 (a * 2 ^ 32 + b)
+after_four a (addr.Six b) = fed.u64 a ++ fed.u128 b
+
+abbrev pub addresses_input : Addr → Addr → fed.HashWrites
+addresses_input addr.Absent d = address_input d
+addresses_input (addr.Four a) d = after_four a d
+addresses_input (addr.Six a) d = fed.u128 a ++ address_input d
+
 abbrev pub probe_input : Probe → fed.HashWrites
-probe_input p = fed.u128 (fields_number p) ++ address_input p.key.src ++ address_input p.key.dst
+probe_input p = fed.u128 (fields_number p) ++ addresses_input p.key.src p.key.dst

@@ -9,6 +9,7 @@ use crate::maps::{
     keep_known, keep_living, keep_others, keep_unmarked, put_pair, put_place, set_use, take_place,
 };
 use crate::pair::{Pair, Probe, probes_agree};
+use crate::seed::{HashSeed, Seeded};
 use indexmap::IndexMap;
 use std::alloc::Global;
 use std::marker::Model;
@@ -19,8 +20,8 @@ use vsw_base::{Dir, LayerKey, Moment, NoMemory, Track};
 /// map keeps them in any: a pair that goes leaves its place to the last.
 #[derive(Drop)]
 pub struct Flows {
-    pairs: IndexMap<u32, Pair>,
-    places: IndexMap<Probe, u32>,
+    pairs: IndexMap<u64, Pair, Seeded>,
+    places: IndexMap<Probe, u32, Seeded>,
 }
 
 impl Model for Flows {
@@ -38,13 +39,20 @@ impl Model for Flows {
 }
 
 impl Flows {
-    /// No pairs. It takes no memory.
+    /// No pairs, hashed from the seed that everyone knows. It takes no memory.
     pub fn new(alloc: Global) -> Flows
         ensures { result.pairs ≡ [] }
     {
+        Flows::with_seed(alloc, &HashSeed::known())
+    }
+
+    /// No pairs, hashed from this seed. It takes no memory.
+    pub fn with_seed(alloc: Global, seed: &HashSeed) -> Flows
+        ensures { result.pairs ≡ [] }
+    {
         Flows {
-            pairs: IndexMap::new(alloc),
-            places: IndexMap::new(alloc),
+            pairs: IndexMap::with_hasher(alloc, seed.seeded()),
+            places: IndexMap::with_hasher(alloc, seed.seeded()),
         }
     }
 
@@ -64,7 +72,7 @@ impl Flows {
     {
         probes_agree();
         let number = self.places.get(&Probe::of(dir, key))?;
-        self.pairs.get(number)
+        self.pairs.get(&(*number as u64))
     }
 
     /// Takes room for one more pair.
@@ -111,7 +119,7 @@ impl Flows {
         ensures gone { self.new.pairs ≡ without number self.old.pairs }
         ensures spare { self.old.spare ≤ self.new.spare }
     {
-        let Some(pair) = self.pairs.swap_remove(&number) else {
+        let Some(pair) = self.pairs.swap_remove(&(number as u64)) else {
             return;
         };
         take_place(&mut self.places, pair.front());

@@ -6,10 +6,10 @@ ghost use Rattle.std.specs.Cmp.Rules.{hashing};
 ghost use Rattle.vsw_layerflow.specs.declared.pair.Probe.{Probe};
 ghost use Rattle.vsw_layerflow.specs.Pairs.{front, back, turned, same_probe, probe};
 ghost use Rattle.vsw_layerflow.specs.Life.{life, due, is_over};
-ghost use Rattle.vsw_layerflow.specs.Hashed.{address_input, dir_bit, fields_number};
+ghost use Rattle.vsw_layerflow.specs.Hashed.{address_input, addresses_input, after_four, dir_bit, fields_number};
 
 use std::hash::{Hash, Hasher};
-use vsw_base::{Addr, Dir, LayerKey, Moment, Set, Track};
+use vsw_base::{Addr, Dir, Ip4, LayerKey, Moment, Set, Track};
 
 /// Microseconds of a second.
 const MICROS: u64 = 1_000_000;
@@ -48,11 +48,10 @@ impl Hash for Probe {
 
     ghost respects_eq = { Prim.search (hashing, rules) };
 
-    // Few numbers are fed, as each takes a multiplication.
+    // Few words are fed, three where the addresses are of IPv4, as each takes a round of SipHash.
     fn hash<H: Hasher>(&self, state: &mut H) {
         state.write_u128(fields_number(self));
-        hash_address(&self.key.src, state);
-        hash_address(&self.key.dst, state);
+        hash_addresses(&self.key.src, &self.key.dst, state);
     }
 }
 
@@ -91,14 +90,43 @@ fn dir_bit(dir: Dir) -> u8
     }
 }
 
-/// Feeds an address as a number of its own length.
+/// Feeds an address as whole words.
 fn hash_address<H: Hasher>(address: &Addr, state: &mut H)
     ensures { state.new ≡ fold H.write state.old (address_input address.now) }
 {
     match address {
         Addr::Absent => {}
-        Addr::Four(four) => state.write_u32(four.number()),
+        Addr::Four(four) => state.write_u64(u64::from(four.number())),
         Addr::Six(six) => state.write_u128(six.number()),
+    }
+}
+
+/// Feeds an address of IPv4 with the one behind it, two of IPv4 as one word.
+fn hash_after_four<H: Hasher>(four: Ip4, other: &Addr, state: &mut H)
+    ensures { state.new ≡ fold H.write state.old (after_four four other.now) }
+{
+    let first = u64::from(four.number());
+    match other {
+        Addr::Absent => state.write_u64(first),
+        Addr::Four(four) => state.write_u64(first * 0x1_0000_0000 + u64::from(four.number())),
+        Addr::Six(six) => {
+            state.write_u64(first);
+            state.write_u128(six.number());
+        }
+    }
+}
+
+/// Feeds both addresses.
+fn hash_addresses<H: Hasher>(src: &Addr, dst: &Addr, state: &mut H)
+    ensures { state.new ≡ fold H.write state.old (addresses_input src.now dst.now) }
+{
+    match src {
+        Addr::Absent => hash_address(dst, state),
+        Addr::Four(four) => hash_after_four(*four, dst, state),
+        Addr::Six(six) => {
+            state.write_u128(six.number());
+            hash_address(dst, state);
+        }
     }
 }
 

@@ -13,17 +13,17 @@ use crate::places::{layer_place, place_for};
 use crate::{Groups, Layer, LayerSpec};
 use std::alloc::Global;
 use vsw_base::NoMemory;
-use vsw_layerflow::Flows;
+use vsw_layerflow::{Flows, HashSeed};
 
 /// A layer without groups and pairs.
-fn empty_layer(alloc: Global, controller: u16, spec: &LayerSpec) -> Layer
+fn empty_layer(alloc: Global, seed: &HashSeed, controller: u16, spec: &LayerSpec) -> Layer
     ensures { seen result ≡ obey.empty_layer controller spec.now }
 {
     Layer {
         controller,
         spec: *spec,
         groups: Groups::new(alloc),
-        flows: Flows::new(alloc),
+        flows: Flows::with_seed(alloc, seed),
         next_pair: 0,
     }
 }
@@ -31,6 +31,7 @@ fn empty_layer(alloc: Global, controller: u16, spec: &LayerSpec) -> Layer
 /// Adds an empty layer in its place.
 fn add_layer(
     alloc: Global,
+    seed: &HashSeed,
     controllers: &[u16],
     layers: &mut Vec<Layer>,
     controller: u16,
@@ -40,7 +41,7 @@ fn add_layer(
     ensures err { OnErr result (map seen layers.new.items ≡ map seen layers.old.items) }
 {
     let place = place_for(controllers, layers, controller, spec);
-    match layers.insert(place, empty_layer(alloc, controller, spec)) {
+    match layers.insert(place, empty_layer(alloc, seed, controller, spec)) {
         Ok(()) => Ok(()),
         Err(_) => Err(NoMemory),
     }
@@ -108,9 +109,10 @@ fn change_named(
     change_within(alloc, &mut layers[place], command)
 }
 
-/// The layers after a command. Memory is taken before anything changes.
+/// The layers after a command. Memory is taken before anything changes. The seed is for a layer that is added.
 pub fn change(
     alloc: Global,
+    seed: &HashSeed,
     controllers: &[u16],
     layers: &mut Vec<Layer>,
     controller: u16,
@@ -120,7 +122,7 @@ pub fn change(
     ensures err { OnErr result (map seen layers.new.items ≡ map seen layers.old.items) }
 {
     match command {
-        Command::AddLayer { spec } => add_layer(alloc, controllers, layers, controller, spec),
+        Command::AddLayer { spec } => add_layer(alloc, seed, controllers, layers, controller, spec),
         Command::RemoveLayer { layer } => {
             remove_layer(layers, controller, *layer);
             Ok(())

@@ -24,3 +24,4 @@ pub use refusal::{Refusal, Reply};
 pub use vsw_classify::{
     Groups, copy_conditions, copy_rule, copy_rules, has_group, has_rule, has_twice, rules_in,
 };
+pub use vsw_layerflow::HashSeed;

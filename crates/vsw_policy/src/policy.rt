@@ -16,12 +16,14 @@ use crate::refusal::Refusal;
 use std::alloc::Global;
 use std::marker::Model;
 use vsw_base::{Items, Moment, NoMemory, Track};
-use vsw_layerflow::Pair;
+use vsw_layerflow::{HashSeed, Pair};
 
 /// The layers of a port, and the controllers that they belong to.
 #[derive(Drop)]
 pub struct Policy {
     alloc: Global,
+    /// What the pairs of its layers are hashed from, those of layers to come too.
+    seed: HashSeed,
     named: Items<u16>,
     ordered: Vec<Layer>,
 }
@@ -40,8 +42,21 @@ impl Model for Policy {
 }
 
 impl Policy {
-    /// A policy without layers.
+    /// A policy without layers. Its pairs are hashed from the seed that everyone knows.
     pub fn new(alloc: Global, controllers: &[u16]) -> Result<Policy, NoMemory>
+        requires few { length controllers.now ≤ 8 }
+        requires distinct { IsTrue (are_distinct controllers.now) }
+        ensures { IfOk result (λ policy. policy ≡ record { controllers = controllers.now; layers = []; rooms = [] }) }
+    {
+        Policy::with_seed(alloc, controllers, &HashSeed::known())
+    }
+
+    /// A policy without layers. What strangers pick is hashed from this seed in it.
+    pub fn with_seed(
+        alloc: Global,
+        controllers: &[u16],
+        seed: &HashSeed,
+    ) -> Result<Policy, NoMemory>
         requires few { length controllers.now ≤ 8 }
         requires distinct { IsTrue (are_distinct controllers.now) }
         ensures { IfOk result (λ policy. policy ≡ record { controllers = controllers.now; layers = []; rooms = [] }) }
@@ -49,11 +64,17 @@ impl Policy {
         match Vec::from_slice(alloc, controllers) {
             Ok(named) => Ok(Policy {
                 alloc,
+                seed: seed.copied(),
                 named: Items::of(named),
                 ordered: Vec::new(alloc),
             }),
             Err(_) => Err(NoMemory),
         }
+    }
+
+    /// What is to be hashed from that strangers pick.
+    pub fn seed(&self) -> &HashSeed {
+        &self.seed
     }
 
     /// The controllers, in the order that decides between layers of one order.
@@ -89,6 +110,7 @@ impl Policy {
         }
         match change(
             self.alloc,
+            &self.seed,
             self.named.as_slice(),
             &mut self.ordered,
             controller,

@@ -5,6 +5,7 @@ pub mod Shaken
 pub mod Leant
 pub mod Spots
 pub mod GrowingLaw
+pub mod Hashed
 pub mod Entries
 pub mod WordsLaw
 pub mod GoodRows

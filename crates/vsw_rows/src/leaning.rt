@@ -16,7 +16,7 @@ use indexmap::IndexMap;
 use std::alloc::Global;
 use std::marker::Model;
 use vsw_base::{Moment, NoMemory, Track};
-use vsw_layerflow::Probe;
+use vsw_layerflow::{HashSeed, Probe, Seeded};
 use vsw_policy::Layer;
 use vsw_walk::{Looked, Wanted};
 
@@ -25,7 +25,7 @@ use vsw_walk::{Looked, Wanted};
 /// tested by one or two look-ups, however many rows there are.
 #[derive(Drop)]
 pub struct Leaning {
-    spots: IndexMap<Spot, Probe>,
+    spots: IndexMap<Spot, Probe, Seeded>,
 }
 
 impl Model for Leaning {
@@ -55,12 +55,12 @@ fn moves_at(layers: &[Layer], place: u32, state: Track, last: Moment, probe: &Pr
 }
 
 impl Leaning {
-    /// Nothing is leant on. It takes no memory.
-    pub fn new(alloc: Global) -> Leaning
+    /// Nothing is leant on; what will be is hashed from this seed. It takes no memory.
+    pub fn new(alloc: Global, seed: &HashSeed) -> Leaning
         ensures none { StandsFor [] result.spots }
     {
         Leaning {
-            spots: IndexMap::new(alloc),
+            spots: IndexMap::with_hasher(alloc, seed.seeded()),
         }
     }
 
@@ -79,13 +79,14 @@ impl Leaning {
         }
     }
 
-    /// Nothing is leant on any more. The room stays.
+    /// Nothing is leant on any more. The room stays. Spots go one by one where they are few, so that it costs no more
+    /// than they did, and no pass over all of the room.
     pub fn clear(&mut self)
         ensures none { StandsFor [] self.new.spots }
         ensures spare { self.old.room ≤ self.new.spare }
         ensures kept { self.old.room ≤ self.new.room }
     {
-        self.spots.clear();
+        self.spots.truncate(0);
     }
 
     /// A row leans on this look too.

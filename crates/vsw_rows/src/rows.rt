@@ -7,7 +7,7 @@ ghost use Rattle.vsw_port.specs.History.{IsRight};
 ghost use Rattle.vsw_policy.specs.Layer.{seen};
 ghost use Rattle.vsw_lookup.specs.Rules.{Meets, after_entry, passed, permits_of, row_at, stamp_at};
 ghost use Rattle.vsw_policy.specs.Layers.{PolicySeen};
-ghost use Rattle.vsw_rows.specs.Rows.{HasRoom, IsFormed, IsFound, IsFresh, IsShaking, Spares, layers_after, layers_then};
+ghost use Rattle.vsw_rows.specs.Rows.{HasRoom, IsEmpty, IsFormed, IsFound, IsFresh, IsShaking, Spares, layers_after, layers_then};
 ghost use Rattle.vsw_rows.specs.declared.rows.Found.TheVariants.{Own};
 ghost use Rattle.vsw_rows.specs.GoodRows.{IsGoodRow, opening_of};
 
@@ -18,7 +18,7 @@ use std::alloc::Global;
 use std::marker::Model;
 use vsw_base::NoMemory;
 use vsw_lookup::{Lookup, Pass, Writer};
-use vsw_policy::Layer;
+use vsw_policy::{HashSeed, Layer};
 use vsw_port::Event;
 use vsw_walk::{Looked, Wanted};
 
@@ -65,15 +65,21 @@ fn rows_of(lookup: &Lookup<PortStory>, writer: &Writer<PortStory>) -> u32
 }
 
 impl Rows {
-    /// Rows of which none is current yet, with room for one look of each in each of so many layers.
-    pub fn open(alloc: Global, writer: Writer<PortStory>, layers: usize) -> Result<Rows, NoMemory>
+    /// Rows of which none is current yet, with room for one look of each in each of so many layers. What they lean on
+    /// is hashed from the seed.
+    pub fn open(
+        alloc: Global,
+        writer: Writer<PortStory>,
+        layers: usize,
+        seed: &HashSeed,
+    ) -> Result<Rows, NoMemory>
         requires old { (place : ℕ) → stamp_at writer.view.stamps place < writer.view.generation }
         requires formed { (place : ℕ) → IsFormed (row_at writer.view.rows place) }
         requires layers { (o : PolicySeen) → writer.view.opening ≡ Some o → length (layers_after o writer.view.history) ≡ layers }
         requires few { layers ≤ 128 }
         ensures writer { IfOk result (λ rows. rows.writer ≡ writer) }
     {
-        let mut leaning = Leaning::new(alloc);
+        let mut leaning = Leaning::new(alloc, seed);
         leaning.reserve(writer.rows() as usize * layers)?;
         // It tells the proof that all of the room is spare.
         leaning.clear();
@@ -174,6 +180,19 @@ impl Rows {
         ensures good { (place : ℕ) → result ≡ Own place → IsGoodRow (opening_of lookup.now.1) self.old.writer.view.history (row_at self.old.writer.view.rows place) }
     {
         search(&mut self.writer, lookup, key)
+    }
+
+    /// Whether a row, current or not, is empty. Only its first word is read.
+    pub fn is_empty(&mut self, lookup: &Lookup<PortStory>, row: u32) -> bool
+        requires table { (self.old.writer.table ≡ lookup.now.0) × (row < lookup.now.2) }
+        ensures same { self.new ≡ self.old }
+        ensures empty { result ≡ true → IsEmpty (row_at self.old.writer.view.rows row) }
+        ensures filled { result ≡ false → IsEmpty (row_at self.old.writer.view.rows row) → ⊥ }
+    {
+        match self.writer.word(lookup, row, 0) {
+            0 => true,
+            _ => false,
+        }
     }
 
     /// The words of a row, current or not.

@@ -8,17 +8,40 @@ ghost use Rattle.vsw_rows.specs.Leant.{same_spot, spot_in};
 ghost use Rattle.vsw_rows.specs.Spots.{or_put, spot_by};
 
 use indexmap::IndexMap;
+use std::hash::{Hash, Hasher};
 use vsw_base::Addr;
-use vsw_layerflow::Probe;
+use vsw_layerflow::{Probe, Seeded};
 use vsw_walk::Looked;
 
 /// A spot of a layer on which a row leans. The layer is told by its place among those of the policy.
-#[derive(Clone, Copy, Debug, PartialEq, Eq, Hash)]
+#[derive(Clone, Copy, Debug, PartialEq, Eq)]
 pub enum Spot {
     /// A direction and key that no pair holds.
     Missed { layer: u32, probe: Probe },
     /// The pair of this number.
     Found { layer: u32, number: u32 },
+}
+
+impl Hash for Spot {
+    ghost use Rattle.std.proofs.Common.{rules};
+    ghost use Rattle.std.specs.Cmp.Rules.{hashing};
+    ghost use Rattle.vsw_rows.specs.Hashed.{spot_input};
+
+    ghost hash_input = { spot_input };
+
+    ghost respects_eq = { Prim.search (hashing, rules) };
+
+    fn hash<H: Hasher>(&self, state: &mut H) {
+        match self {
+            Spot::Missed { layer, probe } => {
+                state.write_u64(u64::from(*layer));
+                probe.hash(state);
+            }
+            Spot::Found { layer, number } => {
+                state.write_u64(u64::from(*layer) * 0x1_0000_0000 + u64::from(*number));
+            }
+        }
+    }
 }
 
 /// The direction and key of a look.
@@ -48,7 +71,7 @@ pub fn spots_agree()
 {}
 
 /// The direction and key that lead to a spot.
-pub fn at_spot(spots: &IndexMap<Spot, Probe>, spot: &Spot) -> Option<Probe>
+pub fn at_spot(spots: &IndexMap<Spot, Probe, Seeded>, spot: &Spot) -> Option<Probe>
     ensures { result ≡ spot_in spots.now.entries spot.now }
 {
     spots_agree();
@@ -56,7 +79,7 @@ pub fn at_spot(spots: &IndexMap<Spot, Probe>, spot: &Spot) -> Option<Probe>
 }
 
 /// Keeps a spot with a direction and key that lead there, unless it is kept already.
-pub fn put_spot(spots: &mut IndexMap<Spot, Probe>, spot: Spot, probe: Probe)
+pub fn put_spot(spots: &mut IndexMap<Spot, Probe, Seeded>, spot: Spot, probe: Probe)
     requires spare { 0 < spare spots.old }
     ensures spot { (s : Spot) → spot_in spots.new.entries s ≡ or_put (spot_in spots.old.entries s) (same_spot s spot) probe }
     ensures spare { spare spots.old ≤ spare spots.new + 1 }

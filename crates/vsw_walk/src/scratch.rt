@@ -135,7 +135,8 @@ impl Scratch {
     }
 
     /// The actions that made the stack of the one with which the last packet came, in their order.
-    pub(crate) fn edits(&self) -> &[Action]
+    #[inline(always)]
+    pub fn edits(&self) -> &[Action]
         ensures { result.now ≡ self.now.edits }
     {
         &self.edits

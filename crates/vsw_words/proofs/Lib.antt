@@ -5,6 +5,7 @@ pub mod Decoded
 pub mod Written
 pub mod Acts
 pub mod Passes
+pub mod Products
 pub mod Used
 pub mod Formed
 pub mod Loosely

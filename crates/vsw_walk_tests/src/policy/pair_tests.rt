@@ -9,7 +9,7 @@ use crate::policy::wrong::Wrong;
 use std::alloc::Global;
 use vsw_base::{Addr, Dir, Ip4, Items, LayerKey, Moment, Set, Track};
 use vsw_layerflow::{Flows, Pair};
-use vsw_policy::{Groups, Layer, change};
+use vsw_policy::{Groups, HashSeed, Layer, change};
 use vsw_rule::Group;
 
 const UNSET: Set = Set {
@@ -155,7 +155,15 @@ pub fn left(flows: &Flows) -> u32 {
 
 /// Does what controller 1 asks, and tells whether memory sufficed.
 fn does(alloc: Global, layers: &mut Vec<Layer>, ask: &Ask) -> bool {
-    change(alloc, &[1], layers, 1, &command(alloc, ask)).is_ok()
+    change(
+        alloc,
+        &HashSeed::known(),
+        &[1],
+        layers,
+        1,
+        &command(alloc, ask),
+    )
+    .is_ok()
 }
 
 /// Which pairs are left in the only layer.

@@ -15,7 +15,7 @@ ghost use Rattle.vsw_port.specs.declared.event.Event.TheVariants as event;
 ghost use Rattle.vsw_lookup.specs.Rules.{one_if, permits_of};
 ghost use Rattle.vsw_policy.specs.Layers.{PolicySeen};
 ghost use Rattle.vsw_port.specs.Core.{entered};
-ghost use Rattle.vsw_port.specs.Crossed.{EditsPass, MayBeShort, is_short};
+ghost use Rattle.vsw_port.specs.Crossed.{EditsPass, IsOwn, MayBeShort, is_short};
 ghost use Rattle.vsw_port.specs.Ledger.{layers_in};
 ghost use Rattle.vsw_rows.specs.Rows.{IsShaking, Spares, layers_after};
 ghost use Rattle.vsw_rows.specs.GoodRows.{opening_of};
@@ -111,6 +111,7 @@ fn enter(
     ensures done { (p : Parts) (bytes : List ℕ) → IsDone (opening_of lookup.now.1) rows.old.writer.view.history (Carried crossing.now p result.outcome.fate bytes) result.outcome.entry }
     ensures memory { MayBeShort (is_short result.outcome.fate) (layers_after lookup.now.1 rows.old.writer.view.history) crossing.now }
     ensures edits { EditsPass (layers_after lookup.now.1 rows.old.writer.view.history) crossing.now scratch.new.stack result.outcome.kept result.outcome.fate }
+    ensures own { result.outcome.own ≡ true → IsOwn crossing.now scratch.new.stack result.outcome.kept }
     ensures steps { Steps (layers_after lookup.now.1 rows.old.writer.view.history) (entered result.outcome.entry (event.Crossing crossing.now result.outcome.fate)) rows.old.writer rows.new.writer pass.old pass.new }
     ensures walk { result.outcome.entry ≡ false → IsWholeWalk (layers_after lookup.now.1 rows.new.writer.view.history) crossing.now result.walked scratch.new }
     ensures held { pass.old.view.permits ≡ permits_of rows.old.writer.view pass.old.view.number }
@@ -228,6 +229,7 @@ pub fn cross(
     ensures done { (p : Parts) (bytes : List ℕ) → IsDone (opening_of lookup.now.1) rows.old.writer.view.history (Carried crossing.now p result.fate bytes) result.entry }
     ensures memory { MayBeShort (is_short result.fate) (layers_after lookup.now.1 rows.old.writer.view.history) crossing.now }
     ensures edits { EditsPass (layers_after lookup.now.1 rows.old.writer.view.history) crossing.now scratch.new.stack result.kept result.fate }
+    ensures own { result.own ≡ true → IsOwn crossing.now scratch.new.stack result.kept }
     ensures writer { rows.new.writer ≡ record rows.old.writer { view = grown rows.old.writer.view pass.old.view (entered result.entry (event.Crossing crossing.now result.fate)) rows.new.writer.view } }
     ensures pass { pass.new ≡ record pass.old { view = called pass.old.view rows.new.writer.view.history (entered result.entry (event.Crossing crossing.now result.fate)) } }
     ensures raises { Raises (layers_after lookup.now.1 rows.old.writer.view.history) (entered result.entry (event.Crossing crossing.now result.fate)) rows.old.writer rows.new.writer }
@@ -266,6 +268,7 @@ pub fn cross_only(
     ensures done { (p : Parts) (bytes : List ℕ) → IsDone (opening_of lookup.now.1) rows.old.writer.view.history (Carried crossing.now p result.fate bytes) result.entry }
     ensures memory { MayBeShort (is_short result.fate) (layers_after lookup.now.1 rows.old.writer.view.history) crossing.now }
     ensures edits { EditsPass (layers_after lookup.now.1 rows.old.writer.view.history) crossing.now scratch.new.stack result.kept result.fate }
+    ensures own { result.own ≡ true → IsOwn crossing.now scratch.new.stack result.kept }
     ensures writer { rows.new.writer ≡ record rows.old.writer { view = grown rows.old.writer.view pass.old.view (entered result.entry (event.Crossing crossing.now result.fate)) rows.new.writer.view } }
     ensures pass { pass.new ≡ record pass.old { view = called pass.old.view rows.new.writer.view.history (entered result.entry (event.Crossing crossing.now result.fate)) } }
     ensures raises { Raises (layers_after lookup.now.1 rows.old.writer.view.history) (entered result.entry (event.Crossing crossing.now result.fate)) rows.old.writer rows.new.writer }

@@ -19,7 +19,7 @@ ghost use Rattle.vsw_policy.specs.Refusals.{reply_of};
 ghost use Rattle.vsw_policy.specs.Sound.{Each, IsGoodRule, is_listed};
 ghost use Rattle.vsw_rows.specs.Entries.{is_obeyed};
 ghost use Rattle.vsw_port.specs.Core.{AreAtMost, entered};
-ghost use Rattle.vsw_port.specs.Crossed.{EditsPass, MayBeShort, is_short};
+ghost use Rattle.vsw_port.specs.Crossed.{EditsPass, IsOwn, MayBeShort, is_short};
 ghost use Rattle.vsw_rows.specs.GoodRows.{opening_of};
 
 use crate::crossing::{cross, cross_only};
@@ -86,7 +86,7 @@ impl Core {
     {
         let scratch = Scratch::new(alloc)?;
         let again = Scratch::new(alloc)?;
-        let rows = Rows::open(alloc, writer, policy.layers().len())?;
+        let rows = Rows::open(alloc, writer, policy.layers().len(), policy.seed())?;
         Ok(Core {
             ledger: Ledger::open(alloc, policy),
             rows,
@@ -159,6 +159,7 @@ impl Core {
         ensures done { (p : Parts) (bytes : List ℕ) → IsDone (opening_of lookup.now.1) self.old.writer.view.history (Carried crossing.now p result.fate bytes) result.entry }
         ensures memory { MayBeShort (is_short result.fate) (layers_of lookup.now.1 self.old) crossing.now }
         ensures edits { EditsPass (layers_of lookup.now.1 self.old) crossing.now self.new.edited result.kept result.fate }
+        ensures own { result.own ≡ true → IsOwn crossing.now self.new.edited result.kept }
         ensures writer { self.new.writer ≡ record self.old.writer { view = grown self.old.writer.view pass.old.view (entered result.entry (event.Crossing crossing.now result.fate)) self.new.writer.view } }
         ensures pass { pass.new ≡ record pass.old { view = called pass.old.view self.new.writer.view.history (entered result.entry (event.Crossing crossing.now result.fate)) } }
         ensures raises { Raises (layers_of lookup.now.1 self.old) (entered result.entry (event.Crossing crossing.now result.fate)) self.old.writer self.new.writer }
@@ -201,6 +202,7 @@ impl Core {
         ensures done { (p : Parts) (bytes : List ℕ) → IsDone (opening_of lookup.now.1) self.old.writer.view.history (Carried crossing.now p result.fate bytes) result.entry }
         ensures memory { MayBeShort (is_short result.fate) (layers_of lookup.now.1 self.old) crossing.now }
         ensures edits { EditsPass (layers_of lookup.now.1 self.old) crossing.now self.new.edited result.kept result.fate }
+        ensures own { result.own ≡ true → IsOwn crossing.now self.new.edited result.kept }
         ensures writer { self.new.writer ≡ record self.old.writer { view = grown self.old.writer.view pass.old.view (entered result.entry (event.Crossing crossing.now result.fate)) self.new.writer.view } }
         ensures pass { pass.new ≡ record pass.old { view = called pass.old.view self.new.writer.view.history (entered result.entry (event.Crossing crossing.now result.fate)) } }
         ensures raises { Raises (layers_of lookup.now.1 self.old) (entered result.entry (event.Crossing crossing.now result.fate)) self.old.writer self.new.writer }

@@ -107,10 +107,10 @@ fn read_row(
     ensures empty { result ≡ false → IsEmpty (row_at rows.old.writer.view.rows row) }
     ensures read { result ≡ true → IsRead (row_at rows.old.writer.view.rows row) out.new.crossing out.new.body }
 {
-    rows.words(lookup, row, words);
-    if words[0] == 0 {
+    if rows.is_empty(lookup, row) {
         return false;
     }
+    rows.words(lookup, row, words);
     // Words that aren't empty say a row, so neither is refused.
     read_packet(words, &mut out.crossing);
     read_body(words, &mut out.body);

@@ -31,12 +31,12 @@ take_whole (x ∷ xs) = ap (λ ys. x ∷ ys) (take_whole xs)
 whole : (o : Opening) (h : List Event) (count : ℕ) → count ≡ length h → replay o h ≡ replay o (take count h)
 whole o h count e = ap (replay o) (sym (ap (λ n. take n h) e ∙ take_whole h))
 
-reads_at : (o : Opening) (p q : Writing) (u : UnitSeen) (fate : Fate) (count : ℕ) (out : List ℕ) → q.table ≡ p.table → lookup.IsRead p.view q.view → count ≡ length q.view.front → Reads (replay o q.view.front) (Carried u.crossing u.parts fate (bytes_in fate out))
-    → Shows (replay o q.view.front) u.crossing u.parts fate (bytes_in fate out)
-    → Crosses o p q (record { deed = Carried u.crossing u.parts fate (bytes_in fate out); entry = false; count = count }) × IsRead o q.view.front (record { deed = Carried u.crossing u.parts fate (bytes_in fate out); entry = false; count = count })
-reads_at o p q u fate count out table is many reads shows =
+reads_at : (o : Opening) (p q : Writing) (u : UnitSeen) (fate : Fate) (own : Bool) (count : ℕ) (out : List ℕ) → q.table ≡ p.table → lookup.IsRead p.view q.view → count ≡ length q.view.front → Reads (replay o q.view.front) (Carried u.crossing u.parts fate (bytes_in own u.parts fate out))
+    → Shows (replay o q.view.front) u.crossing u.parts fate (bytes_in own u.parts fate out)
+    → Crosses o p q (record { deed = Carried u.crossing u.parts fate (bytes_in own u.parts fate out); entry = false; count = count }) × IsRead o q.view.front (record { deed = Carried u.crossing u.parts fate (bytes_in own u.parts fate out); entry = false; count = count })
+reads_at o p q u fate own count out table is many reads shows =
     let h = q.view.front in
-    let read : IsRead o h (record { deed = Carried u.crossing u.parts fate (bytes_in fate out); entry = false; count = count }) = record { marked = refl; within = omega (arith, many); reads = subst (λ ls. Reads ls (Carried u.crossing u.parts fate (bytes_in fate out))) (whole o h count many) reads } in
+    let read : IsRead o h (record { deed = Carried u.crossing u.parts fate (bytes_in own u.parts fate out); entry = false; count = count }) = record { marked = refl; within = omega (arith, many); reads = subst (λ ls. Reads ls (Carried u.crossing u.parts fate (bytes_in own u.parts fate out))) (whole o h count many) reads } in
     let low : length p.view.front ≤ count = omega (arith, many, prefix_length p.view.front h is.1) in
     let permits : q.view.permits ≡ p.view.permits = ap (λ v. v.permits) is.0 in (
       record {
@@ -45,7 +45,7 @@ reads_at o p q u fate count out table is many reads shows =
         opens = ap (λ v. v.opening) is.0;
         seen = is.1;
         call = Read read;
-        shows = subst (λ ls. Shows ls u.crossing u.parts fate (bytes_in fate out)) (whole o h count many) shows;
+        shows = subst (λ ls. Shows ls u.crossing u.parts fate (bytes_in own u.parts fate out)) (whole o h count many) shows;
         low = low;
         last = many;
         receipts = ap (λ v. v.receipts) is.0 ∙ sym (append_end p.view.receipts);
@@ -58,14 +58,14 @@ pub fate_read : (l : Looking) (x : Crossing) (q : Writing) (edited : List Header
 fate_read l x q edited outcome count u t = inl (t.reads u.parts []).0
 
 done_so : (l : Looking) (p q : Writing) (u : UnitSeen) (edited : List Header) (outcome : Outcome) (count : ℕ) (out : List ℕ) (entry : Bool) → q.table ≡ p.table → lookup.IsRead p.view q.view → Answers l u.crossing q.view edited outcome count → HitsInTime l u.crossing p.view q.view
-    → Shows (replay (opening_of l.1) q.view.front) u.crossing u.parts outcome.fate (bytes_in outcome.fate out) → entry ≡ false → IsFast l u p q out (Done (record { fate = outcome.fate; count = count; entry = entry; why = None }))
+    → Shows (replay (opening_of l.1) q.view.front) u.crossing u.parts outcome.fate (bytes_in outcome.own u.parts outcome.fate out) → entry ≡ false → IsFast l u p q out (Done (record { fate = outcome.fate; count = count; entry = entry; why = None; own = outcome.own }))
 done_so l p q u edited outcome count out entry table is t hit shows none =
-    let r = reads_at (opening_of l.1) p q u outcome.fate count out table is t.counted (t.reads u.parts (bytes_in outcome.fate out)) shows in
-    subst (λ e. IsFast l u p q out (Done (record { fate = outcome.fate; count = count; entry = e; why = None }))) (sym none) (r.0, r.1, refl, record { control = t.control; hit = hit; read = refl })
+    let r = reads_at (opening_of l.1) p q u outcome.fate outcome.own count out table is t.counted (t.reads u.parts (bytes_in outcome.own u.parts outcome.fate out)) shows in
+    subst (λ e. IsFast l u p q out (Done (record { fate = outcome.fate; count = count; entry = e; why = None; own = outcome.own }))) (sym none) (r.0, r.1, refl, record { control = t.control; hit = hit; read = refl })
 
 -- what a row answered, told of the packet as the unit has it
 pub done_fast : (l : Looking) (p q : Writing) (u : UnitSeen) (x : Crossing) (edited : List Header) (outcome : Outcome) (count : ℕ) (out : List ℕ) (a : AnswerSeen) → x ≡ u.crossing → q.table ≡ p.table → lookup.IsRead p.view q.view → Answers l x q.view edited outcome count → HitsInTime l x p.view q.view
-    → Shows (replay (opening_of l.1) q.view.front) u.crossing u.parts outcome.fate (bytes_in outcome.fate out) → a ≡ record { fate = outcome.fate; count = count; entry = outcome.entry; why = None } → IsFast l u p q out (Done a)
+    → Shows (replay (opening_of l.1) q.view.front) u.crossing u.parts outcome.fate (bytes_in outcome.own u.parts outcome.fate out) → a ≡ record { fate = outcome.fate; count = count; entry = outcome.entry; why = None; own = outcome.own } → IsFast l u p q out (Done a)
 done_fast l p q u x edited outcome count out a same table is t hit shows told =
     subst (λ b. IsFast l u p q out (Done b)) (sym told) (done_so l p q u edited outcome count out outcome.entry table is (subst (λ y. Answers l y q.view edited outcome count) same t) (subst (λ y. HitsInTime l y p.view q.view) same hit) shows t.entry)
 

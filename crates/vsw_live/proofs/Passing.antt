@@ -32,8 +32,8 @@ crossed_by ls x fate at =
 pub leave_can : (ls : List LayerSeen) (x : Crossing) (p : Parts) (hs : List Header) (left : ℕ) (fate : Fate) → is_stack x.id.stack ≡ true → IsOfFrame x p → IsFateAt ls x fate → EditsPass ls x hs left fate → CanLeave p hs left fate
 leave_can ls x p hs left fate shape of at edits = can_leave ls (crossed (is_short fate) ls x).layers x p hs left fate (crossed (is_short fate) ls x).entry (crossed_by ls x fate at) edits shape of.stack of.sizes
 
-pub leave_shows : (ls : List LayerSeen) (x : Crossing) (p : Parts) (hs : List Header) (left : ℕ) (fate : Fate) (out : List ℕ) → is_stack x.id.stack ≡ true → IsOfFrame x p → IsFateAt ls x fate → EditsPass ls x hs left fate → Leaves p hs left fate out → Shows ls x p fate (bytes_in fate out)
-leave_shows ls x p hs left fate out shape of at edits left_so = shows ls (crossed (is_short fate) ls x).layers x p hs left fate (crossed (is_short fate) ls x).entry out (crossed_by ls x fate at) edits shape of.stack of.sizes left_so
+pub leave_shows : (ls : List LayerSeen) (x : Crossing) (p : Parts) (hs : List Header) (left : ℕ) (own : Bool) (fate : Fate) (out : List ℕ) → is_stack x.id.stack ≡ true → IsOfFrame x p → IsFateAt ls x fate → EditsPass ls x hs left fate → Leaves p hs left own fate out → Shows ls x p fate (bytes_in own p fate out)
+leave_shows ls x p hs left own fate out shape of at edits left_so = shows ls (crossed (is_short fate) ls x).layers x p hs left fate (crossed (is_short fate) ls x).entry own out (crossed_by ls x fate at) edits shape of.stack of.sizes left_so
 
-pub leave_fits : (ls : List LayerSeen) (x : Crossing) (p : Parts) (hs : List Header) (left : ℕ) (fate : Fate) (out : List ℕ) → is_stack x.id.stack ≡ true → IsOfFrame x p → IsFateAt ls x fate → EditsPass ls x hs left fate → Leaves p hs left fate out → len_of fate ≤ 65700
-leave_fits ls x p hs left fate out shape of at edits left_so = short_enough ls (crossed (is_short fate) ls x).layers x p hs left fate (crossed (is_short fate) ls x).entry out (crossed_by ls x fate at) edits shape of.stack of.sizes left_so
+pub leave_fits : (ls : List LayerSeen) (x : Crossing) (p : Parts) (hs : List Header) (left : ℕ) (own : Bool) (fate : Fate) (out : List ℕ) → is_stack x.id.stack ≡ true → IsOfFrame x p → IsFateAt ls x fate → EditsPass ls x hs left fate → Leaves p hs left own fate out → len_of fate ≤ 65700
+leave_fits ls x p hs left own fate out shape of at edits left_so = short_enough ls (crossed (is_short fate) ls x).layers x p hs left fate (crossed (is_short fate) ls x).entry own out (crossed_by ls x fate at) edits shape of.stack of.sizes left_so

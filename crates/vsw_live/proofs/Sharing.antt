@@ -34,7 +34,7 @@ core_send =
 module _ (J : RattleType) (n : Naming.Ghosts J.Denot) (s : IsSend J) where
   locked_send : IsSend (Locked.the_row J n)
   locked_send =
-      let fields : FieldsHave IsSend ((locked.the_type J n).parts) = (search sendable, (core_send, (search sendable, tt))) in
+      let fields : FieldsHave IsSend ((locked.the_type J n).parts) = (search sendable, (search sendable, (core_send, (search sendable, tt)))) in
       view_send _ _ _ _ _ (declared_send (locked.the_type J n) fields)
 
   pub port_sync : IsSync (LivePort.the_row J n)

@@ -22,9 +22,9 @@ use Rattle.vsw_rows.specs.Rows.{Writing}
 use Rattle.vsw_rows.specs.GoodRows.{opening_of}
 use Rattle.vsw_sole.specs.Transit.{bytes_in, len_of}
 
--- the call of a packet that was answered so, with its bytes at the front of a room
+-- the call of a packet that was answered so, with the bytes of its frame, or those at the front of a room
 abbrev pub call_of : UnitSeen → AnswerSeen → List ℕ → Call
-call_of u a out = record { deed = Carried u.crossing u.parts a.fate (bytes_in a.fate out); entry = a.entry; count = a.count }
+call_of u a out = record { deed = Carried u.crossing u.parts a.fate (bytes_in a.own u.parts a.fate out); entry = a.entry; count = a.count }
 
 -- the call of a line that was told so
 abbrev pub asked : Line → Told → Call

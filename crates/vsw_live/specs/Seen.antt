@@ -10,12 +10,14 @@ pub record UnitSeen : Type 0 where
   pub crossing : Crossing
   pub parts : Parts
 
--- what a packet's caller is told: its fate, its place in the history as an entry or a read, and why no row answered
+-- what a packet's caller is told: its fate, its place in the history as an entry or a read, why no row answered, and whether its frame
+-- leaves as it came
 pub record AnswerSeen : Type 0 where
   pub fate : Fate
   pub count : ℕ
   pub entry : Bool
   pub why : Option Why
+  pub own : Bool
 
 -- a packet that no row answered, and why
 pub record TicketSeen : Type 0 where

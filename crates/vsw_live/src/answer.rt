@@ -16,6 +16,7 @@ pub struct Answer {
     count: u32,
     entry: bool,
     why: Option<Why>,
+    own: bool,
 }
 
 impl Model for Answer {
@@ -23,18 +24,19 @@ impl Model for Answer {
 
     ghost Value = { AnswerSeen };
 
-    ghost view = { λ a. record { fate = a.fate; count = a.count; entry = a.entry; why = a.why } };
+    ghost view = { λ a. record { fate = a.fate; count = a.count; entry = a.entry; why = a.why; own = a.own } };
 }
 
 impl Answer {
     pub(crate) fn of(outcome: Outcome, count: u32, why: Option<Why>) -> Answer
-        ensures { result ≡ record { fate = outcome.fate; count = count; entry = outcome.entry; why = why } }
+        ensures { result ≡ record { fate = outcome.fate; count = count; entry = outcome.entry; why = why; own = outcome.own } }
     {
         Answer {
             fate: outcome.fate,
             count,
             entry: outcome.entry,
             why,
+            own: outcome.own,
         }
     }
 
@@ -64,6 +66,13 @@ impl Answer {
         ensures { result ≡ self.now.why }
     {
         self.why
+    }
+
+    /// Whether its frame leaves as it came, where it passes: nothing was written to the room then.
+    pub fn own(&self) -> bool
+        ensures { result ≡ self.now.own }
+    {
+        self.own
     }
 }
 

@@ -1,11 +1,11 @@
 //! A frame leaves as its packet was answered.
 
-ghost use Rattle.std.specs.Prelude.{◌≡◌, List};
+ghost use Rattle.std.specs.Prelude.{◌≡◌, List, true};
 ghost use Rattle.vsw_port.specs.Calls.{Shows};
 ghost use Rattle.vsw_policy.specs.Layer.{LayerSeen};
 ghost use Rattle.vsw_live.specs.Calls.{FitsRoom};
 ghost use Rattle.vsw_live.specs.Private.Locked.{IsFateAt};
-ghost use Rattle.vsw_port.specs.Crossed.{EditsPass};
+ghost use Rattle.vsw_port.specs.Crossed.{EditsPass, IsOwn};
 ghost use Rattle.vsw_sole.specs.Transit.{bytes_in};
 
 use crate::unit::Unit;
@@ -13,10 +13,11 @@ use vsw_base::Stack;
 use vsw_port::Outcome;
 use vsw_sole::Room;
 
-/// Writes the bytes with which the packet's frame leaves, if it passes, to the front of the room.
+/// Writes the bytes with which the packet's frame leaves, if it passes, to the front of the room, unless they are its own.
 pub(crate) fn leave(unit: &Unit<'_>, edited: &Stack, outcome: Outcome, room: &mut Room)
     requires answered { (ls : List LayerSeen) × IsFateAt ls unit.now.crossing outcome.fate × EditsPass ls unit.now.crossing edited.now outcome.kept outcome.fate }
-    ensures shows { (ls : List LayerSeen) → IsFateAt ls unit.now.crossing outcome.fate → EditsPass ls unit.now.crossing edited.now outcome.kept outcome.fate → Shows ls unit.now.crossing unit.now.parts outcome.fate (bytes_in outcome.fate room.new) }
+    requires own { outcome.own ≡ true → IsOwn unit.now.crossing edited.now outcome.kept }
+    ensures shows { (ls : List LayerSeen) → IsFateAt ls unit.now.crossing outcome.fate → EditsPass ls unit.now.crossing edited.now outcome.kept outcome.fate → Shows ls unit.now.crossing unit.now.parts outcome.fate (bytes_in outcome.own unit.now.parts outcome.fate room.new) }
     ensures fits { FitsRoom outcome.fate }
 {
     // It tells the proof that the packet's headers are those of a stack.

@@ -12,13 +12,13 @@ ghost use Rattle.vsw_live.specs.Ports.{StandsAt};
 ghost use Rattle.vsw_live.specs.Private.Locked.{CrossesSo, IsFateAt, layers_met};
 ghost use Rattle.vsw_policy.specs.Obey.{rules_given};
 ghost use Rattle.vsw_policy.specs.Sound.{Each, IsGoodRule, is_listed};
-ghost use Rattle.vsw_port.specs.Crossed.{EditsPass};
+ghost use Rattle.vsw_port.specs.Crossed.{EditsPass, IsOwn};
 ghost use Rattle.vsw_rows.specs.GoodRows.{opening_of};
 
 use crate::answer::{Answer, Fast, Ticket, Told};
 use crate::held::Held;
 use crate::leaving::leave;
-use crate::locked::Locked;
+use crate::locked::{Locked, ROWS_AT_ONCE};
 use crate::naming::Naming;
 use crate::unit::Unit;
 use crate::why::Why;
@@ -50,6 +50,20 @@ impl<J: Naming> Model for LivePort<J> {
     ghost view = { λ p. record { looking = p.lookup; passes = p.passes } };
 
     ghost invariant = { λ p. StandsAt J.ports p.place (record { looking = p.lookup; passes = p.passes }) };
+}
+
+/// How many times a lock is tried before its thread sleeps. A call under it takes a few microseconds, and sleeping and
+/// waking more.
+const TRIES: u32 = 100;
+
+/// Takes a lock.
+fn take<'b, T, R: Wait>(lock: &'b Mutex<T>, rt: &R) -> MutexGuard<'b, T> {
+    for _ in 0..TRIES {
+        if let Some(guard) = lock.try_lock() {
+            return guard;
+        }
+    }
+    lock.lock(rt)
 }
 
 impl<J: Naming> LivePort<J> {
@@ -115,7 +129,7 @@ impl<J: Naming> LivePort<J> {
     }
 
     /// Looks for a row that answers the packet, without the lock and without memory. Where one does and the packet passes, its
-    /// outgoing bytes stand at the front of the room.
+    /// outgoing bytes stand at the front of the room, unless they are its own.
     pub fn fast<'a>(
         &self,
         pass: &mut Pass<PortStory>,
@@ -140,7 +154,7 @@ impl<J: Naming> LivePort<J> {
     }
 
     /// The layers answer the packet under the lock. Where it passes, its outgoing bytes are written to the front of the room once
-    /// the lock is free. Memory is taken only to make a pair.
+    /// the lock is free, unless they are its own. Memory is taken only to make a pair.
     pub fn slow<R: Wait>(
         &self,
         rt: &R,
@@ -202,10 +216,14 @@ impl<J: Naming> LivePort<J> {
             .command(&self.lookup, pass, line, controller, command)
     }
 
-    /// Compares a row with the layers of now, and makes it current where that can be.
+    /// Compares a row with the layers of now, and makes it current where that can be. Rows are compared 32 under one lock,
+    /// with the first of them, and only until all were since the layers changed last: call it for rows in turn.
     pub fn reconcile<R: Wait>(&self, rt: &R, row: u32)
         requires { row < self.now.looking.2 }
     {
+        if row % ROWS_AT_ONCE != 0 {
+            return;
+        }
         self.lock(rt).reconcile(&self.lookup, row);
     }
 
@@ -233,7 +251,7 @@ impl<J: Naming> LivePort<J> {
     fn lock<'b, R: Wait>(&'b self, rt: &R) -> MutexGuard<'b, Locked<J>>
         ensures { StandsAt J.ports result.value.0 self.now }
     {
-        let core = self.core.lock(rt);
+        let core = take(&self.core, rt);
         if core.place() != self.place {
             for _ in rt.forever() {}
         }
@@ -254,6 +272,7 @@ impl<J: Naming> LivePort<J> {
         ensures crosses { CrossesSo (opening_of self.now.looking.1) pass.old pass.new crossing.now result.0 result.1 }
         ensures fate { IsFateAt (layers_met (opening_of self.now.looking.1) pass.new.view result.1) crossing.now result.0.fate }
         ensures edits { EditsPass (layers_met (opening_of self.now.looking.1) pass.new.view result.1) crossing.now desk.new result.0.kept result.0.fate }
+        ensures own { result.0.own ≡ true → IsOwn crossing.now desk.new result.0.kept }
         ensures look { KeepsLook pass.old.view pass.new.view }
     {
         self.lock(rt).cross(&self.lookup, pass, crossing, desk)

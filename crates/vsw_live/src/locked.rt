@@ -13,7 +13,7 @@ ghost use Rattle.vsw_live.specs.Private.Locked.{CrossesSo, HasLookup, IsFateAt, 
 ghost use Rattle.vsw_policy.specs.Obey.{is_memory, rules_given};
 ghost use Rattle.vsw_policy.specs.Refusals.{reply_of};
 ghost use Rattle.vsw_policy.specs.Sound.{Each, IsGoodRule, is_listed};
-ghost use Rattle.vsw_port.specs.Crossed.{EditsPass};
+ghost use Rattle.vsw_port.specs.Crossed.{EditsPass, IsOwn};
 ghost use Rattle.vsw_rows.specs.GoodRows.{opening_of};
 
 use crate::answer::Told;
@@ -26,11 +26,16 @@ use vsw_port::{Event, Outcome};
 use vsw_rows::PortStory;
 use vsw_sole::{Core, Desk};
 
+/// How many rows are compared under one lock.
+pub(crate) const ROWS_AT_ONCE: u32 = 32;
+
 /// The core of the port at a place. Nothing is known of it once the lock is taken but what its type keeps, and that is told by the
 /// place alone: so who takes the lock compares the place.
 #[derive(Drop)]
 pub(crate) struct Locked<J: Naming> {
     place: usize,
+    /// How many rows weren't compared with the layers since these changed last, where they are compared in turn.
+    stale: u32,
     core: Core,
     of: PhantomData<J>,
 }
@@ -54,6 +59,7 @@ impl<J: Naming> Locked<J> {
     {
         Locked {
             place,
+            stale: 0,
             core,
             of: PhantomData,
         }
@@ -110,9 +116,12 @@ impl<J: Naming> Locked<J> {
         ensures crosses { CrossesSo (opening_of lookup.now.1) pass.old pass.new crossing.now result.0 result.1 }
         ensures fate { IsFateAt (layers_met (opening_of lookup.now.1) pass.new.view result.1) crossing.now result.0.fate }
         ensures edits { EditsPass (layers_met (opening_of lookup.now.1) pass.new.view result.1) crossing.now desk.new result.0.kept result.0.fate }
+        ensures own { result.0.own ≡ true → IsOwn crossing.now desk.new result.0.kept }
         ensures look { KeepsLook pass.old.view pass.new.view }
     {
-        cross(&mut self.core, lookup, pass, crossing, desk)
+        let answered = cross(&mut self.core, lookup, pass, crossing, desk);
+        self.stale = stale_after(self.stale, answered.0.entry, lookup.rows());
+        answered
     }
 
     /// Does what a controller asks, or refuses it, as the next call of the port's history.
@@ -133,16 +142,41 @@ impl<J: Naming> Locked<J> {
         ensures place { self.new.0 ≡ self.old.0 }
         ensures crosses { (l : Line) → l.number ≡ line → l.controller ≡ controller → l.command ≡ command.now → Crosses (opening_of lookup.now.1) pass.old pass.new (asked l result) }
     {
-        ask(&mut self.core, lookup, pass, line, controller, command)
+        let told = ask(&mut self.core, lookup, pass, line, controller, command);
+        self.stale = stale_after(self.stale, told.entry, lookup.rows());
+        told
     }
 
-    /// Compares a row with the layers of now, and makes it current where that can be.
+    /// Compares this row and the next ones, so many as are compared at once, with the layers of now, and makes those current
+    /// that can be. Where all were compared in turn since the layers changed last, nothing is left to do.
     pub(crate) fn reconcile(&mut self, lookup: &Lookup<PortStory>, row: u32)
         requires port { HasLookup J.ports self.old.0 lookup.now }
         requires row { row < lookup.now.2 }
         ensures place { self.new.0 ≡ self.old.0 }
     {
-        self.core.reconcile(lookup, row);
+        if self.stale == 0 {
+            return;
+        }
+        let end = lookup.rows().min(row + ROWS_AT_ONCE);
+        self.stale = self.stale.saturating_sub(end - row);
+        reconcile_all(&mut self.core, lookup, row, end);
+    }
+}
+
+/// How many rows are to be compared after a call: all where it is an entry.
+fn stale_after(stale: u32, entry: bool, rows: u32) -> u32 {
+    if entry { rows } else { stale }
+}
+
+/// Compares these rows with the layers of now.
+fn reconcile_all(core: &mut Core, lookup: &Lookup<PortStory>, first: u32, end: u32)
+    requires core { IsOf lookup.now core.old.writer }
+    requires end { end ≤ lookup.now.2 }
+    ensures stays { Stays core.old.writer core.new.writer }
+    ensures history { core.new.writer.view.history ≡ core.old.writer.view.history }
+{
+    for row in first..end {
+        core.reconcile(lookup, row);
     }
 }
 
@@ -179,6 +213,7 @@ fn cross(
     ensures crosses { CrossesSo (opening_of lookup.now.1) pass.old pass.new crossing.now result.0 result.1 }
     ensures fate { IsFateAt (layers_met (opening_of lookup.now.1) pass.new.view result.1) crossing.now result.0.fate }
     ensures edits { EditsPass (layers_met (opening_of lookup.now.1) pass.new.view result.1) crossing.now desk.new result.0.kept result.0.fate }
+    ensures own { result.0.own ≡ true → IsOwn crossing.now desk.new result.0.kept }
     ensures look { KeepsLook pass.old.view pass.new.view }
 {
     let count = count(core, lookup, pass);

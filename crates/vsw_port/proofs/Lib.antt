@@ -16,3 +16,4 @@ pub mod Next
 pub mod Values
 pub mod Numbers
 pub mod Held
+pub mod Unedited

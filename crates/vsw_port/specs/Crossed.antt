@@ -5,6 +5,7 @@ use Rattle.vsw_base.specs.declared.fate.Fate.{Fate}
 use Rattle.vsw_base.specs.declared.fate.Fate.TheVariants.{Pass, Drop}
 use Rattle.vsw_base.specs.declared.flow.Crossing.{Crossing}
 use Rattle.vsw_base.specs.declared.header.Header.{Header}
+use Rattle.vsw_base.specs.Shape.{encaps}
 use Rattle.vsw_port.specs.Cross.{cross_of, made_by, makes}
 use Rattle.vsw_port.specs.Fate.{fate_at}
 use Rattle.vsw_walk.specs.Walk.{walk_of}
@@ -38,6 +39,11 @@ is_short fate = false
 pub record Edits (ls : List LayerSeen) (x : Crossing) (hs : List Header) (left : ℕ) : Type 0 where
   pub stack : hs ≡ (walk_of ls x).stack
   pub kept : left ≡ (walk_of ls x).kept
+
+-- a packet has the headers with which it came, and all of its encapsulations are kept
+pub record IsOwn (x : Crossing) (hs : List Header) (left : ℕ) : Type 0 where
+  pub stack : hs ≡ x.id.stack
+  pub kept : left ≡ encaps x.id.stack
 
 abbrev pub EditsPass : List LayerSeen → Crossing → List Header → ℕ → Fate → Type 0
 EditsPass ls x hs left (Pass len) = Edits ls x hs left

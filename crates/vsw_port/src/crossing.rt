@@ -1,14 +1,14 @@
 //! A packet's walk is settled at its port.
 
-ghost use Rattle.std.specs.Prelude.{◌≡◌, ◌-◌, ◌<◌, ◌^◌, false};
+ghost use Rattle.std.specs.Prelude.{◌≡◌, ◌-◌, ◌<◌, ◌^◌, false, true};
 ghost use Rattle.vsw_port.specs.Walked.{IsWalk};
 ghost use Rattle.vsw_base.specs.declared.fate.Fate.TheVariants.{Drop};
 ghost use Rattle.vsw_base.specs.declared.fate.Verdict.TheVariants as verdict;
 ghost use Rattle.vsw_policy.specs.Sound.{Each};
-ghost use Rattle.vsw_port.specs.Crossed.{EditsPass, MayBeShort, crossed, is_short};
+ghost use Rattle.vsw_port.specs.Crossed.{EditsPass, IsOwn, MayBeShort, crossed, is_short};
 
 use crate::committing::commit;
-use crate::length::outgoing_size;
+use crate::length::{is_unedited, size_walked};
 use vsw_base::{Cause, Crossing, Fate, Verdict};
 use vsw_policy::Policy;
 use vsw_walk::{Scratch, Walked};
@@ -21,20 +21,24 @@ pub struct Outcome {
     pub entry: bool,
     /// How many encapsulations of its frame are kept, where it passes.
     pub kept: u8,
+    /// Whether it leaves with the headers with which it came, where it passes: nothing of it was edited.
+    pub own: bool,
 }
 
 /// The packet is dropped, and nothing is changed.
 fn dropped(cause: Cause) -> Outcome
-    ensures { result ≡ record { fate = Drop cause; entry = false; kept = 0 } }
+    ensures { result ≡ record { fate = Drop cause; entry = false; kept = 0; own = false } }
 {
     Outcome {
         fate: Fate::Drop(cause),
         entry: false,
         kept: 0,
+        own: false,
     }
 }
 
 /// A packet that its walk lets pass is committed.
+#[tactic(auto, using(crate::proofs::Unedited::own_of))]
 fn pass(policy: &mut Policy, crossing: &Crossing, walked: &Walked, scratch: &Scratch) -> Outcome
     requires numbers { Each (λ l. l.next_pair < 2 ^ 32 - 1) policy.old.layers }
     requires passes { walked.now.verdict ≡ verdict.Pass }
@@ -43,14 +47,16 @@ fn pass(policy: &mut Policy, crossing: &Crossing, walked: &Walked, scratch: &Scr
     ensures memory { MayBeShort (is_short result.fate) policy.old.layers crossing.now }
     ensures controllers { policy.new.controllers ≡ policy.old.controllers }
     ensures edits { EditsPass policy.old.layers crossing.now scratch.now.stack result.kept result.fate }
+    ensures own { result.own ≡ true → IsOwn crossing.now scratch.now.stack result.kept }
 {
     match commit(policy, crossing, walked, scratch) {
         Ok(entry) => Outcome {
             fate: Fate::Pass {
-                len: outgoing_size(crossing, scratch.stack(), walked.kept),
+                len: size_walked(crossing, walked, scratch),
             },
             entry,
             kept: walked.kept,
+            own: is_unedited(scratch),
         },
         Err(stop) => dropped(stop.cause()),
     }
@@ -69,6 +75,7 @@ pub fn settle(
     ensures memory { MayBeShort (is_short result.fate) policy.old.layers crossing.now }
     ensures controllers { policy.new.controllers ≡ policy.old.controllers }
     ensures edits { EditsPass policy.old.layers crossing.now scratch.now.stack result.kept result.fate }
+    ensures own { result.own ≡ true → IsOwn crossing.now scratch.now.stack result.kept }
 {
     match walked.verdict {
         Verdict::Pass => pass(policy, crossing, walked, scratch),

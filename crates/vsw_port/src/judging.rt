@@ -9,7 +9,7 @@ ghost use Rattle.vsw_base.specs.declared.fate.Verdict.TheVariants.{Pass};
 ghost use Rattle.vsw_walk.specs.Walk.{walk_of};
 ghost use Rattle.vsw_policy.specs.Layer.{seen};
 
-use crate::length::is_long;
+use crate::length::is_walk_long;
 use crate::stop::Stop;
 use crate::wanting::refused_at;
 use vsw_base::{Crossing, Verdict};
@@ -53,7 +53,7 @@ pub fn judge(
     let Verdict::Pass = walked.verdict else {
         return None;
     };
-    if is_long(crossing, scratch.stack(), walked.kept) {
+    if is_walk_long(crossing, walked, scratch) {
         return Some(Stop::Long);
     }
     judge_changes(policy.layers(), None, scratch.changes())

@@ -11,7 +11,7 @@ ghost use Rattle.vsw_policy.specs.Obey.{is_memory, rules_given};
 ghost use Rattle.vsw_policy.specs.Refusals.{reply_of};
 ghost use Rattle.vsw_policy.specs.Sound.{Each, IsGoodRule, is_listed};
 ghost use Rattle.vsw_port.specs.Core.{AreAtMost, IsHeld, entered, opening_of};
-ghost use Rattle.vsw_port.specs.Crossed.{EditsPass, MayBeShort, crossed, is_short};
+ghost use Rattle.vsw_port.specs.Crossed.{EditsPass, IsOwn, MayBeShort, crossed, is_short};
 ghost use Rattle.vsw_port.specs.Ledger.{layers_in};
 
 use crate::copies::copy_command;
@@ -100,6 +100,7 @@ impl Ledger {
         ensures exact { record { fate = result.fate; layers = layers_in self.new; entry = result.entry } ≡ crossed (is_short result.fate) (layers_in self.old) crossing.now }
         ensures memory { MayBeShort (is_short result.fate) (layers_in self.old) crossing.now }
         ensures edits { EditsPass (layers_in self.old) crossing.now scratch.now.stack result.kept result.fate }
+        ensures own { result.own ≡ true → IsOwn crossing.now scratch.now.stack result.kept }
         ensures journal { self.new.journal ≡ self.old.journal ++ entered result.entry (event.Crossing crossing.now result.fate) }
         ensures opening { self.new.opening ≡ self.old.opening }
         ensures room { self.old.room ≤ self.new.room + length (entered result.entry (event.Crossing crossing.now result.fate)) }

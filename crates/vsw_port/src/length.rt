@@ -1,10 +1,12 @@
 //! How long a packet gets under pushed encapsulations.
 
-ghost use Rattle.std.specs.Prelude.{◌≡◌, ◌≤◌, ◌+◌, ◌*◌, false, nat_lt};
+ghost use Rattle.std.specs.Prelude.{◌≡◌, ◌≤◌, ◌+◌, ◌*◌, [], false, nat_lt, true};
 ghost use Rattle.vsw_port.specs.Long as spec;
 ghost use Rattle.vsw_frame.specs.Bytes.{total_over};
+ghost use Rattle.vsw_walk.specs.Made.{Leads};
 
 use vsw_base::{Crossing, Sizes, Stack};
+use vsw_walk::{Scratch, Walked};
 
 /// The most bytes that the total length of an IPv4 header can tell.
 const MOST: u64 = 65_535;
@@ -63,4 +65,42 @@ pub fn outgoing_size(crossing: &Crossing, edited: &Stack, kept: u8) -> u32
     let pushes = edited.encaps().saturating_sub(kept);
     let drops = crossing.id.stack.encaps().saturating_sub(kept);
     grown(pushes, size_without(crossing.sizes, drops))
+}
+
+/// Whether the walk left the packet as it came.
+#[inline(always)]
+pub(crate) fn is_unedited(scratch: &Scratch) -> bool
+    ensures { result ≡ true → scratch.now.edits ≡ [] }
+{
+    match scratch.edits() {
+        [] => true,
+        _ => false,
+    }
+}
+
+/// `is_long` after a walk. A packet that it didn't edit pushes nothing.
+#[inline(always)]
+#[tactic(auto, using(crate::proofs::Unedited::own_short))]
+pub(crate) fn is_walk_long(crossing: &Crossing, walked: &Walked, scratch: &Scratch) -> bool
+    requires leads { Leads crossing.now.id.stack scratch.now walked.now.kept }
+    ensures { result ≡ spec.is_long crossing.now scratch.now.stack walked.now.kept }
+{
+    if is_unedited(scratch) {
+        return false;
+    }
+    is_long(crossing, scratch.stack(), walked.kept)
+}
+
+/// `outgoing_size` after a walk. A packet that it didn't edit leaves with the bytes of its frame.
+#[inline(always)]
+#[tactic(auto, using(crate::proofs::Unedited::own_size))]
+pub(crate) fn size_walked(crossing: &Crossing, walked: &Walked, scratch: &Scratch) -> u32
+    requires leads { Leads crossing.now.id.stack scratch.now walked.now.kept }
+    requires short { spec.is_long crossing.now scratch.now.stack walked.now.kept ≡ false }
+    ensures { result ≡ spec.outgoing_size crossing.now scratch.now.stack walked.now.kept }
+{
+    if is_unedited(scratch) {
+        return crossing.sizes.whole;
+    }
+    outgoing_size(crossing, scratch.stack(), walked.kept)
 }

@@ -10,7 +10,7 @@ ghost use Rattle.vsw_policy.specs.Obey.{is_memory, rules_given};
 ghost use Rattle.vsw_policy.specs.Refusals.{reply_of};
 ghost use Rattle.vsw_policy.specs.Sound.{Each, IsGoodRule, is_listed};
 ghost use Rattle.vsw_port.specs.Core.{AreAtMost, IsHeld, entered, layers_of, opening_of};
-ghost use Rattle.vsw_port.specs.Crossed.{EditsPass, MayBeShort, crossed, is_short};
+ghost use Rattle.vsw_port.specs.Crossed.{EditsPass, IsOwn, MayBeShort, crossed, is_short};
 
 use crate::crossing::Outcome;
 use crate::event::Event;
@@ -99,6 +99,7 @@ impl Core {
         ensures exact { record { fate = result.fate; layers = layers_of self.new; entry = result.entry } ≡ crossed (is_short result.fate) (layers_of self.old) crossing.now }
         ensures memory { MayBeShort (is_short result.fate) (layers_of self.old) crossing.now }
         ensures edits { EditsPass (layers_of self.old) crossing.now self.new.edited result.kept result.fate }
+        ensures own { result.own ≡ true → IsOwn crossing.now self.new.edited result.kept }
         ensures journal { self.new.journal ≡ self.old.journal ++ entered result.entry (event.Crossing crossing.now result.fate) }
         ensures opening { self.new.opening ≡ self.old.opening }
         ensures room { self.old.room ≤ self.new.room + 1 }

@@ -25,6 +25,7 @@ answered_at l x h q edited outcome count front seen a =
         control = a.control;
         reads = λ p bytes. subst (λ g. Reads (replay (opening_of l.1) g) (Carried x p outcome.fate bytes)) (sym same) (a.reads p bytes);
         edits = subst (λ g. EditsPass (replay (opening_of l.1) g) x edited outcome.kept outcome.fate) (sym same) a.edits;
+        own = a.own;
         entry = a.entry;
       },
       sym same,

@@ -1,4 +1,5 @@
 pub mod Rows
+pub mod Ignored
 pub mod Looks
 pub mod Answered
 pub mod Callers

@@ -39,7 +39,7 @@ misses l x p q g plain begun same m =
 
 pub tells_of : (l : Looking) (x : Crossing) (p q : Pass) (words : List ℕ) (edited : List Header) (answer : RowAnswer) → x.control ≡ control.None → p.closed < q.closed → HasHit l x.id q (key_words x.id.dir x.id.stack ++ words)
     → Says (opening_of l.1) q.front x words edited answer → Tells l x p q edited answer
-tells_of l x p q words edited (Read outcome count) plain begun hit s = record { control = plain; counted = s.count_is; reads = s.reads; edits = s.edits; entry = s.entry }
+tells_of l x p q words edited (Read outcome count) plain begun hit s = record { control = plain; counted = s.count_is; reads = s.reads; edits = s.edits; own = s.own; entry = s.entry }
 tells_of l x p q words edited Control plain begun hit s = absurd s
 tells_of l x p q words edited Miss plain begun hit s = absurd s
 tells_of l x p q words edited Late plain begun hit s = record { control = plain; begun = begun; row = s.row; hit = subst (HasHit l x.id q) s.whole hit; id = s.id; good = s.good; late = s.late }

@@ -1,5 +1,5 @@
 -- What a core and the writing of a frame tell is the passage of the frame.
-use Rattle.std.proofs.Common.{◌≡◌, ◌≤◌, ◌+◌, ◌*◌, ℕ, Bool, true, false, true≢false, List, [], length, nat_lt, take, Option, None, Some, Result, Ok, Err, refl, sym, ap, subst, ◌∙◌, arith}
+use Rattle.std.proofs.Common.{◌≡◌, ◌≤◌, ◌+◌, ◌*◌, ℕ, Bool, true, false, true≢false, List, [], length, nat_lt, Option, None, Some, Result, Ok, Err, refl, sym, ap, subst, ◌∙◌, arith}
 use Rattle.std.specs.Prelude.{if◌then◌else◌}
 use Rattle.vsw_port.specs.declared.stop.Stop.{Stop}
 use Rattle.vsw_port.specs.declared.stop.Stop.TheVariants.{Long}
@@ -22,10 +22,11 @@ use Rattle.vsw_port.specs.Cross.{Passing, cross_of, fate_after}
 use Rattle.vsw_port.specs.Fate.{fate_at, fate_by}
 use Rattle.vsw_walk.specs.Walk.{Walk, walk_of}
 use Rattle.vsw_frame.specs.Bytes.{IsEdit, outer_total, outgoing, outgoing_size, pushes}
+use Rattle.vsw_frame.specs.Tiles.{outermost}
 use Rattle.vsw_port.specs.Calls.{Shows}
 use Rattle.vsw_policy.specs.Layer.{LayerSeen}
-use Rattle.vsw_port.specs.Crossed.{Crossed, Edits, EditsPass, crossed, is_short}
-use Rattle.vsw_sole.specs.Transit.{CanLeave, HasLeft, Leaves, bytes_in, bytes_of, fate_of, len_of, met, passage_of, told}
+use Rattle.vsw_port.specs.Crossed.{Crossed, Edits, EditsPass, IsOwn, crossed, is_short}
+use Rattle.vsw_sole.specs.Transit.{CanLeave, HasLeft, IsUnedited, Leaves, bytes_in, bytes_of, bytes_of_pass, fate_of, len_of, met, passage_of, told}
 
 abbrev is_pass : Fate → Bool
 is_pass (Pass len) = true
@@ -82,50 +83,64 @@ can_leave ls new x p hs left (Pass n) entry e d shape stack size =
     rw (d.stack, d.kept) (edit, short)
 
 -- what stands in the room after a frame passed: its bytes, as many as the fate tells
-record Written (ls : List LayerSeen) (x : Crossing) (p : Parts) (n : ℕ) (out : List ℕ) : Type 0 where
-  bytes : take n out ≡ outgoing p (walk_of ls x).stack (walk_of ls x).kept
+record Written (ls : List LayerSeen) (x : Crossing) (p : Parts) (n : ℕ) (own : Bool) (out : List ℕ) : Type 0 where
+  bytes : bytes_of_pass own p n out ≡ outgoing p (walk_of ls x).stack (walk_of ls x).kept
   length_is : n ≡ length (outgoing p (walk_of ls x).stack (walk_of ls x).kept)
   room : n ≤ 65700
 
-written : (ls new : List LayerSeen) (x : Crossing) (p : Parts) (hs : List Header) (left n : ℕ) (entry : Bool) (out : List ℕ) → record { fate = Pass n; layers = new; entry = entry } ≡ crossed false ls x → Edits ls x hs left
-    → is_stack x.id.stack ≡ true → x.id.stack ≡ p.stack → x.sizes ≡ sizes_of p.levels → HasLeft p hs left out → Written ls x p n out
-written ls new x p hs left n entry out e d shape stack size has =
+written : (ls new : List LayerSeen) (x : Crossing) (p : Parts) (hs : List Header) (left n : ℕ) (entry own : Bool) (out : List ℕ) → record { fate = Pass n; layers = new; entry = entry } ≡ crossed false ls x → Edits ls x hs left
+    → is_stack x.id.stack ≡ true → x.id.stack ≡ p.stack → x.sizes ≡ sizes_of p.levels → HasLeft p hs left own out → Written ls x p n own out
+written ls new x p hs left n entry own out e d shape stack size has =
     let w : Walk = walk_of ls x in
     let told = size_told x p w.kept (omega (arith, (in_front x.id.stack shape).0, ap encaps stack)) stack size in
     let many : n ≡ outgoing_size p w.stack w.kept = (free_at ls new x n entry e).size ∙ ap (λ (m : ℕ). m + 50 * pushes w.stack w.kept) told in
-    let here : HasLeft p w.stack w.kept out = subst (λ (gs : List Header). HasLeft p gs w.kept out) d.stack (subst (λ (m : ℕ). HasLeft p hs m out) d.kept has) in
-    record { bytes = ap (λ m. take m out) many ∙ here.bytes; length_is = many ∙ sym here.size; room = omega (arith, many, here.room) }
+    let here : HasLeft p w.stack w.kept own out = subst (λ (gs : List Header). HasLeft p gs w.kept own out) d.stack (subst (λ (m : ℕ). HasLeft p hs m own out) d.kept has) in
+    record { bytes = ap (λ m. bytes_of_pass own p m out) many ∙ here.bytes; length_is = many ∙ sym here.size; room = omega (arith, many, here.room) }
 
-pub shows : (ls new : List LayerSeen) (x : Crossing) (p : Parts) (hs : List Header) (left : ℕ) (fate : Fate) (entry : Bool) (out : List ℕ) → record { fate = fate; layers = new; entry = entry } ≡ crossed (is_short fate) ls x → EditsPass ls x hs left fate
-    → is_stack x.id.stack ≡ true → x.id.stack ≡ p.stack → x.sizes ≡ sizes_of p.levels → Leaves p hs left fate out → Shows ls x p fate (bytes_in fate out)
-shows ls new x p hs left (Drop cause) entry out e d shape stack size has = refl
-shows ls new x p hs left (Pass n) entry out e d shape stack size has = (written ls new x p hs left n entry out e d shape stack size has).bytes
+pub shows : (ls new : List LayerSeen) (x : Crossing) (p : Parts) (hs : List Header) (left : ℕ) (fate : Fate) (entry own : Bool) (out : List ℕ) → record { fate = fate; layers = new; entry = entry } ≡ crossed (is_short fate) ls x → EditsPass ls x hs left fate
+    → is_stack x.id.stack ≡ true → x.id.stack ≡ p.stack → x.sizes ≡ sizes_of p.levels → Leaves p hs left own fate out → Shows ls x p fate (bytes_in own p fate out)
+shows ls new x p hs left (Drop cause) entry own out e d shape stack size has = refl
+shows ls new x p hs left (Pass n) entry own out e d shape stack size has = (written ls new x p hs left n entry own out e d shape stack size has).bytes
 
-pub short_enough : (ls new : List LayerSeen) (x : Crossing) (p : Parts) (hs : List Header) (left : ℕ) (fate : Fate) (entry : Bool) (out : List ℕ) → record { fate = fate; layers = new; entry = entry } ≡ crossed (is_short fate) ls x → EditsPass ls x hs left fate
-    → is_stack x.id.stack ≡ true → x.id.stack ≡ p.stack → x.sizes ≡ sizes_of p.levels → Leaves p hs left fate out → len_of fate ≤ 65700
-short_enough ls new x p hs left (Drop cause) entry out e d shape stack size has = omega arith
-short_enough ls new x p hs left (Pass n) entry out e d shape stack size has = (written ls new x p hs left n entry out e d shape stack size has).room
+pub short_enough : (ls new : List LayerSeen) (x : Crossing) (p : Parts) (hs : List Header) (left : ℕ) (fate : Fate) (entry own : Bool) (out : List ℕ) → record { fate = fate; layers = new; entry = entry } ≡ crossed (is_short fate) ls x → EditsPass ls x hs left fate
+    → is_stack x.id.stack ≡ true → x.id.stack ≡ p.stack → x.sizes ≡ sizes_of p.levels → Leaves p hs left own fate out → len_of fate ≤ 65700
+short_enough ls new x p hs left (Drop cause) entry own out e d shape stack size has = omega arith
+short_enough ls new x p hs left (Pass n) entry own out e d shape stack size has = (written ls new x p hs left n entry own out e d shape stack size has).room
 
 drop_is : (x : Crossing) (p : Parts) (cause : Cause) (r : Result Passing Cause) → Drop cause ≡ fate_by x r → (fate_of p r ≡ Drop cause) × (bytes_of p r ≡ [])
 drop_is x p cause (Ok passing) e = absurd (true≢false (sym (ap is_pass e)))
 drop_is x p cause (Err why) e = (sym e, refl)
 
 -- a frame that was told of by its packet
-pub passage : (ls new : List LayerSeen) (x : Crossing) (p : Parts) (hs : List Header) (left : ℕ) (fate : Fate) (entry : Bool) (out : List ℕ) → record { fate = fate; layers = new; entry = entry } ≡ crossed (is_short fate) ls x → EditsPass ls x hs left fate
-    → is_stack x.id.stack ≡ true → x.id.stack ≡ p.stack → x.sizes ≡ sizes_of p.levels → Leaves p hs left fate out → told fate entry out new ≡ met (is_short fate) ls x p
+pub passage : (ls new : List LayerSeen) (x : Crossing) (p : Parts) (hs : List Header) (left : ℕ) (fate : Fate) (entry own : Bool) (out : List ℕ) → record { fate = fate; layers = new; entry = entry } ≡ crossed (is_short fate) ls x → EditsPass ls x hs left fate
+    → is_stack x.id.stack ≡ true → x.id.stack ≡ p.stack → x.sizes ≡ sizes_of p.levels → Leaves p hs left own fate out → told fate entry (bytes_in own p fate out) new ≡ met (is_short fate) ls x p
 unfolding passage_of
-passage ls new x p hs left (Pass n) entry out e d shape stack size has =
+passage ls new x p hs left (Pass n) entry own out e d shape stack size has =
     let f = free_at ls new x n entry e in
-    let w = written ls new x p hs left n entry out e d shape stack size has in
+    let w = written ls new x p hs left n entry own out e d shape stack size has in
     let ends : fate_after verdict.Pass None (walk_of ls x).stack (walk_of ls x).kept ≡ (cross_of ls x).fate =
     ap (λ v. fate_after v None (walk_of ls x).stack (walk_of ls x).kept) (sym f.passes) ∙ ap (λ o. fate_after (walk_of ls x).verdict o (walk_of ls x).stack (walk_of ls x).kept) (sym f.free) in
     let fate_is : Pass n ≡ fate_of p (cross_of ls x).fate = ap Pass w.length_is ∙ ap (fate_of p) ends in
-    let bytes_are : take n out ≡ bytes_of p (cross_of ls x).fate = w.bytes ∙ ap (bytes_of p) ends in
+    let bytes_are : bytes_of_pass own p n out ≡ bytes_of p (cross_of ls x).fate = w.bytes ∙ ap (bytes_of p) ends in
     λ i. record { fate = fate_is i; bytes = bytes_are i; layers = (e i).layers; entry = (e i).entry }
-passage ls new x p hs left (Drop cause) entry out e d shape stack size has = by (is_short (Drop cause)) e
+passage ls new x p hs left (Drop cause) entry own out e d shape stack size has = by (is_short (Drop cause)) e
   where
-    by : (b : Bool) → record { fate = Drop cause; layers = new; entry = entry } ≡ crossed b ls x → told (Drop cause) entry out new ≡ met b ls x p
+    by : (b : Bool) → record { fate = Drop cause; layers = new; entry = entry } ≡ crossed b ls x → told (Drop cause) entry [] new ≡ met b ls x p
     by true g = ap (λ (c : Crossed). record { fate = c.fate; bytes = []; layers = c.layers; entry = c.entry }) g
     by false g =
         let drops = drop_is x p cause (cross_of ls x).fate (ap (λ (c : Crossed). c.fate) g) in
         λ i. record { fate = sym drops.0 i; bytes = sym drops.1 i; layers = (g i).layers; entry = (g i).entry }
+
+-- a packet with its own headers is of an unedited frame
+pub unedited : (x : Crossing) (p : Parts) (hs gs : List Header) (left : ℕ) (own : Bool) → gs ≡ hs → x.id.stack ≡ p.stack → (own ≡ true → IsOwn x hs left) → own ≡ true → IsUnedited p gs left
+unedited x p hs gs left own same stack leaves e =
+    let is : IsOwn x hs left = leaves e in
+    record { stack = same ∙ is.stack ∙ stack; kept_is = is.kept ∙ ap encaps stack }
+
+-- its own bytes are those that the definition gives
+pub own_left : (p : Parts) (hs : List Header) (left : ℕ) (fate : Fate) (bytes out : List ℕ) → IsUnedited p hs left → bytes ≡ outermost p.levels → outgoing p p.stack (encaps p.stack) ≡ bytes → outgoing_size p p.stack (encaps p.stack) ≡ length bytes → length bytes ≤ 65600
+    → Leaves p hs left true fate out
+own_left p hs left (Drop cause) bytes out own whole is size short = tt
+own_left p hs left (Pass n) bytes out own whole is size short =
+    let here : HasLeft p p.stack (encaps p.stack) true out = record { bytes = sym whole ∙ sym is; size = ap length is ∙ sym size; room = omega (arith, size, short) } in
+    subst (λ (gs : List Header). HasLeft p gs left true out) (sym own.stack) (subst (λ (m : ℕ). HasLeft p p.stack m true out) (sym own.kept_is) here)

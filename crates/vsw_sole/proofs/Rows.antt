@@ -22,7 +22,7 @@ use Rattle.vsw_rows.specs.Good.{Good, Row}
 use Rattle.vsw_rows.specs.LeanLaw.{answer_by, stop_by}
 use Rattle.vsw_rows.proofs.Answered.{row_answers}
 use Rattle.vsw_port.specs.declared.crossing.Outcome.{Outcome}
-use Rattle.vsw_port.specs.Crossed.{EditsPass}
+use Rattle.vsw_port.specs.Crossed.{EditsPass, IsOwn}
 use Rattle.vsw_core.proofs.Answers.{fronts, key_length, words_are}
 use Rattle.vsw_transpose.specs.declared.act.Act.{Act}
 use Rattle.vsw_transpose.specs.Apply.{apply}
@@ -101,8 +101,8 @@ edits_as ls x b edited kept (Pass n) same e edits =
     record { stack = edits.stack ∙ ap stack_of all; kept = edits.kept_is ∙ ap kept_of all }
 
 pub said : (o : Opening) (h : List Event) (x : Crossing) (words : List ℕ) (b : Body) (edited : List Header) (outcome : Outcome) (count : ℕ) → x.control ≡ control.None → IsBodyOf o h x b → AreWordsOf x words (row_with x b) → x.moment ≤ b.until → count ≡ length h
-    → outcome.fate ≡ fate_said x b → IsEdited x b.by edited outcome → outcome.entry ≡ false → Said o h x words edited outcome count
-said o h x words b edited outcome count plain good whole time many fate edits entry =
+    → outcome.fate ≡ fate_said x b → IsEdited x b.by edited outcome → (outcome.own ≡ true → IsOwn x edited outcome.kept) → outcome.entry ≡ false → Said o h x words edited outcome count
+said o h x words b edited outcome count plain good whole time many fate edits own entry =
     let same = row_answers (replay o h) (row_with x b) x good (record { id = refl; control = plain; moment = time }) in record {
       row = row_with x b;
       whole = whole;
@@ -112,6 +112,7 @@ said o h x words b edited outcome count plain good whole time many fate edits en
       count_is = many;
       reads = λ p bytes. (fate ∙ ap (fate_by x) (sym (ap (λ (c : Crossed). c.fate) same)), ap (λ (c : Crossed). c.changed) same);
       edits = edits_as (replay o h) x b edited outcome.kept outcome.fate same fate edits;
+      own = own;
       entry = entry;
     }
 

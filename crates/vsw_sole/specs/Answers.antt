@@ -1,5 +1,5 @@
 -- What a row answers a packet, and why none does.
-use Rattle.std.specs.Prelude.{◌≡◌, ◌≢◌, ◌<◌, ◌≤◌, ◌+◌, ◌%◌, ℕ, List, false, length}
+use Rattle.std.specs.Prelude.{◌≡◌, ◌≢◌, ◌<◌, ◌≤◌, ◌+◌, ◌%◌, ℕ, List, false, true, length}
 use Rattle.vsw_sole.specs.declared.answer.RowAnswer.{RowAnswer}
 use Rattle.vsw_sole.specs.declared.answer.RowAnswer.TheVariants.{Read, Control, Miss, Late}
 use Rattle.vsw_base.specs.declared.flow.Crossing.{Crossing}
@@ -16,7 +16,7 @@ use Rattle.vsw_lookup.specs.declared.view.View.{View}
 use Rattle.vsw_lookup.specs.Rules.{Found, Missed}
 use Rattle.vsw_policy.specs.Layers.{PolicySeen}
 use Rattle.vsw_port.specs.declared.crossing.Outcome.{Outcome}
-use Rattle.vsw_port.specs.Crossed.{EditsPass}
+use Rattle.vsw_port.specs.Crossed.{EditsPass, IsOwn}
 use Rattle.vsw_core.specs.Rows.{opening_of, words_of}
 use Rattle.vsw_words.specs.Key.{key_words}
 use Rattle.vsw_words.specs.Row.{in_use}
@@ -31,6 +31,7 @@ pub record Answers (l : Looking) (x : Crossing) (q : Pass) (edited : List Header
   pub counted : count ≡ length q.front
   pub reads : (p : Parts) (bytes : List ℕ) → Reads (replay (opening_of l.1) q.front) (Carried x p outcome.fate bytes)
   pub edits : EditsPass (replay (opening_of l.1) q.front) x edited outcome.kept outcome.fate
+  pub own : outcome.own ≡ true → IsOwn x edited outcome.kept
   pub entry : outcome.entry ≡ false
 
 -- the record that the pass closed last has these words of one of the identity's eight rows, all that are in use, and the generation as its stamp

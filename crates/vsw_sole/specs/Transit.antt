@@ -1,5 +1,5 @@
 -- What becomes of a frame at its port: how its packet crosses the layers, and the bytes with which it leaves.
-use Rattle.std.specs.Prelude.{◌≡◌, ◌≤◌, ℕ, List, [], length, nat_lt, take, Bool, true, false, Result, Ok, Err}
+use Rattle.std.specs.Prelude.{◌≡◌, ◌≤◌, ℕ, List, [], length, nat_lt, take, Bool, true, false, Result, Ok, Err, if◌then◌else◌}
 use Rattle.vsw_base.specs.declared.fate.Cause.{Cause}
 use Rattle.vsw_base.specs.declared.fate.Cause.TheVariants.{Memory}
 use Rattle.vsw_base.specs.declared.fate.Fate.{Fate}
@@ -7,8 +7,10 @@ use Rattle.vsw_base.specs.declared.fate.Fate.TheVariants.{Pass, Drop}
 use Rattle.vsw_base.specs.declared.flow.Crossing.{Crossing}
 use Rattle.vsw_base.specs.declared.header.Header.{Header}
 use Rattle.vsw_base.specs.Frame.{Parts, sizes_of}
+use Rattle.vsw_base.specs.Shape.{encaps}
 use Rattle.vsw_port.specs.Cross.{Passing, cross_of}
 use Rattle.vsw_frame.specs.Bytes.{IsEdit, outer_total, outgoing, outgoing_size}
+use Rattle.vsw_frame.specs.Tiles.{outermost}
 use Rattle.vsw_policy.specs.Layer.{LayerSeen}
 
 -- the packet is the frame's
@@ -50,13 +52,17 @@ abbrev pub met : Bool → List LayerSeen → Crossing → Parts → Passage
 met true ls x p = unmet ls
 met false ls x p = passage_of ls x p
 
--- the outcome that a fate tells, with the bytes at the front of `out` where it is a pass
-abbrev pub bytes_in : Fate → List ℕ → List ℕ
-bytes_in (Pass len) out = take len out
-bytes_in (Drop cause) out = []
+-- the bytes of a pass: the frame's own where nothing of it was edited, and else so many at the front of `out`
+abbrev pub bytes_of_pass : Bool → Parts → ℕ → List ℕ → List ℕ
+bytes_of_pass own p len out = if own then outermost p.levels else take len out
 
+abbrev pub bytes_in : Bool → Parts → Fate → List ℕ → List ℕ
+bytes_in own p (Pass len) out = bytes_of_pass own p len out
+bytes_in own p (Drop cause) out = []
+
+-- the outcome that a fate tells, with these bytes
 abbrev pub told : Fate → Bool → List ℕ → List LayerSeen → Passage
-told fate entry out ls = record { fate = fate; bytes = bytes_in fate out; layers = ls; entry = entry }
+told fate entry bytes ls = record { fate = fate; bytes = bytes; layers = ls; entry = entry }
 
 -- bytes of a pass, 0 of a drop
 abbrev pub len_of : Fate → ℕ
@@ -68,12 +74,17 @@ abbrev pub CanLeave : Parts → List Header → ℕ → Fate → Type 0
 CanLeave p hs kept (Pass len) = IsEdit p.stack hs kept × (nat_lt 65535 (outer_total p hs kept) ≡ false)
 CanLeave p hs kept (Drop cause) = Unit {0}
 
--- its outgoing bytes stand at the front of a room, as many as the frame's sizes tell
-pub record HasLeft (p : Parts) (hs : List Header) (kept : ℕ) (out : List ℕ) : Type 0 where
-  pub bytes : take (outgoing_size p hs kept) out ≡ outgoing p hs kept
+-- nothing of the frame was edited: it leaves with its own headers, and all of its encapsulations are kept
+pub record IsUnedited (p : Parts) (hs : List Header) (kept : ℕ) : Type 0 where
+  pub stack : hs ≡ p.stack
+  pub kept_is : kept ≡ encaps p.stack
+
+-- its outgoing bytes are its own, or stand at the front of a room. They are as many as the frame's sizes tell
+pub record HasLeft (p : Parts) (hs : List Header) (kept : ℕ) (own : Bool) (out : List ℕ) : Type 0 where
+  pub bytes : bytes_of_pass own p (outgoing_size p hs kept) out ≡ outgoing p hs kept
   pub size : length (outgoing p hs kept) ≡ outgoing_size p hs kept
   pub room : outgoing_size p hs kept ≤ 65700
 
-abbrev pub Leaves : Parts → List Header → ℕ → Fate → List ℕ → Type 0
-Leaves p hs kept (Pass len) out = HasLeft p hs kept out
-Leaves p hs kept (Drop cause) out = Unit {0}
+abbrev pub Leaves : Parts → List Header → ℕ → Bool → Fate → List ℕ → Type 0
+Leaves p hs kept own (Pass len) out = HasLeft p hs kept own out
+Leaves p hs kept own (Drop cause) out = Unit {0}

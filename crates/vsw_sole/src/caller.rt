@@ -15,7 +15,7 @@ ghost use Rattle.vsw_policy.specs.Obey.{is_memory, rules_given};
 ghost use Rattle.vsw_policy.specs.Refusals.{reply_of};
 ghost use Rattle.vsw_policy.specs.Sound.{Each, IsGoodRule, is_listed};
 ghost use Rattle.vsw_port.specs.Core.{entered};
-ghost use Rattle.vsw_port.specs.Crossed.{EditsPass};
+ghost use Rattle.vsw_port.specs.Crossed.{EditsPass, IsOwn};
 ghost use Rattle.vsw_sole.specs.Answered.{AnsweredAt};
 ghost use Rattle.vsw_sole.specs.Callers.{HasCalled, IsTold, Refills, edited_by};
 ghost use Rattle.vsw_sole.specs.Rows.{opening_of};
@@ -143,6 +143,7 @@ fn by_layers(
     requires permit { 0 < caller.old.permits }
     ensures done { (p : Parts) (bytes : List ℕ) → IsDone (opening_of lookup.now.1) core.old.writer.view.history (Carried crossing.now p result.fate bytes) result.entry }
     ensures edits { EditsPass (layers_of lookup.now.1 core.old) crossing.now core.new.edited result.kept result.fate }
+    ensures own { result.own ≡ true → IsOwn crossing.now core.new.edited result.kept }
     ensures core { IsOf lookup.now core.new.writer }
     ensures history { core.new.writer.view.history ≡ core.old.writer.view.history ++ entered result.entry (event.Crossing crossing.now result.fate) }
     ensures caller { HasCalled lookup.now core.new.writer.view.history result.entry caller.old caller.new }
@@ -168,6 +169,7 @@ fn by_walk(
     requires permit { 0 < caller.old.permits }
     ensures done { (p : Parts) (bytes : List ℕ) → IsDone (opening_of lookup.now.1) core.old.writer.view.history (Carried crossing.now p result.fate bytes) result.entry }
     ensures edits { EditsPass (layers_of lookup.now.1 core.old) crossing.now core.new.edited result.kept result.fate }
+    ensures own { result.own ≡ true → IsOwn crossing.now core.new.edited result.kept }
     ensures core { IsOf lookup.now core.new.writer }
     ensures history { core.new.writer.view.history ≡ core.old.writer.view.history ++ entered result.entry (event.Crossing crossing.now result.fate) }
     ensures caller { HasCalled lookup.now core.new.writer.view.history result.entry caller.old caller.new }
@@ -177,8 +179,9 @@ fn by_walk(
     outcome
 }
 
-/// The caller's packet is answered by a row, or crosses the layers. Where a walk over them costs less than a row's
-/// answer, no row is looked for or left. `row` tells whether a row answered, whose headers are then on the desk.
+/// The caller's packet is answered by a row, or crosses the layers. Where these are light, a walk over them costs less than
+/// a row's answer, and no row is looked for or left. `row` tells whether a row answered, whose headers are then on the
+/// desk.
 pub(crate) fn carry(
     core: &mut Core,
     lookup: &Lookup<PortStory>,
@@ -186,6 +189,7 @@ pub(crate) fn carry(
     crossing: &Crossing,
     desk: &mut Desk,
     row: &mut bool,
+    light: bool,
 ) -> Outcome
     requires core { IsOf lookup.now core.old.writer }
     requires told { IsTold lookup.now caller.old }
@@ -194,12 +198,13 @@ pub(crate) fn carry(
     requires permit { 0 < caller.old.permits }
     ensures done { (p : Parts) (bytes : List ℕ) → IsDone (opening_of lookup.now.1) core.old.writer.view.history (Carried crossing.now p result.fate bytes) result.entry }
     ensures edits { EditsPass (layers_of lookup.now.1 core.old) crossing.now (edited_by row.new desk.new core.new.edited) result.kept result.fate }
+    ensures own { result.own ≡ true → IsOwn crossing.now (edited_by row.new desk.new core.new.edited) result.kept }
     ensures row { row.new ≡ true → (crossing.now.control ≡ control.None) × (result.entry ≡ false) }
     ensures core { IsOf lookup.now core.new.writer }
     ensures history { core.new.writer.view.history ≡ core.old.writer.view.history ++ entered result.entry (event.Crossing crossing.now result.fate) }
     ensures caller { HasCalled lookup.now core.new.writer.view.history result.entry caller.old caller.new }
 {
-    if core.is_light() {
+    if light {
         *row = false;
         return by_walk(core, lookup, caller, crossing);
     }

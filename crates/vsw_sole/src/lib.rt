@@ -14,7 +14,7 @@ mod room;
 pub use answer::{RowAnswer, answer_by_row};
 pub use desk::Desk;
 pub use law::laws;
-pub use passing::{leave, transit};
+pub use passing::{bytes_of, leave, transit};
 pub use port::SolePort;
 pub use room::Room;
 pub use vsw_core::{Core, PortStory};

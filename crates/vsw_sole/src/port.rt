@@ -14,7 +14,7 @@ ghost use Rattle.vsw_policy.specs.Obey.{is_memory, rules_given};
 ghost use Rattle.vsw_policy.specs.Refusals.{reply_of};
 ghost use Rattle.vsw_policy.specs.Sound.{Each, IsGoodRule, is_listed};
 ghost use Rattle.vsw_port.specs.Core.{AreAtMost, entered, opening_of};
-ghost use Rattle.vsw_port.specs.Crossed.{EditsPass, MayBeShort, crossed, is_short};
+ghost use Rattle.vsw_port.specs.Crossed.{EditsPass, IsOwn, MayBeShort, crossed, is_short};
 ghost use Rattle.vsw_sole.specs.Callers.{IsCaller, Numbered};
 ghost use Rattle.vsw_sole.specs.Sole.{layers_of};
 
@@ -47,6 +47,8 @@ pub struct SolePort {
     desk: Desk,
     /// Whether a row answered the last packet.
     row: bool,
+    /// Whether the layers are light, as `Core::is_light` tells: no rows are looked for then.
+    light: bool,
     /// The next row to be reconciled.
     next: u32,
     /// How many rows weren't compared with the layers since these changed last.
@@ -83,6 +85,11 @@ fn left(room: u32, entry: bool) -> u32
 /// How many rows are to be compared with the layers after a call: all where it is an entry.
 fn stale_after(stale: u32, entry: bool, rows: u32) -> u32 {
     if entry { rows } else { stale }
+}
+
+/// Whether the layers are light after a call: asked anew where it is an entry, since it changed them.
+fn light_after(light: bool, entry: bool, core: &Core) -> bool {
+    if entry { core.is_light() } else { light }
 }
 
 /// Whether an answer is an entry of the history.
@@ -157,6 +164,7 @@ impl SolePort {
         let Opened { lookup, mut writer } = Lookup::open(alloc, rows, &policy)?;
         let callers = callers(alloc, &lookup, &mut writer, 16 + controllers.len())?;
         let core = Core::open(alloc, policy, writer)?;
+        let light = core.is_light();
         Ok(SolePort {
             core,
             lookup,
@@ -166,6 +174,7 @@ impl SolePort {
             room: 0,
             desk: Desk::new(),
             row: false,
+            light,
             next: 0,
             stale: 0,
         })
@@ -246,6 +255,7 @@ impl SolePort {
         ensures exact { record { fate = result.fate; layers = layers_of self.new; entry = result.entry } ≡ crossed (is_short result.fate) (layers_of self.old) crossing.now }
         ensures memory { MayBeShort (is_short result.fate) (layers_of self.old) crossing.now }
         ensures edits { EditsPass (layers_of self.old) crossing.now self.new.edited result.kept result.fate }
+        ensures own { result.own ≡ true → IsOwn crossing.now self.new.edited result.kept }
         ensures row { self.new.by_row ≡ true → (crossing.now.control ≡ control.None) × (result.entry ≡ false) }
         ensures journal { self.new.journal ≡ self.old.journal ++ entered result.entry (event.Crossing crossing.now result.fate) }
         ensures opening { self.new.opening ≡ self.old.opening }
@@ -260,7 +270,9 @@ impl SolePort {
             crossing,
             &mut self.desk,
             &mut self.row,
+            self.light,
         );
+        self.light = light_after(self.light, outcome.entry, &self.core);
         self.room = left(self.room, outcome.entry);
         self.stale = stale_after(self.stale, outcome.entry, self.lookup.rows());
         outcome
@@ -289,8 +301,10 @@ impl SolePort {
             controller,
             command,
         );
-        self.room = left(self.room, is_entry(answer));
-        self.stale = stale_after(self.stale, is_entry(answer), self.lookup.rows());
+        let entry = is_entry(answer);
+        self.light = light_after(self.light, entry, &self.core);
+        self.room = left(self.room, entry);
+        self.stale = stale_after(self.stale, entry, self.lookup.rows());
         answer
     }
 
@@ -301,20 +315,20 @@ impl SolePort {
     {
         let rows = rows.min(self.stale);
         self.stale -= rows;
+        if self.light {
+            return;
+        }
         reconcile_from(&mut self.core, &self.lookup, &mut self.next, rows);
     }
 }
 
-/// Reconciles so many rows, from this one on, where rows are looked for.
+/// Reconciles so many rows, from this one on.
 fn reconcile_from(core: &mut Core, lookup: &Lookup<PortStory>, next: &mut u32, rows: u32)
     requires core { IsOf lookup.now core.old.writer }
     ensures core { IsOf lookup.now core.new.writer }
     ensures history { core.new.writer.view.history ≡ core.old.writer.view.history }
     ensures edited { core.new.edited ≡ core.old.edited }
 {
-    if core.is_light() {
-        return;
-    }
     for _ in 0..rows {
         let row = turn(*next, lookup.rows());
         let _ = core.reconcile(lookup, row);

@@ -5,7 +5,7 @@ ghost use Rattle.vsw_frame.specs.Frame.{parts};
 ghost use Rattle.vsw_live.specs.Transit.{IsOfFrame};
 
 use vsw_base::{Control, Crossing, Dir, Moment, Ufid};
-use vsw_frame::{Frame, read_frame};
+use vsw_frame::{Frame, FrameRoom, read_frame};
 
 /// UDP from 10.0.0.5:1234 to 10.0.0.9:53, 44 bytes. Byte 35 tells the flow.
 pub const QUERY: [u8; 44] = [
@@ -102,7 +102,8 @@ pub fn crossing(frame: &Frame<'_>, worker: u32, packet: &Packet) -> Crossing
 /// The packet of a flow that a worker brought with this number, made once more.
 pub fn crossing_of(worker: u32, number: u32) -> Option<Crossing> {
     let packet = packet_of(worker, number);
-    match read_frame(&packet.bytes) {
+    let mut room = FrameRoom::new();
+    match read_frame(&packet.bytes, &mut room) {
         Ok(frame) => Some(crossing(&frame, worker, &packet)),
         Err(_) => None,
     }

@@ -6,23 +6,25 @@ ghost use Rattle.vsw_live.specs.Ports.{AreNewPasses};
 ghost use Rattle.vsw_live_tests.specs.Trials.{Calls};
 
 use crate::live::opening::{PERMITS, pass_of};
-use crate::live::packets::{Packet, QUERY, crossing, packet_of, query};
+use crate::live::packets::{Packet, crossing, packet_of, query};
 use std::alloc::Global;
 use std::marker::Model;
 use std::sync::Wait;
 use vsw_base::{Control, Dir, Fate};
-use vsw_frame::read_frame;
-use vsw_live::{Answer, Desk, Fast, LivePort, Naming, Room, Unit, Why};
+use vsw_frame::{Frame, FrameRoom, read_frame};
+use vsw_live::{Answer, Desk, Fast, LivePort, Naming, Room, Unit, Why, bytes_of};
 use vsw_lookup::Pass;
 use vsw_rows::PortStory;
 
-/// What a packet was told: its fate, its count, whether it is an entry, and why no row answered.
+/// What a packet was told: its fate, its count, whether it is an entry, why no row answered, and whether its frame leaves
+/// with its own bytes.
 #[derive(Clone, Copy)]
 pub struct Answered {
     pub fate: Fate,
     pub count: u32,
     pub entry: bool,
     pub why: Option<Why>,
+    pub own: bool,
 }
 
 fn told_of(answer: &Answer) -> Answered
@@ -33,6 +35,7 @@ fn told_of(answer: &Answer) -> Answered
         count: answer.count(),
         entry: answer.entry(),
         why: answer.why(),
+        own: answer.own(),
     }
 }
 
@@ -111,6 +114,16 @@ fn cross<J: Naming, R: Wait>(
     }
 }
 
+/// Whether a frame left with the bytes with which it came.
+fn is_as_it_came(answered: &Answered, frame: &Frame<'_>, room: &Room) -> bool {
+    match answered.fate {
+        Fate::Pass { len } if len <= 65_700 => {
+            bytes_of(Fate::Pass { len }, answered.own, frame, room) == frame.bytes()
+        }
+        _ => false,
+    }
+}
+
 /// A worker with its pass. Contracts see how many entries it may make.
 #[derive(Drop)]
 pub struct Worker<'a, J: Naming> {
@@ -122,6 +135,8 @@ pub struct Worker<'a, J: Naming> {
     desk: Desk,
     room: Room,
     notes: Vec<Answered>,
+    /// Whether the last frame left with the bytes with which it came.
+    came: bool,
 }
 
 impl<'a, J: Naming> Model for Worker<'a, J> {
@@ -169,6 +184,7 @@ impl<'a, J: Naming> Worker<'a, J> {
                 desk: Desk::new(),
                 room,
                 notes,
+                came: false,
             }),
             None => None,
         }
@@ -179,7 +195,8 @@ impl<'a, J: Naming> Worker<'a, J> {
         if self.left == 0 {
             return None;
         }
-        let Ok(frame) = read_frame(&packet.bytes) else {
+        let mut room = FrameRoom::new();
+        let Ok(frame) = read_frame(&packet.bytes, &mut room) else {
             return None;
         };
         let crossing = crossing(&frame, self.number, packet);
@@ -196,6 +213,7 @@ impl<'a, J: Naming> Worker<'a, J> {
         if answered.entry {
             self.left -= 1;
         }
+        self.came = is_as_it_came(&answered, &frame, &self.room);
         Some(answered)
     }
 
@@ -227,8 +245,8 @@ impl<'a, J: Naming> Worker<'a, J> {
         &self.notes
     }
 
-    /// Whether the last frame that left is the query itself.
+    /// Whether the last frame left with the bytes with which it came.
     pub fn left_as_it_came(&self) -> bool {
-        self.room.bytes(44) == &QUERY[..]
+        self.came
     }
 }

@@ -6,6 +6,7 @@ use crate::lean::packets::packet;
 use crate::lean::trial::{Row, Trial};
 use std::alloc::Global;
 use vsw_base::{Control, Ufid};
+use vsw_policy::HashSeed;
 use vsw_rows::Leaning;
 use vsw_walk::Looked;
 
@@ -41,7 +42,7 @@ impl Rows {
             ids: Vec::new(alloc),
             rows: Vec::new(alloc),
             looks: Vec::new(alloc),
-            leaning: Leaning::new(alloc),
+            leaning: Leaning::new(alloc, &HashSeed::known()),
         }
     }
 

@@ -1,5 +1,5 @@
 -- What a row that was found says of the packet that found it.
-use Rattle.std.specs.Prelude.{◌≡◌, ◌<◌, ◌≤◌, ◌++◌, ℕ, List, false, length}
+use Rattle.std.specs.Prelude.{◌≡◌, ◌<◌, ◌≤◌, ◌++◌, ℕ, List, [], ◌∷◌, false, true, length}
 use Rattle.vsw_sole.specs.declared.answer.RowAnswer.{RowAnswer}
 use Rattle.vsw_sole.specs.declared.answer.RowAnswer.TheVariants.{Read, Control, Miss, Late}
 use Rattle.vsw_base.specs.declared.fate.Fate.{Fate}
@@ -16,10 +16,11 @@ use Rattle.vsw_port.specs.History.{Opening, replay}
 use Rattle.vsw_rows.specs.Good.{Good, Row}
 use Rattle.vsw_rows.specs.LeanLaw.{stop_by}
 use Rattle.vsw_port.specs.declared.crossing.Outcome.{Outcome}
-use Rattle.vsw_port.specs.Crossed.{EditsPass}
+use Rattle.vsw_port.specs.Crossed.{EditsPass, IsOwn}
 use Rattle.vsw_core.specs.Law.{row_found}
 use Rattle.vsw_core.specs.Rows.{IsGoodRow, words_of}
 use Rattle.vsw_transpose.specs.declared.act.Act.{Act}
+use Rattle.vsw_transpose.specs.declared.act.Act.TheVariants.{Ignore}
 use Rattle.vsw_transpose.specs.Apply.{apply}
 use Rattle.vsw_transpose.specs.Fits as fit
 use Rattle.vsw_words.specs.declared.row.Body.{Body}
@@ -49,6 +50,12 @@ pub record AreEdited (x : Crossing) (acts : List Act) (edited : List Header) (ke
   pub stack : edited ≡ apply acts x.id.stack
   pub kept_is : kept ≡ fit.kept acts
 
+-- acts that leave each header as it is
+abbrev pub AreIgnores : List Act → Type 0
+AreIgnores [] = Unit {0}
+AreIgnores (Ignore ∷ acts) = AreIgnores acts
+AreIgnores (act ∷ acts) = ⊥
+
 abbrev pub IfPasses : Fate → Type 0 → Type 0
 IfPasses (Pass len) fact = fact
 IfPasses (Drop cause) fact = Unit {0}
@@ -66,6 +73,7 @@ pub record Said (o : Opening) (h : List Event) (x : Crossing) (words : List ℕ)
   pub count_is : count ≡ length h
   pub reads : (p : Parts) (bytes : List ℕ) → Reads (replay o h) (Carried x p outcome.fate bytes)
   pub edits : EditsPass (replay o h) x edited outcome.kept outcome.fate
+  pub own : outcome.own ≡ true → IsOwn x edited outcome.kept
   pub entry : outcome.entry ≡ false
 
 pub record SaidLate (o : Opening) (h : List Event) (x : Crossing) (words : List ℕ) : Type 0 where

@@ -10,4 +10,4 @@ returns-then-micros c =
 pub returns : goal.returns
 returns c =
     let time : c.args.crossing.now.moment ≤ c.read.new.body.until = search rules in
-    record { says = λ o h found many. said o h c.args.crossing.now c.args.words.now c.read.new.body c.outcome_by.new.edited c.outcome_by.result c.args.count c.requires.control (c.read.ensures.body o h found) (c.read.ensures.whole o h found) time many c.outcome_by.ensures.fate c.outcome_by.ensures.edited c.outcome_by.ensures.entry }
+    record { says = λ o h found many. said o h c.args.crossing.now c.args.words.now c.read.new.body c.outcome_by.new.edited c.outcome_by.result c.args.count c.requires.control (c.read.ensures.body o h found) (c.read.ensures.whole o h found) time many c.outcome_by.ensures.fate c.outcome_by.ensures.edited c.outcome_by.ensures.own c.outcome_by.ensures.entry }

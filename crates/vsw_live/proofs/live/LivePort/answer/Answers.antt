@@ -1,5 +1,5 @@
 use Rattle.vsw_live.specs.Private.Locked.{layers_met}
-use Rattle.vsw_live.proofs.Answered.{answered, met_edits, met_fate}
+use Rattle.vsw_live.proofs.Answered.{answered, met_edits, met_fate, met_own}
 use Rattle.vsw_rows.specs.GoodRows.{opening_of}
 use Rattle.vsw_live.proofs.live.LivePort.answer.Goals as goal
 
@@ -10,6 +10,7 @@ leave-requires g c = record {
     met_fate (layers_met (opening_of c.args.self.now.looking.1) c.cross-count.new.pass.view c.cross-count.result.1) c.crossing.result.now c.args.unit.now.crossing c.cross-count.result.0.fate c.crossing.ensures c.cross-count.ensures.fate,
     met_edits (layers_met (opening_of c.args.self.now.looking.1) c.cross-count.new.pass.view c.cross-count.result.1) c.crossing.result.now c.args.unit.now.crossing c.cross-count.new.desk c.edited.result.now c.cross-count.result.0.kept c.cross-count.result.0.fate c.crossing.ensures c.edited.ensures c.cross-count.ensures.edits,
   );
+  own = met_own c.crossing.result.now c.args.unit.now.crossing c.cross-count.new.desk c.edited.result.now c.cross-count.result.0.kept c.cross-count.result.0.own c.crossing.ensures c.edited.ensures c.cross-count.ensures.own;
 }
 
 pub returns-clause-crosses : goal.returns-clause-crosses

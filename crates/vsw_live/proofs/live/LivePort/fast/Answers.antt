@@ -3,7 +3,7 @@ use Rattle.vsw_port.specs.History.{replay}
 use Rattle.vsw_live.specs.declared.answer.Fast.TheVariants.{Done}
 use Rattle.vsw_live.specs.Calls.{IsFast}
 use Rattle.vsw_live.specs.Ports.{PortSeen}
-use Rattle.vsw_live.proofs.Answered.{met_edits, met_fate}
+use Rattle.vsw_live.proofs.Answered.{met_edits, met_fate, met_own}
 use Rattle.vsw_live.proofs.Fasts.{done_fast, fate_read}
 use Rattle.vsw_rows.specs.GoodRows.{opening_of}
 use Rattle.vsw_live.proofs.live.LivePort.fast.Goals as goal
@@ -19,6 +19,7 @@ leave-requires g c =
         met_fate ls c.crossing.result.now c.args.unit.now.crossing c.in-Read.outcome.fate c.crossing.ensures (fate_read l c.crossing.result.now c.answer_by_row.new.pass c.answer_by_row.new.desk c.in-Read.outcome c.in-Read.count c.args.unit.now t),
         met_edits ls c.crossing.result.now c.args.unit.now.crossing c.answer_by_row.new.desk c.edited.result.now c.in-Read.outcome.kept c.in-Read.outcome.fate c.crossing.ensures c.edited.ensures t.edits,
       );
+      own = met_own c.crossing.result.now c.args.unit.now.crossing c.answer_by_row.new.desk c.edited.result.now c.in-Read.outcome.kept c.in-Read.outcome.own c.crossing.ensures c.edited.ensures t.own;
     }
 
 pub returns-in-Read-clause-fast : goal.returns-in-Read-clause-fast

@@ -47,6 +47,6 @@ invariant_of-self c =
     let own : is_listed s.controllers.items c.args.controller ≡ true = ap (λ (cs : List ℕ). is_listed cs c.args.controller) c.self.invariant.controllers_are ∙ (ap (λ (v : SoleSeen). is_listed v.opening.controllers c.args.controller) c.self.view_is ∙ c.requires.listed) in
     let place : c.place_of-place.result ≡ place_of c.args.controller s.controllers.items = c.place_of-place.ensures.value ∙ ap (place_of c.args.controller) c.deref.ensures.value in
     let within : k < length s.callers.items = omega (arith, place_within s.controllers.items c.args.controller own, place, c.self.invariant.many) in
-    subst (IsSole s.lookup c.ask-answer.new.core.writer s.controllers.items _ s.workers) (sym (c.left-self-inside.ensures ∙ ap (λ b. s.room - one_if b) c.is_entry.ensures))
+    subst (IsSole s.lookup c.ask-answer.new.core.writer s.controllers.items _ s.workers) (sym (c.left-self-inside.ensures ∙ ap (λ b. s.room - one_if b) c.is_entry-entry.ensures))
     (sole_called s.lookup s.core.writer c.ask-answer.new.core.writer (entered (not (is_memory answer)) (event.Command c.args.controller c.args.line c.args.command.now (reply_of answer))) s.controllers.items s.callers.items s.workers s.room k (not (is_memory answer)) c.index_mut-caller.result.now c.ask-answer.new.caller
     c.self.invariant c.ask-answer.ensures.core c.ask-answer.ensures.history within c.index_mut-caller.ensures.value c.ask-answer.ensures.caller)

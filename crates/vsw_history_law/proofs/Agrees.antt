@@ -1,5 +1,5 @@
 -- What the lines of packets tell.
-use Rattle.std.proofs.Common.{◌≡◌, ◌<◌, ◌≤◌, ◌==◌, ◌&&◌, ◌+◌, ◌-◌, ℕ, zero, suc, Bool, true, false, if◌then◌else◌, List, [], ◌∷◌, ◌++◌, length, map, filter, take, drop, Option, Some, None, Result, Ok, Err, slice_get, refl, ap, sym, ◌∙◌, subst, arith, append_assoc, eq-eqb, ne_eqb}
+use Rattle.std.proofs.Common.{◌≡◌, ◌<◌, ◌≤◌, ◌==◌, ◌+◌, ◌-◌, ℕ, zero, suc, Bool, true, false, if◌then◌else◌, List, [], ◌∷◌, ◌++◌, length, map, filter, take, drop, Option, Some, None, Result, Ok, Err, slice_get, refl, ap, sym, ◌∙◌, subst, arith, append_assoc, eq-eqb, ne_eqb}
 use Rattle.std.specs.List.{flat_map}
 use native.Mathlib.Decide.{ℕ_discrete}
 use Rattle.std.proofs.lemmas.Nat.{mod_below}
@@ -13,19 +13,18 @@ use Rattle.vsw_policy.specs.Sound.{Each}
 use Rattle.vsw_promise.specs.Ports.{PortSeen}
 use Rattle.vsw_report.specs.declared.round.LooseCause.{LooseCause}
 use Rattle.vsw_port.specs.declared.event.Event.{Event}
-use Rattle.vsw_port.specs.Calls.{Job, Carry, Ask, Deed, Carried, Asked, Call, job_of, job_doer, doer, calls_of, InOrder}
+use Rattle.vsw_port.specs.Calls.{Job, Carry, Ask, Deed, Carried, Asked, Call, job_of, doer, calls_of, InOrder}
 use Rattle.vsw_port.specs.Order.{numbered, StandsOnce}
 use Rattle.vsw_report.specs.declared.round.PortRound.{PortRound}
-use Rattle.vsw_report.specs.declared.told.ToldLine.{ToldLine}
 use Rattle.vsw_report.specs.declared.told.What.{What}
 use Rattle.vsw_report.specs.declared.told.What.TheVariants as what
-use Rattle.vsw_promise.specs.Agree.{is_packet, fates_in}
-use Rattle.vsw_promise.specs.Jobs.{aim_of, Setting, Jobs, jobs_of, aimed_at, packet_jobs, crossing_by, worker_of, macs_of, packets_between, during_jobs, before_jobs}
+use Rattle.vsw_promise.specs.Jobs.{Hop, Placed, aim_of, Setting, at_place, hops_of, jobs_of, placed_packet, placed_packets, second_job, worker_of, macs_of, packets_between, during_jobs, before_jobs}
 use Rattle.vsw_promise.specs.Rounds.{IsPortRound}
-use Rattle.vsw_promise.specs.Told.{callers, line_of, what_of, in_told_order, lines_of}
+use Rattle.vsw_promise.specs.Told.{callers, fates_in, is_packet, line_of, what_of, in_told_order}
+use Rattle.vsw_promise.proofs.Handed.{each_at}
 use Rattle.vsw_port.proofs.Calls.{each_append}
 use Rattle.vsw_history_law.proofs.Callers.{worker_once}
-use Rattle.vsw_history_law.proofs.Reports.{doer_job, round_jobs, each_filter, each_map, map_each, each_told}
+use Rattle.vsw_history_law.proofs.Reports.{round_jobs, map_each, each_told}
 use Rattle.vsw_history_law.proofs.Telling.{told_calls}
 use Rattle.vsw_history_law.proofs.Values.{order_at}
 use Rattle.vsw_history_law.specs.Plain.{what_became}
@@ -33,7 +32,7 @@ use Rattle.vsw_history_law.specs.Plain.{what_became}
 -- ---- the packets of a round have their numbers from the trace
 
 -- each of these is a record of the trace, with its number
-abbrev AreNumbered : List Record → List (ℕ × Record) → Type 0
+abbrev pub AreNumbered : List Record → List (ℕ × Record) → Type 0
 AreNumbered records ps = Each (λ p. slice_get records p.0 ≡ Some p.1) ps
 
 get_behind : {A : Type 0} (front back : List A) (x : A) → slice_get (front ++ x ∷ back) (length front) ≡ Some x
@@ -61,7 +60,7 @@ each_drop P zero xs e = e
 each_drop P (suc n) [] e = tt
 each_drop P (suc n) (x ∷ xs) e = each_drop P n xs e.1
 
-between_are : (records : List Record) (first next : ℕ) → AreNumbered records (packets_between records first next)
+pub between_are : (records : List Record) (first next : ℕ) → AreNumbered records (packets_between records first next)
 between_are records first next = each_take (λ p. slice_get records p.0 ≡ Some p.1) (next - first) (drop first (numbered 0 records)) (each_drop (λ p. slice_get records p.0 ≡ Some p.1) first (numbered 0 records) (numbered_are [] records))
 
 -- ---- one worker brings each packet
@@ -87,7 +86,7 @@ got_low : (workers : ℕ) (macs : List ℕ) (o : Option Record) → 0 < workers 
 got_low workers macs None least most = omega arith
 got_low workers macs (Some r) least most = aimed_low workers (aim_of macs r) least most
 
-abbrev is_job : ℕ → Job → Bool
+abbrev pub is_job : ℕ → Job → Bool
 is_job n (Carry x p) = x.packet == n
 is_job n (Ask l) = false
 
@@ -96,7 +95,7 @@ abbrev IsBroughtBy : ℕ → ℕ → Job → Type 0
 IsBroughtBy n k (Carry x p) = (x.packet == n) ≡ true → x.caller ≡ k
 IsBroughtBy n k (Ask l) = Unit {0}
 
-eq_is : (a b : ℕ) → (a == b) ≡ true → a ≡ b
+pub eq_is : (a b : ℕ) → (a == b) ≡ true → a ≡ b
 eq_is a b e = by (ℕ_discrete a b)
   where
     by : Dec (a ≡ b) → a ≡ b
@@ -106,31 +105,36 @@ eq_is a b e = by (ℕ_discrete a b)
         ne_is : (a == b) ≡ false
         ne_is = ne_eqb a b ne
 
-aimed_by : (s : Setting) (records : List Record) (n m port : ℕ) (r : Record) (to : Result (Place × Parts) LooseCause) → aim_of (macs_of s.policy) r ≡ to → slice_get records m ≡ Some r → Each (IsBroughtBy n (worker_at s records n)) (aimed_at s.workers port m r.moment to)
-aimed_by s records n m port r (Err why) e g = tt
-aimed_by s records n m port r (Ok a) e g = by (a.0.port == port)
+-- the worker of packet m brings it, each time
+packet_by : (s : Setting) (records : List Record) (n m : ℕ) (r : Record) (hops : List Hop) (to : Result (Place × Parts) LooseCause) → aim_of (macs_of s.policy) r ≡ to → slice_get records m ≡ Some r → Each (λ t. IsBroughtBy n (worker_at s records n) t.1) (placed_packet s.workers m r.moment hops to)
+packet_by s records n m r hops (Err why) e g = tt
+packet_by s records n m r hops (Ok a) e g = (own, seconds hops)
   where
     own : (m == n) ≡ true → worker_of s.workers a.1 ≡ worker_at s records n
     own t = sym (ap (λ k. worker_at s records k) (sym (eq_is m n t)) ∙ (ap (worker_got s.workers (macs_of s.policy)) g ∙ ap (worker_aimed s.workers) e))
 
-    by : (b : Bool) → Each (IsBroughtBy n (worker_at s records n)) (if b then Carry (crossing_by (worker_of s.workers a.1) m a.0 r.moment a.1) a.1 ∷ [] else [])
-    by true = (own, tt)
-    by false = tt
+    seconds : (hops : List Hop) → Each (λ (t : Placed). IsBroughtBy n (worker_at s records n) t.1) (map (second_job (worker_of s.workers a.1) m r.moment) hops)
+    seconds [] = tt
+    seconds (h ∷ hs) = (own, seconds hs)
 
-packets_by : (s : Setting) (records : List Record) (n port : ℕ) (packets : List (ℕ × Record)) → AreNumbered records packets → Each (IsBroughtBy n (worker_at s records n)) (packet_jobs s.workers (macs_of s.policy) port packets)
-packets_by s records n port [] e = tt
-packets_by s records n port (p ∷ ps) e = each_append (IsBroughtBy n (worker_at s records n)) (aimed_at s.workers port p.0 p.1.moment (aim_of (macs_of s.policy) p.1)) (packet_jobs s.workers (macs_of s.policy) port ps) (aimed_by s records n p.0 port p.1 (aim_of (macs_of s.policy) p.1) refl e.0) (packets_by s records n port ps e.1)
+packets_by : (s : Setting) (records : List Record) (told : List PortRound) (n : ℕ) (packets : List (ℕ × Record)) → AreNumbered records packets → Each (λ t. IsBroughtBy n (worker_at s records n) t.1) (placed_packets s.workers s.local (macs_of s.policy) told packets)
+packets_by s records told n [] e = tt
+packets_by s records told n (p ∷ ps) e =
+    let hops = hops_of s.local (macs_of s.policy) told p.0 (aim_of (macs_of s.policy) p.1) in
+    each_append (λ t. IsBroughtBy n (worker_at s records n) t.1) (placed_packet s.workers p.0 p.1.moment hops (aim_of (macs_of s.policy) p.1)) (placed_packets s.workers s.local (macs_of s.policy) told ps)
+    (packet_by s records n p.0 p.1 hops (aim_of (macs_of s.policy) p.1) refl e.0) (packets_by s records told n ps e.1)
 
 lines_by : (n k : ℕ) (ls : List Line) → Each (IsBroughtBy n k) (map Ask ls)
 lines_by n k [] = tt
 lines_by n k (l ∷ ls) = (tt, lines_by n k ls)
 
-jobs_by_one : (s : Setting) (records : List Record) (first next place number n : ℕ) → Each (IsBroughtBy n (worker_at s records n)) ((jobs_of s records first next place number).first ++ (jobs_of s records first next place number).later)
-jobs_by_one s records first next place number n =
+jobs_by_one : (s : Setting) (records : List Record) (told : List PortRound) (first next place number n : ℕ) → Each (IsBroughtBy n (worker_at s records n)) ((jobs_of s records told first next place number).first ++ (jobs_of s records told first next place number).later)
+jobs_by_one s records told first next place number n =
     let P = IsBroughtBy n (worker_at s records n) in
-    let packets = packet_jobs s.workers (macs_of s.policy) place (packets_between records first next) in
+    let placed = placed_packets s.workers s.local (macs_of s.policy) told (packets_between records first next) in
+    let packets = at_place place placed in
     each_append P (before_jobs s.commands first number) (during_jobs s.commands first number ++ packets) (lines_by n (worker_at s records n) _)
-    (each_append P (during_jobs s.commands first number) packets (lines_by n (worker_at s records n) _) (packets_by s records n place (packets_between records first next) (between_are records first next)))
+    (each_append P (during_jobs s.commands first number) packets (lines_by n (worker_at s records n) _) (each_at P place placed (packets_by s records told n (packets_between records first next) (between_are records first next))))
 
 -- ---- the lines of a packet are those of its calls
 
@@ -205,13 +209,13 @@ all_picked n (c ∷ cs) = by (is_of n c) (one_picked n c.deed c refl) (all_picke
     by false one ih = ih ∙ ap (λ w. w ++ picked n (flat_map (λ c. what_became c.deed) cs)) one
 
 -- the lines of a port's round tell of packet n what became of it
-pub round_tells : (s : Setting) (records : List Record) (first next place : ℕ) (p : PortSeen) (h : List Event) (r : PortRound) (n : ℕ) → 0 < s.workers → s.workers ≤ 16 → (i : IsPortRound s.workers p h (jobs_of s records first next place p.number) r) → fates_in n r.lines ≡ picked n (flat_map (λ c. what_became c.deed) (i.first ++ i.later))
-round_tells s records first next place p h r n least most i =
+pub round_tells : (s : Setting) (records : List Record) (told : List PortRound) (first next place : ℕ) (p : PortSeen) (h : List Event) (r : PortRound) (n : ℕ) → 0 < s.workers → s.workers ≤ 16 → (i : IsPortRound s.workers p h (jobs_of s records told first next place p.number) r) → fates_in n r.lines ≡ picked n (flat_map (λ c. what_became c.deed) (i.first ++ i.later))
+round_tells s records told first next place p h r n least most i =
     let ns = p.controllers in
     let calls = i.first ++ i.later in
     let k = worker_at s records n in
-    let jobs = jobs_of s records first next place p.number in
-    let brought : Each (λ c. IsBroughtBy n k (job_of c.deed)) calls = map_each (IsBroughtBy n k) (λ c. job_of c.deed) calls (subst (Each (IsBroughtBy n k)) (sym (round_jobs s.workers p h jobs r i)) (jobs_by_one s records first next place p.number n)) in
+    let jobs = jobs_of s records told first next place p.number in
+    let brought : Each (λ c. IsBroughtBy n k (job_of c.deed)) calls = map_each (IsBroughtBy n k) (λ c. job_of c.deed) calls (subst (Each (IsBroughtBy n k)) (sym (round_jobs s.workers p h jobs r i)) (jobs_by_one s records told first next place p.number n)) in
     ap (fates_in n) i.lines
     ∙ (filter_lines n (in_told_order ns calls r.before (r.after - r.before))
     ∙ (ap (map (λ (c : Call). what_of c.deed)) (told_packets ns n k calls r.before (r.after - r.before) (worker_once ns k (got_low s.workers (macs_of s.policy) (slice_get records n) least most)) (order_at s.workers p h jobs r i k) (calls_by ns n k calls brought))

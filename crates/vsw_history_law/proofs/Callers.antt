@@ -127,7 +127,7 @@ put_other k n (m ∷ ms) ne s = by (nat_lt n m) (n == m) (ℕ_discrete m k) (λ 
     by false false (yes e) ih = record { front = []; back = put_in n ms; is = ap (λ w. w ∷ put_in n ms) e; not_front = tt; not_back = each_put ms (first s.front s.is s.not_front e) }
     by false false (no mk) ih = once_next k m (put_in n ms) mk (ih mk)
 
-ascending_ascends : (ns : List ℕ) → Ascends 0 (ascending ns)
+pub ascending_ascends : (ns : List ℕ) → Ascends 0 (ascending ns)
 ascending_ascends [] = tt
 ascending_ascends (n ∷ ns) = put_ascends 0 n (ascending ns) (omega arith) (ascending_ascends ns)
 

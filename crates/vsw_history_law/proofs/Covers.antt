@@ -170,7 +170,7 @@ above_filter k total (m ∷ ms) a = by (nat_lt m total) (above_filter m total ms
 
 -- ---- packets
 
-numbered_length : (n : ℕ) (rs : List Record) → length (numbered n rs) ≡ length rs
+pub numbered_length : (n : ℕ) (rs : List Record) → length (numbered n rs) ≡ length rs
 numbered_length n [] = refl
 numbered_length n (r ∷ rs) = ap suc (numbered_length (suc n) rs)
 

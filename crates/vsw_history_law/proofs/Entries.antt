@@ -234,7 +234,7 @@ same_at o h cs n e (c ∷ xs) at each = by (same_at o h cs n e xs at each.1) c.e
 
 -- ---- lines
 
-map_filter : (n : ℕ) (xs : List Call) → entry_lines n (map line_of xs) ≡ map line_of (entry_at n xs)
+pub map_filter : (n : ℕ) (xs : List Call) → entry_lines n (map line_of xs) ≡ map line_of (entry_at n xs)
 map_filter n [] = refl
 map_filter n (c ∷ xs) = by (map_filter n xs) (entry_test n c) refl
   where
@@ -293,7 +293,7 @@ later_none cs xs n low (suc m) lt =
     ∙ (at_append n (entry_at low xs) (in_told_order cs xs (suc low) m)
     ∙ (ap (λ w. w ++ entry_at n (in_told_order cs xs (suc low) m)) (at_other n low xs (λ e. omega (arith, e, lt))) ∙ later_none cs xs n (suc low) m (omega (arith, lt)))))
 
-told_at : (cs : List ℕ) (xs : List Call) (n low m : ℕ) → low ≤ n → n < low + m → entry_at n (in_told_order cs xs low m) ≡ entry_at n xs
+pub told_at : (cs : List ℕ) (xs : List Call) (n low m : ℕ) → low ≤ n → n < low + m → entry_at n (in_told_order cs xs low m) ≡ entry_at n xs
 told_at cs xs n low zero lo hi = absurd (omega (arith, lo, hi))
 told_at cs xs n low (suc m) lo hi =
     at_append n (reads_by_caller cs low xs) (entry_at low xs ++ in_told_order cs xs (suc low) m)

@@ -15,3 +15,5 @@ pub mod PlainRounds
 pub mod PlainRuns
 pub mod Plenty
 pub mod Same
+pub mod OneLine
+pub mod Short

@@ -1,9 +1,8 @@
 -- Rounds without stateful rules and "during" commands: what becomes of packets doesn't hang on the workers.
-use Rattle.std.proofs.Common.{◌≡◌, ◌≤◌, ℕ, zero, suc, ◌+◌, ◌==◌, Bool, true, false, if◌then◌else◌, List, [], ◌∷◌, ◌++◌, length, map, take, drop, Some, Result, Ok, Err, slice_get, refl, ap, sym, ◌∙◌, subst, arith, append_assoc, length-append}
+use Rattle.std.proofs.Common.{◌≡◌, ◌≤◌, ℕ, zero, suc, ◌+◌, ◌==◌, Bool, true, false, if◌then◌else◌, List, [], ◌∷◌, ◌++◌, length, map, take, Some, Result, Ok, Err, slice_get, refl, ap, sym, ◌∙◌, subst, arith, append_assoc}
 use Rattle.std.specs.List.{flat_map}
 use mathlib.Core.List.{IsPrefix}
 use Rattle.vsw_base.specs.declared.fate.Fate.{Fate}
-use Rattle.vsw_base.specs.declared.fate.Fate.TheVariants.{Pass, Drop}
 use Rattle.vsw_base.specs.declared.flow.Crossing.{Crossing}
 use Rattle.vsw_base.specs.declared.flow.Place.{Place}
 use Rattle.vsw_base.specs.Frame.{Parts}
@@ -18,10 +17,11 @@ use Rattle.vsw_port.specs.declared.event.Event.{Event}
 use Rattle.vsw_port.specs.declared.event.Event.TheVariants as event
 use Rattle.vsw_report.specs.declared.round.PortRound.{PortRound}
 use Rattle.vsw_promise.specs.Alone.{shown, deed_at}
-use Rattle.vsw_port.specs.Calls.{Job, Carry, Deed, Carried, Asked, Call, job_of, event_of, entries_of, Reads, Wants, Shows, ShowsAt, HasBytes, IsCall, Entry, Read, Short}
+use Rattle.vsw_port.specs.Calls.{Job, Carry, Deed, Carried, Asked, Call, job_of, event_of, entries_of, Reads, Wants, ShowsAt, HasBytes, IsCall, Entry, Read, Short}
 use Rattle.vsw_port.specs.History.{Opening, replay, after, after_all, left_by, IsRight, AreRight, AllRight}
 use Rattle.vsw_port.specs.Fate.{fate_at}
-use Rattle.vsw_promise.specs.Jobs.{aim_of, Jobs, crossing_by, worker_of, aimed_at, packet_jobs}
+use Rattle.vsw_promise.specs.Forwarded.{aimed_at, packet_jobs}
+use Rattle.vsw_promise.specs.Jobs.{aim_of, Jobs, crossing_by, worker_of}
 use Rattle.vsw_promise.specs.Rounds.{opening_of, IsPortRound}
 use Rattle.vsw_promise.specs.Told.{what_of}
 use Rattle.vsw_report.specs.Short.{tells_short}

@@ -1,40 +1,35 @@
 -- Runs without stateful rules and "during" commands: each packet's fate and bytes are those of one worker.
-use Rattle.std.proofs.Common.{◌≡◌, ◌<◌, ℕ, zero, suc, ◌+◌, ◌-◌, ◌==◌, ◌&&◌, ◌||◌, not, Bool, true, false, if◌then◌else◌, List, [], ◌∷◌, ◌++◌, length, map, filter, take, Some, Result, Ok, Err, slice_get, refl, ap, sym, ◌∙◌, subst, arith, eq-eqb}
-use Rattle.std.specs.List.{flat_map, list_any}
+use Rattle.std.proofs.Common.{◌≡◌, ◌<◌, ℕ, zero, suc, ◌==◌, ◌&&◌, not, Bool, true, false, if◌then◌else◌, List, [], ◌∷◌, ◌++◌, length, map, filter, take, Some, slice_get, refl, ap, sym, ◌∙◌, subst, arith, eq-eqb}
+use Rattle.std.specs.List.{flat_map}
 use Rattle.std.specs.Prelude.{option_to_list}
-use Rattle.std.proofs.lemmas.Nat.{mod_below}
-use Rattle.vsw_base.specs.declared.flow.Place.{Place}
-use Rattle.vsw_base.specs.Frame.{Parts}
+use Rattle.vsw_base.specs.declared.fate.Fate.{Fate}
 use Rattle.vsw_commandfile.specs.declared.line.Line.{Line}
-use Rattle.vsw_header.specs.FlowSum.{flow_sum_of}
 use Rattle.vsw_policy.specs.Layer.{LayerSeen}
 use Rattle.vsw_pcap.specs.declared.capture.Record.{Record}
 use Rattle.vsw_policy.specs.Obey.{rules_given}
-use Rattle.vsw_policy.specs.Sound.{Each, is_listed}
+use Rattle.vsw_policy.specs.Sound.{Each}
 use Rattle.vsw_config.specs.declared.file.PortFile.{PortFile}
 use Rattle.vsw_promise.specs.Ports.{PortSeen, port_of, ports_of}
-use Rattle.vsw_report.specs.declared.round.LooseCause.{LooseCause}
 use Rattle.vsw_port.specs.declared.event.Event.{Event}
 use Rattle.vsw_report.specs.declared.round.PortRound.{PortRound}
 use Rattle.vsw_report.specs.declared.round.Round.{Round}
-use Rattle.vsw_promise.specs.Alone.{deed_at, rounds_alone}
-use Rattle.vsw_port.specs.Calls.{Job, Carry, Ask, Deed, Carried, Asked, Call, job_of, doer, named, event_of, entries_of, entries_naming, calls_of, InOrder, AreShares, Legal}
+use Rattle.vsw_promise.specs.Alone.{deed_at, histories_from, rounds_alone, rounds_from}
+use Rattle.vsw_port.specs.Calls.{Job, Carry, Ask, Deed, Carried, Asked, Call, job_of, doer, named, event_of, entries_of, entries_naming, calls_of, AreShares, Legal}
 use Rattle.vsw_port.specs.History.{Opening, replay, AllRight}
-use Rattle.vsw_promise.specs.Jobs.{aim_of, Setting, Jobs, jobs_of, during_jobs, packet_jobs, aimed_at, worker_of, crossing_by, macs_of, packets_between}
+use Rattle.vsw_promise.specs.Jobs.{Setting, Jobs, at_place, jobs_of, during_jobs, placed_packets, macs_of, packets_between}
 use Rattle.vsw_history_law.specs.Law.{all_jobs, AreServed}
-use Rattle.vsw_port.specs.Order.{StandsOnce}
 use Rattle.vsw_promise.specs.Rounds.{opening_of, IsPortRound, AreRoundsAt, AreChained, AreHistories, AreRounds, end_before}
-use Rattle.vsw_promise.specs.Told.{callers, line_of, what_of, in_told_order}
-use Rattle.vsw_report.specs.Short.{tells_short, is_short_port, is_short_round, are_short}
-use Rattle.vsw_history_law.proofs.Callers.{worker_once, controller_once}
+use Rattle.vsw_report.specs.Short.{is_short_port, is_short_round, are_short}
 use Rattle.vsw_port.proofs.Calls.{each_append, legal_of, shares_join}
 use Rattle.vsw_port.proofs.Fronts.{prefix_self, append_end}
 use Rattle.vsw_promise.proofs.PortRounds.{take_whole}
 use Rattle.vsw_history_law.proofs.Reports.{round_jobs, each_filter, each_map, map_each, map_append, map_at, port_at, runs_legally}
 use Rattle.vsw_history_law.proofs.Values.{AreCallers, any_none, jobs_stand, plenty}
-use Rattle.vsw_history_law.proofs.Telling.{told_calls}
-use Rattle.vsw_promise.specs.Agree.{IsPlainRule, ArePlain, IsPlainSetting, with_workers, fates_in, is_packet, lines_at}
-use Rattle.vsw_history_law.specs.Plain.{IsPlainEvent, IsCarry, IsAsk, layers_by, what_became, fates_from, FatesAre}
+use Rattle.vsw_promise.specs.Agree.{IsPlainRule, ArePlain, IsPlainSetting, with_workers, lines_at}
+use Rattle.vsw_promise.specs.Forwarded.{packet_jobs}
+use Rattle.vsw_promise.specs.Told.{fates_in, is_packet}
+use Rattle.vsw_promise.proofs.Handed.{each_packet_at, packets_aimed}
+use Rattle.vsw_history_law.specs.Plain.{IsPlainEvent, IsCarry, IsAsk, layers_by, what_became, fates_from}
 use Rattle.vsw_report.specs.declared.told.ToldLine.{ToldLine}
 use Rattle.vsw_promise.proofs.Exists.{always_rounds}
 use Rattle.vsw_history_law.specs.AgreementLaw.{AgreesAlone, FatesOfRun}
@@ -52,18 +47,6 @@ some_same a b e = cc e
 
 -- ---- jobs
 
-each_of_packets : (P : Job → Type 0) (workers : ℕ) (macs : List ℕ) (port : ℕ) (packets : List (ℕ × Record)) → ((n moment : ℕ) (a : Place × Parts) → P (Carry (crossing_by (worker_of workers a.1) n a.0 moment a.1) a.1)) → Each P (packet_jobs workers macs port packets)
-each_of_packets P workers macs port [] own = tt
-each_of_packets P workers macs port (p ∷ ps) own = each_append P (aimed_at workers port p.0 p.1.moment (aim_of macs p.1)) (packet_jobs workers macs port ps) (one (aim_of macs p.1)) (each_of_packets P workers macs port ps own)
-  where
-    one : (r : Result (Place × Parts) LooseCause) → Each P (aimed_at workers port p.0 p.1.moment r)
-    one (Err why) = tt
-    one (Ok a) = by (a.0.port == port)
-      where
-        by : (b : Bool) → Each P (if b then Carry (crossing_by (worker_of workers a.1) p.0 a.0 p.1.moment a.1) a.1 ∷ [] else [])
-        by true = (own p.0 p.1.moment a, tt)
-        by false = tt
-
 each_of_lines : (P : Job → Type 0) (test : Line → Bool) (ls : List Line) → Each (λ l. P (Ask l)) ls → Each P (map Ask (filter test ls))
 each_of_lines P test ls e = each_map P Ask (filter test ls) (each_filter (λ l. P (Ask l)) test ls e)
 
@@ -79,13 +62,13 @@ none_during first port (l ∷ ls) e = let t : ((l.at == first) && (l.port == por
     never true = refl
     never false = refl
 
-later_carry : (s : Setting) (records : List Record) (first next place number : ℕ) → IsPlainSetting s → Each IsCarry (jobs_of s records first next place number).later
-later_carry s records first next place number plain =
-    let packets = packet_jobs s.workers (macs_of s.policy) place (packets_between records first next) in
-    subst (λ w. Each IsCarry (w ++ packets)) (sym (none_during first number s.commands plain.before)) (each_of_packets IsCarry s.workers (macs_of s.policy) place (packets_between records first next) (λ n moment a. tt))
+later_carry : (s : Setting) (records : List Record) (told : List PortRound) (first next place number : ℕ) → IsPlainSetting s → Each IsCarry (jobs_of s records told first next place number).later
+later_carry s records told first next place number plain =
+    let packets = at_place place (placed_packets s.workers s.local (macs_of s.policy) told (packets_between records first next)) in
+    subst (λ w. Each IsCarry (w ++ packets)) (sym (none_during first number s.commands plain.before)) (each_packet_at IsCarry s.workers s.local (macs_of s.policy) told place (packets_between records first next) (λ n moment frame to parts. tt))
 
-first_ask : (s : Setting) (records : List Record) (first next place number : ℕ) → Each IsAsk (jobs_of s records first next place number).first
-first_ask s records first next place number = each_of_lines IsAsk (λ l. (l.at == first) && (l.port == number) && not l.during) s.commands (all_ask s.commands)
+first_ask : (s : Setting) (records : List Record) (told : List PortRound) (first next place number : ℕ) → Each IsAsk (jobs_of s records told first next place number).first
+first_ask s records told first next place number = each_of_lines IsAsk (λ l. (l.at == first) && (l.port == number) && not l.during) s.commands (all_ask s.commands)
 
 -- ---- entries
 
@@ -93,19 +76,20 @@ abbrev IsPlainJob : Job → Type 0
 IsPlainJob (Carry x p) = Unit {0}
 IsPlainJob (Ask l) = Each IsPlainRule (rules_given l.command)
 
-round_plain : (s : Setting) (records : List Record) (first next place number : ℕ) → IsPlainSetting s → Each IsPlainJob ((jobs_of s records first next place number).first ++ (jobs_of s records first next place number).later)
-round_plain s records first next place number plain =
-    let jobs = jobs_of s records first next place number in
+round_plain : (s : Setting) (records : List Record) (told : List PortRound) (first next place number : ℕ) → IsPlainSetting s → Each IsPlainJob ((jobs_of s records told first next place number).first ++ (jobs_of s records told first next place number).later)
+round_plain s records told first next place number plain =
+    let jobs = jobs_of s records told first next place number in
     each_append IsPlainJob jobs.first jobs.later (each_of_lines IsPlainJob (λ l. (l.at == first) && (l.port == number) && not l.during) s.commands plain.rules)
-    (each_append IsPlainJob (during_jobs s.commands first number) (packet_jobs s.workers (macs_of s.policy) place (packets_between records first next))
+    (each_append IsPlainJob (during_jobs s.commands first number) (at_place place (placed_packets s.workers s.local (macs_of s.policy) told (packets_between records first next)))
     (each_of_lines IsPlainJob (λ l. (l.at == first) && (l.port == number) && l.during) s.commands plain.rules)
-    (each_of_packets IsPlainJob s.workers (macs_of s.policy) place (packets_between records first next) (λ n moment a. tt)))
+    (each_packet_at IsPlainJob s.workers s.local (macs_of s.policy) told place (packets_between records first next) (λ n moment frame to parts. tt)))
 
-all_plain : (s : Setting) (records : List Record) (cuts : List ℕ) (place number : ℕ) → IsPlainSetting s → Each IsPlainJob (all_jobs s records cuts place number)
-all_plain s records [] place number plain = tt
-all_plain s records (cut ∷ cuts) place number plain =
-    let jobs = jobs_of s records cut (end_before cuts (length records)) place number in
-    each_append IsPlainJob (jobs.first ++ jobs.later) (all_jobs s records cuts place number) (round_plain s records cut (end_before cuts (length records)) place number plain) (all_plain s records cuts place number plain)
+all_plain : (s : Setting) (records : List Record) (cuts : List ℕ) (rounds : List Round) (place number : ℕ) → IsPlainSetting s → Each IsPlainJob (all_jobs s records cuts rounds place number)
+all_plain s records [] rounds place number plain = tt
+all_plain s records (cut ∷ cuts) [] place number plain = tt
+all_plain s records (cut ∷ cuts) (r ∷ rounds) place number plain =
+    let jobs = jobs_of s records r.ports cut (end_before cuts (length records)) place number in
+    each_append IsPlainJob (jobs.first ++ jobs.later) (all_jobs s records cuts rounds place number) (round_plain s records r.ports cut (end_before cuts (length records)) place number plain) (all_plain s records cuts rounds place number plain)
 
 plain_event : (d : Deed) → IsPlainJob (job_of d) → IsPlainEvent (event_of d)
 plain_event (Carried x p fate bytes) k = tt
@@ -158,8 +142,8 @@ flat_jobs f (j ∷ js) = ap (λ w. what_became (f j) ++ w) (flat_jobs f js)
 record Spanned (s : Setting) (records : List Record) (cuts : List ℕ) (rounds : List Round) (place : ℕ) (p : PortSeen) (h : List Event) (low high : ℕ) (ls : List LayerSeen) : Type 0 where
   calls : List Call
   shares : AreShares (opening_of p) (take low h) (take high h) calls
-  jobs : map (λ c. job_of c.deed) calls ≡ all_jobs s records cuts place p.number
-  became : flat_map (λ c. what_became c.deed) calls ≡ fates_from p.controllers s records place p.number ls cuts
+  jobs : map (λ c. job_of c.deed) calls ≡ all_jobs s records cuts rounds place p.number
+  became : flat_map (λ c. what_became c.deed) calls ≡ fates_from p.controllers s records place p.number ls cuts rounds
   lines : (n : ℕ) → fates_in n (lines_at place rounds) ≡ picked n (flat_map (λ c. what_became c.deed) calls)
 
 -- what is known of a port of a plain run
@@ -177,15 +161,15 @@ shares_none o h k = record { begins = prefix_self h; each = tt; in_order = omega
 spans_none : (s : Setting) (records : List Record) (place : ℕ) (p : PortSeen) (h : List Event) (low high : ℕ) (ls : List LayerSeen) → low ≡ high → Spanned s records [] [] place p h low high ls
 spans_none s records place p h low high ls e = subst (λ n. Spanned s records [] [] place p h low n ls) e (record { calls = []; shares = shares_none (opening_of p) (take low h); jobs = refl; became = refl; lines = λ n. refl })
 
-plain_round : (s : Setting) (records : List Record) (first next i : ℕ) (p : PortSeen) (h : List Event) (r : PortRound) → Plainly s p h → IsPortRound s.workers p h (jobs_of s records first next i p.number) r → is_short_port r ≡ false → IsPlainRound s.workers p h (jobs_of s records first next i p.number) r
-plain_round s records first next i p h r plain is short = record {
+plain_round : (s : Setting) (records : List Record) (told : List PortRound) (first next i : ℕ) (p : PortSeen) (h : List Event) (r : PortRound) → Plainly s p h → IsPortRound s.workers p h (jobs_of s records told first next i p.number) r → is_short_port r ≡ false → IsPlainRound s.workers p h (jobs_of s records told first next i p.number) r
+plain_round s records told first next i p h r plain is short = record {
   is = is;
   right = plain.right;
   layers = plain.layers;
   events = plain.events;
-  ask = first_ask s records first next i p.number;
-  carry = later_carry s records first next i p.number plain.setting;
-  long = plenty s.workers p h (jobs_of s records first next i p.number) r is (subst (λ ns. AreCallers ns ((jobs_of s records first next i p.number).first ++ (jobs_of s records first next i p.number).later)) (sym plain.known) (jobs_stand s records first next i p.number plain.served)) short;
+  ask = first_ask s records told first next i p.number;
+  carry = later_carry s records told first next i p.number plain.setting;
+  long = plenty s.workers p h (jobs_of s records told first next i p.number) r is (subst (λ ns. AreCallers ns ((jobs_of s records told first next i p.number).first ++ (jobs_of s records told first next i p.number).later)) (sym plain.known) (jobs_stand s records told first next i p.number plain.served)) short;
 }
 
 round_became : (workers : ℕ) (p : PortSeen) (h : List Event) (jobs : Jobs) (r : PortRound) (ls : List LayerSeen) (i : IsPlainRound workers p h jobs r) → replay (opening_of p) (take r.after h) ≡ layers_by p.controllers ls jobs.first
@@ -199,7 +183,7 @@ round_became workers p h jobs r ls i leaves =
     ∙ (flat_jobs (deed_at p.controllers (replay (opening_of p) (take r.after h))) jobs.later
     ∙ ap (λ m. flat_map (λ j. what_became (deed_at p.controllers m j)) jobs.later) leaves))))
 
-fates_append : (n : ℕ) (xs ys : List ToldLine) → fates_in n (xs ++ ys) ≡ fates_in n xs ++ fates_in n ys
+pub fates_append : (n : ℕ) (xs ys : List ToldLine) → fates_in n (xs ++ ys) ≡ fates_in n xs ++ fates_in n ys
 fates_append n [] ys = refl
 fates_append n (x ∷ xs) ys = by (is_packet n x) (fates_append n xs ys)
   where
@@ -220,11 +204,11 @@ unfolding plain_round
 spans_plain s records hs i p h plain e f [] [] counts last low high ls a c l m short begins = spans_none s records i p h low high ls (some_same low high (sym l ∙ (ap (λ w. slice_get w i) (sym c) ∙ m)))
 spans_plain s records hs i p h plain e f (cut ∷ cuts) (r ∷ rs) counts last low high ls a c l m short begins =
     let next = end_before cuts (length records) in
-    let jobs = jobs_of s records cut next i p.number in
-    let here = port_at s records cut next 0 i (ports_of s.policy) hs r.ports p h a.0.ports e f in
+    let jobs = jobs_of s records r.ports cut next i p.number in
+    let here = port_at s records r.ports cut next 0 i (ports_of s.policy) hs r.ports p h a.0.ports e f in
     let round = here.0 in
-    let is : IsPortRound s.workers p h jobs round = subst (λ n. IsPortRound s.workers p h (jobs_of s records cut next n p.number) round) (omega arith) here.2 in
-    let one : IsPlainRound s.workers p h jobs round = plain_round s records cut next i p h round plain is (each_at (λ q. is_short_port q ≡ false) r.ports i round here.1 (any_none is_short_port r.ports short.0)) in
+    let is : IsPortRound s.workers p h jobs round = subst (λ n. IsPortRound s.workers p h (jobs_of s records r.ports cut next n p.number) round) (omega arith) here.2 in
+    let one : IsPlainRound s.workers p h jobs round = plain_round s records r.ports cut next i p h round plain is (each_at (λ q. is_short_port q ≡ false) r.ports i round here.1 (any_none is_short_port r.ports short.0)) in
     let starts : round.before ≡ low = some_same round.before low (sym (map_at (λ q. q.before) r.ports i round here.1) ∙ (ap (λ w. slice_get w i) c.0 ∙ l)) in
     let leaves : replay (opening_of p) (take round.after h) ≡ layers_by p.controllers ls jobs.first = (plainly s.workers p h jobs round one).leaves ∙ ap (λ m. layers_by p.controllers m jobs.first) (ap (λ n. replay (opening_of p) (take n h)) starts ∙ begins) in
     let rest = spans_plain s records hs i p h plain e f cuts rs (map (λ q. q.after) r.ports) last round.after high (layers_by p.controllers ls jobs.first) a.1 c.1 (map_at (λ q. q.after) r.ports i round here.1) m short.1 leaves in record {
@@ -234,7 +218,7 @@ spans_plain s records hs i p h plain e f (cut ∷ cuts) (r ∷ rs) counts last l
       became = flat_append (λ c. what_became c.deed) (is.first ++ is.later) rest.calls
           ∙ (ap (λ w. w ++ flat_map (λ c. what_became c.deed) rest.calls) (round_became s.workers p h jobs round ls one leaves)
           ∙ ap (λ w. flat_map (λ j. what_became (deed_at p.controllers (layers_by p.controllers ls jobs.first) j)) jobs.later ++ w) rest.became);
-      lines = λ n. lines_more n i r rs round here.1 ∙ (ap (λ w. w ++ fates_in n (lines_at i rs)) (round_tells s records cut next i p h round n plain.served.least plain.served.most is)
+      lines = λ n. lines_more n i r rs round here.1 ∙ (ap (λ w. w ++ fates_in n (lines_at i rs)) (round_tells s records r.ports cut next i p h round n plain.served.least plain.served.most is)
           ∙ (ap (λ w. picked n (flat_map (λ c. what_became c.deed) (is.first ++ is.later)) ++ w) (rest.lines n)
           ∙ (sym (picked_append n (flat_map (λ c. what_became c.deed) (is.first ++ is.later)) (flat_map (λ c. what_became c.deed) rest.calls))
           ∙ ap (picked n) (sym (flat_append (λ c. what_became c.deed) (is.first ++ is.later) rest.calls)))));
@@ -258,7 +242,7 @@ spans_run s records cuts rounds run plain served short i p h e f =
       known = ports_know s.policy.controllers s.policy.ports i p e;
       right = legal.legal.right;
       layers = each_at (λ p. ArePlain p.layers) (ports_of s.policy) i p e plain.layers;
-      events = legal_plain (opening_of p) h legal.calls (all_jobs s records cuts i p.number) legal.legal legal.jobs (all_plain s records cuts i p.number plain);
+      events = legal_plain (opening_of p) h legal.calls (all_jobs s records cuts rounds i p.number) legal.legal legal.jobs (all_plain s records cuts rounds i p.number plain);
     } in
     spans_plain s records run.histories i p h facts e f cuts rounds (map (λ p. 0) (ports_of s.policy)) (map length run.histories) 0 (length h) p.layers run.are run.chained (map_at (λ q. 0) (ports_of s.policy) i p e) (map_at length run.histories i h f) (any_none is_short_round rounds short) refl
 
@@ -279,15 +263,45 @@ flat_asks : (cs : List ℕ) (ls : List LayerSeen) (lines : List Line) → flat_m
 flat_asks cs ls [] = refl
 flat_asks cs ls (l ∷ lines) = flat_asks cs ls lines
 
-fates_same : (cs : List ℕ) (s : Setting) (n : ℕ) (records : List Record) (place number : ℕ) (ls : List LayerSeen) (cuts : List ℕ) → fates_from cs s records place number ls cuts ≡ fates_from cs (with_workers n s) records place number ls cuts
-fates_same cs s n records place number ls [] = refl
-fates_same cs s n records place number ls (cut ∷ cuts) =
-    let jobs = jobs_of s records cut (end_before cuts (length records)) place number in
-    let ms = layers_by cs ls jobs.first in
+-- a round for each cut
+abbrev AsMany : List ℕ → List Round → Type 0
+AsMany [] [] = Unit {0}
+AsMany (cut ∷ cuts) (r ∷ rounds) = AsMany cuts rounds
+AsMany _ _ = ⊥
+
+as_many : (s : Setting) (records : List Record) (hs : List (List Event)) (cuts : List ℕ) (rounds : List Round) → AreRoundsAt s records hs cuts rounds → AsMany cuts rounds
+as_many s records hs [] [] a = tt
+as_many s records hs (cut ∷ cuts) (r ∷ rounds) a = as_many s records hs cuts rounds a.1
+as_many s records hs [] (r ∷ rounds) a = absurd a
+as_many s records hs (cut ∷ cuts) [] a = absurd a
+
+many_alone : (s : Setting) (records : List Record) (hs : List (List Event)) (cuts : List ℕ) → AsMany cuts (rounds_from s records hs cuts)
+many_alone s records hs [] = tt
+many_alone s records hs (cut ∷ cuts) = many_alone s records (histories_from s records cut (end_before cuts (length records)) 0 (ports_of s.policy) hs) cuts
+
+-- what becomes of the packets at a port doesn't hang on the number of workers, nor on what the rounds tell, where no packet is handed on
+fates_same : (cs : List ℕ) (s : Setting) (n : ℕ) (records : List Record) (place number : ℕ) → s.local ≡ false → (ls : List LayerSeen) (cuts : List ℕ) (rounds others : List Round) → AsMany cuts rounds → AsMany cuts others → fates_from cs s records place number ls cuts rounds ≡ fates_from cs (with_workers n s) records place number ls cuts others
+fates_same cs s n records place number apart ls [] [] [] a b = refl
+fates_same cs s n records place number apart ls (cut ∷ cuts) (r ∷ rounds) (q ∷ others) a b =
+    let ms = layers_by cs ls (jobs_of s records r.ports cut (end_before cuts (length records)) place number).first in
+    let macs = macs_of s.policy in
     let packets = packets_between records cut (end_before cuts (length records)) in
     let during = during_jobs s.commands cut number in
-    let here : flat_map (λ j. what_became (deed_at cs ms j)) jobs.later ≡ flat_map (λ j. what_became (deed_at cs ms j)) (during ++ packet_jobs n (macs_of s.policy) place packets) = all_became (deed_at cs ms) during (packet_jobs s.workers (macs_of s.policy) place packets) ∙ (ap (λ w. flat_map (λ j. what_became (deed_at cs ms j)) during ++ w) (packets_became cs ms s.workers n place (macs_of s.policy) packets) ∙ sym (all_became (deed_at cs ms) during (packet_jobs n (macs_of s.policy) place packets))) in
-    ap (λ w. w ++ fates_from cs s records place number ms cuts) here ∙ ap (λ w. flat_map (λ j. what_became (deed_at cs ms j)) (during ++ packet_jobs n (macs_of s.policy) place packets) ++ w) (fates_same cs s n records place number ms cuts)
+    let became : List Job → List (ℕ × Fate × List ℕ) = λ js. flat_map (λ j. what_became (deed_at cs ms j)) js in
+    let mine : at_place place (placed_packets s.workers s.local macs r.ports packets) ≡ packet_jobs s.workers macs place packets = packets_aimed s.workers s.local macs r.ports place packets apart in
+    let theirs : at_place place (placed_packets n s.local macs q.ports packets) ≡ packet_jobs n macs place packets = packets_aimed n s.local macs q.ports place packets apart in
+    let here : became (during ++ at_place place (placed_packets s.workers s.local macs r.ports packets)) ≡ became (during ++ at_place place (placed_packets n s.local macs q.ports packets)) =
+    ap (λ w. became (during ++ w)) mine
+    ∙ (all_became (deed_at cs ms) during (packet_jobs s.workers macs place packets)
+    ∙ (ap (λ w. became during ++ w) (packets_became cs ms s.workers n place macs packets)
+    ∙ (sym (all_became (deed_at cs ms) during (packet_jobs n macs place packets))
+    ∙ ap (λ w. became (during ++ w)) (sym theirs)))) in
+    ap (λ w. w ++ fates_from cs s records place number ms cuts rounds) here
+    ∙ ap (λ w. became (during ++ at_place place (placed_packets n s.local macs q.ports packets)) ++ w) (fates_same cs s n records place number apart ms cuts rounds others a b)
+fates_same cs s n records place number apart ls [] (r ∷ rounds) others a b = absurd a
+fates_same cs s n records place number apart ls [] [] (q ∷ others) a b = absurd b
+fates_same cs s n records place number apart ls (cut ∷ cuts) [] others a b = absurd a
+fates_same cs s n records place number apart ls (cut ∷ cuts) (r ∷ rounds) [] a b = absurd b
 
 -- ---- what reports tell
 
@@ -305,19 +319,19 @@ port_found (p ∷ ps) (suc i) lt = port_found ps i (omega (arith, lt))
 
 -- the lines tell of packet n what becomes of it at the layers that commands leave
 lines_tell : (s : Setting) (records : List Record) (cuts : List ℕ) (rounds : List Round) → AreRounds s records cuts rounds → IsPlainSetting s → AreServed s → are_short rounds ≡ false
-    → (place n : ℕ) (p : PortSeen) → slice_get (ports_of s.policy) place ≡ Some p → fates_in n (lines_at place rounds) ≡ picked n (fates_from p.controllers s records place p.number p.layers cuts)
+    → (place n : ℕ) (p : PortSeen) → slice_get (ports_of s.policy) place ≡ Some p → fates_in n (lines_at place rounds) ≡ picked n (fates_from p.controllers s records place p.number p.layers cuts rounds)
 lines_tell s records cuts rounds run plain served short place n p e =
     let found = history_at (ports_of s.policy) run.histories place p run.right e in
     let spans = spans_run s records cuts rounds run plain served short place p found.0 e found.1 in
     spans.lines n ∙ ap (picked n) spans.became
 
 pub agrees_alone : AgreesAlone
-agrees_alone s records cuts rounds plain served run short place n lt =
+agrees_alone s records cuts rounds apart plain served run short place n lt =
     let found = port_found (ports_of s.policy) place lt in
     let p = found.0 in
     let one : Setting = with_workers 1 s in
     let still : IsPlainSetting one = record { layers = plain.layers; rules = plain.rules; before = plain.before } in
     let alone : AreServed one = record { least = omega arith; most = omega arith; asked = served.asked } in
     lines_tell s records cuts rounds run plain served short place n p found.1
-    ∙ (ap (picked n) (fates_same p.controllers s 1 records place p.number p.layers cuts)
-    ∙ sym (lines_tell one records cuts (rounds_alone one records cuts) (always_rounds one records cuts) still alone (alone_is_plenty one records cuts) place n p found.1))
+    ∙ (ap (picked n) (fates_same p.controllers s 1 records place p.number apart p.layers cuts rounds (rounds_alone one records cuts) (as_many s records run.histories cuts rounds run.are) (many_alone one records (map (λ p. []) (ports_of s.policy)) cuts))
+    ∙ sym (lines_tell one records cuts (rounds_alone one records cuts) (always_rounds one records cuts apart) still alone (alone_is_plenty one records cuts) place n p found.1))

@@ -1,5 +1,5 @@
 -- The rounds that are worked out tell of no want of memory.
-use Rattle.std.proofs.Common.{◌≡◌, ◌≢◌, ◌-◌, ◌||◌, ℕ, suc, Bool, true, false, if◌then◌else◌, nat_le, List, [], ◌∷◌, length, map, Option, Some, None, refl, ap, sym, ◌∙◌, subst}
+use Rattle.std.proofs.Common.{◌≡◌, ◌≢◌, ◌-◌, ℕ, suc, Bool, true, false, if◌then◌else◌, nat_le, List, [], ◌∷◌, length, map, Option, Some, None, refl}
 use Rattle.std.specs.List.{list_any}
 use Rattle.vsw_port.specs.declared.stop.Stop.{Stop}
 use Rattle.vsw_port.specs.declared.stop.Stop.TheVariants as stop
@@ -10,7 +10,7 @@ use Rattle.vsw_base.specs.declared.fate.Verdict.{Verdict}
 use Rattle.vsw_base.specs.declared.fate.Verdict.TheVariants as verdict
 use Rattle.vsw_base.specs.declared.flow.Crossing.{Crossing}
 use Rattle.vsw_base.specs.declared.header.Header.{Header}
-use Rattle.vsw_port.specs.Cross.{cross_of, fate_after}
+use Rattle.vsw_port.specs.Cross.{fate_after}
 use Rattle.vsw_walk.specs.declared.scratch.Wanted.{Wanted}
 use Rattle.vsw_walk.specs.Walk.{walk_of}
 use Rattle.vsw_policy.specs.Layer.{LayerSeen}
@@ -21,20 +21,19 @@ use Rattle.vsw_policy.specs.declared.command.Command.{Command}
 use Rattle.vsw_policy.specs.declared.command.Command.TheVariants.{AddLayer, RemoveLayer, AddGroup, RemoveGroup, PutRules, PutMany, AddRule, RemoveRule, SetDefault, Sweep}
 use Rattle.vsw_policy.specs.declared.refusal.Refusal.{Refusal}
 use Rattle.vsw_policy.specs.declared.refusal.Refusal.TheVariants as refusal_is
-use Rattle.vsw_policy.specs.Obey.{tests, first_refusal, answered, obey}
+use Rattle.vsw_policy.specs.Obey.{tests, first_refusal, answered}
 use Rattle.vsw_policy.specs.Sound.{Each}
 use Rattle.vsw_promise.specs.Ports.{PortSeen, ports_of}
 use Rattle.vsw_port.specs.declared.event.Event.{Event}
-use Rattle.vsw_port.specs.Calls.{Job, Carry, Ask, Call}
+use Rattle.vsw_port.specs.Calls.{Job, Carry, Ask}
 use Rattle.vsw_port.specs.History.{Opening, replay, reply_in}
 use Rattle.vsw_port.specs.Fate.{fate_by, fate_at}
-use Rattle.vsw_report.specs.declared.round.PortRound.{PortRound}
 use Rattle.vsw_report.specs.declared.told.What.TheVariants as what
-use Rattle.vsw_promise.specs.Alone.{deed_at, call_at, next_history, calls_from, history_from, all_of, port_round_from, port_rounds_from, histories_from, rounds_from, rounds_alone, shown}
+use Rattle.vsw_promise.specs.Alone.{deed_at, next_history, calls_from, history_from, all_of, port_round_from, port_rounds_from, histories_from, rounds_from, rounds_alone, shown}
 use Rattle.vsw_promise.specs.Jobs.{Setting, jobs_of}
 use Rattle.vsw_promise.specs.Rounds.{opening_of, end_before}
 use Rattle.vsw_promise.specs.Told.{line_of, what_of, in_told_order}
-use Rattle.vsw_report.specs.Short.{tells_short, is_short_port, is_short_round, are_short}
+use Rattle.vsw_report.specs.Short.{tells_short, is_short_port, is_short_round}
 use Rattle.vsw_history_law.proofs.Reports.{each_told, each_map}
 use Rattle.vsw_history_law.specs.AgreementLaw.{AloneIsPlenty}
 
@@ -149,7 +148,7 @@ port_not p h js =
 ports_not : (s : Setting) (records : List Record) (first next n : ℕ) (ps : List PortSeen) (hs : List (List Event)) → Each (λ r. is_short_port r ≡ false) (port_rounds_from s records first next n ps hs)
 ports_not s records first next n [] hs = tt
 ports_not s records first next n (p ∷ ps) [] = tt
-ports_not s records first next n (p ∷ ps) (h ∷ hs) = (port_not p h (all_of (jobs_of s records first next n p.number)), ports_not s records first next (suc n) ps hs)
+ports_not s records first next n (p ∷ ps) (h ∷ hs) = (port_not p h (all_of (jobs_of s records [] first next n p.number)), ports_not s records first next (suc n) ps hs)
 
 rounds_not : (s : Setting) (records : List Record) (hs : List (List Event)) (cuts : List ℕ) → Each (λ r. is_short_round r ≡ false) (rounds_from s records hs cuts)
 rounds_not s records hs [] = tt

@@ -1,42 +1,36 @@
 -- The replies that a report tells to a controller are those of its own commands alone.
-use Rattle.std.proofs.Common.{◌≡◌, ◌≢◌, ◌<◌, ◌≤◌, ◌==◌, ◌&&◌, not, ℕ, zero, suc, ◌+◌, Bool, true, false, if◌then◌else◌, List, [], ◌∷◌, ◌++◌, length, map, filter, take, Some, None, Option, Ok, Err, Result, slice_get, refl, ap, sym, ◌∙◌, subst, arith, append_assoc, eq-eqb, ne_eqb}
-use Rattle.std.specs.List.{flat_map, list_any}
+use Rattle.std.proofs.Common.{◌≡◌, ◌<◌, ◌≤◌, ◌==◌, ◌&&◌, not, ℕ, zero, suc, Bool, true, false, if◌then◌else◌, List, [], ◌∷◌, ◌++◌, length, map, filter, take, Some, slice_get, refl, ap, sym, ◌∙◌, subst, arith, eq-eqb}
+use Rattle.std.specs.List.{flat_map}
 use Rattle.std.specs.Prelude.{option_to_list}
 use Rattle.std.proofs.lemmas.Nat.{mod_below}
-use Rattle.vsw_base.specs.declared.flow.Place.{Place}
 use Rattle.vsw_base.specs.Frame.{Parts}
 use Rattle.vsw_commandfile.specs.declared.line.Line.{Line}
 use Rattle.vsw_header.specs.FlowSum.{flow_sum_of}
-use Rattle.vsw_policy.specs.Layer.{LayerSeen}
 use Rattle.vsw_pcap.specs.declared.capture.Record.{Record}
 use Rattle.vsw_policy.specs.declared.command.Command.{Command}
-use Rattle.vsw_policy.specs.declared.refusal.Refusal.TheVariants as refusal
 use Rattle.vsw_policy.specs.declared.refusal.Reply.{Reply}
-use Rattle.vsw_policy.specs.Layers.{place_of}
 use Rattle.vsw_policy.specs.Sound.{Each, AreInOrder, is_listed}
 use Rattle.vsw_config.specs.declared.file.PortFile.{PortFile}
-use Rattle.vsw_promise.specs.Ports.{PortSeen, in_order, port_of, ports_of, whole}
+use Rattle.vsw_promise.specs.Ports.{PortSeen, port_of, ports_of, whole}
 use Rattle.vsw_promise.proofs.Placing.{stand-in-order}
-use Rattle.vsw_report.specs.declared.round.LooseCause.{LooseCause}
 use Rattle.vsw_port.specs.declared.event.Event.{Event}
 use Rattle.vsw_port.specs.declared.event.Event.TheVariants as event
-use Rattle.vsw_port.specs.Calls.{Job, Carry, Ask, Deed, Carried, Asked, Call, job_of, job_doer, jobs_by, doer, controller_at, calls_of, named, entries_naming, entries_of, event_of, Reads, Wants, IsCall, Entry, Read, Short}
-use Rattle.vsw_port.specs.History.{Opening, replay, AllRight}
+use Rattle.vsw_port.specs.Calls.{Job, Carry, Ask, Deed, Carried, Asked, Call, job_of, jobs_by, doer, controller_at, calls_of, entries_naming, entries_of, event_of, Reads, Wants, IsCall, Entry, Read, Short}
+use Rattle.vsw_port.specs.History.{Opening, replay}
 use Rattle.vsw_port.specs.Order.{StandsOnce}
 use Rattle.vsw_report.specs.declared.round.PortRound.{PortRound}
 use Rattle.vsw_report.specs.declared.round.Round.{Round}
 use Rattle.vsw_report.specs.declared.told.By.{By}
 use Rattle.vsw_report.specs.declared.told.By.TheVariants.{Worker, Controller}
 use Rattle.vsw_report.specs.declared.told.ToldLine.{ToldLine}
-use Rattle.vsw_report.specs.declared.told.What.TheVariants as what
 use Rattle.vsw_promise.specs.Agree.{lines_at}
-use Rattle.vsw_promise.specs.Jobs.{aim_of, Setting, jobs_of, aimed_at, packet_jobs, before_jobs, during_jobs, crossing_by, worker_of, macs_of, packets_between}
+use Rattle.vsw_promise.specs.Jobs.{Setting, at_place, jobs_of, placed_packets, before_jobs, during_jobs, worker_of, macs_of, packets_between}
 use Rattle.vsw_promise.specs.Rounds.{opening_of, end_before, AreHistories}
 use Rattle.vsw_promise.specs.Told.{callers, line_of, line_doer, what_of}
-use Rattle.vsw_report.specs.Short.{tells_short, is_short_port, is_short_round, are_short}
+use Rattle.vsw_report.specs.Short.{tells_short, is_short_port, is_short_round}
 use Rattle.vsw_port.proofs.Calls.{each_append}
-use Rattle.vsw_port.proofs.Fronts.{append_end}
-use Rattle.vsw_history_law.specs.Law.{AreServed, RunsRepliesAlone, all_jobs, asked_by, answers_alone, is_told, lines_by, orders_of, replies_told, reply_among, reply_by}
+use Rattle.vsw_promise.proofs.Handed.{each_packet_at}
+use Rattle.vsw_history_law.specs.Law.{AreServed, RunsRepliesAlone, all_jobs, asked_by, answers_alone, is_told, lines_by, orders_of, replies_told, reply_by}
 use Rattle.vsw_history_law.proofs.Callers.{controller_once, eqb_is, place_one}
 use Rattle.vsw_history_law.proofs.Isolated.{replies_alone}
 use Rattle.vsw_history_law.proofs.Reports.{each_filter, each_map, map_each, jobs_of_calls, runs_legally}
@@ -45,38 +39,30 @@ use Rattle.vsw_history_law.proofs.Values.{any_none}
 -- ---- who may have a job
 
 -- workers carry packets, and the policy's controllers ask
-abbrev IsServed : List ℕ → Job → Type 0
+abbrev pub IsServed : List ℕ → Job → Type 0
 IsServed ns (Carry x p) = x.caller < 16
 IsServed ns (Ask l) = is_listed ns l.controller ≡ true
 
-aimed_served : (ns : List ℕ) (workers port n moment : ℕ) (to : Result (Place × Parts) LooseCause) → 0 < workers → workers ≤ 16 → Each (IsServed ns) (aimed_at workers port n moment to)
-aimed_served ns workers port n moment (Err why) least most = tt
-aimed_served ns workers port n moment (Ok a) least most = by (a.0.port == port)
-  where
-    by : (b : Bool) → Each (IsServed ns) (if b then Carry (crossing_by (worker_of workers a.1) n a.0 moment a.1) a.1 ∷ [] else [])
-    by true = (omega (arith, mod_below (flow_sum_of a.1.stack) workers least, most), tt)
-    by false = tt
-
-packets_served : (ns : List ℕ) (workers : ℕ) (macs : List ℕ) (port : ℕ) (packets : List (ℕ × Record)) → 0 < workers → workers ≤ 16 → Each (IsServed ns) (packet_jobs workers macs port packets)
-packets_served ns workers macs port [] least most = tt
-packets_served ns workers macs port (p ∷ ps) least most = each_append (IsServed ns) (aimed_at workers port p.0 p.1.moment (aim_of macs p.1)) (packet_jobs workers macs port ps) (aimed_served ns workers port p.0 p.1.moment (aim_of macs p.1) least most) (packets_served ns workers macs port ps least most)
+worker_low : (workers : ℕ) (p : Parts) → 0 < workers → workers ≤ 16 → worker_of workers p < 16
+worker_low workers p least most = omega (arith, mod_below (flow_sum_of p.stack) workers least, most)
 
 asked_served : (ns : List ℕ) (test : Line → Bool) (ls : List Line) → Each (λ l. is_listed ns l.controller ≡ true) ls → Each (IsServed ns) (map Ask (filter test ls))
 asked_served ns test ls e = each_map (IsServed ns) Ask (filter test ls) (each_filter (λ l. is_listed ns l.controller ≡ true) test ls e)
 
-jobs_served : (s : Setting) (records : List Record) (first next place number : ℕ) → AreServed s → Each (IsServed s.policy.controllers) ((jobs_of s records first next place number).first ++ (jobs_of s records first next place number).later)
-jobs_served s records first next place number served =
+pub jobs_served : (s : Setting) (records : List Record) (told : List PortRound) (first next place number : ℕ) → AreServed s → Each (IsServed s.policy.controllers) ((jobs_of s records told first next place number).first ++ (jobs_of s records told first next place number).later)
+jobs_served s records told first next place number served =
     let ns = s.policy.controllers in
-    let packets = packet_jobs s.workers (macs_of s.policy) place (packets_between records first next) in
+    let packets = at_place place (placed_packets s.workers s.local (macs_of s.policy) told (packets_between records first next)) in
     each_append (IsServed ns) (before_jobs s.commands first number) (during_jobs s.commands first number ++ packets) (asked_served ns (λ l. (l.at == first) && (l.port == number) && not l.during) s.commands served.asked)
     (each_append (IsServed ns) (during_jobs s.commands first number) packets (asked_served ns (λ l. (l.at == first) && (l.port == number) && l.during) s.commands served.asked)
-    (packets_served ns s.workers (macs_of s.policy) place (packets_between records first next) served.least served.most))
+    (each_packet_at (IsServed ns) s.workers s.local (macs_of s.policy) told place (packets_between records first next) (λ n moment frame to parts. worker_low s.workers frame served.least served.most)))
 
-all_served : (s : Setting) (records : List Record) (cuts : List ℕ) (place number : ℕ) → AreServed s → Each (IsServed s.policy.controllers) (all_jobs s records cuts place number)
-all_served s records [] place number served = tt
-all_served s records (cut ∷ cuts) place number served =
-    let jobs = jobs_of s records cut (end_before cuts (length records)) place number in
-    each_append (IsServed s.policy.controllers) (jobs.first ++ jobs.later) (all_jobs s records cuts place number) (jobs_served s records cut (end_before cuts (length records)) place number served) (all_served s records cuts place number served)
+all_served : (s : Setting) (records : List Record) (cuts : List ℕ) (rounds : List Round) (place number : ℕ) → AreServed s → Each (IsServed s.policy.controllers) (all_jobs s records cuts rounds place number)
+all_served s records [] rounds place number served = tt
+all_served s records (cut ∷ cuts) [] place number served = tt
+all_served s records (cut ∷ cuts) (r ∷ rounds) place number served =
+    let jobs = jobs_of s records r.ports cut (end_before cuts (length records)) place number in
+    each_append (IsServed s.policy.controllers) (jobs.first ++ jobs.later) (all_jobs s records cuts rounds place number) (jobs_served s records r.ports cut (end_before cuts (length records)) place number served) (all_served s records cuts rounds place number served)
 
 -- ---- a controller's calls
 
@@ -240,7 +226,7 @@ runs_replies_alone s records cuts rounds served run short place p c e listed =
     let own = calls_of ns k legal.calls in
     let once : StandsOnce k (callers ns) = controller_once ns c listed in
     let lines = legal.lines k once in
-    let jobs_are : Each (IsServed ns) (all_jobs s records cuts place p.number) = subst (λ w. Each (IsServed w) (all_jobs s records cuts place p.number)) (sym know.0) (all_served s records cuts place p.number served) in
+    let jobs_are : Each (IsServed ns) (all_jobs s records cuts rounds place p.number) = subst (λ w. Each (IsServed w) (all_jobs s records cuts rounds place p.number)) (sym know.0) (all_served s records cuts rounds place p.number served) in
     let asked : Each (λ x. IsAskedBy c x.deed) own = own_calls ns c legal.calls (map_each (IsServed ns) (λ x. job_of x.deed) legal.calls (subst (Each (IsServed ns)) (sym legal.jobs) jobs_are)) in
     let plenty : Each (λ x. tells_short (what_of x.deed) ≡ false) own = map_each (λ l. tells_short l.what ≡ false) line_of own (subst (Each (λ l. tells_short l.what ≡ false)) lines (each_filter (λ l. tells_short l.what ≡ false) (λ l. line_doer ns l == k) (lines_at place rounds) (lines_plenty place rounds (any_none is_short_round rounds short)))) in
     let enter : Each (λ x. x.entry ≡ true) own = all_enter (opening_of p) h c own asked plenty (each_filter (IsCall (opening_of p) h) (λ x. doer ns x.deed == k) legal.calls legal.legal.each) in
@@ -254,4 +240,4 @@ runs_replies_alone s records cuts rounds served run short place p c e listed =
     ∙ (alone
     ∙ (ap (λ w. answers_alone ns p.layers c (map (λ (t : Command × Reply). t.0) w)) orders
     ∙ (ap (answers_alone ns p.layers c) tells.commands
-    ∙ ap (answers_alone ns p.layers c) (ap (flat_map (asked_by c)) (jobs_of_calls ns k legal.calls ∙ ap (jobs_by ns k) legal.jobs) ∙ sym (asked_own ns c (all_jobs s records cuts place p.number)))))))))
+    ∙ ap (answers_alone ns p.layers c) (ap (flat_map (asked_by c)) (jobs_of_calls ns k legal.calls ∙ ap (jobs_by ns k) legal.jobs) ∙ sym (asked_own ns c (all_jobs s records cuts rounds place p.number)))))))))

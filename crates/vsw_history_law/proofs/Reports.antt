@@ -133,20 +133,20 @@ no_other_lines workers p h jobs r i =
 -- ---- runs
 
 -- the round of the port at a place
-pub port_at : (s : Setting) (records : List Record) (first next n i : ℕ) (ps : List PortSeen) (hs : List (List Event)) (rs : List PortRound) (p : PortSeen) (h : List Event) → ArePortRounds s records first next n ps hs rs → slice_get ps i ≡ Some p → slice_get hs i ≡ Some h
-    → (r : PortRound) × (slice_get rs i ≡ Some r) × IsPortRound s.workers p h (jobs_of s records first next (n + i) p.number) r
-port_at s records first next n i [] [] [] p h a e f = absurd (cc e)
-port_at s records first next n zero (q ∷ ps) (g ∷ hs) (r ∷ rs) p h a e f =
+pub port_at : (s : Setting) (records : List Record) (told : List PortRound) (first next n i : ℕ) (ps : List PortSeen) (hs : List (List Event)) (rs : List PortRound) (p : PortSeen) (h : List Event) → ArePortRounds s records told first next n ps hs rs → slice_get ps i ≡ Some p → slice_get hs i ≡ Some h
+    → (r : PortRound) × (slice_get rs i ≡ Some r) × IsPortRound s.workers p h (jobs_of s records told first next (n + i) p.number) r
+port_at s records told first next n i [] [] [] p h a e f = absurd (cc e)
+port_at s records told first next n zero (q ∷ ps) (g ∷ hs) (r ∷ rs) p h a e f =
     let same : q ≡ p = cc e in
     let also : g ≡ h = cc f in
-    (r, refl, subst (λ m. IsPortRound s.workers p h (jobs_of s records first next m p.number) r) (omega arith) (subst (λ p. IsPortRound s.workers p h (jobs_of s records first next n p.number) r) same (subst (λ h. IsPortRound s.workers q h (jobs_of s records first next n q.number) r) also a.0)))
-port_at s records first next n (suc i) (q ∷ ps) (g ∷ hs) (r ∷ rs) p h a e f =
-    let rest = port_at s records first next (suc n) i ps hs rs p h a.1 e f in
-    (rest.0, rest.1, subst (λ m. IsPortRound s.workers p h (jobs_of s records first next m p.number) rest.0) (omega arith) rest.2)
-port_at s records first next n i [] [] (r ∷ rs) p h a e f = absurd a
-port_at s records first next n i [] (g ∷ hs) rs p h a e f = absurd a
-port_at s records first next n i (q ∷ ps) [] rs p h a e f = absurd a
-port_at s records first next n i (q ∷ ps) (g ∷ hs) [] p h a e f = absurd a
+    (r, refl, subst (λ m. IsPortRound s.workers p h (jobs_of s records told first next m p.number) r) (omega arith) (subst (λ p. IsPortRound s.workers p h (jobs_of s records told first next n p.number) r) same (subst (λ h. IsPortRound s.workers q h (jobs_of s records told first next n q.number) r) also a.0)))
+port_at s records told first next n (suc i) (q ∷ ps) (g ∷ hs) (r ∷ rs) p h a e f =
+    let rest = port_at s records told first next (suc n) i ps hs rs p h a.1 e f in
+    (rest.0, rest.1, subst (λ m. IsPortRound s.workers p h (jobs_of s records told first next m p.number) rest.0) (omega arith) rest.2)
+port_at s records told first next n i [] [] (r ∷ rs) p h a e f = absurd a
+port_at s records told first next n i [] (g ∷ hs) rs p h a e f = absurd a
+port_at s records told first next n i (q ∷ ps) [] rs p h a e f = absurd a
+port_at s records told first next n i (q ∷ ps) (g ∷ hs) [] p h a e f = absurd a
 
 pub map_at : {A B : Type 0} (f : A → B) (xs : List A) (i : ℕ) (x : A) → slice_get xs i ≡ Some x → slice_get (map f xs) i ≡ Some (f x)
 map_at f [] i x e = absurd (cc e)
@@ -161,7 +161,7 @@ pub record Spans (s : Setting) (records : List Record) (cuts : List ℕ) (rounds
   pub calls : List Call
   pub shares : AreShares (opening_of p) (take low h) (take high h) calls
   pub bytes : Each (HasBytes (opening_of p) h) calls
-  pub jobs : map (λ c. job_of c.deed) calls ≡ all_jobs s records cuts place p.number
+  pub jobs : map (λ c. job_of c.deed) calls ≡ all_jobs s records cuts rounds place p.number
   pub lines : (k : ℕ) → StandsOnce k (callers p.controllers) → lines_by p.controllers k (lines_at place rounds) ≡ map line_of (calls_of p.controllers k calls)
 
 spans_none : (s : Setting) (records : List Record) (place : ℕ) (p : PortSeen) (h : List Event) (low high : ℕ) → low ≡ high → Spans s records [] [] place p h low high
@@ -188,10 +188,10 @@ spans_of : (s : Setting) (records : List Record) (hs : List (List Event)) (i : �
     → (cuts : List ℕ) (rounds : List Round) (counts last : List ℕ) (low high : ℕ) → AreRoundsAt s records hs cuts rounds → AreChained counts rounds last → slice_get counts i ≡ Some low → slice_get last i ≡ Some high → Spans s records cuts rounds i p h low high
 spans_of s records hs i p h e f [] [] counts last low high a c l m = spans_none s records i p h low high (some_same low high (sym l ∙ (ap (λ w. slice_get w i) (sym c) ∙ m)))
 spans_of s records hs i p h e f (cut ∷ cuts) (r ∷ rs) counts last low high a c l m =
-    let here = port_at s records cut (end_before cuts (length records)) 0 i (ports_of s.policy) hs r.ports p h a.0.ports e f in
+    let here = port_at s records r.ports cut (end_before cuts (length records)) 0 i (ports_of s.policy) hs r.ports p h a.0.ports e f in
     let round = here.0 in
-    let jobs = jobs_of s records cut (end_before cuts (length records)) i p.number in
-    let is : IsPortRound s.workers p h jobs round = subst (λ n. IsPortRound s.workers p h (jobs_of s records cut (end_before cuts (length records)) n p.number) round) (omega arith) here.2 in
+    let jobs = jobs_of s records r.ports cut (end_before cuts (length records)) i p.number in
+    let is : IsPortRound s.workers p h jobs round = subst (λ n. IsPortRound s.workers p h (jobs_of s records r.ports cut (end_before cuts (length records)) n p.number) round) (omega arith) here.2 in
     let begins : round.before ≡ low = some_same round.before low (sym (map_at (λ q. q.before) r.ports i round here.1) ∙ (ap (λ w. slice_get w i) c.0 ∙ l)) in
     let rest = spans_of s records hs i p h e f cuts rs (map (λ q. q.after) r.ports) last round.after high a.1 c.1 (map_at (λ q. q.after) r.ports i round here.1) m in record {
       calls = (is.first ++ is.later) ++ rest.calls;

@@ -1,9 +1,8 @@
 -- What one worker tells is one value.
-use Rattle.std.proofs.Common.{◌≡◌, ◌<◌, ◌≤◌, ℕ, suc, ◌+◌, ◌-◌, ◌==◌, ◌&&◌, ◌||◌, not, Bool, true, false, if◌then◌else◌, List, [], ◌∷◌, ◌++◌, length, map, filter, take, Ok, Err, Result, refl, ap, sym, ◌∙◌, subst, arith, eq-eqb}
+use Rattle.std.proofs.Common.{◌≡◌, ◌<◌, ◌≤◌, ℕ, suc, ◌+◌, ◌-◌, ◌==◌, ◌&&◌, ◌||◌, not, Bool, true, false, if◌then◌else◌, List, [], ◌∷◌, ◌++◌, length, map, filter, take, refl, ap, sym, ◌∙◌, subst, arith, eq-eqb}
 use Rattle.std.specs.List.{list_any}
 use Rattle.std.proofs.lemmas.Nat.{mod_below}
 use mathlib.Core.List.{IsPrefix}
-use Rattle.vsw_base.specs.declared.flow.Place.{Place}
 use Rattle.vsw_base.specs.Frame.{Parts}
 use Rattle.vsw_commandfile.specs.declared.line.Line.{Line}
 use Rattle.vsw_header.specs.FlowSum.{flow_sum_of}
@@ -11,19 +10,18 @@ use Rattle.vsw_pcap.specs.declared.capture.Record.{Record}
 use Rattle.vsw_policy.specs.Sound.{Each, is_listed}
 use Rattle.vsw_config.specs.declared.file.PortFile.{PortFile}
 use Rattle.vsw_promise.specs.Ports.{PortSeen, port_of, ports_of}
-use Rattle.vsw_report.specs.declared.round.LooseCause.{LooseCause}
 use Rattle.vsw_port.specs.declared.event.Event.{Event}
 use Rattle.vsw_report.specs.declared.round.PortRound.{PortRound}
 use Rattle.vsw_report.specs.declared.round.Round.{Round}
-use Rattle.vsw_port.specs.Calls.{Job, Carry, Ask, Call, job_of, job_doer, doer, calls_of, InOrder, IsCall, HasBytes, ShowsAt, entries_of, IsOneOrder}
+use Rattle.vsw_port.specs.Calls.{Job, Ask, Call, job_of, job_doer, doer, calls_of, InOrder, IsCall, HasBytes, ShowsAt, entries_of, IsOneOrder}
 use Rattle.vsw_port.specs.History.{Opening, replay, after, AreRight, AllRight}
 use Rattle.vsw_policy.specs.Layer.{LayerSeen}
-use Rattle.vsw_promise.specs.Jobs.{aim_of, Setting, Jobs, cuts, jobs_of, aimed_at, packet_jobs, worker_of, loose_among, macs_of, packets_between, crossing_by}
+use Rattle.vsw_promise.specs.Jobs.{Setting, Jobs, at_place, cuts, jobs_of, placed_packets, worker_of, loose_among, macs_of, packets_between}
 use Rattle.vsw_port.specs.Order.{StandsOnce}
 use Rattle.vsw_promise.specs.Rounds.{opening_of, IsPortRound, ArePortRounds, AreRoundsAt, AreChained, AreHistories, end_before}
 use Rattle.vsw_promise.specs.Told.{callers, line_of, what_of, in_told_order, lines_of}
 use Rattle.vsw_report.specs.Short.{tells_short, is_short_port, is_short_round}
-use Rattle.vsw_promise.specs.Alone.{calls_from, history_from, port_round_from, all_of, port_rounds_from, histories_from, rounds_from, rounds_alone}
+use Rattle.vsw_promise.specs.Alone.{calls_from, history_from, port_round_from, all_of, port_rounds_from, histories_from, rounds_from}
 use Rattle.vsw_history_law.specs.Law.{AreServed, OneValue}
 use Rattle.vsw_port.proofs.Fronts.{prefix_take, take_prefix}
 use Rattle.vsw_port.proofs.Calls.{each_append, each_of_all}
@@ -32,6 +30,7 @@ use Rattle.vsw_port.proofs.Next.{count_within}
 use Rattle.vsw_history_law.proofs.Telling.{told_calls}
 use Rattle.vsw_history_law.proofs.Reports.{doer_job, each_filter, map_each, each_map, round_jobs}
 use Rattle.vsw_history_law.proofs.Ones.{Runs, runs_of, calls_are}
+use Rattle.vsw_promise.proofs.Handed.{each_packet_at, jobs_untold}
 use Rattle.vsw_promise.proofs.PortRounds.{take_length}
 
 -- ---- memory wasn't wanting
@@ -124,52 +123,41 @@ fronts _ _ = []
 -- the jobs of all ports are those of their callers
 abbrev AllCallers : Setting → List Record → ℕ → ℕ → ℕ → List PortSeen → Type 0
 AllCallers s records first next n [] = Unit {0}
-AllCallers s records first next n (p ∷ ps) = AreCallers p.controllers (all_of (jobs_of s records first next n p.number)) × AllCallers s records first next (suc n) ps
+AllCallers s records first next n (p ∷ ps) = AreCallers p.controllers (all_of (jobs_of s records [] first next n p.number)) × AllCallers s records first next (suc n) ps
 
-ports_value : (s : Setting) (records : List Record) (first next n : ℕ) (ps : List PortSeen) (hs : List (List Event)) (rs : List PortRound) → s.workers ≡ 1 → ArePortRounds s records first next n ps hs rs → AreHistories ps hs → AllCallers s records first next n ps → Each (λ r. is_short_port r ≡ false) rs
+ports_value : (s : Setting) (records : List Record) (told : List PortRound) (first next n : ℕ) (ps : List PortSeen) (hs : List (List Event)) (rs : List PortRound) → s.local ≡ false → s.workers ≡ 1 → ArePortRounds s records told first next n ps hs rs → AreHistories ps hs → AllCallers s records first next n ps → Each (λ r. is_short_port r ≡ false) rs
     → (rs ≡ port_rounds_from s records first next n ps (fronts (map (λ r. r.before) rs) hs)) × (fronts (map (λ r. r.after) rs) hs ≡ histories_from s records first next n ps (fronts (map (λ r. r.before) rs) hs))
-ports_value s records first next n [] [] [] w a right stand short = (refl, refl)
-ports_value s records first next n (p ∷ ps) (h ∷ hs) (r ∷ rs) w a right stand short =
-    let jobs = jobs_of s records first next n p.number in
-    let one = port_value p h jobs r (subst (λ k. IsPortRound k p h jobs r) w a.0) right.0 stand.0 short.0 in
-    let rest = ports_value s records first next (suc n) ps hs rs w a.1 right.1 stand.1 short.1 in
+ports_value s records told first next n [] [] [] alone w a right stand short = (refl, refl)
+ports_value s records told first next n (p ∷ ps) (h ∷ hs) (r ∷ rs) alone w a right stand short =
+    let jobs = jobs_of s records [] first next n p.number in
+    let is : IsPortRound s.workers p h jobs r = subst (λ js. IsPortRound s.workers p h js r) (jobs_untold s records told [] first next n p.number alone) a.0 in
+    let one = port_value p h jobs r (subst (λ k. IsPortRound k p h jobs r) w is) right.0 stand.0 short.0 in
+    let rest = ports_value s records told first next (suc n) ps hs rs alone w a.1 right.1 stand.1 short.1 in
     (λ i. one.0 i ∷ rest.0 i, λ i. one.1 i ∷ rest.1 i)
-ports_value s records first next n [] [] (r ∷ rs) w a right stand short = absurd a
-ports_value s records first next n [] (h ∷ hs) rs w a right stand short = absurd a
-ports_value s records first next n (p ∷ ps) [] rs w a right stand short = absurd a
-ports_value s records first next n (p ∷ ps) (h ∷ hs) [] w a right stand short = absurd a
+ports_value s records told first next n [] [] (r ∷ rs) alone w a right stand short = absurd a
+ports_value s records told first next n [] (h ∷ hs) rs alone w a right stand short = absurd a
+ports_value s records told first next n (p ∷ ps) [] rs alone w a right stand short = absurd a
+ports_value s records told first next n (p ∷ ps) (h ∷ hs) [] alone w a right stand short = absurd a
 
-rounds_value : (s : Setting) (records : List Record) (hs : List (List Event)) → s.workers ≡ 1 → AreHistories (ports_of s.policy) hs → ((first next : ℕ) → AllCallers s records first next 0 (ports_of s.policy))
+rounds_value : (s : Setting) (records : List Record) (hs : List (List Event)) → s.local ≡ false → s.workers ≡ 1 → AreHistories (ports_of s.policy) hs → ((first next : ℕ) → AllCallers s records first next 0 (ports_of s.policy))
     → (cuts : List ℕ) (rounds : List Round) (counts last : List ℕ) → AreRoundsAt s records hs cuts rounds → AreChained counts rounds last → Each (λ r. is_short_round r ≡ false) rounds → rounds ≡ rounds_from s records (fronts counts hs) cuts
-rounds_value s records hs w right stand [] [] counts last a c short = refl
-rounds_value s records hs w right stand (cut ∷ cuts) (r ∷ rs) counts last a c short =
+rounds_value s records hs alone w right stand [] [] counts last a c short = refl
+rounds_value s records hs alone w right stand (cut ∷ cuts) (r ∷ rs) counts last a c short =
     let next = end_before cuts (length records) in
-    let ports = ports_value s records cut next 0 (ports_of s.policy) hs r.ports w a.0.ports right (stand cut next) (any_none is_short_port r.ports short.0) in
+    let ports = ports_value s records r.ports cut next 0 (ports_of s.policy) hs r.ports alone w a.0.ports right (stand cut next) (any_none is_short_port r.ports short.0) in
     let begins : fronts (map (λ q. q.before) r.ports) hs ≡ fronts counts hs = ap (λ ns. fronts ns hs) c.0 in
-    let rest = rounds_value s records hs w right stand cuts rs (map (λ q. q.after) r.ports) last a.1 c.1 short.1 in
+    let rest = rounds_value s records hs alone w right stand cuts rs (map (λ q. q.after) r.ports) last a.1 c.1 short.1 in
     let round : r ≡ record { first = cut; ports = port_rounds_from s records cut next 0 (ports_of s.policy) (fronts counts hs); loose = loose_among (macs_of s.policy) (packets_between records cut next) } =
     (λ i. record { first = a.0.first_is i; ports = (ports.0 ∙ ap (port_rounds_from s records cut next 0 (ports_of s.policy)) begins) i; loose = a.0.loose i }) in
     let more : rs ≡ rounds_from s records (histories_from s records cut next 0 (ports_of s.policy) (fronts counts hs)) cuts = rest ∙ ap (λ g. rounds_from s records g cuts) (ports.1 ∙ ap (histories_from s records cut next 0 (ports_of s.policy)) begins) in
     λ i. round i ∷ more i
-rounds_value s records hs w right stand [] (r ∷ rs) counts last a c short = absurd a
-rounds_value s records hs w right stand (cut ∷ cuts) [] counts last a c short = absurd a
+rounds_value s records hs alone w right stand [] (r ∷ rs) counts last a c short = absurd a
+rounds_value s records hs alone w right stand (cut ∷ cuts) [] counts last a c short = absurd a
 
 -- ---- who may call
 
 worker_stands : (ns : List ℕ) (workers : ℕ) (p : Parts) → 0 < workers → workers ≤ 16 → StandsOnce (worker_of workers p) (callers ns)
 worker_stands ns workers p least most = worker_once ns (worker_of workers p) (omega (arith, mod_below (flow_sum_of p.stack) workers least, most))
-
-aimed_stands : (ns : List ℕ) (workers port n moment : ℕ) (to : Result (Place × Parts) LooseCause) → 0 < workers → workers ≤ 16 → AreCallers ns (aimed_at workers port n moment to)
-aimed_stands ns workers port n moment (Err why) least most = tt
-aimed_stands ns workers port n moment (Ok a) least most = by (a.0.port == port)
-  where
-    by : (b : Bool) → AreCallers ns (if b then Carry (crossing_by (worker_of workers a.1) n a.0 moment a.1) a.1 ∷ [] else [])
-    by true = (worker_stands ns workers a.1 least most, tt)
-    by false = tt
-
-packets_stand : (ns : List ℕ) (workers : ℕ) (macs : List ℕ) (port : ℕ) (packets : List (ℕ × Record)) → 0 < workers → workers ≤ 16 → AreCallers ns (packet_jobs workers macs port packets)
-packets_stand ns workers macs port [] least most = tt
-packets_stand ns workers macs port (p ∷ ps) least most = each_append (λ j. StandsOnce (job_doer ns j) (callers ns)) (aimed_at workers port p.0 p.1.moment (aim_of macs p.1)) (packet_jobs workers macs port ps) (aimed_stands ns workers port p.0 p.1.moment (aim_of macs p.1) least most) (packets_stand ns workers macs port ps least most)
 
 lines_stand : (ns : List ℕ) (ls : List Line) → Each (λ l. is_listed ns l.controller ≡ true) ls → Each (λ l. StandsOnce (job_doer ns (Ask l)) (callers ns)) ls
 lines_stand ns [] e = tt
@@ -179,19 +167,19 @@ asked_stand : (ns : List ℕ) (p : Line → Bool) (ls : List Line) → Each (λ 
 asked_stand ns p ls e = each_map (λ j. StandsOnce (job_doer ns j) (callers ns)) Ask (filter p ls) (each_filter (λ l. StandsOnce (job_doer ns (Ask l)) (callers ns)) p ls (lines_stand ns ls e))
 
 -- all jobs are those of a port's callers, for 1 to 16 workers
-pub jobs_stand : (s : Setting) (records : List Record) (first next place number : ℕ) → AreServed s → AreCallers s.policy.controllers (all_of (jobs_of s records first next place number))
-jobs_stand s records first next place number served =
+pub jobs_stand : (s : Setting) (records : List Record) (told : List PortRound) (first next place number : ℕ) → AreServed s → AreCallers s.policy.controllers (all_of (jobs_of s records told first next place number))
+jobs_stand s records told first next place number served =
     let ns = s.policy.controllers in
     let P : Job → Type 0 = λ j. StandsOnce (job_doer ns j) (callers ns) in
-    let jobs = jobs_of s records first next place number in
+    let jobs = jobs_of s records told first next place number in
     each_append P jobs.first jobs.later (asked_stand ns (λ l. (l.at == first) && (l.port == number) && not l.during) s.commands served.asked)
-    (each_append P (map Ask (filter (λ l. (l.at == first) && (l.port == number) && l.during) s.commands)) (packet_jobs s.workers (macs_of s.policy) place (packets_between records first next))
+    (each_append P (map Ask (filter (λ l. (l.at == first) && (l.port == number) && l.during) s.commands)) (at_place place (placed_packets s.workers s.local (macs_of s.policy) told (packets_between records first next)))
     (asked_stand ns (λ l. (l.at == first) && (l.port == number) && l.during) s.commands served.asked)
-    (packets_stand ns s.workers (macs_of s.policy) place (packets_between records first next) served.least served.most))
+    (each_packet_at P s.workers s.local (macs_of s.policy) told place (packets_between records first next) (λ n moment frame to parts. worker_stands ns s.workers frame served.least served.most)))
 
 all_stand : (s : Setting) (records : List Record) (first next n : ℕ) (fs : List PortFile) → AreServed s → AllCallers s records first next n (map (port_of s.policy.controllers) fs)
 all_stand s records first next n [] served = tt
-all_stand s records first next n (f ∷ fs) served = (jobs_stand s records first next n f.port served, all_stand s records first next (suc n) fs served)
+all_stand s records first next n (f ∷ fs) served = (jobs_stand s records [] first next n f.port served, all_stand s records first next (suc n) fs served)
 
 no_fronts : (ps : List PortSeen) (hs : List (List Event)) → AreHistories ps hs → fronts (map (λ p. 0) ps) hs ≡ map (λ p. []) ps
 no_fronts [] [] a = refl
@@ -200,6 +188,6 @@ no_fronts [] (h ∷ hs) a = absurd a
 no_fronts (p ∷ ps) [] a = absurd a
 
 pub one_value : OneValue
-one_value s records cuts rounds w e run short =
-    rounds_value s records run.histories w run.right (λ first next. all_stand s records first next 0 s.policy.ports (record { least = omega (arith, w); most = omega (arith, w); asked = e })) cuts rounds (map (λ p. 0) (ports_of s.policy)) (map length run.histories) run.are run.chained (any_none is_short_round rounds short)
+one_value s records cuts rounds alone w e run short =
+    rounds_value s records run.histories alone w run.right (λ first next. all_stand s records first next 0 s.policy.ports (record { least = omega (arith, w); most = omega (arith, w); asked = e })) cuts rounds (map (λ p. 0) (ports_of s.policy)) (map length run.histories) run.are run.chained (any_none is_short_round rounds short)
     ∙ ap (λ g. rounds_from s records g cuts) (no_fronts (ports_of s.policy) run.histories run.right)

@@ -71,17 +71,17 @@ EachEntryIsTold = (workers : ℕ) (p : PortSeen) (h : List Event) (jobs : Jobs) 
 
 -- ---- whole runs
 
--- all that is to be done at a port in the rounds that begin at these cuts
-abbrev pub all_jobs : Setting → List Record → List ℕ → ℕ → ℕ → List Job
-all_jobs s records [] place number = []
-all_jobs s records (cut ∷ cuts) place number = (jobs_of s records cut (end_before cuts (length records)) place number).first ++ (jobs_of s records cut (end_before cuts (length records)) place number).later ++ all_jobs s records cuts place number
+-- all that is to be done at a port in these rounds, which begin at these cuts
+abbrev pub all_jobs : Setting → List Record → List ℕ → List Round → ℕ → ℕ → List Job
+all_jobs s records (cut ∷ cuts) (r ∷ rounds) place number = (jobs_of s records r.ports cut (end_before cuts (length records)) place number).first ++ (jobs_of s records r.ports cut (end_before cuts (length records)) place number).later ++ all_jobs s records cuts rounds place number
+all_jobs s records _ _ place number = []
 
 -- a port's history and calls in a whole run are legal, each call shows its bytes, each job is one call, and the lines of a caller are those of its calls
 pub record IsLegalPort (s : Setting) (records : List Record) (cuts : List ℕ) (rounds : List Round) (place : ℕ) (p : PortSeen) (h : List Event) : Type 0 where
   pub calls : List Call
   pub legal : Legal (opening_of p) h calls
   pub bytes : Each (HasBytes (opening_of p) h) calls
-  pub jobs : map (λ c. job_of c.deed) calls ≡ all_jobs s records cuts place p.number
+  pub jobs : map (λ c. job_of c.deed) calls ≡ all_jobs s records cuts rounds place p.number
   pub lines : (k : ℕ) → StandsOnce k (callers p.controllers) → lines_by p.controllers k (lines_at place rounds) ≡ map line_of (calls_of p.controllers k calls)
 
 abbrev pub RunsLegally : Type 0
@@ -98,9 +98,9 @@ pub record AreServed (s : Setting) : Type 0 where
   pub most : s.workers ≤ 16
   pub asked : AreAsked s
 
--- the rounds of one worker, in whose lines no want of memory stands, are those worked out
+-- where no packet is handed on, the rounds of one worker, in whose lines no want of memory stands, are those worked out
 abbrev pub OneValue : Type 0
-OneValue = (s : Setting) (records : List Record) (cuts : List ℕ) (rounds : List Round) → s.workers ≡ 1 → AreAsked s → AreRounds s records cuts rounds → are_short rounds ≡ false → rounds ≡ rounds_alone s records cuts
+OneValue = (s : Setting) (records : List Record) (cuts : List ℕ) (rounds : List Round) → s.local ≡ false → s.workers ≡ 1 → AreAsked s → AreRounds s records cuts rounds → are_short rounds ≡ false → rounds ≡ rounds_alone s records cuts
 
 -- ---- controllers
 
@@ -150,7 +150,7 @@ asked_by c (Ask l) = if l.controller == c then l.command ∷ [] else []
 abbrev pub RunsRepliesAlone : Type 0
 RunsRepliesAlone = (s : Setting) (records : List Record) (cuts : List ℕ) (rounds : List Round) → AreServed s → AreRounds s records cuts rounds → are_short rounds ≡ false → (place : ℕ) (p : PortSeen) (c : ℕ)
     → slice_get (ports_of s.policy) place ≡ Some p → is_listed p.controllers c ≡ true
-    → replies_told c (lines_at place rounds) ≡ answers_alone p.controllers p.layers c (flat_map (asked_by c) (all_jobs s records cuts place p.number))
+    → replies_told c (lines_at place rounds) ≡ answers_alone p.controllers p.layers c (flat_map (asked_by c) (all_jobs s records cuts rounds place p.number))
 
 -- the entry is no command of this controller
 abbrev pub IsOthers : ℕ → Event → Type 0

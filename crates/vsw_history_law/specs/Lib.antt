@@ -3,3 +3,5 @@ pub mod Cover
 pub mod Law
 pub mod AgreementLaw
 pub mod Plain
+pub mod OneLine
+pub mod Short

@@ -1,5 +1,5 @@
 -- What becomes of packets in runs without stateful rules and "during" commands.
-use Rattle.std.specs.Prelude.{◌≡◌, ℕ, List, [], ◌∷◌, ◌++◌, length, map, false}
+use Rattle.std.specs.Prelude.{◌≡◌, ℕ, List, [], ◌∷◌, ◌++◌, length, map}
 use Rattle.std.specs.List.{flat_map}
 use Rattle.vsw_pcap.specs.declared.capture.Record.{Record}
 use Rattle.vsw_promise.specs.Ports.{PortSeen}
@@ -16,6 +16,7 @@ use Rattle.vsw_port.specs.Calls.{Job, Carry, Ask, Deed, Carried, Asked, Call, jo
 use Rattle.vsw_port.specs.History.{left_by}
 use Rattle.vsw_promise.specs.Jobs.{Setting, jobs_of}
 use Rattle.vsw_promise.specs.Agree.{IsPlainRule}
+use Rattle.vsw_report.specs.declared.round.Round.{Round}
 
 -- an entry that gives no stateful rule
 abbrev pub IsPlainEvent : Event → Type 0
@@ -42,16 +43,16 @@ abbrev pub what_became : Deed → List (ℕ × Fate × List ℕ)
 what_became (Carried x p fate bytes) = (x.packet, fate, bytes) ∷ []
 what_became (Asked l reply) = []
 
--- what becomes of the packets of the rounds at these cuts, at a port, from these layers on: commands alone change them
-abbrev pub fates_from : List ℕ → Setting → List Record → ℕ → ℕ → List LayerSeen → List ℕ → List (ℕ × Fate × List ℕ)
-fates_from cs s records place number ls [] = []
-fates_from cs s records place number ls (cut ∷ cuts) =
-    flat_map (λ j. what_became (deed_at cs (layers_by cs ls (jobs_of s records cut (end_before cuts (length records)) place number).first) j)) (jobs_of s records cut (end_before cuts (length records)) place number).later
-    ++ fates_from cs s records place number (layers_by cs ls (jobs_of s records cut (end_before cuts (length records)) place number).first) cuts
+-- what becomes of the packets of these rounds, which begin at these cuts, at a port, from these layers on: commands alone change them
+abbrev pub fates_from : List ℕ → Setting → List Record → ℕ → ℕ → List LayerSeen → List ℕ → List Round → List (ℕ × Fate × List ℕ)
+fates_from cs s records place number ls (cut ∷ cuts) (r ∷ rounds) =
+    flat_map (λ j. what_became (deed_at cs (layers_by cs ls (jobs_of s records r.ports cut (end_before cuts (length records)) place number).first) j)) (jobs_of s records r.ports cut (end_before cuts (length records)) place number).later
+    ++ fates_from cs s records place number (layers_by cs ls (jobs_of s records r.ports cut (end_before cuts (length records)) place number).first) cuts rounds
+fates_from cs s records place number ls _ _ = []
 
 -- a port's calls in a run, and what became of its packets, in packet order
-pub record FatesAre (s : Setting) (records : List Record) (cuts : List ℕ) (place : ℕ) (p : PortSeen) (h : List Event) : Type 0 where
+pub record FatesAre (s : Setting) (records : List Record) (cuts : List ℕ) (rounds : List Round) (place : ℕ) (p : PortSeen) (h : List Event) : Type 0 where
   pub calls : List Call
   pub legal : Legal (opening_of p) h calls
-  pub jobs : map (λ c. job_of c.deed) calls ≡ all_jobs s records cuts place p.number
-  pub became : flat_map (λ c. what_became c.deed) calls ≡ fates_from p.controllers s records place p.number p.layers cuts
+  pub jobs : map (λ c. job_of c.deed) calls ≡ all_jobs s records cuts rounds place p.number
+  pub became : flat_map (λ c. what_became c.deed) calls ≡ fates_from p.controllers s records place p.number p.layers cuts rounds

@@ -9,6 +9,7 @@ use Rattle.vsw_port.proofs.Calls.{each_append}
 use Rattle.vsw_port.proofs.Fronts.{append_end}
 use Rattle.vsw_promise.specs.Jobs.{Placed, at_place}
 use Rattle.vsw_promise.specs.Rounds.{opening_of}
+use Rattle.vsw_promise.proofs.Handed.{place_append}
 use Rattle.vsw_history_law.proofs.Reports.{doer_job, map_append}
 use Rattle.vsw_many.specs.Law.{ActorBegins, ActorGoesOn, ActorEnds}
 use Rattle.vsw_many.specs.Passes.{AtRest, Works}
@@ -25,9 +26,6 @@ filter_append p (x ∷ xs) ys = by (p x) (filter_append p xs ys)
     by : (b : Bool) → filter p (xs ++ ys) ≡ filter p xs ++ filter p ys → (if b then x ∷ filter p (xs ++ ys) else filter p (xs ++ ys)) ≡ (if b then x ∷ filter p xs else filter p xs) ++ filter p ys
     by true ih = ap (λ w. x ∷ w) ih
     by false ih = ih
-
-pub place_append : (i : ℕ) (xs ys : List Placed) → at_place i (xs ++ ys) ≡ at_place i xs ++ at_place i ys
-place_append i xs ys = ap (map (λ t. t.1)) (filter_append (λ t. t.0 == i) xs ys) ∙ map_append (λ t. t.1) (filter (λ t. t.0 == i) xs) (filter (λ t. t.0 == i) ys)
 
 placed_here : (i at : ℕ) (j : Job) (done : List Placed) → at ≡ i → at_place i (done ++ (at, j) ∷ []) ≡ at_place i done ++ j ∷ []
 placed_here i at j done e =

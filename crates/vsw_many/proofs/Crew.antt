@@ -6,6 +6,7 @@ use Rattle.vsw_commandfile.specs.declared.line.Line.{Line}
 use Rattle.vsw_pcap.specs.declared.capture.Record.{Record}
 use Rattle.vsw_policy.specs.Sound.{Each, are_distinct, is_listed}
 use Rattle.vsw_promise.specs.Ports.{PortSeen, ports_of}
+use Rattle.vsw_report.specs.declared.round.PortRound.{PortRound}
 use Rattle.vsw_report.specs.declared.round.Round.{Round}
 use Rattle.vsw_report.specs.declared.told.ToldLine.{ToldLine}
 use Rattle.vsw_report.specs.Print.{line_text, loose_text, port_line, port_text}
@@ -23,6 +24,7 @@ use Rattle.vsw_report.specs.Order.{AllInCounts, in_order}
 use Rattle.vsw_promise.specs.Jobs.{Placed, Setting, at_place, deal, loose_among, macs_of, numbers_of, packets_between, placed_lines, placed_packets}
 use Rattle.vsw_promise.specs.Rounds.{AllBegin, AreHistories, opening_of}
 use Rattle.vsw_promise.specs.Told.{line_of}
+use Rattle.vsw_promise.proofs.Handed.{each_packet}
 use Rattle.vsw_history_law.specs.MergingLaw.{IsKnown, texts_of}
 use Rattle.vsw_history_law.proofs.MergedTexts.{counts_stand_beside, merge_tells_beside}
 use Rattle.vsw_many.specs.Phases.{DoneBeside, IsPhase, Lane, calls_in, port_told}
@@ -30,7 +32,7 @@ use Rattle.vsw_many.specs.Actors.{AreRows}
 use Rattle.vsw_many.specs.Rounds.{AreJournals, Many, PortTurn, RoundDone, calls_by_port, column, other_columns, ports_told}
 use Rattle.vsw_many.proofs.Passes.{each_weaker, none_of}
 use Rattle.vsw_many.proofs.Phases.{EachLane, phase_shares}
-use Rattle.vsw_many.proofs.Dealing.{all_know, each_line, each_packet, fit_of, place_within, worker_low}
+use Rattle.vsw_many.proofs.Dealing.{all_know, each_line, fit_of, place_within, worker_low}
 use Rattle.vsw_many.proofs.Rounds.{HasJobs, column_of, done_beside, each_place, round_is_told}
 use Rattle.vsw_many.specs.Turns.{PlacedTurns, placed_before}
 use Rattle.vsw_many.specs.Crew.{AreCounted, AreTexts, CrewDid, crew_texts, is_short_crew, jobs_beside, lines_for, merged, ports_text}
@@ -67,11 +69,11 @@ controllers_before s first = each_line (λ t. IsControllers s.policy.controllers
     all [] = tt
     all (l ∷ ls) = (omega arith, all ls)
 
-known_beside : (s : Setting) (first : ℕ) (packets : List Record) → AreServed s → Each (λ t. IsKnownJob s.workers s.policy.controllers t.1) (jobs_beside s first packets)
-known_beside s first packets served =
-    each_append P (placed_lines (numbers_of s.policy) s.commands first) (placed_packets s.workers (macs_of s.policy) (numbered first packets))
+known_beside : (s : Setting) (told : List PortRound) (first : ℕ) (packets : List Record) → AreServed s → Each (λ t. IsKnownJob s.workers s.policy.controllers t.1) (jobs_beside s told first packets)
+known_beside s told first packets served =
+    each_append P (placed_lines (numbers_of s.policy) s.commands first) (placed_packets s.workers s.local (macs_of s.policy) told (numbered first packets))
     (each_line P (λ l. l.during) (numbers_of s.policy) first s.commands served.asked)
-    (each_packet P s.workers (macs_of s.policy) (numbered first packets) (λ n moment a. (worker_low s.workers a.1 served.least, tt)))
+    (each_packet P s.workers s.local (macs_of s.policy) told (numbered first packets) (λ n moment a. worker_low s.workers a.1 served.least) (λ n moment a h. worker_low s.workers a.1 served.least))
   where
     P : Placed → Type 0
     P t = IsKnownJob s.workers s.policy.controllers t.1
@@ -268,7 +270,7 @@ ports_tell workers i ns before beside (p ∷ ps) (h ∷ hs) (m ∷ ms) (g ∷ gs
 
 -- the round that is told
 abbrev round_told : (s : Setting) (first : ℕ) (packets : List Record) (hs gs : List (List Event)) (texts : List (List (List TextLine))) → CrewDid s first packets hs gs texts → Round
-round_told s first packets hs gs texts d = record { first = first; ports = ports_told (ports_of s.policy) hs gs d.firsts (calls_by_port (ports_of s.policy) d.rows); loose = loose_among (macs_of s.policy) (numbered first packets) }
+round_told s first packets hs gs texts d = record { first = first; ports = d.told; loose = loose_among (macs_of s.policy) (numbered first packets) }
 
 -- it was done in every trace that has its packets there
 done_in : (s : Setting) (first : ℕ) (packets : List Record) (hs gs : List (List Event)) (texts : List (List (List TextLine))) (d : CrewDid s first packets hs gs texts) (records : List Record) (next : ℕ) → s.workers ≢ 1 → are_distinct (numbers_of s.policy) ≡ true
@@ -276,30 +278,30 @@ done_in : (s : Setting) (first : ℕ) (packets : List Record) (hs gs : List (Lis
 done_in s first packets hs gs texts d records next two apart e = record {
   middles = d.middles;
   firsts = d.firsts;
-  firsts_done = before_turns s records first next hs d.middles d.firsts apart d.firsts_done;
+  firsts_done = before_turns s records d.told first next hs d.middles d.firsts apart d.firsts_done;
   laters = calls_by_port (ports_of s.policy) d.rows;
   laters_done = Many two d.rows d.size
-      (subst (λ w. AreRows s.policy.controllers (placed_lines (numbers_of s.policy) s.commands first ++ placed_packets s.workers (macs_of s.policy) w) 0 0 (ports_of s.policy) d.middles gs d.rows) (sym e) d.rows_done) d.journals refl;
+      (subst (λ w. AreRows s.policy.controllers (placed_lines (numbers_of s.policy) s.commands first ++ placed_packets s.workers s.local (macs_of s.policy) d.told w) 0 0 (ports_of s.policy) d.middles gs d.rows) (sym e) d.rows_done) d.journals refl;
   first_is = refl;
   loose = ap (loose_among (macs_of s.policy)) (sym e);
-  ports = refl;
+  ports = d.told_is;
 }
 
 pub crew_is_told : CrewIsTold
 crew_is_told s first packets hs gs texts served two apart d =
-    let t = ports_tell s.workers 0 s.policy.controllers (placed_before (numbers_of s.policy) s.commands first) (jobs_beside s first packets) (ports_of s.policy) hs d.middles gs d.firsts d.rows texts (all_know s.policy.controllers s.policy.ports)
-    (record { few = served.most; high = controllers_before s first; known = known_before s first served; others = known_beside s first packets served }) d.firsts_done d.size d.rows_done d.journals d.texts_are in record {
+    let t = ports_tell s.workers 0 s.policy.controllers (placed_before (numbers_of s.policy) s.commands first) (jobs_beside s d.told first packets) (ports_of s.policy) hs d.middles gs d.firsts d.rows texts (all_know s.policy.controllers s.policy.ports)
+    (record { few = served.most; high = controllers_before s first; known = known_before s first served; others = known_beside s d.told first packets served }) d.firsts_done d.size d.rows_done d.journals d.texts_are in record {
       round = round_told s first packets hs gs texts d;
       is_round = λ records next e. record {
         first_is = refl;
         loose = ap (loose_among (macs_of s.policy)) (sym e);
-        ports = (round_is_told s records first next hs gs (round_told s first packets hs gs texts d) (fit_of s records first next served apart) (done_in s first packets hs gs texts d records next two apart e)).are;
+        ports = (round_is_told s records first next hs gs (round_told s first packets hs gs texts d) (fit_of s records d.told first next served apart) (done_in s first packets hs gs texts d records next two apart e)).are;
       };
       right = t.right;
       begin = t.begin;
-      before = t.before;
-      after = t.after;
+      before = ap (map (λ r. r.before)) d.told_is ∙ t.before;
+      after = ap (map (λ r. r.after)) d.told_is ∙ t.after;
       counts = t.counted_so;
-      short_is = t.short;
-      text = ap (λ w. codes "round " ++ decimal first ++ codes "\n" ++ w ++ codes "loose\n" ++ flat_map loose_text (loose_among (macs_of s.policy) (numbered first packets))) t.text;
+      short_is = t.short ∙ ap (list_any is_short_port) (sym d.told_is);
+      text = ap (λ w. codes "round " ++ decimal first ++ codes "\n" ++ w ++ codes "loose\n" ++ flat_map loose_text (loose_among (macs_of s.policy) (numbered first packets))) (t.text ∙ ap (flat_map port_text) (sym d.told_is));
     }

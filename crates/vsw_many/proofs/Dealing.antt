@@ -15,29 +15,16 @@ use Rattle.vsw_report.specs.declared.round.LooseCause.{LooseCause}
 use Rattle.vsw_port.specs.Calls.{Ask, controller_at, job_doer, jobs_by}
 use Rattle.vsw_port.proofs.Calls.{each_append}
 use Rattle.vsw_port.proofs.Fronts.{append_end}
-use Rattle.vsw_promise.specs.Jobs.{Setting, Placed, jobs_of, aim_of, aimed_at, at_place, deal, packet_jobs, during_jobs, macs_of, packets_between, numbers_of, placed_jobs, placed_lines, placed_packet, placed_packets, worker_of}
+use Rattle.vsw_promise.specs.Jobs.{Setting, Placed, jobs_of, at_place, deal, macs_of, packets_between, numbers_of, placed_jobs, placed_lines, placed_packets, worker_of}
+use Rattle.vsw_promise.proofs.Handed.{each_packet, place_append}
+use Rattle.vsw_report.specs.declared.round.PortRound.{PortRound}
 use Rattle.vsw_history_law.specs.Law.{AreServed}
 use Rattle.vsw_history_law.proofs.Callers.{place_one}
 use Rattle.vsw_many.specs.Law.{DealIsPlaced, AllIsDealt}
-use Rattle.vsw_many.proofs.Actors.{filter_append, place_append}
+use Rattle.vsw_many.proofs.Actors.{filter_append}
 use Rattle.vsw_many.proofs.Passes.{each_weaker}
 
 -- ---- the jobs of a port
-
-placed_one : (workers i n moment : ℕ) (r : Result (Place × Parts) LooseCause) → at_place i (placed_packet workers n moment r) ≡ aimed_at workers i n moment r
-placed_one workers i n moment (Err why) = refl
-placed_one workers i n moment (Ok a) = by (a.0.port == i) refl
-  where
-    by : (b : Bool) → (a.0.port == i) ≡ b → at_place i (placed_packet workers n moment (Ok a)) ≡ aimed_at workers i n moment (Ok a)
-    by true e = rw e refl
-    by false e = rw e refl
-
-place_packets : (workers i : ℕ) (macs : List ℕ) (packets : List (ℕ × Record)) → at_place i (placed_packets workers macs packets) ≡ packet_jobs workers macs i packets
-place_packets workers i macs [] = refl
-place_packets workers i macs (p ∷ ps) =
-    place_append i (placed_packet workers p.0 p.1.moment (aim_of macs p.1)) (placed_packets workers macs ps)
-    ∙ (ap (λ w. w ++ at_place i (placed_packets workers macs ps)) (placed_one workers i p.0 p.1.moment (aim_of macs p.1))
-    ∙ ap (λ w. aimed_at workers i p.0 p.1.moment (aim_of macs p.1) ++ w) (place_packets workers i macs ps))
 
 -- a place is a port's exactly where its number is
 same_test : (numbers : List ℕ) (number i port : ℕ) → place_of number numbers ≡ i → is_listed numbers number ≡ true → (place_of port numbers == i) ≡ (port == number)
@@ -64,11 +51,10 @@ place_lines when numbers (l ∷ ls) first i number at listed =
     line_step numbers i l (filter (λ l. (l.at == first) && when l) ls) (filter (λ l. (l.at == first) && (l.port == number) && when l) ls) (l.at == first) (l.port == number) (when l) (same_test numbers number i l.port at listed) (place_lines when numbers ls first i number at listed)
 
 -- what is to be done at all ports is at each what is to be done there
-pub place_jobs : (s : Setting) (records : List Record) (first next i number : ℕ) → place_of number (numbers_of s.policy) ≡ i → is_listed (numbers_of s.policy) number ≡ true → at_place i (placed_jobs s records first next) ≡ (jobs_of s records first next i number).later
-place_jobs s records first next i number at listed =
-    place_append i (placed_lines (numbers_of s.policy) s.commands first) (placed_packets s.workers (macs_of s.policy) (packets_between records first next))
-    ∙ (ap (λ w. w ++ at_place i (placed_packets s.workers (macs_of s.policy) (packets_between records first next))) (place_lines (λ l. l.during) (numbers_of s.policy) s.commands first i number at listed)
-    ∙ ap (λ w. during_jobs s.commands first number ++ w) (place_packets s.workers i (macs_of s.policy) (packets_between records first next)))
+pub place_jobs : (s : Setting) (records : List Record) (told : List PortRound) (first next i number : ℕ) → place_of number (numbers_of s.policy) ≡ i → is_listed (numbers_of s.policy) number ≡ true → at_place i (placed_jobs s records told first next) ≡ (jobs_of s records told first next i number).later
+place_jobs s records told first next i number at listed =
+    place_append i (placed_lines (numbers_of s.policy) s.commands first) (placed_packets s.workers s.local (macs_of s.policy) told (packets_between records first next))
+    ∙ ap (λ w. w ++ at_place i (placed_packets s.workers s.local (macs_of s.policy) told (packets_between records first next))) (place_lines (λ l. l.during) (numbers_of s.policy) s.commands first i number at listed)
 
 deal_step : (ns : List ℕ) (k i : ℕ) (t : Placed) (ts : List Placed) (a b : Bool) → (job_doer ns t.1 == k) ≡ a → (t.0 == i) ≡ b → at_place i (deal ns k ts) ≡ jobs_by ns k (at_place i ts)
     → at_place i (if a then t ∷ deal ns k ts else deal ns k ts) ≡ jobs_by ns k (map (λ t. t.1) (if b then t ∷ filter (λ t. t.0 == i) ts else filter (λ t. t.0 == i) ts))
@@ -83,7 +69,7 @@ place_deal ns k i [] = refl
 place_deal ns k i (t ∷ ts) = deal_step ns k i t ts (job_doer ns t.1 == k) (t.0 == i) refl refl (place_deal ns k i ts)
 
 pub deal_is_placed : DealIsPlaced
-deal_is_placed s records first next k i number at listed = place_deal s.policy.controllers k i (placed_jobs s records first next) ∙ ap (jobs_by s.policy.controllers k) (place_jobs s records first next i number at listed)
+deal_is_placed s records told first next k i number at listed = place_deal s.policy.controllers k i (placed_jobs s records told first next) ∙ ap (jobs_by s.policy.controllers k) (place_jobs s records told first next i number at listed)
 
 -- ---- the places of ports
 
@@ -129,14 +115,6 @@ numbered s d = numbered_from s.policy.controllers [] (ports_of s.policy) (all_kn
 
 -- ---- the callers
 
-pub each_packet : (P : Placed → Type 0) (workers : ℕ) (macs : List ℕ) (packets : List (ℕ × Record)) → ((n moment : ℕ) (a : Place × Parts) → Each P (placed_packet workers n moment (Ok a))) → Each P (placed_packets workers macs packets)
-each_packet P workers macs [] own = tt
-each_packet P workers macs (p ∷ ps) own = each_append P (placed_packet workers p.0 p.1.moment (aim_of macs p.1)) (placed_packets workers macs ps) (one (aim_of macs p.1)) (each_packet P workers macs ps own)
-  where
-    one : (r : Result (Place × Parts) LooseCause) → Each P (placed_packet workers p.0 p.1.moment r)
-    one (Err why) = tt
-    one (Ok a) = own p.0 p.1.moment a
-
 pub each_line : (P : Placed → Type 0) (when : Line → Bool) (numbers : List ℕ) (first : ℕ) (ls : List Line) → Each (λ l. P (place_of l.port numbers, Ask l)) ls → Each P (map (λ l. (place_of l.port numbers, Ask l)) (filter (λ l. (l.at == first) && when l) ls))
 each_line P when numbers first [] e = tt
 each_line P when numbers first (l ∷ ls) e = by ((l.at == first) && when l) (each_line P when numbers first ls e.1)
@@ -164,16 +142,16 @@ pub worker_low : (workers : ℕ) (p : Parts) → 0 < workers → worker_of worke
 worker_low workers p lt = mod_below (flow_sum_of p.stack) workers lt
 
 -- the setting's ports stand in their places, and each job of a round is a worker's or a listed controller's
-pub record IsFit (s : Setting) (records : List Record) (first next : ℕ) : Type 0 where
+pub record IsFit (s : Setting) (records : List Record) (told : List PortRound) (first next : ℕ) : Type 0 where
   pub numbered : AreNumbered s.policy.controllers (numbers_of s.policy) 0 (ports_of s.policy)
-  pub within : Each (λ t. job_doer s.policy.controllers t.1 < 16 + length s.policy.controllers) (placed_jobs s records first next)
+  pub within : Each (λ t. job_doer s.policy.controllers t.1 < 16 + length s.policy.controllers) (placed_jobs s records told first next)
 
-pub fit_of : (s : Setting) (records : List Record) (first next : ℕ) → AreServed s → are_distinct (numbers_of s.policy) ≡ true → IsFit s records first next
-fit_of s records first next served apart = record {
+pub fit_of : (s : Setting) (records : List Record) (told : List PortRound) (first next : ℕ) → AreServed s → are_distinct (numbers_of s.policy) ≡ true → IsFit s records told first next
+fit_of s records told first next served apart = record {
   numbered = numbered s apart;
-  within = each_append P (placed_lines (numbers_of s.policy) s.commands first) (placed_packets s.workers (macs_of s.policy) (packets_between records first next))
+  within = each_append P (placed_lines (numbers_of s.policy) s.commands first) (placed_packets s.workers s.local (macs_of s.policy) told (packets_between records first next))
       (each_line P (λ l. l.during) (numbers_of s.policy) first s.commands (each_weaker (λ l. is_listed s.policy.controllers l.controller ≡ true) (λ l. controller_at s.policy.controllers l.controller < 16 + length s.policy.controllers) s.commands (λ l e. omega (arith, place_within s.policy.controllers l.controller e)) served.asked))
-      (each_packet P s.workers (macs_of s.policy) (packets_between records first next) (λ n moment a. (omega (arith, worker_low s.workers a.1 served.least, served.most), tt)));
+      (each_packet P s.workers s.local (macs_of s.policy) told (packets_between records first next) (λ n moment a. omega (arith, worker_low s.workers a.1 served.least, served.most)) (λ n moment a h. omega (arith, worker_low s.workers a.1 served.least, served.most)));
 }
   where
     P : Placed → Type 0
@@ -192,22 +170,22 @@ no_lines s first k lt = none_dealt s.policy.controllers k (placed_lines (numbers
     all [] = tt
     all (l ∷ ls) = ((λ e. omega (arith, e, lt)), all ls)
 
-no_packets : (s : Setting) (records : List Record) (first next k : ℕ) → 0 < s.workers → s.workers ≤ k → deal s.policy.controllers k (placed_packets s.workers (macs_of s.policy) (packets_between records first next)) ≡ []
-no_packets s records first next k least le =
-    none_dealt s.policy.controllers k (placed_packets s.workers (macs_of s.policy) (packets_between records first next)) (each_packet (λ t. job_doer s.policy.controllers t.1 ≢ k) s.workers (macs_of s.policy) (packets_between records first next) (λ n moment a. ((λ e. omega (arith, e, le, worker_low s.workers a.1 least)), tt)))
+no_packets : (s : Setting) (records : List Record) (told : List PortRound) (first next k : ℕ) → 0 < s.workers → s.workers ≤ k → deal s.policy.controllers k (placed_packets s.workers s.local (macs_of s.policy) told (packets_between records first next)) ≡ []
+no_packets s records told first next k least le =
+    none_dealt s.policy.controllers k (placed_packets s.workers s.local (macs_of s.policy) told (packets_between records first next)) (each_packet (λ t. job_doer s.policy.controllers t.1 ≢ k) s.workers s.local (macs_of s.policy) told (packets_between records first next) (λ n moment a e. omega (arith, e, le, worker_low s.workers a.1 least)) (λ n moment a h e. omega (arith, e, le, worker_low s.workers a.1 least)))
 
 pub all_is_dealt : AllIsDealt
-all_is_dealt s records first next k served = record {
+all_is_dealt s records told first next k served = record {
   worker = worker;
-  idle = λ le lt. worker lt ∙ no_packets s records first next k served.least le;
-  controller = λ le. both ∙ (ap (λ w. deal s.policy.controllers k lines ++ w) (no_packets s records first next k served.least (omega (arith, served.most, le))) ∙ append_end (deal s.policy.controllers k lines));
+  idle = λ le lt. worker lt ∙ no_packets s records told first next k served.least le;
+  controller = λ le. both ∙ (ap (λ w. deal s.policy.controllers k lines ++ w) (no_packets s records told first next k served.least (omega (arith, served.most, le))) ∙ append_end (deal s.policy.controllers k lines));
 }
   where
     lines : List Placed
     lines = placed_lines (numbers_of s.policy) s.commands first
 
     packets : List Placed
-    packets = placed_packets s.workers (macs_of s.policy) (packets_between records first next)
+    packets = placed_packets s.workers s.local (macs_of s.policy) told (packets_between records first next)
 
     both : deal s.policy.controllers k (lines ++ packets) ≡ deal s.policy.controllers k lines ++ deal s.policy.controllers k packets
     both = filter_append (λ t. job_doer s.policy.controllers t.1 == k) lines packets

@@ -73,10 +73,10 @@ column_of ns all i n p h g ps hs gs ([] ∷ rows) a = absurd a.0
 -- ---- all ports
 
 -- a round of each port, from the one at this place on
-abbrev pub AllDone : Setting → List Record → ℕ → ℕ → ℕ → List PortSeen → List (List Event) → List (List Event) → List (List Call) → List (List Call) → Type 0
-AllDone s records first next i [] [] [] [] [] = Unit {0}
-AllDone s records first next i (p ∷ ps) (h ∷ hs) (g ∷ gs) (c ∷ cs) (d ∷ ds) = PortDone s.workers p h g (jobs_of s records first next i p.number) c d × AllDone s records first next (suc i) ps hs gs cs ds
-AllDone s records first next i _ _ _ _ _ = ⊥
+abbrev pub AllDone : Setting → List Record → List PortRound → ℕ → ℕ → ℕ → List PortSeen → List (List Event) → List (List Event) → List (List Call) → List (List Call) → Type 0
+AllDone s records told first next i [] [] [] [] [] = Unit {0}
+AllDone s records told first next i (p ∷ ps) (h ∷ hs) (g ∷ gs) (c ∷ cs) (d ∷ ds) = PortDone s.workers p h g (jobs_of s records told first next i p.number) c d × AllDone s records told first next (suc i) ps hs gs cs ds
+AllDone s records told first next i _ _ _ _ _ = ⊥
 
 port_by_one : (workers : ℕ) (p : PortSeen) (h m g : List Event) (jobs : Jobs) (c d : List Call) → PortTurn p h m jobs.first c → PortTurn p m g jobs.later d → PortDone workers p h g jobs c d
 port_by_one workers p h m g jobs c d f l = record {
@@ -91,97 +91,97 @@ port_by_one workers p h m g jobs c d f l = record {
   alone = λ e. l.done;
 }
 
-all_by_one : (s : Setting) (records : List Record) (first next i : ℕ) (ps : List PortSeen) (hs ms gs : List (List Event)) (cs ds : List (List Call)) → Turns (λ j. j.first) s records first next i ps hs ms cs → Turns (λ j. j.later) s records first next i ps ms gs ds
-    → AllDone s records first next i ps hs gs cs ds
-all_by_one s records first next i [] [] [] [] [] [] f l = tt
-all_by_one s records first next i (p ∷ ps) (h ∷ hs) (m ∷ ms) (g ∷ gs) (c ∷ cs) (d ∷ ds) f l = (port_by_one s.workers p h m g (jobs_of s records first next i p.number) c d f.0 l.0, all_by_one s records first next (suc i) ps hs ms gs cs ds f.1 l.1)
-all_by_one s records first next i [] (h ∷ hs) ms gs cs ds f l = absurd f
-all_by_one s records first next i [] [] (m ∷ ms) gs cs ds f l = absurd f
-all_by_one s records first next i [] [] [] (g ∷ gs) cs ds f l = absurd l
-all_by_one s records first next i [] [] [] [] (c ∷ cs) ds f l = absurd f
-all_by_one s records first next i [] [] [] [] [] (d ∷ ds) f l = absurd l
-all_by_one s records first next i (p ∷ ps) [] ms gs cs ds f l = absurd f
-all_by_one s records first next i (p ∷ ps) (h ∷ hs) [] gs cs ds f l = absurd f
-all_by_one s records first next i (p ∷ ps) (h ∷ hs) (m ∷ ms) [] cs ds f l = absurd l
-all_by_one s records first next i (p ∷ ps) (h ∷ hs) (m ∷ ms) (g ∷ gs) [] ds f l = absurd f
-all_by_one s records first next i (p ∷ ps) (h ∷ hs) (m ∷ ms) (g ∷ gs) (c ∷ cs) [] f l = absurd l
+all_by_one : (s : Setting) (records : List Record) (told : List PortRound) (first next i : ℕ) (ps : List PortSeen) (hs ms gs : List (List Event)) (cs ds : List (List Call)) → Turns (λ j. j.first) s records told first next i ps hs ms cs → Turns (λ j. j.later) s records told first next i ps ms gs ds
+    → AllDone s records told first next i ps hs gs cs ds
+all_by_one s records told first next i [] [] [] [] [] [] f l = tt
+all_by_one s records told first next i (p ∷ ps) (h ∷ hs) (m ∷ ms) (g ∷ gs) (c ∷ cs) (d ∷ ds) f l = (port_by_one s.workers p h m g (jobs_of s records told first next i p.number) c d f.0 l.0, all_by_one s records told first next (suc i) ps hs ms gs cs ds f.1 l.1)
+all_by_one s records told first next i [] (h ∷ hs) ms gs cs ds f l = absurd f
+all_by_one s records told first next i [] [] (m ∷ ms) gs cs ds f l = absurd f
+all_by_one s records told first next i [] [] [] (g ∷ gs) cs ds f l = absurd l
+all_by_one s records told first next i [] [] [] [] (c ∷ cs) ds f l = absurd f
+all_by_one s records told first next i [] [] [] [] [] (d ∷ ds) f l = absurd l
+all_by_one s records told first next i (p ∷ ps) [] ms gs cs ds f l = absurd f
+all_by_one s records told first next i (p ∷ ps) (h ∷ hs) [] gs cs ds f l = absurd f
+all_by_one s records told first next i (p ∷ ps) (h ∷ hs) (m ∷ ms) [] cs ds f l = absurd l
+all_by_one s records told first next i (p ∷ ps) (h ∷ hs) (m ∷ ms) (g ∷ gs) [] ds f l = absurd f
+all_by_one s records told first next i (p ∷ ps) (h ∷ hs) (m ∷ ms) (g ∷ gs) (c ∷ cs) [] f l = absurd l
 
-port_by_many : (s : Setting) (records : List Record) (first next i : ℕ) (p : PortSeen) (h m g : List Event) (c : List Call) (lanes : List Lane) → s.workers ≢ 1 → p.controllers ≡ s.policy.controllers → at_place i (placed_jobs s records first next) ≡ (jobs_of s records first next i p.number).later
-    → Each (λ t. job_doer s.policy.controllers t.1 < length lanes) (placed_jobs s records first next) → PortTurn p h m (jobs_of s records first next i p.number).first c → AllRight (opening_of p) g → IsPrefix m g → Each (λ e. named p.controllers e < length lanes) g
-    → AreLanes (opening_of p) m g 0 lanes → EachLane (HasJobs (λ k. at_place i (deal s.policy.controllers k (placed_jobs s records first next)))) 0 lanes → PortDone s.workers p h g (jobs_of s records first next i p.number) c (calls_in lanes)
-port_by_many s records first next i p h m g c lanes ne same is within f right grows names are did = record {
+port_by_many : (s : Setting) (records : List Record) (told : List PortRound) (first next i : ℕ) (p : PortSeen) (h m g : List Event) (c : List Call) (lanes : List Lane) → s.workers ≢ 1 → p.controllers ≡ s.policy.controllers → at_place i (placed_jobs s records told first next) ≡ (jobs_of s records told first next i p.number).later
+    → Each (λ t. job_doer s.policy.controllers t.1 < length lanes) (placed_jobs s records told first next) → PortTurn p h m (jobs_of s records told first next i p.number).first c → AllRight (opening_of p) g → IsPrefix m g → Each (λ e. named p.controllers e < length lanes) g
+    → AreLanes (opening_of p) m g 0 lanes → EachLane (HasJobs (λ k. at_place i (deal s.policy.controllers k (placed_jobs s records told first next)))) 0 lanes → PortDone s.workers p h g (jobs_of s records told first next i p.number) c (calls_in lanes)
+port_by_many s records told first next i p h m g c lanes ne same is within f right grows names are did = record {
   middle = m;
   firsts = f.lanes;
   first_phase = f.phase;
   first_done = f.done;
   lasts = lanes;
   last_phase = record { right = right; grows = grows; lanes = are; named_all = names };
-  last_done = done_beside (opening_of p) m g (placed_jobs s records first next) i lanes (jobs_of s records first next i p.number).later are
-      (subst (λ ns. EachLane (HasJobs (λ k. at_place i (deal ns k (placed_jobs s records first next)))) 0 lanes) (sym same) did) is
-      (subst (λ ns. Each (λ t. job_doer ns t.1 < length lanes) (placed_jobs s records first next)) (sym same) within);
+  last_done = done_beside (opening_of p) m g (placed_jobs s records told first next) i lanes (jobs_of s records told first next i p.number).later are
+      (subst (λ ns. EachLane (HasJobs (λ k. at_place i (deal ns k (placed_jobs s records told first next)))) 0 lanes) (sym same) did) is
+      (subst (λ ns. Each (λ t. job_doer ns t.1 < length lanes) (placed_jobs s records told first next)) (sym same) within);
   same = λ k. refl;
   alone = λ e. absurd (ne e);
 }
 
-all_by_many : (s : Setting) (records : List Record) (first next i callers : ℕ) (ps : List PortSeen) (hs ms gs : List (List Event)) (cs : List (List Call)) (rows : List (List Lane)) → s.workers ≢ 1 → AreNumbered s.policy.controllers (numbers_of s.policy) i ps
-    → Each (λ t. job_doer s.policy.controllers t.1 < callers) (placed_jobs s records first next) → Turns (λ j. j.first) s records first next i ps hs ms cs → length rows ≡ callers → AreRows s.policy.controllers (placed_jobs s records first next) i 0 ps ms gs rows → AreJournals callers ps ms gs
-    → AllDone s records first next i ps hs gs cs (calls_by_port ps rows)
-all_by_many s records first next i callers [] [] [] [] [] rows ne numbered within f size a j = tt
-all_by_many s records first next i callers (p ∷ ps) (h ∷ hs) (m ∷ ms) (g ∷ gs) (c ∷ cs) rows ne numbered within f size a j =
-    let l = column_of s.policy.controllers (placed_jobs s records first next) i 0 p m g ps ms gs rows a in
+all_by_many : (s : Setting) (records : List Record) (told : List PortRound) (first next i callers : ℕ) (ps : List PortSeen) (hs ms gs : List (List Event)) (cs : List (List Call)) (rows : List (List Lane)) → s.workers ≢ 1 → AreNumbered s.policy.controllers (numbers_of s.policy) i ps
+    → Each (λ t. job_doer s.policy.controllers t.1 < callers) (placed_jobs s records told first next) → Turns (λ j. j.first) s records told first next i ps hs ms cs → length rows ≡ callers → AreRows s.policy.controllers (placed_jobs s records told first next) i 0 ps ms gs rows → AreJournals callers ps ms gs
+    → AllDone s records told first next i ps hs gs cs (calls_by_port ps rows)
+all_by_many s records told first next i callers [] [] [] [] [] rows ne numbered within f size a j = tt
+all_by_many s records told first next i callers (p ∷ ps) (h ∷ hs) (m ∷ ms) (g ∷ gs) (c ∷ cs) rows ne numbered within f size a j =
+    let l = column_of s.policy.controllers (placed_jobs s records told first next) i 0 p m g ps ms gs rows a in
     let as_many : callers ≡ length (column rows) = sym (l.size ∙ size) in (
-      port_by_many s records first next i p h m g c (column rows) ne numbered.0 (place_jobs s records first next i p.number numbered.1 numbered.2)
-          (subst (λ n. Each (λ t. job_doer s.policy.controllers t.1 < n) (placed_jobs s records first next)) as_many within) f.0 j.0 j.1
+      port_by_many s records told first next i p h m g c (column rows) ne numbered.0 (place_jobs s records told first next i p.number numbered.1 numbered.2)
+          (subst (λ n. Each (λ t. job_doer s.policy.controllers t.1 < n) (placed_jobs s records told first next)) as_many within) f.0 j.0 j.1
           (subst (λ n. Each (λ e. named p.controllers e < n) g) as_many j.2) l.lanes l.did,
-      all_by_many s records first next (suc i) callers ps hs ms gs cs (other_columns rows) ne numbered.3 within f.1 (l.others_size ∙ size) l.others j.3,
+      all_by_many s records told first next (suc i) callers ps hs ms gs cs (other_columns rows) ne numbered.3 within f.1 (l.others_size ∙ size) l.others j.3,
     )
-all_by_many s records first next i callers [] (h ∷ hs) ms gs cs rows ne numbered within f size a j = absurd f
-all_by_many s records first next i callers [] [] (m ∷ ms) gs cs rows ne numbered within f size a j = absurd f
-all_by_many s records first next i callers [] [] [] (g ∷ gs) cs rows ne numbered within f size a j = absurd j
-all_by_many s records first next i callers [] [] [] [] (c ∷ cs) rows ne numbered within f size a j = absurd f
-all_by_many s records first next i callers (p ∷ ps) [] ms gs cs rows ne numbered within f size a j = absurd f
-all_by_many s records first next i callers (p ∷ ps) (h ∷ hs) [] gs cs rows ne numbered within f size a j = absurd f
-all_by_many s records first next i callers (p ∷ ps) (h ∷ hs) (m ∷ ms) [] cs rows ne numbered within f size a j = absurd j
-all_by_many s records first next i callers (p ∷ ps) (h ∷ hs) (m ∷ ms) (g ∷ gs) [] rows ne numbered within f size a j = absurd f
+all_by_many s records told first next i callers [] (h ∷ hs) ms gs cs rows ne numbered within f size a j = absurd f
+all_by_many s records told first next i callers [] [] (m ∷ ms) gs cs rows ne numbered within f size a j = absurd f
+all_by_many s records told first next i callers [] [] [] (g ∷ gs) cs rows ne numbered within f size a j = absurd j
+all_by_many s records told first next i callers [] [] [] [] (c ∷ cs) rows ne numbered within f size a j = absurd f
+all_by_many s records told first next i callers (p ∷ ps) [] ms gs cs rows ne numbered within f size a j = absurd f
+all_by_many s records told first next i callers (p ∷ ps) (h ∷ hs) [] gs cs rows ne numbered within f size a j = absurd f
+all_by_many s records told first next i callers (p ∷ ps) (h ∷ hs) (m ∷ ms) [] cs rows ne numbered within f size a j = absurd j
+all_by_many s records told first next i callers (p ∷ ps) (h ∷ hs) (m ∷ ms) (g ∷ gs) [] rows ne numbered within f size a j = absurd f
 
-all_done : (s : Setting) (records : List Record) (first next : ℕ) (hs gs : List (List Event)) (r : Round) → IsFit s records first next → (d : RoundDone s records first next hs gs r) → AllDone s records first next 0 (ports_of s.policy) hs gs d.firsts d.laters
+all_done : (s : Setting) (records : List Record) (first next : ℕ) (hs gs : List (List Event)) (r : Round) → IsFit s records r.ports first next → (d : RoundDone s records first next hs gs r) → AllDone s records r.ports first next 0 (ports_of s.policy) hs gs d.firsts d.laters
 all_done s records first next hs gs r fit d = by d.laters d.laters_done
   where
-    by : (laters : List (List Call)) → Rest s records first next d.middles gs laters → AllDone s records first next 0 (ports_of s.policy) hs gs d.firsts laters
-    by laters (One e l) = all_by_one s records first next 0 (ports_of s.policy) hs d.middles gs d.firsts laters d.firsts_done l
-    by laters (Many ne rows size a j is) = subst (λ w. AllDone s records first next 0 (ports_of s.policy) hs gs d.firsts w) (sym is)
-        (all_by_many s records first next 0 (16 + length s.policy.controllers) (ports_of s.policy) hs d.middles gs d.firsts rows ne fit.numbered fit.within d.firsts_done size a j)
+    by : (laters : List (List Call)) → Rest s records r.ports first next d.middles gs laters → AllDone s records r.ports first next 0 (ports_of s.policy) hs gs d.firsts laters
+    by laters (One e l) = all_by_one s records r.ports first next 0 (ports_of s.policy) hs d.middles gs d.firsts laters d.firsts_done l
+    by laters (Many ne rows size a j is) = subst (λ w. AllDone s records r.ports first next 0 (ports_of s.policy) hs gs d.firsts w) (sym is)
+        (all_by_many s records r.ports first next 0 (16 + length s.policy.controllers) (ports_of s.policy) hs d.middles gs d.firsts rows ne fit.numbered fit.within d.firsts_done size a j)
 
 -- ---- what is told
 
-pub record AreTold (s : Setting) (records : List Record) (first next i : ℕ) (ps : List PortSeen) (hs gs : List (List Event)) (rs : List PortRound) : Type 0 where
-  pub are : ArePortRounds s records first next i ps gs rs
+pub record AreTold (s : Setting) (records : List Record) (told : List PortRound) (first next i : ℕ) (ps : List PortSeen) (hs gs : List (List Event)) (rs : List PortRound) : Type 0 where
+  pub are : ArePortRounds s records told first next i ps gs rs
   pub right : AreHistories ps gs
   pub begin : AllBegin hs gs
   pub before : map (λ r. r.before) rs ≡ map length hs
   pub after : map (λ r. r.after) rs ≡ map length gs
 
-are_told : (s : Setting) (records : List Record) (first next i : ℕ) (ps : List PortSeen) (hs gs : List (List Event)) (cs ds : List (List Call)) → AllDone s records first next i ps hs gs cs ds → AreTold s records first next i ps hs gs (ports_told ps hs gs cs ds)
-are_told s records first next i [] [] [] [] [] w = record { are = tt; right = tt; begin = tt; before = refl; after = refl }
-are_told s records first next i (p ∷ ps) (h ∷ hs) (g ∷ gs) (c ∷ cs) (d ∷ ds) w =
-    let rest = are_told s records first next (suc i) ps hs gs cs ds w.1 in record {
-      are = (port_is_round s.workers p h g (jobs_of s records first next i p.number) c d w.0, rest.are);
+are_told : (s : Setting) (records : List Record) (told : List PortRound) (first next i : ℕ) (ps : List PortSeen) (hs gs : List (List Event)) (cs ds : List (List Call)) → AllDone s records told first next i ps hs gs cs ds → AreTold s records told first next i ps hs gs (ports_told ps hs gs cs ds)
+are_told s records told first next i [] [] [] [] [] w = record { are = tt; right = tt; begin = tt; before = refl; after = refl }
+are_told s records told first next i (p ∷ ps) (h ∷ hs) (g ∷ gs) (c ∷ cs) (d ∷ ds) w =
+    let rest = are_told s records told first next (suc i) ps hs gs cs ds w.1 in record {
+      are = (port_is_round s.workers p h g (jobs_of s records told first next i p.number) c d w.0, rest.are);
       right = (w.0.last_phase.right, rest.right);
       begin = (prefix_trans h w.0.middle g w.0.first_phase.grows w.0.last_phase.grows, rest.begin);
       before = ap (λ v. length h ∷ v) rest.before;
       after = ap (λ v. length g ∷ v) rest.after;
     }
-are_told s records first next i [] (h ∷ hs) gs cs ds w = absurd w
-are_told s records first next i [] [] (g ∷ gs) cs ds w = absurd w
-are_told s records first next i [] [] [] (c ∷ cs) ds w = absurd w
-are_told s records first next i [] [] [] [] (d ∷ ds) w = absurd w
-are_told s records first next i (p ∷ ps) [] gs cs ds w = absurd w
-are_told s records first next i (p ∷ ps) (h ∷ hs) [] cs ds w = absurd w
-are_told s records first next i (p ∷ ps) (h ∷ hs) (g ∷ gs) [] ds w = absurd w
-are_told s records first next i (p ∷ ps) (h ∷ hs) (g ∷ gs) (c ∷ cs) [] w = absurd w
+are_told s records told first next i [] (h ∷ hs) gs cs ds w = absurd w
+are_told s records told first next i [] [] (g ∷ gs) cs ds w = absurd w
+are_told s records told first next i [] [] [] (c ∷ cs) ds w = absurd w
+are_told s records told first next i [] [] [] [] (d ∷ ds) w = absurd w
+are_told s records told first next i (p ∷ ps) [] gs cs ds w = absurd w
+are_told s records told first next i (p ∷ ps) (h ∷ hs) [] cs ds w = absurd w
+are_told s records told first next i (p ∷ ps) (h ∷ hs) (g ∷ gs) [] ds w = absurd w
+are_told s records told first next i (p ∷ ps) (h ∷ hs) (g ∷ gs) (c ∷ cs) [] w = absurd w
 
-pub round_is_told : (s : Setting) (records : List Record) (first next : ℕ) (hs gs : List (List Event)) (r : Round) → IsFit s records first next → RoundDone s records first next hs gs r → AreTold s records first next 0 (ports_of s.policy) hs gs r.ports
-round_is_told s records first next hs gs r fit d = subst (AreTold s records first next 0 (ports_of s.policy) hs gs) (sym d.ports) (are_told s records first next 0 (ports_of s.policy) hs gs d.firsts d.laters (all_done s records first next hs gs r fit d))
+pub round_is_told : (s : Setting) (records : List Record) (first next : ℕ) (hs gs : List (List Event)) (r : Round) → IsFit s records r.ports first next → RoundDone s records first next hs gs r → AreTold s records r.ports first next 0 (ports_of s.policy) hs gs r.ports
+round_is_told s records first next hs gs r fit d = subst (AreTold s records r.ports first next 0 (ports_of s.policy) hs gs) (sym d.ports) (are_told s records r.ports first next 0 (ports_of s.policy) hs gs d.firsts d.laters (all_done s records first next hs gs r fit d))
 
 -- ---- a run
 
@@ -191,14 +191,14 @@ record RoundsTold (s : Setting) (records : List Record) (hs : List (List Event))
   begin : AllBegin hs gs
   chained : AreChained (map length hs) rounds (map length gs)
 
-rounds_told : (s : Setting) (records : List Record) (hs : List (List Event)) (cuts : List ℕ) (gs : List (List Event)) (rounds : List Round) → ((first next : ℕ) → IsFit s records first next) → AreHistories (ports_of s.policy) hs → RunDone s records hs cuts gs rounds → RoundsTold s records hs cuts gs rounds
+rounds_told : (s : Setting) (records : List Record) (hs : List (List Event)) (cuts : List ℕ) (gs : List (List Event)) (rounds : List Round) → ((told : List PortRound) (first next : ℕ) → IsFit s records told first next) → AreHistories (ports_of s.policy) hs → RunDone s records hs cuts gs rounds → RoundsTold s records hs cuts gs rounds
 rounds_told s records hs [] gs [] fit right d = record { are = tt; right = subst (AreHistories (ports_of s.policy)) (sym d) right; begin = subst (AllBegin hs) (sym d) (begin_self hs); chained = ap (map length) d }
 rounds_told s records hs (cut ∷ cuts) gs (r ∷ rs) fit right d =
     let next = end_before cuts (length records) in
     let ms = d.0 in
-    let one = round_is_told s records cut next hs ms r (fit cut next) d.1 in
+    let one = round_is_told s records cut next hs ms r (fit r.ports cut next) d.1 in
     let rest = rounds_told s records ms cuts gs rs fit one.right d.2 in record {
-      are = (record { first_is = d.1.first_is; loose = d.1.loose; ports = ports_later s records cut next 0 (ports_of s.policy) ms gs r.ports rest.begin one.are }, rest.are);
+      are = (record { first_is = d.1.first_is; loose = d.1.loose; ports = ports_later s records r.ports cut next 0 (ports_of s.policy) ms gs r.ports rest.begin one.are }, rest.are);
       right = rest.right;
       begin = begin_trans hs ms gs one.begin rest.begin;
       chained = (one.before, subst (λ w. AreChained w rs (map length gs)) (sym one.after) rest.chained);
@@ -208,5 +208,5 @@ rounds_told s records hs (cut ∷ cuts) gs [] fit right d = absurd d
 
 pub run_is_told : RunIsTold
 run_is_told s records cuts rounds gs served apart d =
-    let t = rounds_told s records (map (λ p. []) (ports_of s.policy)) cuts gs rounds (λ first next. fit_of s records first next served apart) (none_yet (ports_of s.policy)) d in
+    let t = rounds_told s records (map (λ p. []) (ports_of s.policy)) cuts gs rounds (λ told first next. fit_of s records told first next served apart) (none_yet (ports_of s.policy)) d in
     (record { histories = gs; right = t.right; are = t.are; chained = subst (λ w. AreChained w rounds (map length gs)) (no_counts (ports_of s.policy)) t.chained }, t.right)

@@ -5,6 +5,7 @@ use mathlib.Core.List.{IsPrefix}
 use Rattle.vsw_pcap.specs.declared.capture.Record.{Record}
 use Rattle.vsw_policy.specs.Sound.{Each}
 use Rattle.vsw_promise.specs.Ports.{PortSeen, ports_of}
+use Rattle.vsw_report.specs.declared.round.PortRound.{PortRound}
 use Rattle.vsw_port.specs.declared.event.Event.{Event}
 use Rattle.vsw_port.specs.Calls.{AreShares, Call, HasBytes, InOrder, IsCall, Job, calls_of, doer, entries_naming, job_doer, job_of, jobs_by, named}
 use Rattle.vsw_port.specs.History.{AllRight, Opening}
@@ -13,6 +14,7 @@ use Rattle.vsw_port.proofs.Fronts.{append_end, prefix_self, prefix_trans}
 use Rattle.vsw_port.proofs.Next.{bytes_later, each_of}
 use Rattle.vsw_history_law.proofs.Reports.{map_append}
 use Rattle.vsw_promise.specs.Jobs.{Placed, Setting, at_place, deal, numbers_of}
+use Rattle.vsw_promise.proofs.Handed.{place_append}
 use Rattle.vsw_promise.specs.Rounds.{opening_of}
 use Rattle.vsw_many.specs.Passes.{PassNow}
 use Rattle.vsw_many.specs.Phases.{AreLanes, IsLane, IsPhase, Lane, SameByCaller, calls_in}
@@ -21,7 +23,6 @@ use Rattle.vsw_many.specs.Rounds.{AreJournals, PortTurn, Turns, calls_by_port, c
 use Rattle.vsw_many.proofs.Passes.{all_of_one, each_weaker, none_of}
 use Rattle.vsw_many.proofs.Orders.{each_same, shares_same}
 use Rattle.vsw_many.proofs.Phases.{EachLane, by_lane, by_less, first_lane, lanes_bytes, lanes_doers, other_lanes, phase_shares}
-use Rattle.vsw_many.proofs.Actors.{place_append}
 use Rattle.vsw_many.proofs.Dealing.{AreNumbered, all_know, numbered, place_lines}
 use Rattle.vsw_many.proofs.Rounds.{HasJobs, IsColumn, column_of, done_beside, each_place}
 use Rattle.vsw_many.specs.Turns.{PlacedTurns, placed_before}
@@ -287,20 +288,20 @@ quiet_turns s hs gs rows size a j =
 
 -- ---- the commands of a round
 
-before_by_port : (s : Setting) (records : List Record) (first next i : ℕ) (ps : List PortSeen) (hs gs : List (List Event)) (calls : List (List Call)) → AreNumbered s.policy.controllers (numbers_of s.policy) i ps
-    → PlacedTurns i ps (placed_before (numbers_of s.policy) s.commands first) hs gs calls → Turns (λ j. j.first) s records first next i ps hs gs calls
-before_by_port s records first next i [] [] [] [] n t = tt
-before_by_port s records first next i (p ∷ ps) (h ∷ hs) (g ∷ gs) (c ∷ cs) n t =
-    (subst (λ w. PortTurn p h g w c) (place_lines (λ l. not l.during) (numbers_of s.policy) s.commands first i p.number n.1 n.2) t.0, before_by_port s records first next (suc i) ps hs gs cs n.3 t.1)
-before_by_port s records first next i [] (h ∷ hs) gs cs n t = absurd t
-before_by_port s records first next i [] [] (g ∷ gs) cs n t = absurd t
-before_by_port s records first next i [] [] [] (c ∷ cs) n t = absurd t
-before_by_port s records first next i (p ∷ ps) [] gs cs n t = absurd t
-before_by_port s records first next i (p ∷ ps) (h ∷ hs) [] cs n t = absurd t
-before_by_port s records first next i (p ∷ ps) (h ∷ hs) (g ∷ gs) [] n t = absurd t
+before_by_port : (s : Setting) (records : List Record) (told : List PortRound) (first next i : ℕ) (ps : List PortSeen) (hs gs : List (List Event)) (calls : List (List Call)) → AreNumbered s.policy.controllers (numbers_of s.policy) i ps
+    → PlacedTurns i ps (placed_before (numbers_of s.policy) s.commands first) hs gs calls → Turns (λ j. j.first) s records told first next i ps hs gs calls
+before_by_port s records told first next i [] [] [] [] n t = tt
+before_by_port s records told first next i (p ∷ ps) (h ∷ hs) (g ∷ gs) (c ∷ cs) n t =
+    (subst (λ w. PortTurn p h g w c) (place_lines (λ l. not l.during) (numbers_of s.policy) s.commands first i p.number n.1 n.2) t.0, before_by_port s records told first next (suc i) ps hs gs cs n.3 t.1)
+before_by_port s records told first next i [] (h ∷ hs) gs cs n t = absurd t
+before_by_port s records told first next i [] [] (g ∷ gs) cs n t = absurd t
+before_by_port s records told first next i [] [] [] (c ∷ cs) n t = absurd t
+before_by_port s records told first next i (p ∷ ps) [] gs cs n t = absurd t
+before_by_port s records told first next i (p ∷ ps) (h ∷ hs) [] cs n t = absurd t
+before_by_port s records told first next i (p ∷ ps) (h ∷ hs) (g ∷ gs) [] n t = absurd t
 
 pub before_turns : BeforeTurns
-before_turns s records first next hs gs calls apart t = before_by_port s records first next 0 (ports_of s.policy) hs gs calls (numbered s apart) t
+before_turns s records told first next hs gs calls apart t = before_by_port s records told first next 0 (ports_of s.policy) hs gs calls (numbered s apart) t
 
 -- ---- a caller's row
 

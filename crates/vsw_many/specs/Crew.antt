@@ -4,6 +4,7 @@ use Rattle.std.specs.List.{flat_map, list_any}
 use Rattle.vsw_pcap.specs.declared.capture.Record.{Record}
 use Rattle.vsw_promise.specs.Ports.{PortSeen, ports_of}
 use Rattle.vsw_report.specs.declared.round.Loose.{Loose}
+use Rattle.vsw_report.specs.declared.round.PortRound.{PortRound}
 use Rattle.vsw_report.specs.declared.round.Round.{Round}
 use Rattle.vsw_report.specs.Print.{loose_text, port_line, round_text}
 use Rattle.vsw_report.specs.Short.{is_short_round}
@@ -17,7 +18,7 @@ use Rattle.vsw_report.specs.Line.{TextLine, text_of}
 use Rattle.vsw_report.specs.Order.{AllInCounts, in_order}
 use Rattle.vsw_many.specs.Phases.{Lane}
 use Rattle.vsw_many.specs.Actors.{AreRows}
-use Rattle.vsw_many.specs.Rounds.{AreJournals, calls_by_port}
+use Rattle.vsw_many.specs.Rounds.{AreJournals, calls_by_port, ports_told}
 use Rattle.vsw_many.specs.Turns.{PlacedTurns, placed_before}
 
 -- ---- what was done
@@ -26,9 +27,9 @@ use Rattle.vsw_many.specs.Turns.{PlacedTurns, placed_before}
 abbrev pub callers_in : Setting → ℕ
 callers_in s = 16 + length s.policy.controllers
 
--- what is done beside each other in the round of these packets, of which the first has this number
-abbrev pub jobs_beside : Setting → ℕ → List Record → List Placed
-jobs_beside s first packets = placed_lines (numbers_of s.policy) s.commands first ++ placed_packets s.workers (macs_of s.policy) (numbered first packets)
+-- what is done beside each other in the round of these packets, of which the first has this number, that tells this
+abbrev pub jobs_beside : Setting → List PortRound → ℕ → List Record → List Placed
+jobs_beside s told first packets = placed_lines (numbers_of s.policy) s.commands first ++ placed_packets s.workers s.local (macs_of s.policy) told (numbered first packets)
 
 -- the lines of calls as texts
 abbrev pub lines_for : List Call → List TextLine
@@ -47,14 +48,16 @@ AreTexts workers (p ∷ ps) (c ∷ cs) (d ∷ ds) (t ∷ ts) = (t ≡ crew_texts
 AreTexts workers _ _ _ _ = ⊥
 
 -- a round done by a crew, while the histories of the ports grew from these to those: first the "before" commands in turn, and then each caller did its
--- own of all else. These are the lines of each port
+-- own of all else, and what it was handed on by what is told of the round. These are the lines of each port
 pub record CrewDid (s : Setting) (first : ℕ) (packets : List Record) (hs gs : List (List Event)) (texts : List (List (List TextLine))) : Type 0 where
   pub middles : List (List Event)
   pub firsts : List (List Call)
   pub firsts_done : PlacedTurns 0 (ports_of s.policy) (placed_before (numbers_of s.policy) s.commands first) hs middles firsts
   pub rows : List (List Lane)
   pub size : length rows ≡ callers_in s
-  pub rows_done : AreRows s.policy.controllers (jobs_beside s first packets) 0 0 (ports_of s.policy) middles gs rows
+  pub told : List PortRound
+  pub told_is : told ≡ ports_told (ports_of s.policy) hs gs firsts (calls_by_port (ports_of s.policy) rows)
+  pub rows_done : AreRows s.policy.controllers (jobs_beside s told first packets) 0 0 (ports_of s.policy) middles gs rows
   pub journals : AreJournals (callers_in s) (ports_of s.policy) middles gs
   pub texts_are : AreTexts s.workers (ports_of s.policy) firsts (calls_by_port (ports_of s.policy) rows) texts
 

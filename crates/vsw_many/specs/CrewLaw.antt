@@ -9,6 +9,7 @@ use Rattle.vsw_port.specs.Calls.{Call, job_doer}
 use Rattle.vsw_history_law.specs.Law.{AreServed}
 use Rattle.vsw_report.specs.Line.{TextLine}
 use Rattle.vsw_report.specs.Order.{AllInCounts, in_order}
+use Rattle.vsw_report.specs.declared.round.PortRound.{PortRound}
 use Rattle.vsw_promise.specs.Jobs.{Setting, Placed, numbers_of}
 use Rattle.vsw_many.specs.Phases.{Lane}
 use Rattle.vsw_many.specs.Actors.{AreRows}
@@ -55,8 +56,8 @@ QuietTurns = (s : Setting) (hs gs : List (List Event)) (rows : List (List Lane))
 
 -- the "before" commands of a round, done in turn, are those of each port
 abbrev pub BeforeTurns : Type 0
-BeforeTurns = (s : Setting) (records : List Record) (first next : ℕ) (hs gs : List (List Event)) (calls : List (List Call)) → are_distinct (numbers_of s.policy) ≡ true
-    → PlacedTurns 0 (ports_of s.policy) (placed_before (numbers_of s.policy) s.commands first) hs gs calls → Turns (λ j. j.first) s records first next 0 (ports_of s.policy) hs gs calls
+BeforeTurns = (s : Setting) (records : List Record) (told : List PortRound) (first next : ℕ) (hs gs : List (List Event)) (calls : List (List Call)) → are_distinct (numbers_of s.policy) ≡ true
+    → PlacedTurns 0 (ports_of s.policy) (placed_before (numbers_of s.policy) s.commands first) hs gs calls → Turns (λ j. j.first) s records told first next 0 (ports_of s.policy) hs gs calls
 
 -- ---- callers whose lines stand in two parts
 

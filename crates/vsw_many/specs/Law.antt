@@ -13,6 +13,7 @@ use Rattle.vsw_port.specs.Next.{IsNext}
 use Rattle.vsw_history_law.specs.Law.{AreServed}
 use Rattle.vsw_promise.specs.Jobs.{Setting, Jobs, Placed, jobs_of, at_place, deal, placed_jobs, placed_packets, placed_lines, numbers_of, macs_of, packets_between}
 use Rattle.vsw_promise.specs.Rounds.{IsPortRound, AreRounds, AreHistories}
+use Rattle.vsw_report.specs.declared.round.PortRound.{PortRound}
 use Rattle.vsw_promise.specs.Told.{lines_of}
 use Rattle.vsw_many.specs.Passes.{PassNow, AtRest, Crosses, Learns, Works, Meets}
 use Rattle.vsw_many.specs.Phases.{Track, SameByCaller, PortDone, port_told}
@@ -82,17 +83,17 @@ OrderIsFree = (o : Opening) (h g : List Event) (calls others : List Call) (befor
 
 -- what is dealt to a caller is at each port what it has to do there
 abbrev pub DealIsPlaced : Type 0
-DealIsPlaced = (s : Setting) (records : List Record) (first next k place number : ℕ) → place_of number (numbers_of s.policy) ≡ place → is_listed (numbers_of s.policy) number ≡ true
-    → at_place place (deal s.policy.controllers k (placed_jobs s records first next)) ≡ jobs_by s.policy.controllers k (jobs_of s records first next place number).later
+DealIsPlaced = (s : Setting) (records : List Record) (told : List PortRound) (first next k place number : ℕ) → place_of number (numbers_of s.policy) ≡ place → is_listed (numbers_of s.policy) number ≡ true
+    → at_place place (deal s.policy.controllers k (placed_jobs s records told first next)) ≡ jobs_by s.policy.controllers k (jobs_of s records told first next place number).later
 
 -- to a worker, packets alone; to a number that no worker has, nothing; to a controller, "during" commands alone
-pub record IsDealt (s : Setting) (records : List Record) (first next k : ℕ) : Type 0 where
-  pub worker : k < 16 → deal s.policy.controllers k (placed_jobs s records first next) ≡ deal s.policy.controllers k (placed_packets s.workers (macs_of s.policy) (packets_between records first next))
-  pub idle : s.workers ≤ k → k < 16 → deal s.policy.controllers k (placed_jobs s records first next) ≡ []
-  pub controller : 16 ≤ k → deal s.policy.controllers k (placed_jobs s records first next) ≡ deal s.policy.controllers k (placed_lines (numbers_of s.policy) s.commands first)
+pub record IsDealt (s : Setting) (records : List Record) (told : List PortRound) (first next k : ℕ) : Type 0 where
+  pub worker : k < 16 → deal s.policy.controllers k (placed_jobs s records told first next) ≡ deal s.policy.controllers k (placed_packets s.workers s.local (macs_of s.policy) told (packets_between records first next))
+  pub idle : s.workers ≤ k → k < 16 → deal s.policy.controllers k (placed_jobs s records told first next) ≡ []
+  pub controller : 16 ≤ k → deal s.policy.controllers k (placed_jobs s records told first next) ≡ deal s.policy.controllers k (placed_lines (numbers_of s.policy) s.commands first)
 
 abbrev pub AllIsDealt : Type 0
-AllIsDealt = (s : Setting) (records : List Record) (first next k : ℕ) → AreServed s → IsDealt s records first next k
+AllIsDealt = (s : Setting) (records : List Record) (told : List PortRound) (first next k : ℕ) → AreServed s → IsDealt s records told first next k
 
 -- ---- an actor
 

@@ -24,10 +24,10 @@ pub record PortTurn (p : PortSeen) (h g : List Event) (jobs : List Job) (calls :
   pub done : DoneInTurn (opening_of p) h g lanes jobs calls
 
 -- the same at each port, from the one at this place on, of a part of its jobs
-abbrev pub Turns : (Jobs → List Job) → Setting → List Record → ℕ → ℕ → ℕ → List PortSeen → List (List Event) → List (List Event) → List (List Call) → Type 0
-Turns part s records first next place [] [] [] [] = Unit {0}
-Turns part s records first next place (p ∷ ps) (h ∷ hs) (g ∷ gs) (c ∷ cs) = PortTurn p h g (part (jobs_of s records first next place p.number)) c × Turns part s records first next (suc place) ps hs gs cs
-Turns part s records first next place _ _ _ _ = ⊥
+abbrev pub Turns : (Jobs → List Job) → Setting → List Record → List PortRound → ℕ → ℕ → ℕ → List PortSeen → List (List Event) → List (List Event) → List (List Call) → Type 0
+Turns part s records told first next place [] [] [] [] = Unit {0}
+Turns part s records told first next place (p ∷ ps) (h ∷ hs) (g ∷ gs) (c ∷ cs) = PortTurn p h g (part (jobs_of s records told first next place p.number)) c × Turns part s records told first next (suc place) ps hs gs cs
+Turns part s records told first next place _ _ _ _ = ⊥
 
 -- ---- jobs done beside each other
 
@@ -50,12 +50,12 @@ calls_by_port [] rows = []
 calls_by_port (p ∷ ps) rows = calls_in (column rows) ∷ calls_by_port ps (other_columns rows)
 
 -- what comes after the "before" commands, as these calls at each port
-pub data Rest (s : Setting) (records : List Record) (first next : ℕ) (hs gs : List (List Event)) (later : List (List Call)) : Type 0 where
+pub data Rest (s : Setting) (records : List Record) (told : List PortRound) (first next : ℕ) (hs gs : List (List Event)) (later : List (List Call)) : Type 0 where
   -- one worker: it is done in turn
-  One : s.workers ≡ 1 → Turns (λ j. j.later) s records first next 0 (ports_of s.policy) hs gs later → Rest s records first next hs gs later
+  One : s.workers ≡ 1 → Turns (λ j. j.later) s records told first next 0 (ports_of s.policy) hs gs later → Rest s records told first next hs gs later
   -- more: the workers 0 to 15 and the controllers do their own of it beside each other, those that aren't there do nothing
-  Many : s.workers ≢ 1 → (rows : List (List Lane)) → length rows ≡ 16 + length s.policy.controllers → AreRows s.policy.controllers (placed_jobs s records first next) 0 0 (ports_of s.policy) hs gs rows
-      → AreJournals (16 + length s.policy.controllers) (ports_of s.policy) hs gs → later ≡ calls_by_port (ports_of s.policy) rows → Rest s records first next hs gs later
+  Many : s.workers ≢ 1 → (rows : List (List Lane)) → length rows ≡ 16 + length s.policy.controllers → AreRows s.policy.controllers (placed_jobs s records told first next) 0 0 (ports_of s.policy) hs gs rows
+      → AreJournals (16 + length s.policy.controllers) (ports_of s.policy) hs gs → later ≡ calls_by_port (ports_of s.policy) rows → Rest s records told first next hs gs later
 
 -- ---- a round
 
@@ -68,9 +68,9 @@ ports_told _ _ _ _ _ = []
 pub record RoundDone (s : Setting) (records : List Record) (first next : ℕ) (hs gs : List (List Event)) (r : Round) : Type 0 where
   pub middles : List (List Event)
   pub firsts : List (List Call)
-  pub firsts_done : Turns (λ j. j.first) s records first next 0 (ports_of s.policy) hs middles firsts
+  pub firsts_done : Turns (λ j. j.first) s records r.ports first next 0 (ports_of s.policy) hs middles firsts
   pub laters : List (List Call)
-  pub laters_done : Rest s records first next middles gs laters
+  pub laters_done : Rest s records r.ports first next middles gs laters
   pub first_is : r.first ≡ first
   pub loose : r.loose ≡ loose_among (macs_of s.policy) (packets_between records first next)
   pub ports : r.ports ≡ ports_told (ports_of s.policy) hs gs firsts laters

@@ -1,6 +1,5 @@
--- The rounds that are worked out are rounds, for any number of workers.
-use Rattle.std.proofs.Common.{◌≡◌, ℕ, suc, ◌-◌, Bool, true, false, List, [], ◌∷◌, ◌++◌, length, map, None, refl, ap, sym, ◌∙◌, subst, append_assoc}
-use mathlib.Core.List.{IsPrefix}
+-- The rounds that are worked out are rounds, for any number of workers, where no packet is handed on.
+use Rattle.std.proofs.Common.{◌≡◌, ℕ, suc, ◌-◌, Bool, true, false, List, [], ◌∷◌, ◌++◌, length, map, refl, ap, sym, ◌∙◌, subst, append_assoc}
 use Rattle.vsw_base.specs.declared.fate.Fate.{Fate}
 use Rattle.vsw_base.specs.declared.fate.Fate.TheVariants.{Pass, Drop}
 use Rattle.vsw_base.specs.declared.flow.Crossing.{Crossing}
@@ -16,7 +15,6 @@ use Rattle.vsw_port.specs.History.{Opening, replay, AllRight}
 use Rattle.vsw_port.specs.Fate.{fate_at}
 use Rattle.vsw_promise.specs.Jobs.{Setting, Jobs, jobs_of, cuts}
 use Rattle.vsw_port.specs.Next.{IsDone, Enters, Reading, IsNext, Goes}
-use Rattle.vsw_report.specs.Print.{report_text}
 use Rattle.vsw_promise.specs.Rounds.{opening_of, IsPortRound, ArePortRounds, AreRoundsAt, AreChained, AreHistories, AllBegin, end_before}
 use Rattle.vsw_promise.specs.Told.{lines_of}
 use Rattle.vsw_promise.specs.Alone.{shown, deed_at, enters_at, call_at, next_history, calls_from, history_from, port_round_from, all_of, port_rounds_from, histories_from, rounds_from, rounds_alone}
@@ -24,6 +22,7 @@ use Rattle.vsw_promise.specs.Exist.{AlwaysRounds}
 use Rattle.vsw_port.proofs.Fronts.{prefix_self, prefix_trans, append_end}
 use Rattle.vsw_port.proofs.Calls.{entries_append}
 use Rattle.vsw_port.proofs.Next.{goes_none, goes_on}
+use Rattle.vsw_promise.proofs.Handed.{jobs_untold}
 use Rattle.vsw_promise.proofs.PortRounds.{round_of_goes, port_round_later}
 
 shows_shown : (ls : List LayerSeen) (x : Crossing) (p : Parts) (fate : Fate) → Shows ls x p fate (shown ls x p fate)
@@ -99,37 +98,39 @@ begin_trans [] (g ∷ gs) hs a b = absurd a
 begin_trans (f ∷ fs) [] hs a b = absurd a
 begin_trans (f ∷ fs) (g ∷ gs) [] a b = absurd b
 
-pub ports_later : (s : Setting) (records : List Record) (first next n : ℕ) (ps : List PortSeen) (hs ks : List (List Event)) (rs : List PortRound) → AllBegin hs ks → ArePortRounds s records first next n ps hs rs → ArePortRounds s records first next n ps ks rs
-ports_later s records first next n [] [] [] [] b a = tt
-ports_later s records first next n (p ∷ ps) (h ∷ hs) (k ∷ ks) (r ∷ rs) b a = (port_round_later s.workers p h k (jobs_of s records first next n p.number) r b.0 a.0, ports_later s records first next (suc n) ps hs ks rs b.1 a.1)
-ports_later s records first next n [] [] [] (r ∷ rs) b a = absurd a
-ports_later s records first next n [] [] (k ∷ ks) rs b a = absurd b
-ports_later s records first next n [] (h ∷ hs) ks rs b a = absurd a
-ports_later s records first next n (p ∷ ps) [] ks rs b a = absurd a
-ports_later s records first next n (p ∷ ps) (h ∷ hs) [] rs b a = absurd b
-ports_later s records first next n (p ∷ ps) (h ∷ hs) (k ∷ ks) [] b a = absurd a
+pub ports_later : (s : Setting) (records : List Record) (told : List PortRound) (first next n : ℕ) (ps : List PortSeen) (hs ks : List (List Event)) (rs : List PortRound) → AllBegin hs ks → ArePortRounds s records told first next n ps hs rs → ArePortRounds s records told first next n ps ks rs
+ports_later s records told first next n [] [] [] [] b a = tt
+ports_later s records told first next n (p ∷ ps) (h ∷ hs) (k ∷ ks) (r ∷ rs) b a = (port_round_later s.workers p h k (jobs_of s records told first next n p.number) r b.0 a.0, ports_later s records told first next (suc n) ps hs ks rs b.1 a.1)
+ports_later s records told first next n [] [] [] (r ∷ rs) b a = absurd a
+ports_later s records told first next n [] [] (k ∷ ks) rs b a = absurd b
+ports_later s records told first next n [] (h ∷ hs) ks rs b a = absurd a
+ports_later s records told first next n (p ∷ ps) [] ks rs b a = absurd a
+ports_later s records told first next n (p ∷ ps) (h ∷ hs) [] rs b a = absurd b
+ports_later s records told first next n (p ∷ ps) (h ∷ hs) (k ∷ ks) [] b a = absurd a
 
 -- the round of all ports after these histories
-record PortsExist (s : Setting) (records : List Record) (first next n : ℕ) (ps : List PortSeen) (gs : List (List Event)) : Type 0 where
-  are : ArePortRounds s records first next n ps (histories_from s records first next n ps gs) (port_rounds_from s records first next n ps gs)
+record PortsExist (s : Setting) (records : List Record) (told : List PortRound) (first next n : ℕ) (ps : List PortSeen) (gs : List (List Event)) : Type 0 where
+  are : ArePortRounds s records told first next n ps (histories_from s records first next n ps gs) (port_rounds_from s records first next n ps gs)
   right : AreHistories ps (histories_from s records first next n ps gs)
   begin : AllBegin gs (histories_from s records first next n ps gs)
   before : map (λ r. r.before) (port_rounds_from s records first next n ps gs) ≡ map length gs
   after : map (λ r. r.after) (port_rounds_from s records first next n ps gs) ≡ map length (histories_from s records first next n ps gs)
 
-ports_exist : (s : Setting) (records : List Record) (first next n : ℕ) (ps : List PortSeen) (gs : List (List Event)) → AreHistories ps gs → PortsExist s records first next n ps gs
-ports_exist s records first next n [] [] a = record { are = tt; right = tt; begin = tt; before = refl; after = refl }
-ports_exist s records first next n (p ∷ ps) (g ∷ gs) a =
-    let one = port_exists s.workers p g (jobs_of s records first next n p.number) a.0 in
-    let rest = ports_exist s records first next (suc n) ps gs a.1 in record {
-      are = (one.0, rest.are);
+ports_exist : (s : Setting) (records : List Record) (told : List PortRound) (first next n : ℕ) (ps : List PortSeen) (gs : List (List Event)) → s.local ≡ false → AreHistories ps gs → PortsExist s records told first next n ps gs
+ports_exist s records told first next n [] [] alone a = record { are = tt; right = tt; begin = tt; before = refl; after = refl }
+ports_exist s records told first next n (p ∷ ps) (g ∷ gs) alone a =
+    let jobs = jobs_of s records [] first next n p.number in
+    let h = history_from (opening_of p) g (all_of jobs) in
+    let one = port_exists s.workers p g jobs a.0 in
+    let rest = ports_exist s records told first next (suc n) ps gs alone a.1 in record {
+      are = (subst (λ w. IsPortRound s.workers p h w (port_round_from p g (all_of jobs))) (jobs_untold s records [] told first next n p.number alone) one.0, rest.are);
       right = (one.1, rest.right);
-      begin = ((entries_of (calls_from (opening_of p) g (all_of (jobs_of s records first next n p.number))), refl), rest.begin);
+      begin = ((entries_of (calls_from (opening_of p) g (all_of (jobs_of s records [] first next n p.number))), refl), rest.begin);
       before = ap (λ w. length g ∷ w) rest.before;
-      after = ap (λ w. length (history_from (opening_of p) g (all_of (jobs_of s records first next n p.number))) ∷ w) rest.after;
+      after = ap (λ w. length (history_from (opening_of p) g (all_of (jobs_of s records [] first next n p.number))) ∷ w) rest.after;
     }
-ports_exist s records first next n [] (g ∷ gs) a = absurd a
-ports_exist s records first next n (p ∷ ps) [] a = absurd a
+ports_exist s records told first next n [] (g ∷ gs) alone a = absurd a
+ports_exist s records told first next n (p ∷ ps) [] alone a = absurd a
 
 -- ---- all rounds
 
@@ -141,17 +142,17 @@ pub record RoundsExist (s : Setting) (records : List Record) (gs : List (List Ev
   pub are : AreRoundsAt s records histories cuts (rounds_from s records gs cuts)
   pub chained : AreChained (map length gs) (rounds_from s records gs cuts) (map length histories)
 
-pub rounds_exist : (s : Setting) (records : List Record) (gs : List (List Event)) (cuts : List ℕ) → AreHistories (ports_of s.policy) gs → RoundsExist s records gs cuts
-rounds_exist s records gs [] a = record { histories = gs; right = a; begin = begin_self gs; are = tt; chained = refl }
-rounds_exist s records gs (cut ∷ cuts) a =
+pub rounds_exist : (s : Setting) (records : List Record) (gs : List (List Event)) (cuts : List ℕ) → s.local ≡ false → AreHistories (ports_of s.policy) gs → RoundsExist s records gs cuts
+rounds_exist s records gs [] alone a = record { histories = gs; right = a; begin = begin_self gs; are = tt; chained = refl }
+rounds_exist s records gs (cut ∷ cuts) alone a =
     let next = end_before cuts (length records) in
-    let ports = ports_exist s records cut next 0 (ports_of s.policy) gs a in
+    let ports = ports_exist s records (port_rounds_from s records cut next 0 (ports_of s.policy) gs) cut next 0 (ports_of s.policy) gs alone a in
     let hs = histories_from s records cut next 0 (ports_of s.policy) gs in
-    let rest = rounds_exist s records hs cuts ports.right in record {
+    let rest = rounds_exist s records hs cuts alone ports.right in record {
       histories = rest.histories;
       right = rest.right;
       begin = begin_trans gs hs rest.histories ports.begin rest.begin;
-      are = (record { first_is = refl; loose = refl; ports = ports_later s records cut next 0 (ports_of s.policy) hs rest.histories (port_rounds_from s records cut next 0 (ports_of s.policy) gs) rest.begin ports.are }, rest.are);
+      are = (record { first_is = refl; loose = refl; ports = ports_later s records (port_rounds_from s records cut next 0 (ports_of s.policy) gs) cut next 0 (ports_of s.policy) hs rest.histories (port_rounds_from s records cut next 0 (ports_of s.policy) gs) rest.begin ports.are }, rest.are);
       chained = (ports.before, subst (λ w. AreChained w (rounds_from s records hs cuts) (map length rest.histories)) (sym ports.after) rest.chained);
     }
 
@@ -164,8 +165,8 @@ no_counts [] = refl
 no_counts (p ∷ ps) = ap (λ w. 0 ∷ w) (no_counts ps)
 
 pub always_rounds : AlwaysRounds
-always_rounds s records cuts =
-    let all = rounds_exist s records (map (λ p. []) (ports_of s.policy)) cuts (none_yet (ports_of s.policy)) in record {
+always_rounds s records cuts alone =
+    let all = rounds_exist s records (map (λ p. []) (ports_of s.policy)) cuts alone (none_yet (ports_of s.policy)) in record {
       histories = all.histories;
       right = all.right;
       are = all.are;

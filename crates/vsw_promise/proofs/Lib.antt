@@ -3,6 +3,7 @@ pub mod Groups
 pub mod Placing
 pub mod Slices
 pub mod Good
+pub mod Handed
 pub mod Exists
 pub mod PortRounds
 pub mod Reports

@@ -18,7 +18,7 @@ pub command_between : CommandBetween
 unfolding port_line digits encode_with frame_in walk_of layer_text
 command_between = record {
   rounds = rounds_alone (sample_setting (dropping_line ∷ [])) (captured 0 ∷ captured 1000 ∷ []) (0 ∷ 1 ∷ []);
-  are = always_rounds (sample_setting (dropping_line ∷ [])) (captured 0 ∷ captured 1000 ∷ []) (0 ∷ 1 ∷ []);
+  are = always_rounds (sample_setting (dropping_line ∷ [])) (captured 0 ∷ captured 1000 ∷ []) (0 ∷ 1 ∷ []) refl;
   text_is = refl;
 }
 
@@ -26,6 +26,6 @@ pub before_and_beside : BeforeAndBeside
 unfolding port_line digits frame_in fault_text
 before_and_beside = record {
   rounds = rounds_alone (sample_setting early_and_late) loose_records (0 ∷ []);
-  are = always_rounds (sample_setting early_and_late) loose_records (0 ∷ []);
+  are = always_rounds (sample_setting early_and_late) loose_records (0 ∷ []) refl;
   text_is = refl;
 }

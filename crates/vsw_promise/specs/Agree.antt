@@ -1,5 +1,5 @@
 -- What reports tell of packets, and when it doesn't hang on the number of workers.
-use Rattle.std.specs.Prelude.{◌≡◌, ◌==◌, ◌&&◌, ◌<◌, ℕ, List, [], length, map, filter, Bool, true, false, option_to_list}
+use Rattle.std.specs.Prelude.{◌≡◌, ◌<◌, ℕ, List, [], false, option_to_list}
 use Rattle.std.specs.List.{flat_map, slice_get}
 use Rattle.vsw_policy.specs.Layer.{LayerSeen}
 use Rattle.vsw_policy.specs.Obey.{rules_given}
@@ -8,11 +8,9 @@ use Rattle.vsw_promise.specs.Ports.{ports_of}
 use Rattle.vsw_rule.specs.declared.rule.Group.{Group}
 use Rattle.vsw_rule.specs.declared.rule.Rule.{Rule}
 use Rattle.vsw_report.specs.declared.round.Round.{Round}
-use Rattle.vsw_report.specs.declared.told.By.{By}
-use Rattle.vsw_report.specs.declared.told.By.TheVariants.{Worker, Controller}
 use Rattle.vsw_report.specs.declared.told.ToldLine.{ToldLine}
-use Rattle.vsw_report.specs.declared.told.What.{What}
 use Rattle.vsw_promise.specs.Jobs.{Setting}
+use Rattle.vsw_promise.specs.Told.{fates_in}
 
 -- ---- runs whose packets change nothing
 
@@ -40,22 +38,9 @@ pub record IsPlainSetting (s : Setting) : Type 0 where
 
 -- the same run with another number of workers
 abbrev pub with_workers : ℕ → Setting → Setting
-with_workers n s = record { workers = n; policy = s.policy; commands = s.commands }
+with_workers n s = record { workers = n; policy = s.policy; commands = s.commands; local = s.local }
 
 -- ---- what is told of a packet
-
--- the line is of a packet, not of a command
-abbrev pub is_worker : By → Bool
-is_worker (Worker n) = true
-is_worker (Controller n) = false
-
--- the line is of packet n
-abbrev pub is_packet : ℕ → ToldLine → Bool
-is_packet n l = is_worker l.by && (l.item == n)
-
--- the fates and bytes of packet n among these lines
-abbrev pub fates_in : ℕ → List ToldLine → List What
-fates_in n lines = map (λ l. l.what) (filter (is_packet n) lines)
 
 -- the lines of the port at this place in all rounds
 abbrev pub lines_at : ℕ → List Round → List ToldLine

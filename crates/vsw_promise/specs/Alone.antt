@@ -1,4 +1,4 @@
--- The report of one worker where memory suffices, worked out from the policy, the commands and the records.
+-- The report of one worker where memory suffices and no packet is handed on, worked out from the policy, the commands and the records.
 use Rattle.std.specs.Prelude.{ℕ, ◌-◌, suc, List, [], ◌∷◌, ◌++◌, length, map, Bool, true}
 use Rattle.vsw_base.specs.declared.fate.Fate.{Fate}
 use Rattle.vsw_base.specs.declared.fate.Fate.TheVariants.{Pass, Drop}
@@ -62,13 +62,14 @@ port_round_from p h js = record {
 abbrev pub all_of : Jobs → List Job
 all_of jobs = jobs.first ++ jobs.later
 
--- the rounds of several ports after their histories, from the one at this place on, and the histories after these
+-- the rounds of several ports after their histories, from the one at this place on, and the histories after these. No packet is handed on, so
+-- jobs are the same whatever the round tells
 abbrev pub port_rounds_from : Setting → List Record → ℕ → ℕ → ℕ → List PortSeen → List (List Event) → List PortRound
-port_rounds_from s records first next place (p ∷ ps) (h ∷ hs) = port_round_from p h (all_of (jobs_of s records first next place p.number)) ∷ port_rounds_from s records first next (suc place) ps hs
+port_rounds_from s records first next place (p ∷ ps) (h ∷ hs) = port_round_from p h (all_of (jobs_of s records [] first next place p.number)) ∷ port_rounds_from s records first next (suc place) ps hs
 port_rounds_from s records first next place _ _ = []
 
 abbrev pub histories_from : Setting → List Record → ℕ → ℕ → ℕ → List PortSeen → List (List Event) → List (List Event)
-histories_from s records first next place (p ∷ ps) (h ∷ hs) = history_from (opening_of p) h (all_of (jobs_of s records first next place p.number)) ∷ histories_from s records first next (suc place) ps hs
+histories_from s records first next place (p ∷ ps) (h ∷ hs) = history_from (opening_of p) h (all_of (jobs_of s records [] first next place p.number)) ∷ histories_from s records first next (suc place) ps hs
 histories_from s records first next place _ _ = []
 
 -- the rounds at these cuts, after these histories

@@ -1,27 +1,35 @@
 -- What is to be done in each round of a run, and who has to do it.
-use Rattle.std.specs.Prelude.{ℕ, ◌+◌, ◌-◌, ◌*◌, ◌/◌, ◌%◌, ◌==◌, ◌&&◌, not, List, [], ◌∷◌, ◌++◌, length, map, filter, take, drop, nat_lt, Some, None, if◌then◌else◌, Result, Ok, Err}
-use Rattle.std.specs.List.{flat_map}
+use Rattle.std.specs.Prelude.{ℕ, ◌+◌, ◌-◌, ◌*◌, ◌/◌, ◌%◌, ◌==◌, ◌&&◌, not, Bool, true, false, List, [], ◌∷◌, ◌++◌, length, map, filter, take, drop, nat_lt, Option, Some, None, option_and_then, option_map, option_to_list, if◌then◌else◌, Result, Ok, Err}
+use Rattle.std.specs.List.{flat_map, slice_get}
+use Rattle.vsw_base.specs.declared.fate.Fate.TheVariants.{Pass, Drop}
 use Rattle.vsw_base.specs.declared.flow.Crossing.{Crossing}
 use Rattle.vsw_base.specs.declared.flow.Place.{Place}
+use Rattle.vsw_base.specs.declared.packet.Dir.TheVariants.{Out, In}
 use Rattle.vsw_base.specs.Frame.{Parts, frame_of, sizes_of}
 use Rattle.vsw_commandfile.specs.declared.line.Line.{Line}
-use Rattle.vsw_header.specs.PortChoice.{choose}
+use Rattle.vsw_header.specs.PortChoice.{choose, in_of}
 use Rattle.vsw_header.specs.FlowSum.{flow_sum_of}
 use Rattle.vsw_pcap.specs.declared.capture.Record.{Record}
 use Rattle.vsw_config.specs.declared.file.PolicyFile.{PolicyFile}
 use Rattle.vsw_promise.specs.Ports.{ports_of}
+use Rattle.vsw_promise.specs.Told.{fates_in}
 use Rattle.vsw_report.specs.declared.round.Loose.{Loose}
 use Rattle.vsw_report.specs.declared.round.LooseCause.{LooseCause}
 use Rattle.vsw_report.specs.declared.round.LooseCause.TheVariants.{Snapped, Malformed, NoPort}
+use Rattle.vsw_report.specs.declared.round.PortRound.{PortRound}
+use Rattle.vsw_report.specs.declared.told.What.{What}
+use Rattle.vsw_report.specs.declared.told.What.TheVariants as what
 use Rattle.vsw_policy.specs.Layers.{place_of}
 use Rattle.vsw_port.specs.Calls.{Job, Carry, Ask, job_doer}
 use Rattle.vsw_port.specs.Order.{ascending, counted, numbered}
 
--- what a run is given beside its trace: the number of workers, the policy, and the commands
+-- what a run is given beside its trace: the number of workers, the policy, the commands, and whether packets are handed on between its
+-- ports
 pub record Setting : Type 0 where
   pub workers : ℕ
   pub policy : PolicyFile
   pub commands : List Line
+  pub local : Bool
 
 -- the multiples of 1,024 below a number of records
 abbrev pub multiples_below : ℕ → List ℕ
@@ -69,14 +77,70 @@ crossing_by worker n place moment p = record { caller = worker; packet = n; id =
 abbrev pub worker_of : ℕ → Parts → ℕ
 worker_of workers p = flow_sum_of p.stack % workers
 
--- a packet is a job at the port to which it goes, and at no other
-abbrev pub aimed_at : ℕ → ℕ → ℕ → ℕ → Result (Place × Parts) LooseCause → List Job
-aimed_at workers port n moment (Err why) = []
-aimed_at workers port n moment (Ok a) = if a.0.port == port then Carry (crossing_by (worker_of workers a.1) n a.0 moment a.1) a.1 ∷ [] else []
+-- ---- packets that are handed on
 
--- the packets among these that go to the port at this place, in packet order
-abbrev pub packet_jobs : ℕ → List ℕ → ℕ → List (ℕ × Record) → List Job
-packet_jobs workers macs port packets = flat_map (λ p. aimed_at workers port p.0 p.1.moment (aim_of macs p.1)) packets
+-- a packet for another port of the switch: the place of that port, and the parts of the packet's frame
+pub record Hop : Type 0 where
+  pub port : ℕ
+  pub parts : Parts
+
+-- the port, if it is another one than the first of these
+abbrev pub if_other : ℕ → ℕ → Option ℕ
+if_other from port = if port == from then None else Some port
+
+-- the place of the port that has a frame's innermost destination, if it is another one than the frame left
+abbrev pub local_to : List ℕ → ℕ → Parts → Option ℕ
+local_to macs from p = option_and_then (if_other from) (in_of macs p.stack)
+
+-- bytes that left a port, as a packet for another, if they are a frame for one
+abbrev pub hop_of : List ℕ → ℕ → List ℕ → Option Hop
+hop_of macs from bytes = elim (frame_of bytes) [
+  | Err fault ↦ None
+  | Ok parts ↦ option_map (λ port. record { port = port; parts = parts }) (local_to macs from parts)
+]
+
+-- what a packet that came to a place is handed on as, by what became of it there: it passed outbound, and is for another port
+abbrev pub handed_on : List ℕ → Place → What → List Hop
+handed_on macs place (what.Reply reply) = []
+handed_on macs place (what.Fate (Drop cause) bytes) = []
+handed_on macs place (what.Fate (Pass len) bytes) = elim place.dir [ In ↦ [] | Out ↦ option_to_list (hop_of macs place.port bytes) ]
+
+-- the fates and bytes of packet n that a round tells of the port at a place
+abbrev pub fates_told : List PortRound → ℕ → ℕ → List What
+fates_told told place n = flat_map (λ r. fates_in n r.lines) (option_to_list (slice_get told place))
+
+-- what packet n is handed on as in a round that tells this: nothing, unless packets are handed on
+abbrev pub hops_of : Bool → List ℕ → List PortRound → ℕ → Result (Place × Parts) LooseCause → List Hop
+hops_of false macs told n to = []
+hops_of true macs told n (Err why) = []
+hops_of true macs told n (Ok a) = flat_map (handed_on macs a.0) (fates_told told a.0.port n)
+
+-- ---- jobs
+
+-- a job, with the place of its port
+abbrev pub Placed : Type 0
+Placed = ℕ × Job
+
+-- the jobs of the port at a place among these
+abbrev pub at_place : ℕ → List Placed → List Job
+at_place i js = map (λ t. t.1) (filter (λ t. t.0 == i) js)
+
+-- the jobs of one caller among these, in its order
+abbrev pub deal : List ℕ → ℕ → List Placed → List Placed
+deal cs k js = filter (λ t. job_doer cs t.1 == k) js
+
+-- packet n once more, as it is handed on: the same worker brings it to the other port, inbound, at the same moment
+abbrev pub second_job : ℕ → ℕ → ℕ → Hop → Placed
+second_job worker n moment h = (h.port, Carry (crossing_by worker n (record { port = h.port; dir = In }) moment h.parts) h.parts)
+
+-- the jobs of a packet: one at the port to which it goes, and one more for what it is handed on as. A loose packet has none
+abbrev pub placed_packet : ℕ → ℕ → ℕ → List Hop → Result (Place × Parts) LooseCause → List Placed
+placed_packet workers n moment hops (Err why) = []
+placed_packet workers n moment hops (Ok a) = (a.0.port, Carry (crossing_by (worker_of workers a.1) n a.0 moment a.1) a.1) ∷ map (second_job (worker_of workers a.1) n moment) hops
+
+-- the jobs of these packets, in packet order, in a round that tells this
+abbrev pub placed_packets : ℕ → Bool → List ℕ → List PortRound → List (ℕ × Record) → List Placed
+placed_packets workers local macs told packets = flat_map (λ p. placed_packet workers p.0 p.1.moment (hops_of local macs told p.0 (aim_of macs p.1)) (aim_of macs p.1)) packets
 
 -- the commands of the round that begins with this packet, for the port of this number, in file order: those before its packets, and those beside them
 abbrev pub before_jobs : List Line → ℕ → ℕ → List Job
@@ -91,31 +155,14 @@ pub record Jobs : Type 0 where
   pub first : List Job
   pub later : List Job
 
--- the jobs of the port of this number at this place, in the round of the packets from one cut up to the next
-abbrev pub jobs_of : Setting → List Record → ℕ → ℕ → ℕ → ℕ → Jobs
-jobs_of s records first next place number = record { first = before_jobs s.commands first number; later = during_jobs s.commands first number ++ packet_jobs s.workers (macs_of s.policy) place (packets_between records first next) }
+-- the jobs of the port of this number at this place, in the round of the packets from one cut up to the next that tells this
+abbrev pub jobs_of : Setting → List Record → List PortRound → ℕ → ℕ → ℕ → ℕ → Jobs
+jobs_of s records told first next place number = record {
+  first = before_jobs s.commands first number;
+  later = during_jobs s.commands first number ++ at_place place (placed_packets s.workers s.local (macs_of s.policy) told (packets_between records first next));
+}
 
 -- ---- the same over all ports
-
--- a job, with the place of its port
-abbrev pub Placed : Type 0
-Placed = ℕ × Job
-
--- the jobs of the port at a place among these
-abbrev pub at_place : ℕ → List Placed → List Job
-at_place i js = map (λ t. t.1) (filter (λ t. t.0 == i) js)
-
--- the jobs of one caller among these, in its order
-abbrev pub deal : List ℕ → ℕ → List Placed → List Placed
-deal cs k js = filter (λ t. job_doer cs t.1 == k) js
-
--- a packet that isn't loose, with its worker and its port
-abbrev pub placed_packet : ℕ → ℕ → ℕ → Result (Place × Parts) LooseCause → List Placed
-placed_packet workers n moment (Err why) = []
-placed_packet workers n moment (Ok a) = (a.0.port, Carry (crossing_by (worker_of workers a.1) n a.0 moment a.1) a.1) ∷ []
-
-abbrev pub placed_packets : ℕ → List ℕ → List (ℕ × Record) → List Placed
-placed_packets workers macs packets = flat_map (λ p. placed_packet workers p.0 p.1.moment (aim_of macs p.1)) packets
 
 -- the "during" commands of the round that begins with this packet, in file order, with the places of their ports among these numbers
 abbrev pub placed_lines : List ℕ → List Line → ℕ → List Placed
@@ -125,6 +172,6 @@ placed_lines numbers commands first = map (λ l. (place_of l.port numbers, Ask l
 abbrev pub numbers_of : PolicyFile → List ℕ
 numbers_of policy = map (λ p. p.number) (ports_of policy)
 
--- all that is done beside each other in a round: the "during" commands, and the packets
-abbrev pub placed_jobs : Setting → List Record → ℕ → ℕ → List Placed
-placed_jobs s records first next = placed_lines (numbers_of s.policy) s.commands first ++ placed_packets s.workers (macs_of s.policy) (packets_between records first next)
+-- all that is done beside each other in a round that tells this: the "during" commands, and the packets
+abbrev pub placed_jobs : Setting → List Record → List PortRound → ℕ → ℕ → List Placed
+placed_jobs s records told first next = placed_lines (numbers_of s.policy) s.commands first ++ placed_packets s.workers s.local (macs_of s.policy) told (packets_between records first next)

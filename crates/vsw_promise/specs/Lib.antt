@@ -5,6 +5,7 @@ pub mod Groups
 pub mod Summary
 pub mod Rounds
 pub mod Jobs
+pub mod Forwarded
 pub mod Told
 pub mod Agree
 pub mod Alone

@@ -38,17 +38,17 @@ pub record IsPortRound (workers : ℕ) (p : PortSeen) (h : List Event) (jobs : J
   pub one : workers ≡ 1 → IsOneOrder (take r.before h) (take r.after h) (first ++ later)
   pub lines : r.lines ≡ lines_of p.controllers (first ++ later) r.before (r.after - r.before)
 
--- the same of several ports, from the one at this place on
-abbrev pub ArePortRounds : Setting → List Record → ℕ → ℕ → ℕ → List PortSeen → List (List Event) → List PortRound → Type 0
-ArePortRounds s records first next place [] [] [] = Unit {0}
-ArePortRounds s records first next place (p ∷ ps) (h ∷ hs) (r ∷ rs) = IsPortRound s.workers p h (jobs_of s records first next place p.number) r × ArePortRounds s records first next (suc place) ps hs rs
-ArePortRounds s records first next place _ _ _ = ⊥
+-- the same of several ports, from the one at this place on, in a round that tells this of all ports
+abbrev pub ArePortRounds : Setting → List Record → List PortRound → ℕ → ℕ → ℕ → List PortSeen → List (List Event) → List PortRound → Type 0
+ArePortRounds s records told first next place [] [] [] = Unit {0}
+ArePortRounds s records told first next place (p ∷ ps) (h ∷ hs) (r ∷ rs) = IsPortRound s.workers p h (jobs_of s records told first next place p.number) r × ArePortRounds s records told first next (suc place) ps hs rs
+ArePortRounds s records told first next place _ _ _ = ⊥
 
--- the round of the packets from one cut up to the next, on the histories of all ports
+-- the round of the packets from one cut up to the next, on the histories of all ports. It tells of itself what its packets are handed on as
 pub record IsRound (s : Setting) (records : List Record) (hs : List (List Event)) (first next : ℕ) (r : Round) : Type 0 where
   pub first_is : r.first ≡ first
   pub loose : r.loose ≡ loose_among (macs_of s.policy) (packets_between records first next)
-  pub ports : ArePortRounds s records first next 0 (ports_of s.policy) hs r.ports
+  pub ports : ArePortRounds s records r.ports first next 0 (ports_of s.policy) hs r.ports
 
 -- where a round ends: at the next of these cuts, or with the trace
 abbrev pub end_before : List ℕ → ℕ → ℕ

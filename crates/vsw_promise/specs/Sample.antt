@@ -41,11 +41,12 @@ sample_policy = record {
       groups = record { number = 1; dir = Out; when = []; rules = rule_with Allow ∷ [] } ∷ [];
     } ∷ [];
   } ∷ [];
+  seed = tt;
 }
 
 -- a run of one worker with these commands
 abbrev pub sample_setting : List Line → Setting
-sample_setting commands = record { workers = 1; policy = sample_policy; commands = commands }
+sample_setting commands = record { workers = 1; policy = sample_policy; commands = commands; local = false }
 
 -- the plain frame, captured whole
 abbrev pub captured : ℕ → Record

@@ -1,5 +1,5 @@
 -- The lines of a port in a round, and their order.
-use Rattle.std.specs.Prelude.{ℕ, zero, suc, ◌==◌, ◌&&◌, not, List, ◌++◌, map, filter}
+use Rattle.std.specs.Prelude.{ℕ, zero, suc, ◌==◌, ◌&&◌, not, Bool, true, false, List, ◌++◌, map, filter}
 use Rattle.std.specs.List.{flat_map}
 use Rattle.vsw_report.specs.declared.told.By.{By}
 use Rattle.vsw_report.specs.declared.told.By.TheVariants.{Worker, Controller}
@@ -59,3 +59,18 @@ in_told_order cs calls n (suc more) = reads_by_caller cs n calls ++ (entry_at n 
 -- the lines of calls in a round that began with this many entries and had this many more
 abbrev pub lines_of : List ℕ → List Call → ℕ → ℕ → List ToldLine
 lines_of cs calls before more = map line_of (in_told_order cs calls before more)
+
+-- ---- what lines tell of a packet
+
+-- the line is of a packet, not of a command
+abbrev pub is_worker : By → Bool
+is_worker (Worker n) = true
+is_worker (Controller n) = false
+
+-- the line is of packet n
+abbrev pub is_packet : ℕ → ToldLine → Bool
+is_packet n l = is_worker l.by && (l.item == n)
+
+-- the fates and bytes of packet n among these lines
+abbrev pub fates_in : ℕ → List ToldLine → List What
+fates_in n lines = map (λ l. l.what) (filter (is_packet n) lines)

@@ -7,7 +7,7 @@ mod order_law;
 mod port;
 mod schedule;
 
-pub use law::{rounds_exist, samples};
+pub use law::{jobs_alone, rounds_exist, samples};
 pub use order_law::order_laws;
 pub use port::{Port, macs, ports_of};
 pub use schedule::Schedule;

@@ -11,7 +11,7 @@ use crate::layers::add_layers;
 use std::alloc::Global;
 use vsw_base::{Items, Mac, NoMemory};
 use vsw_config::{PolicyFile, PortFile};
-use vsw_policy::Policy;
+use vsw_policy::{HashSeed, Policy};
 
 /// A port of the switch.
 #[derive(Drop)]
@@ -24,13 +24,18 @@ pub struct Port {
     pub policy: Policy,
 }
 
-fn port_of(alloc: Global, controllers: &[u16], file: &PortFile) -> Result<Port, NoMemory>
+fn port_of(
+    alloc: Global,
+    controllers: &[u16],
+    seed: &HashSeed,
+    file: &PortFile,
+) -> Result<Port, NoMemory>
     requires few { length controllers.now ≤ 8 }
     requires distinct { IsTrue (are_distinct controllers.now) }
     requires layers { AreLayers controllers.now (map whole file.now.layers) }
     ensures { IfOk result (λ port. spec.port_seen port ≡ spec.port_of controllers.now file.now) }
 {
-    let mut policy = Policy::new(alloc, controllers)?;
+    let mut policy = Policy::with_seed(alloc, controllers, seed)?;
     add_layers(alloc, &mut policy, file.layers.as_slice())?;
     Ok(Port {
         number: file.port,
@@ -44,6 +49,7 @@ fn port_of(alloc: Global, controllers: &[u16], file: &PortFile) -> Result<Port, 
 fn add_ports(
     alloc: Global,
     controllers: &[u16],
+    seed: &HashSeed,
     files: &[PortFile],
     made: &mut Items<Port>,
 ) -> Result<(), NoMemory>
@@ -55,11 +61,11 @@ fn add_ports(
     match files {
         [] => Ok(()),
         [first, rest @ ..] => {
-            let port = port_of(alloc, controllers, first)?;
+            let port = port_of(alloc, controllers, seed, first)?;
             if made.push(port).is_err() {
                 return Err(NoMemory);
             }
-            add_ports(alloc, controllers, rest, made)
+            add_ports(alloc, controllers, seed, rest, made)
         }
     }
 }
@@ -73,6 +79,7 @@ pub fn ports_of(alloc: Global, file: &PolicyFile) -> Result<Items<Port>, NoMemor
     add_ports(
         alloc,
         file.controllers.as_slice(),
+        &file.seed,
         file.ports.as_slice(),
         &mut ports,
     )?;

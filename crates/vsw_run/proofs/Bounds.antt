@@ -7,7 +7,7 @@ use Rattle.vsw_run.specs.Words.{asked_in}
 use Rattle.vsw_run.specs.declared.reading.Asked as asked
 use Rattle.vsw_run.proofs.Grammars.{reads_grammar}
 
-counted : (words : List (List ℕ)) (n : ℕ) → IsOption words n → IsCount n
+pub counted : (words : List (List ℕ)) (n : ℕ) → IsOption words n → IsCount n
 counted words n (inl o) = o.0
 counted words n (inr (inl o)) = o.0
 counted words n (inr (inr o)) = (omega (arith, o.0), omega (arith, o.0))

@@ -7,3 +7,5 @@ pub mod Endings
 pub mod Wants
 pub mod Runs
 pub mod Wholes
+pub mod Well
+pub mod Ordered

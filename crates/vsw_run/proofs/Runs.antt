@@ -42,10 +42,10 @@ use Rattle.vsw_promise.proofs.PortRounds.{take_whole}
 
 -- what one worker tells of a trace that ended cleanly is one text
 pub one_text : OneText
-one_text s t text other w e a b =
+one_text s t text other apart w e a b =
     let same : a.records ≡ b.records = (captures_are_unique t.bytes a.records b.records None None a.capture b.capture).0 in
-    let first : a.rounds ≡ rounds_alone s a.records (cuts s.commands (length a.records)) = one_value s a.records (cuts s.commands (length a.records)) a.rounds w e a.are a.short_is in
-    let second : b.rounds ≡ rounds_alone s b.records (cuts s.commands (length b.records)) = one_value s b.records (cuts s.commands (length b.records)) b.rounds w e b.are b.short_is in
+    let first : a.rounds ≡ rounds_alone s a.records (cuts s.commands (length a.records)) = one_value s a.records (cuts s.commands (length a.records)) a.rounds apart w e a.are a.short_is in
+    let second : b.rounds ≡ rounds_alone s b.records (cuts s.commands (length b.records)) = one_value s b.records (cuts s.commands (length b.records)) b.rounds apart w e b.are b.short_is in
     a.text_is ∙ (ap report_text (first ∙ (ap (λ rs. rounds_alone s rs (cuts s.commands (length rs))) same ∙ sym second)) ∙ sym b.text_is)
 
 -- the text after these records, by the ending
@@ -59,10 +59,10 @@ Texts s (ending.Trace (Huge at)) rs text = (rounds : List Round) × AreRounds s 
 Texts s ending.Records rs text = (rounds : List Round) × AreRounds s rs (cuts_within s.commands (length rs)) rounds × (text ≡ report_text rounds)
 Texts s _ rs text = Unit {0}
 
-one_report : (s : Setting) (rs : List Record) (cuts : List ℕ) (text other : List ℕ) → s.workers ≡ 1 → AreAsked s → ¬ (TellsWant text) → ¬ (TellsWant other)
+one_report : (s : Setting) (rs : List Record) (cuts : List ℕ) (text other : List ℕ) → s.local ≡ false → s.workers ≡ 1 → AreAsked s → ¬ (TellsWant text) → ¬ (TellsWant other)
     → ((rounds : List Round) × AreRounds s rs cuts rounds × (text ≡ report_text rounds)) → ((rounds : List Round) × AreRounds s rs cuts rounds × (other ≡ report_text rounds)) → text ≡ other
-one_report s rs cuts text other w asked none nothing (a, are, e) (b, too, f) =
-    e ∙ (ap report_text (one_value s rs cuts a w asked are (plenty_rounds a text e none) ∙ sym (one_value s rs cuts b w asked too (plenty_rounds b other f nothing))) ∙ sym f)
+one_report s rs cuts text other apart w asked none nothing (a, are, e) (b, too, f) =
+    e ∙ (ap report_text (one_value s rs cuts a apart w asked are (plenty_rounds a text e none) ∙ sym (one_value s rs cuts b apart w asked too (plenty_rounds b other f nothing))) ∙ sym f)
 
 -- the endings by a trace
 abbrev IsByTrace : Ending → Type 0
@@ -71,20 +71,20 @@ IsByTrace (ending.Trace bad) = Unit {0}
 IsByTrace ending.Records = Unit {0}
 IsByTrace _ = ⊥
 
-one_text_by : (s : Setting) (e : Ending) (rs : List Record) (text other : List ℕ) → IsByTrace e → s.workers ≡ 1 → AreAsked s → ¬ (TellsWant text) → ¬ (TellsWant other) → Texts s e rs text → Texts s e rs other → text ≡ other
-one_text_by s ending.Done rs text other i w asked none nothing a b = one_report s rs (cuts s.commands (length rs)) text other w asked none nothing a b
-one_text_by s (ending.Trace NotPcap) rs text other i w asked none nothing a b = a ∙ sym b
-one_text_by s (ending.Trace Version) rs text other i w asked none nothing a b = a ∙ sym b
-one_text_by s (ending.Trace LinkType) rs text other i w asked none nothing a b = a ∙ sym b
-one_text_by s (ending.Trace (Cut at)) rs text other i w asked none nothing a b = one_report s rs (cuts_within s.commands (length rs)) text other w asked none nothing a b
-one_text_by s (ending.Trace (Huge at)) rs text other i w asked none nothing a b = one_report s rs (cuts_within s.commands (length rs)) text other w asked none nothing a b
-one_text_by s ending.Records rs text other i w asked none nothing a b = one_report s rs (cuts_within s.commands (length rs)) text other w asked none nothing a b
-one_text_by s ending.Usage rs text other i w asked none nothing a b = absurd i
-one_text_by s ending.ReadFault rs text other i w asked none nothing a b = absurd i
-one_text_by s ending.WriteFault rs text other i w asked none nothing a b = absurd i
-one_text_by s (ending.Policy why) rs text other i w asked none nothing a b = absurd i
-one_text_by s (ending.Commands why) rs text other i w asked none nothing a b = absurd i
-one_text_by s ending.Memory rs text other i w asked none nothing a b = absurd i
+one_text_by : (s : Setting) (e : Ending) (rs : List Record) (text other : List ℕ) → IsByTrace e → s.local ≡ false → s.workers ≡ 1 → AreAsked s → ¬ (TellsWant text) → ¬ (TellsWant other) → Texts s e rs text → Texts s e rs other → text ≡ other
+one_text_by s ending.Done rs text other i apart w asked none nothing a b = one_report s rs (cuts s.commands (length rs)) text other apart w asked none nothing a b
+one_text_by s (ending.Trace NotPcap) rs text other i apart w asked none nothing a b = a ∙ sym b
+one_text_by s (ending.Trace Version) rs text other i apart w asked none nothing a b = a ∙ sym b
+one_text_by s (ending.Trace LinkType) rs text other i apart w asked none nothing a b = a ∙ sym b
+one_text_by s (ending.Trace (Cut at)) rs text other i apart w asked none nothing a b = one_report s rs (cuts_within s.commands (length rs)) text other apart w asked none nothing a b
+one_text_by s (ending.Trace (Huge at)) rs text other i apart w asked none nothing a b = one_report s rs (cuts_within s.commands (length rs)) text other apart w asked none nothing a b
+one_text_by s ending.Records rs text other i apart w asked none nothing a b = one_report s rs (cuts_within s.commands (length rs)) text other apart w asked none nothing a b
+one_text_by s ending.Usage rs text other i apart w asked none nothing a b = absurd i
+one_text_by s ending.ReadFault rs text other i apart w asked none nothing a b = absurd i
+one_text_by s ending.WriteFault rs text other i apart w asked none nothing a b = absurd i
+one_text_by s (ending.Policy why) rs text other i apart w asked none nothing a b = absurd i
+one_text_by s (ending.Commands why) rs text other i apart w asked none nothing a b = absurd i
+one_text_by s ending.Memory rs text other i apart w asked none nothing a b = absurd i
 
 -- ---- what a run found in the files
 
@@ -98,6 +98,7 @@ record FoundTrace (q : Request) (files : List ℕ → Option (List ℕ)) (old ne
   commands_held : files q.commands ≡ Some commands
   commands_good : commands_file_of setting.policy commands ≡ Ok setting.commands
   workers : setting.workers ≡ q.workers
+  apart : setting.local ≡ false
   file : List ℕ
   held : files q.trace ≡ Some file
   records : List Record
@@ -180,6 +181,7 @@ found_trace q old new a e r told b ends =
       commands_held = held_as a old.inputs o.commands.name q.commands o.commands.bytes told turn.3.named held.1.0;
       commands_good = o.commands_good;
       workers = o.workers;
+      apart = o.apart;
       file = file.bytes;
       held = held_as a old.inputs file.name q.trace file.bytes told turn.4 held.1.1.0;
       records = shown.records;
@@ -234,7 +236,7 @@ err_is x y e = cc e
 not_both : {A E : Type 0} (x : A) (y : E) → ◌≡◌ {A = Result A E} (Ok x) (Err y) → ⊥
 not_both x y e = cc e
 
-each_asked : (p : PolicyFile) (ls : List Line) → All (CanAsk p) ls → Each (λ l. is_listed p.controllers l.controller ≡ true) ls
+pub each_asked : (p : PolicyFile) (ls : List Line) → All (CanAsk p) ls → Each (λ l. is_listed p.controllers l.controller ≡ true) ls
 each_asked p [] h = tt
 each_asked p (l ∷ ls) h = ((h 0 l (omega arith)).0, each_asked p ls (λ i d lt. h (suc i) d (omega (arith, lt))))
 
@@ -259,7 +261,7 @@ by_trace : (q : Request) (files : List ℕ → Option (List ℕ)) (old new other
 by_trace q files old new other last e f i a b =
     let policies : a.setting.policy ≡ b.setting.policy = ok_is a.setting.policy b.setting.policy (sym a.policy_good ∙ (same_policy files q.policy a.policy b.policy a.policy_held b.policy_held ∙ b.policy_good)) in
     let lines : a.setting.commands ≡ b.setting.commands = ok_is a.setting.commands b.setting.commands (sym a.commands_good ∙ (same_commands files q.commands a.commands b.commands a.setting.policy b.setting.policy a.commands_held b.commands_held policies ∙ b.commands_good)) in
-    let settings : a.setting ≡ b.setting = (λ i. record { workers = (a.workers ∙ sym b.workers) i; policy = policies i; commands = lines i }) in
+    let settings : a.setting ≡ b.setting = (λ i. record { workers = (a.workers ∙ sym b.workers) i; policy = policies i; commands = lines i; local = (a.apart ∙ sym b.apart) i }) in
     let file : a.file ≡ b.file = some_is a.file b.file (sym a.held ∙ b.held) in
     let one = one_ending a.file e f a.records b.records a.says (subst (λ w. Says w f b.records) (sym file) b.says) in
     let asked : AreAsked a.setting = each_asked a.setting.policy a.setting.commands (each_is_good a.setting.policy a.commands a.setting.commands a.commands_good).can_ask in
@@ -268,7 +270,7 @@ by_trace q files old new other last e f i a b =
       text = λ w x y o p n l none nothing.
           let first = put_is old new a.text x o n a.puts in
           let second = put_is other last b.text y p l b.puts in
-          first ∙ (one_text_by a.setting e a.records a.text b.text i (a.workers ∙ w) asked (subst (λ t. ¬ (TellsWant t)) first none) (subst (λ t. ¬ (TellsWant t)) second nothing) a.texts texts ∙ sym second);
+          first ∙ (one_text_by a.setting e a.records a.text b.text i a.apart (a.workers ∙ w) asked (subst (λ t. ¬ (TellsWant t)) first none) (subst (λ t. ¬ (TellsWant t)) second nothing) a.texts texts ∙ sym second);
     }
 
 agree : (q : Request) (files : List ℕ → Option (List ℕ)) (old new other last : Option (List ℕ)) (e f : Ending) → Found q files old new e → Found q files other last f → Agree q new last old other e f
@@ -309,13 +311,13 @@ one_summary start packets a b x y =
     let records = generated_records start packets in
     let cs = cuts [] packets in
     let policies : x.policy ≡ y.policy = ok_is x.policy y.policy (sym x.good ∙ y.good) in
-    let first = one_value (alone_under x.policy) records cs x.rounds refl tt x.are x.short_is in
-    let second = one_value (alone_under y.policy) records cs y.rounds refl tt y.are y.short_is in
+    let first = one_value (alone_under x.policy) records cs x.rounds refl refl tt x.are x.short_is in
+    let second = one_value (alone_under y.policy) records cs y.rounds refl refl tt y.are y.short_is in
     x.text_is ∙ (ap (summary_text packets) (first ∙ (ap (λ p. rounds_alone (alone_under p) records cs) policies ∙ sym second)) ∙ sym y.text_is)
 
 -- ---- one run
 
-runs_as : (words : List (List ℕ)) (o : Option Asked) (old new : Outside) (s : Status) (r : IsRun words old new s) → asked_in words ≡ o → RunsBy o old new r.end
+pub runs_as : (words : List (List ℕ)) (o : Option Asked) (old new : Outside) (s : Status) (r : IsRun words old new s) → asked_in words ≡ o → RunsBy o old new r.end
 runs_as words o old new s r e = subst (λ w. RunsBy w old new r.end) e r.runs
 
 record Both (q : Option Asked) (old new other last : Outside) (e f : Ending) : Type 0 where

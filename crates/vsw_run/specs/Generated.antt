@@ -1,5 +1,5 @@
 -- What a run over a generated workload puts: the summary of the rounds that a report would tell.
-use Rattle.std.specs.Prelude.{◌≡◌, ℕ, List, [], length, map, Bool, Ok}
+use Rattle.std.specs.Prelude.{◌≡◌, ℕ, List, [], length, map, Bool, false, Ok}
 use Rattle.vsw_generate.specs.Policy.{policy_text}
 use Rattle.vsw_generate.specs.Workload.{workload_of}
 use Rattle.vsw_pcap.specs.declared.capture.Record.{Record}
@@ -19,9 +19,9 @@ whole_record p = record { moment = p.0; original = length p.1; bytes = p.1 }
 abbrev pub generated_records : (start packets : ℕ) → List Record
 generated_records start packets = map whole_record (workload_of start packets)
 
--- one worker, and no commands
+-- one worker, no commands, and no packet is handed on between ports
 abbrev pub alone_under : PolicyFile → Setting
-alone_under policy = record { workers = 1; policy = policy; commands = [] }
+alone_under policy = record { workers = 1; policy = policy; commands = []; local = false }
 
 -- the text is the summary of the rounds of these packets under the workload's policy. Memory was wanting in them, or not
 pub record Summarizes (start packets : ℕ) (short : Bool) (text : List ℕ) : Type 0 where

@@ -16,9 +16,9 @@ use Rattle.vsw_run.specs.Words.{Request, Forward, asked_in}
 abbrev pub DoneReadsAll : Type 0
 DoneReadsAll = (q : Request) (old new : Outside) (run : Runs q old new Done) → Each IsWhole run.files
 
--- what one worker puts of a trace that ends cleanly, where memory suffices, is one text of the three files
+-- where no packet is handed on, what one worker puts of a trace that ends cleanly, where memory suffices, is one text of the three files
 abbrev pub OneText : Type 0
-OneText = (s : Setting) (t : Trace) (text other : List ℕ) → s.workers ≡ 1 → AreAsked s → TellsAll s t false text → TellsAll s t false other → text ≡ other
+OneText = (s : Setting) (t : Trace) (text other : List ℕ) → s.local ≡ false → s.workers ≡ 1 → AreAsked s → TellsAll s t false text → TellsAll s t false other → text ≡ other
 
 -- two hosts hold the same files, and tell them
 pub record AreAlike (one two : Outside) : Type 0 where

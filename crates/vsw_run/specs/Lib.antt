@@ -9,4 +9,6 @@ pub mod Complaint
 pub mod Generated
 pub mod IsRun
 pub mod Law
+pub mod Well
+pub mod Order
 pub mod Statuses

@@ -1,6 +1,8 @@
 //! What holds of runs of the program.
 
+ghost use Rattle.vsw_run.specs.Well.{DoneRanWell};
 ghost use Rattle.vsw_run.specs.Law.{DoneReadsAll, OneRun, OneStatus, OneText};
+ghost use Rattle.vsw_run.specs.Order.{RoundsAreTold};
 ghost use Rattle.vsw_run.specs.Statuses.{StatusNumbers};
 
 /// A run that ends well has read all of its files. The status of a run is one value. With one worker so is its report, where memory
@@ -10,6 +12,17 @@ pub fn program_laws()
     ensures text { OneText }
     ensures status { OneStatus }
     ensures run { OneRun }
+{}
+
+/// A run over files that ended well put the report of rounds in which each controller is told what its own commands alone would have, each
+/// packet has one line, and where rules have no state each packet's fate is that of one worker.
+pub fn done_laws()
+    ensures well { DoneRanWell }
+{}
+
+/// The lines of each port's round stand in the order in which a report is read.
+pub fn order_laws()
+    ensures told { RoundsAreTold }
 {}
 
 /// The number with which each status ends the process.

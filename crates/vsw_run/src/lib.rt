@@ -12,6 +12,6 @@ mod words;
 pub use ending::{Ending, Status};
 pub use forward::Request;
 pub use grammar_law::grammar_laws;
-pub use law::{program_laws, statuses};
+pub use law::{done_laws, order_laws, program_laws, statuses};
 pub use reading::{Asked, read_words};
 pub use words::Word;

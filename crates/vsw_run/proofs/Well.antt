@@ -1,0 +1,95 @@
+-- What holds of a run over files that ended well.
+use Rattle.std.proofs.Common.{◌≡◌, ℕ, false, List, length, take, Some, None, refl, ap, ◌∙◌, subst, arith}
+use Rattle.vsw_commandfile.proofs.LinesRead.{each_is_good}
+use Rattle.vsw_commandfile.specs.declared.fault.CommandsFault.{CommandsFault}
+use Rattle.vsw_commandfile.specs.declared.fault.CommandsFault.TheVariants as commands
+use Rattle.vsw_config.specs.declared.file.ConfigFault.{ConfigFault}
+use Rattle.vsw_config.specs.declared.file.ConfigFault.TheVariants as policy
+use Rattle.vsw_history_law.proofs.Covers.{packets_are_covered}
+use Rattle.vsw_history_law.proofs.OneLine.{each_has_its_line}
+use Rattle.vsw_history_law.proofs.PlainRuns.{agrees_alone}
+use Rattle.vsw_history_law.proofs.Replies.{runs_replies_alone}
+use Rattle.vsw_history_law.specs.Law.{AreServed}
+use Rattle.vsw_host.specs.Outside.{Outside}
+use Rattle.vsw_pcap.specs.Capture.{IsCapture}
+use Rattle.vsw_promise.proofs.PortRounds.{take_whole}
+use Rattle.vsw_promise.specs.Jobs.{cuts}
+use Rattle.vsw_run.proofs.Bounds.{counted}
+use Rattle.vsw_run.proofs.Grammars.{reads_grammar}
+use Rattle.vsw_run.proofs.Runs.{each_asked, runs_as}
+use Rattle.vsw_run.proofs.Wholes.{done_reads_all}
+use Rattle.vsw_run.specs.Complaint.{commands_status, policy_status, status_of}
+use Rattle.vsw_run.specs.Well.{DoneRanWell, RanWell}
+use Rattle.vsw_run.specs.Files.{IsWhole, Reaches}
+use Rattle.vsw_run.specs.Grammar.{Asks, IsCount}
+use Rattle.vsw_run.specs.IsRun.{EndsByTrace, Puts, Runs}
+use Rattle.vsw_run.specs.Trace.{TellsAll}
+use Rattle.vsw_run.specs.Words.{Forward, Request, asked_in}
+use Rattle.vsw_run.specs.declared.ending.Ending.{Ending}
+use Rattle.vsw_run.specs.declared.ending.Ending.TheVariants as ending
+use Rattle.vsw_run.specs.declared.ending.Status.TheVariants as status
+
+not_policy : (why : ConfigFault) → status.Done ≡ policy_status why → ⊥
+not_policy (policy.Bad kind path) e = cc e
+not_policy policy.PolicyLimit e = cc e
+not_policy policy.PortsLimit e = cc e
+not_policy policy.ControllersLimit e = cc e
+not_policy policy.Memory e = cc e
+
+not_commands : (why : CommandsFault) → status.Done ≡ commands_status why → ⊥
+not_commands (commands.Bad line kind path) e = cc e
+not_commands commands.CommandsLimit e = cc e
+not_commands commands.LinesLimit e = cc e
+not_commands commands.Memory e = cc e
+
+-- one ending has this status
+done_is : (end : Ending) → status.Done ≡ status_of end → end ≡ ending.Done
+done_is ending.Done e = refl
+done_is ending.Usage e = absurd (cc e)
+done_is ending.ReadFault e = absurd (cc e)
+done_is ending.WriteFault e = absurd (cc e)
+done_is (ending.Policy why) e = absurd (not_policy why e)
+done_is (ending.Commands why) e = absurd (not_commands why e)
+done_is (ending.Trace bad) e = absurd (cc e)
+done_is ending.Records e = absurd (cc e)
+done_is ending.Memory e = absurd (cc e)
+
+workers_are : (words : List (List ℕ)) (q : Request) → asked_in words ≡ Some (Forward q) → IsCount q.workers
+workers_are words q e = let h : Asks words (Forward q) = (reads_grammar words (Forward q)).0 e in counted h.3.option q.workers h.3.option_is
+
+ran_well : (q : Request) (old new : Outside) → IsCount q.workers → Runs q old new ending.Done → RanWell q old new
+ran_well q old new count run =
+    let ends : EndsByTrace q old new run.files ending.Done = run.ends in
+    let o = ends.reads.opened in
+    let file = ends.reads.file in
+    let s = ends.reads.setting in
+    let all : TellsAll s ends.reads.trace false ends.text = ends.tells in
+    let asked = each_asked s.policy s.commands (each_is_good s.policy o.commands.bytes s.commands o.commands_good).can_ask in
+    let served : AreServed s = record { least = omega (arith, o.workers, count.0); most = omega (arith, o.workers, count.1); asked = asked } in
+    let whole : IsWhole file = subst (Reaches old new file) all.read ends.reads.read.reaches in
+    let bytes : ends.reads.trace.bytes ≡ file.bytes = ends.reads.read.bytes ∙ (ap (λ n. take n file.bytes) whole ∙ take_whole file.bytes) in
+    let cs = cuts s.commands (length all.records) in
+    let covered = (packets_are_covered s.commands all.records).0 in
+    record {
+      files = run.files;
+      opens = run.opens;
+      whole = done_reads_all q old new run;
+      setting = s;
+      trace = file;
+      given = o;
+      served = served;
+      records = all.records;
+      capture = subst (λ w. IsCapture w all.records None) bytes all.capture;
+      rounds = all.rounds;
+      tells = record {
+        are = all.are;
+        replies = runs_replies_alone s all.records cs all.rounds served all.are all.short_is;
+        lines = λ n r g. each_has_its_line s all.records cs all.rounds n r served covered all.are g;
+        packets = λ plain. agrees_alone s all.records cs all.rounds o.apart plain served all.are all.short_is;
+      };
+      puts = subst (Puts old new) all.text_is ends.puts;
+    }
+
+pub done_ran_well : DoneRanWell
+done_ran_well words q old new e r =
+    ran_well q old new (workers_are words q e) (subst (Runs q old new) (done_is r.end r.status_is) (runs_as words (Some (Forward q)) old new status.Done r e))

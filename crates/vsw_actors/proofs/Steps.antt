@@ -141,10 +141,10 @@ packets_more f first i packets r at =
     ∙ (flat_map-append f (numbered first (take i packets)) ((first + i, r) ∷ []) ∙ ap (λ w. flat_map f (numbered first (take i packets)) ++ w) (append-nil (f (first + i, r)))))
 
 pub packets_next : (cs : List ℕ) (workers : ℕ) (macs : List ℕ) (first i : ℕ) (packets : List Record) (r : Record) (s t u : List (List Placed)) → slice_get packets i ≡ Some r
-    → Deals cs s (placed_packets workers macs (numbered first (take i packets))) t → Deals cs t (placed_packet workers (first + i) r.moment (aim_of macs r)) u → Deals cs s (placed_packets workers macs (numbered first (take (i + 1) packets))) u
+    → Deals cs s (placed_packets workers false macs [] (numbered first (take i packets))) t → Deals cs t (placed_packet workers (first + i) r.moment [] (aim_of macs r)) u → Deals cs s (placed_packets workers false macs [] (numbered first (take (i + 1) packets))) u
 packets_next cs workers macs first i packets r s t u at so_far one =
-    deals_join cs s t u (placed_packets workers macs (numbered first (take i packets))) (placed_packet workers (first + i) r.moment (aim_of macs r)) (placed_packets workers macs (numbered first (take (i + 1) packets)))
-    (packets_more (λ p. placed_packet workers p.0 p.1.moment (aim_of macs p.1)) first i packets r at) so_far one
+    deals_join cs s t u (placed_packets workers false macs [] (numbered first (take i packets))) (placed_packet workers (first + i) r.moment [] (aim_of macs r)) (placed_packets workers false macs [] (numbered first (take (i + 1) packets)))
+    (packets_more (λ p. placed_packet workers p.0 p.1.moment [] (aim_of macs p.1)) first i packets r at) so_far one
 
 pub loose_next : (macs : List ℕ) (first i : ℕ) (packets : List Record) (r : Record) (old t u : List Loose) → slice_get packets i ≡ Some r
     → t ≡ old ++ loose_among macs (numbered first (take i packets)) → u ≡ t ++ loose_after (first + i) (aim_of macs r) → u ≡ old ++ loose_among macs (numbered first (take (i + 1) packets))

@@ -1,13 +1,13 @@
 //! To whom a packet goes, or why it is loose.
 
-ghost use Rattle.std.specs.Prelude.{◌≡◌, ◌≤◌, ◌<◌, ◌%◌, IfOk, length};
+ghost use Rattle.std.specs.Prelude.{◌≡◌, ◌≤◌, ◌<◌, ◌%◌, [], IfOk, length};
 ghost use Rattle.vsw_header.specs.FlowSum.{flow_sum_of};
 ghost use Rattle.vsw_promise.specs.Jobs.{aim_of, loose_after, placed_packet};
 ghost use Rattle.vsw_actors.specs.Private.Aims.{IsCarried, captured_of, loose_in, placed_in};
 
 use crate::work::Packet;
 use vsw_base::{Mac, Stack};
-use vsw_frame::read_frame;
+use vsw_frame::{FrameRoom, read_frame};
 use vsw_header::{choose_port, spread};
 use vsw_pcap::Captured;
 use vsw_report::LooseCause;
@@ -35,15 +35,15 @@ pub(crate) fn aim<'a>(
     requires some { 1 ≤ workers }
     requires few { workers ≤ 16 }
     requires ports { length macs.now ≤ 16 }
-    ensures placed { placed_in result ≡ placed_packet workers number captured.now.moment (aim_of macs.now (captured_of captured.now)) }
+    ensures placed { placed_in result ≡ placed_packet workers number captured.now.moment [] (aim_of macs.now (captured_of captured.now)) }
     ensures loose { loose_in number result ≡ loose_after number (aim_of macs.now (captured_of captured.now)) }
     ensures fit { IfOk result (λ packet. IsCarried (length macs.now) packet) }
 {
     if captured.bytes.len() < captured.original as usize {
         return Err(LooseCause::Snapped);
     }
-    // The frame is large: it is looked at where it was read, and not moved.
-    let read = read_frame(captured.bytes);
+    let mut headers = FrameRoom::new();
+    let read = read_frame(captured.bytes, &mut headers);
     match &read {
         Err(fault) => Err(LooseCause::Malformed(*fault)),
         Ok(frame) => match choose_port(macs, frame.stack()) {

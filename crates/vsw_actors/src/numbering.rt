@@ -2,20 +2,20 @@
 
 use vsw_workers::Gate;
 
-/// A gate to which each actor from `first` on has a number that is higher by `more` than its place.
+/// A gate to which the actors from the place `first` on have the numbers from `number` on.
 #[derive(Drop)]
 pub(crate) struct Numbering<'g, G> {
     gate: &'g G,
     first: u32,
-    more: u32,
+    number: u32,
 }
 
 impl<'g, G> Numbering<'g, G> {
-    pub(crate) fn of(gate: &'g G, first: usize, more: usize) -> Numbering<'g, G> {
+    pub(crate) fn of(gate: &'g G, first: usize, number: usize) -> Numbering<'g, G> {
         Numbering {
             gate,
             first: (first % 0x1_0000_0000) as u32,
-            more: (more % 0x1_0000_0000) as u32,
+            number: (number % 0x1_0000_0000) as u32,
         }
     }
 }
@@ -23,19 +23,19 @@ impl<'g, G> Numbering<'g, G> {
 impl<'g, G: Gate> Gate for Numbering<'g, G> {
     fn enter(&self, actor: u32, job: u32) {
         self.gate
-            .enter(number_of(actor, self.first, self.more), job);
+            .enter(number_of(actor, self.first, self.number), job);
     }
 
     fn leave(&self, actor: u32, job: u32) {
         self.gate
-            .leave(number_of(actor, self.first, self.more), job);
+            .leave(number_of(actor, self.first, self.number), job);
     }
 }
 
-fn number_of(place: u32, first: u32, more: u32) -> u32 {
+fn number_of(place: u32, first: u32, number: u32) -> u32 {
     if place < first {
         place
     } else {
-        place.wrapping_add(more)
+        number.wrapping_add(place - first)
     }
 }

@@ -8,7 +8,7 @@ use crate::numbering::Numbering;
 use std::alloc::Global;
 use std::sync::Wait;
 use std::thread::Threads;
-use vsw_workers::{Forwarder, Gate, run_round};
+use vsw_workers::{Forwarder, Gate, run_in_turn, run_round};
 
 /// Who acts in a round, and which round it is. The first rows are those of the workers, the last those of the controllers, and whom
 /// the rows between belong to has no thread.
@@ -20,7 +20,8 @@ pub struct Lineup {
 }
 
 /// Does all jobs of all seats: callers in the order of their rows, and the reconciler behind them. In the round's slice stand the
-/// workers, the controllers and the reconciler; controllers have no threads either where none of them has a job.
+/// workers, the controllers and the reconciler. Where no worker has a job, all are done in turn by this thread; controllers have no
+/// threads either where none of them has a job. The gate is told the same numbers.
 pub(crate) fn run_seats<R: Threads + Wait + Sync, F: Forwarder + Send, G: Gate + Sync>(
     rt: &R,
     alloc: Global,
@@ -34,8 +35,11 @@ pub(crate) fn run_seats<R: Threads + Wait + Sync, F: Forwarder + Send, G: Gate +
     let workers = lineup.workers.min(callers);
     let controllers = lineup.controllers.min(callers - workers);
     let idle = callers - workers - controllers;
-    if are_idle(seats, callers - controllers, callers) {
-        let shifted = Numbering::of(gate, workers, controllers);
+    if are_idle(seats, 0, workers) {
+        let shifted = Numbering::of(gate, workers + idle, workers);
+        run_in_turn(rt, alloc, seats, &shifted);
+    } else if are_idle(seats, callers - controllers, callers) {
+        let shifted = Numbering::of(gate, workers, workers + controllers);
         run_apart(rt, alloc, seats, workers, idle + controllers, &shifted);
     } else {
         run_apart(rt, alloc, seats, workers, idle, gate);

@@ -1,6 +1,6 @@
 //! The shares of a round's callers: what each is dealt.
 
-ghost use Rattle.std.specs.Prelude.{◌≡◌, ◌≤◌, ◌<◌, ◌+◌, ◌^◌, ◌++◌, ◌∷◌, [], ℕ, List, IfOk, OnOk, length, replicate, true};
+ghost use Rattle.std.specs.Prelude.{◌≡◌, ◌≤◌, ◌<◌, ◌+◌, ◌^◌, ◌++◌, ◌∷◌, [], ℕ, List, IfOk, OnOk, false, length, replicate, true};
 ghost use Rattle.vsw_actors.specs.Actors.{placed_of};
 ghost use Rattle.vsw_port.specs.Calls.{controller_at};
 ghost use Rattle.vsw_port.specs.Order.{numbered};
@@ -174,7 +174,7 @@ fn deal_packet<'a>(
     requires few { workers ≤ 16 }
     requires ports { length macs.now ≤ 16 }
     requires callers { 16 ≤ length shares.old.items }
-    ensures dealt { (cs : List ℕ) (js : List jobs.Placed) → shared shares.old.items ≡ dealt cs js → OnOk result (shared shares.new.items ≡ dealt cs (js ++ placed_packet workers number captured.now.moment (aim_of macs.now (captured_of captured.now)))) }
+    ensures dealt { (cs : List ℕ) (js : List jobs.Placed) → shared shares.old.items ≡ dealt cs js → OnOk result (shared shares.new.items ≡ dealt cs (js ++ placed_packet workers number captured.now.moment [] (aim_of macs.now (captured_of captured.now)))) }
     ensures work { (cs : List ℕ) → AreWork (length macs.now) cs shares.old.items → OnOk result (AreWork (length macs.now) cs shares.new.items) }
     ensures callers { length shares.new.items ≡ length shares.old.items }
     ensures loose { OnOk result (loose.new.items ≡ loose.old.items ++ loose_after number (aim_of macs.now (captured_of captured.now))) }
@@ -205,7 +205,7 @@ fn deal_packets<'a>(
     requires ports { length macs.now ≤ 16 }
     requires callers { 16 ≤ length shares.old.items }
     requires numbers { first + length packets.now < 2 ^ 32 }
-    ensures dealt { (cs : List ℕ) (js : List jobs.Placed) → shared shares.old.items ≡ dealt cs js → OnOk result (shared shares.new.items ≡ dealt cs (js ++ placed_packets workers macs.now (numbered first packets.now))) }
+    ensures dealt { (cs : List ℕ) (js : List jobs.Placed) → shared shares.old.items ≡ dealt cs js → OnOk result (shared shares.new.items ≡ dealt cs (js ++ placed_packets workers false macs.now [] (numbered first packets.now))) }
     ensures work { (cs : List ℕ) → AreWork (length macs.now) cs shares.old.items → OnOk result (AreWork (length macs.now) cs shares.new.items) }
     ensures loose { OnOk result (loose.new.items ≡ loose.old.items ++ loose_among macs.now (numbered first packets.now)) }
 {
@@ -256,7 +256,7 @@ pub fn deal<'a>(
     requires listed { Each (λ l. is_listed numbers.now l.port ≡ true) schedule.now }
     requires controllers { Each (λ l. is_listed controllers.now l.controller ≡ true) schedule.now }
     requires rules { Each (λ l. Each IsGoodRule (rules_given l.command)) schedule.now }
-    ensures shares { IfOk result (λ shares. shared shares.items ≡ dealt controllers.now (placed_lines numbers.now schedule.now first ++ placed_packets workers macs.now (numbered first packets.now))) }
+    ensures shares { IfOk result (λ shares. shared shares.items ≡ dealt controllers.now (placed_lines numbers.now schedule.now first ++ placed_packets workers false macs.now [] (numbered first packets.now))) }
     ensures fit { IfOk result (λ shares. AreWork (length macs.now) controllers.now shares.items) }
     ensures few { IfOk result (λ shares. AreFew shares.items) }
     ensures loose { OnOk result (loose.new.items ≡ loose.old.items ++ loose_among macs.now (numbered first packets.now)) }

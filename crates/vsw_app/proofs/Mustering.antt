@@ -1,5 +1,5 @@
 -- Before its first round a crew stands where a run begins.
-use Rattle.std.proofs.Common.{◌≡◌, ◌≤◌, ◌<◌, ℕ, suc, true, List, [], ◌∷◌, length, map, All, refl, sym, ◌∙◌, ap, subst, arith}
+use Rattle.std.proofs.Common.{◌≡◌, ◌≤◌, ◌<◌, ℕ, suc, true, List, [], ◌∷◌, length, map, All, refl, sym, ◌∙◌, ap, subst, arith, false}
 use Rattle.vsw_commandfile.specs.declared.line.Line.{Line}
 use Rattle.vsw_commandfile.specs.Good.{CanAsk}
 use Rattle.vsw_replay.specs.Crew.{AreReady, CrewSeen, IsOfSome, crew_now, ports_now, switch_now}
@@ -26,7 +26,7 @@ pub ready : (workers : ℕ) (file : PolicyFile) (h : HarbourSeen) (rows : List (
 ready workers file h rows m = record { size = m.size; stand = m.stand; journals = m.journals }
 
 pub of_some : (workers : ℕ) (file : PolicyFile) (h : HarbourSeen) (rows : List (List (Lane StationSeen))) → IsMustered workers file h rows → IsOfSome h
-of_some workers file h rows m = record { run = record { workers = workers; policy = file; commands = [] }; is = m.run [] }
+of_some workers file h rows m = record { run = record { workers = workers; policy = file; commands = []; local = false }; is = m.run [] }
 
 -- ---- the ports stand at their beginning
 
@@ -50,13 +50,14 @@ stand_first h workers cs [] (d ∷ ds) w c k a = absurd a
 stand_first h workers cs (p ∷ ps) [] w c k a = absurd a
 
 pub first_at : (workers : ℕ) (file : PolicyFile) (commands : List Line) (h : HarbourSeen) (rows : List (List (Lane StationSeen))) → 2 ≤ workers → workers ≤ 16 → IsMustered workers file h rows
-    → IsAt (record { workers = workers; policy = file; commands = commands }) (map (λ p. []) (ports_of file)) (switch_now h (no_entries h.docks))
+    → IsAt (record { workers = workers; policy = file; commands = commands; local = false }) (map (λ p. []) (ports_of file)) (switch_now h (no_entries h.docks))
 first_at workers file commands h rows more most m =
     let run = m.run commands in
     record {
       workers = sym run.workers;
       some = omega (arith, more);
       few = most;
+      apart = run.apart;
       ports = stand_first h workers file.controllers (ports_of file) h.docks (sym run.workers) (sym run.controllers) (all_know file.controllers file.ports) run.ports;
       loose = refl;
     }
@@ -75,7 +76,7 @@ numbers_first h (p ∷ ps) (d ∷ ds) a = (λ i. (sym a.0.number) i ∷ numbers_
 numbers_first h [] (d ∷ ds) a = absurd a
 numbers_first h (p ∷ ps) [] a = absurd a
 
-all_served : (workers : ℕ) (file : PolicyFile) (h : HarbourSeen) (lines : List Line) → IsOfRun h (record { workers = workers; policy = file; commands = [] })
+all_served : (workers : ℕ) (file : PolicyFile) (h : HarbourSeen) (lines : List Line) → IsOfRun h (record { workers = workers; policy = file; commands = []; local = false })
     → Each (λ l. is_listed file.controllers l.controller ≡ true) lines → Each (λ l. is_listed (map (λ p. p.number) (ports_of file)) l.port ≡ true) lines → Each (λ l. Each IsGoodRule (rules_given l.command)) lines
     → AreServed (switch_now h (no_entries h.docks)) lines
 all_served workers file h [] run a b c = tt

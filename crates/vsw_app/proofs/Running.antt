@@ -69,7 +69,7 @@ read_as a b c d f t later r = record { bytes = r.bytes; reaches = reaches_as a b
 
 -- the setting of the files that were read
 abbrev setting_of : Request → PolicyFile → List Line → Setting
-setting_of q p lines = record { workers = q.workers; policy = p; commands = lines }
+setting_of q p lines = record { workers = q.workers; policy = p; commands = lines; local = false }
 
 abbrev files_with : (q : Request) (old now : Outside) (p : PolicyFile) (lines : List Line) → HasCommands q old now p lines → Opened → List Opened
 files_with q old now p lines h f = h.policy_file ∷ h.file ∷ f ∷ []
@@ -84,7 +84,7 @@ reads_trace : (q : Request) (old now new : Outside) (p : PolicyFile) (lines : Li
 reads_trace q old now new p lines h t r = record {
   setting = setting_of q p lines;
   file = r.file;
-  opened = record { policy = h.policy_file; commands = h.file; all = refl; workers = refl; policy_good = h.policy_is.good; commands_good = h.are.good };
+  opened = record { policy = h.policy_file; commands = h.file; all = refl; workers = refl; apart = refl; policy_good = h.policy_is.good; commands_good = h.are.good };
   trace = t;
   read = read_as now new old new r.file t (rose_from old.input_faults now.input_faults new.input_faults h.read.later) r.read;
 }

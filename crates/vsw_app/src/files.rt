@@ -18,12 +18,22 @@ const POLICY_MAX: u64 = 4_194_304;
 /// Bytes of the longest commands file.
 const COMMANDS_MAX: u64 = 16_777_216;
 
+/// The policy, with a seed for its hashing that is drawn from what the host has of secrets too.
+fn with_secret<H: Host>(host: &H, policy: PolicyFile) -> PolicyFile
+    ensures { result ≡ policy }
+{
+    let mut secret = [0; 32];
+    host.fill_secret(&mut secret);
+    let seed = policy.seed.with_bytes(&secret);
+    PolicyFile { seed, ..policy }
+}
+
 /// The policy in these bytes, or how the run ends.
-fn judged_policy(alloc: Global, bytes: &[u8]) -> Result<PolicyFile, Ending>
+fn judged_policy<H: Host>(alloc: Global, host: &H, bytes: &[u8]) -> Result<PolicyFile, Ending>
     ensures { JudgesPolicy bytes.now result }
 {
     match read_policy(alloc, bytes) {
-        Ok(policy) => Ok(policy),
+        Ok(policy) => Ok(with_secret(host, policy)),
         Err(ConfigFault::Memory) => Err(Ending::Memory),
         Err(why) => Err(Ending::Policy(why)),
     }
@@ -35,7 +45,7 @@ pub fn open_policy<H: Host>(alloc: Global, host: &mut H, name: &str) -> Result<P
 {
     let mut bytes = Vec::new(alloc);
     match read_file(host, name, POLICY_MAX, &mut bytes) {
-        ReadEnd::Whole => judged_policy(alloc, &bytes),
+        ReadEnd::Whole => judged_policy(alloc, host, &bytes),
         ReadEnd::Fault => Err(Ending::ReadFault),
         ReadEnd::Long => Err(Ending::Policy(ConfigFault::PolicyLimit)),
         ReadEnd::Memory => Err(Ending::Memory),

@@ -1,6 +1,6 @@
 //! The trace, run through the ports of a policy.
 
-ghost use Rattle.std.specs.Prelude.{◌≡◌, ◌<◌, ◌≤◌, All, length};
+ghost use Rattle.std.specs.Prelude.{◌≡◌, ◌<◌, ◌≤◌, All, length, false};
 ghost use Rattle.vsw_commandfile.specs.Good.{CanAsk};
 ghost use Rattle.vsw_harbour.specs.Ports as live;
 ghost use Rattle.vsw_harbour.specs.Opening.{IsOpenFor};
@@ -35,7 +35,7 @@ fn run_alone<R: Threads + Wait + Sync, H: Host>(
     requires few { workers ≤ 16 }
     requires good { IsGoodPolicy policy.now }
     requires asked { All (CanAsk policy.now) schedule.now }
-    ensures { RunsTrace (record { workers = workers; policy = policy.now; commands = schedule.now }) (H.outside host.old) (H.outside host.new) trace.now result }
+    ensures { RunsTrace (record { workers = workers; policy = policy.now; commands = schedule.now; local = false }) (H.outside host.old) (H.outside host.new) trace.now result }
 {
     let Ok(switch) = Switch::open(alloc, workers, policy) else {
         return TraceEnd::Memory;
@@ -65,7 +65,7 @@ fn run_named<J: Naming + Send + Sync, R: Threads + Wait + Sync, H: Host, G: Gate
     requires named { J.ports ≡ live.ports_of opened.ports }
     requires opened { IsOpenFor workers policy.now opened }
     requires asked { All (CanAsk policy.now) schedule.now }
-    ensures { RunsTrace (record { workers = workers; policy = policy.now; commands = schedule.now }) (H.outside host.old) (H.outside host.new) name.now.trace.now result }
+    ensures { RunsTrace (record { workers = workers; policy = policy.now; commands = schedule.now; local = false }) (H.outside host.old) (H.outside host.new) name.now.trace.now result }
 {
     let Ok((harbour, rows)) = opened.named::<J, G>(alloc, gate) else {
         return TraceEnd::Memory;
@@ -90,7 +90,7 @@ fn run_beside<R: Threads + Wait + Sync, H: Host, G: Gate + Watch + Sync>(
     requires good { IsGoodPolicy policy.now }
     requires some { 0 < length policy.now.ports }
     requires asked { All (CanAsk policy.now) schedule.now }
-    ensures { RunsTrace (record { workers = workers; policy = policy.now; commands = schedule.now }) (H.outside host.old) (H.outside host.new) trace.now result }
+    ensures { RunsTrace (record { workers = workers; policy = policy.now; commands = schedule.now; local = false }) (H.outside host.old) (H.outside host.new) trace.now result }
 {
     let Ok(opened) = OpenHarbour::open(alloc, workers, policy) else {
         return TraceEnd::Memory;
@@ -116,7 +116,7 @@ fn run_scheduled<R: Threads + Wait + Sync, H: Host, G: Gate + Watch + Sync>(
     requires few { workers ≤ 16 }
     requires good { IsGoodPolicy policy.now }
     requires asked { All (CanAsk policy.now) schedule.now }
-    ensures { RunsTrace (record { workers = workers; policy = policy.now; commands = schedule.now }) (H.outside host.old) (H.outside host.new) trace.now result }
+    ensures { RunsTrace (record { workers = workers; policy = policy.now; commands = schedule.now; local = false }) (H.outside host.old) (H.outside host.new) trace.now result }
 {
     if workers == 1 || policy.ports.is_empty() {
         run_alone(rt, alloc, host, workers, policy, schedule, trace)
@@ -140,7 +140,7 @@ pub(crate) fn run_through<R: Threads + Wait + Sync, H: Host, G: Gate + Watch + S
     requires few { workers ≤ 16 }
     requires good { IsGoodPolicy policy.now }
     requires asked { All (CanAsk policy.now) lines }
-    ensures { RunsTrace (record { workers = workers; policy = policy.now; commands = lines }) (H.outside host.old) (H.outside host.new) trace.now result }
+    ensures { RunsTrace (record { workers = workers; policy = policy.now; commands = lines; local = false }) (H.outside host.old) (H.outside host.new) trace.now result }
 {
     let Ok(schedule) = Schedule::new(alloc, lines) else {
         return TraceEnd::Memory;

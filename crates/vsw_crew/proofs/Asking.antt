@@ -1,5 +1,5 @@
 -- The beginning of a round.
-use Rattle.std.proofs.Common.{◌≡◌, ℕ, zero, suc, ◌+◌, List, [], ◌∷◌, ◌++◌, length, map, take, drop, ap, sym, ◌∙◌, subst, arith}
+use Rattle.std.proofs.Common.{◌≡◌, ℕ, zero, suc, ◌+◌, ◌==◌, Bool, true, List, [], ◌∷◌, ◌++◌, length, map, take, drop, ap, sym, ◌∙◌, subst, arith}
 use Rattle.vsw_harbour.specs.Lane.{Lane}
 use Rattle.vsw_commandfile.specs.declared.line.Line.{Line}
 use Rattle.vsw_harbour.specs.Turns.{PlacedTurns, placed_before}
@@ -8,15 +8,18 @@ use Rattle.vsw_harbour.specs.Seen.{StationSeen}
 use Rattle.vsw_harbour.specs.Harbour.{HarbourSeen, IsHarbour, IsOfRun, asks_of, callers}
 use Rattle.vsw_harbour.specs.Meeting.{AllMeet}
 use Rattle.vsw_harbour.specs.Standing.{IsWhole, RowsStand, no_calls}
-use Rattle.vsw_harbour.specs.Steps.{Did, MayGo, Turned}
+use Rattle.vsw_harbour.specs.Steps.{AreAt, Did, MayGo, Turned}
+use Rattle.vsw_harbour.proofs.Turning.{no_places, round_turned}
 use Rattle.vsw_harbour.proofs.Likes.{journals_like}
 use Rattle.vsw_port.specs.Calls.{Call}
 use Rattle.vsw_port.specs.declared.event.Event.{Event}
 use Rattle.vsw_harbour.specs.Rounds.{AreJournals}
+use Rattle.vsw_history_law.proofs.Callers.{eqb_is}
 use Rattle.vsw_report.specs.Line.{TextLine}
 use Rattle.vsw_policy.specs.Sound.{Each}
 use Rattle.vsw_promise.specs.Ports.{ports_of}
 use Rattle.vsw_promise.specs.Jobs.{Setting, numbers_of}
+use Rattle.vsw_promise.specs.Schedule.{commands_at}
 use Rattle.vsw_crew.specs.Crew.{AreReady}
 use Rattle.vsw_crew.specs.Private.Round.{HasAsked, HasBegun}
 use Rattle.vsw_crew.specs.Private.Rows.{cleared, lines_of}
@@ -54,6 +57,25 @@ has_asked h numbers macs listed asks needs lines first ls ms rs i m asked may s 
           (turns_join 0 ps [] before hs d.histories u.histories (map (λ p. []) ps) u.more (quiet_placed h s hs (no_calls h.docks) ms run d) u.turns);
       size = may.size;
       stand = subst (λ w. RowsStand 0 h.docks u.histories w rs) (no_docks 0 ps h.docks before d.histories u.histories u.more run.ports u.turns) u.stand;
+    }
+
+-- ---- no command is asked
+
+-- where no command names the round's first packet, all stand as they did
+pub none_asked : (h : HarbourSeen) (lines : List Line) (first : ℕ) (places : List ℕ) (none : Bool) (rows : List (List (Lane StationSeen))) → none ≡ (length places == 0) → none ≡ true → AreAt lines places (commands_at first lines)
+    → (s : Setting) (hs : List (List Event)) → IsOfRun h s → s.commands ≡ lines → AreReady h hs rows → HasAsked h s hs first rows
+none_asked h lines first places none rows is so at s hs run same r =
+    let e : length places ≡ 0 = eqb_is (length places) 0 (sym is ∙ so) in
+    let ps = ports_of s.policy in
+    let before = placed_before (numbers_of s.policy) s.commands first in
+    let journals : AreJournals (callers h) ps hs hs = journals_like (callers h) ps h.docks hs hs run.ports r.journals in
+    let u : Turned h s hs (no_calls h.docks) before rows = round_turned h lines first places rows rows at (no_places h lines places rows e) s hs (no_calls h.docks) same run journals r.stand in
+    record {
+      middles = u.histories;
+      calls = u.more;
+      turns = u.turns;
+      size = r.size;
+      stand = subst (λ w. RowsStand 0 h.docks u.histories w rows) (no_docks 0 ps h.docks before hs u.histories u.more run.ports u.turns) u.stand;
     }
 
 -- ---- the controllers' lines are taken

@@ -1,5 +1,5 @@
 -- All parts of a round are what a crew does.
-use Rattle.std.proofs.Common.{◌≡◌, ◌<◌, ℕ, suc, List, [], ◌∷◌, ◌++◌, length, map, refl, ap, ap₂, sym, ◌∙◌, subst, arith, Vec}
+use Rattle.std.proofs.Common.{◌≡◌, ◌<◌, ℕ, suc, false, List, [], ◌∷◌, ◌++◌, length, map, refl, ap, ap₂, sym, ◌∙◌, subst, arith, Vec}
 use Rattle.vsw_harbour.specs.Lane.{Lane}
 use Rattle.vsw_commandfile.specs.declared.line.Line.{Line}
 use Rattle.vsw_harbour.specs.Crew.{AreTexts, CrewDid, crew_texts, jobs_beside}
@@ -14,13 +14,15 @@ use Rattle.vsw_port.specs.Calls.{Call}
 use Rattle.vsw_port.specs.Order.{numbered}
 use Rattle.vsw_port.specs.declared.event.Event.{Event}
 use Rattle.vsw_port.proofs.Fronts.{append_end}
+use Rattle.vsw_harbour.specs.ManyActors.{AreRows}
 use Rattle.vsw_harbour.specs.Phases as many
-use Rattle.vsw_harbour.specs.Rounds.{AreJournals, calls_by_port, other_columns}
+use Rattle.vsw_harbour.specs.Rounds.{AreJournals, calls_by_port, other_columns, ports_told}
 use Rattle.vsw_report.specs.Line.{TextLine}
 use Rattle.vsw_pcap.specs.declared.capture.Record.{Record}
 use Rattle.vsw_promise.specs.Ports.{PortSeen, ports_of}
 use Rattle.vsw_promise.specs.Jobs.{Placed, Setting, loose_among, macs_of, numbers_of, placed_lines, placed_packets}
 use Rattle.vsw_report.specs.declared.round.Loose.{Loose}
+use Rattle.vsw_report.specs.declared.round.PortRound.{PortRound}
 use Rattle.vsw_crew.specs.Crew.{AreReady}
 use Rattle.vsw_crew.specs.Private.Round.{DidBeside, HasBegun, HasWorked, jobs_here, macs_in, numbers_in}
 use Rattle.vsw_crew.specs.Private.Rows.{first_counts}
@@ -52,9 +54,11 @@ numbers_are h s run = sym (numbers_like (ports_of s.policy) h.docks run.ports)
 pub macs_are : (h : HarbourSeen) (s : Setting) → IsOfRun h s → macs_in h ≡ macs_of s.policy
 macs_are h s run = sym (macs_like (ports_of s.policy) h.docks run.ports)
 
-jobs_are : (h : HarbourSeen) (s : Setting) (lines : List Line) (first : ℕ) (packets : List Record) → IsOfRun h s → s.commands ≡ lines → jobs_here h lines first packets ≡ jobs_beside s first packets
-jobs_are h s lines first packets run same =
-    ap₂ (λ x y. x ++ y) (ap₂ (λ ns ls. placed_lines ns ls first) (numbers_are h s run) (sym same)) (ap₂ (λ n ms. placed_packets n ms (numbered first packets)) (sym run.workers) (macs_are h s run))
+-- whatever is told of it
+jobs_are : (h : HarbourSeen) (s : Setting) (lines : List Line) (told : List PortRound) (first : ℕ) (packets : List Record) → IsOfRun h s → s.commands ≡ lines → jobs_here h lines first packets ≡ jobs_beside s told first packets
+jobs_are h s lines told first packets run same =
+    ap₂ (λ x y. x ++ y) (ap₂ (λ ns ls. placed_lines ns ls first) (numbers_are h s run) (sym same))
+    (ap₂ (λ n ms. placed_packets n false ms [] (numbered first packets)) (sym run.workers) (macs_are h s run) ∙ sym (ap (λ b. placed_packets s.workers b (macs_of s.policy) told (numbered first packets)) run.apart))
 
 -- ---- a crew's round
 
@@ -62,37 +66,39 @@ none_at_docks : (ds : List DockSeen) (rows : List (List many.Lane)) → append_e
 none_at_docks [] rows = refl
 none_at_docks (d ∷ ds) rows = ap₂ (λ x y. x ∷ y) refl (none_at_docks ds (other_columns rows))
 
-crew_did : (h : HarbourSeen) (s : Setting) (hs : List (List Event)) (first : ℕ) (packets : List Record) (firsts : List (List (List TextLine))) (begun rows : List (List (Lane StationSeen))) → IsOfRun h s → (b : HasBegun h s hs first firsts begun) → (d : DidBeside h b.middles (jobs_beside s first packets) rows)
-    → CrewDid s first packets hs d.did.histories (crew_lines s.workers (ports_of s.policy) b.calls (calls_by_port (ports_of s.policy) d.did.rows))
-crew_did h s hs first packets firsts begun rows run b d =
+crew_did : (h : HarbourSeen) (s : Setting) (hs : List (List Event)) (first : ℕ) (packets : List Record) (jobs : List Placed) (firsts : List (List (List TextLine))) (begun rows : List (List (Lane StationSeen))) → IsOfRun h s → ((told : List PortRound) → jobs ≡ jobs_beside s told first packets)
+    → (b : HasBegun h s hs first firsts begun) → (d : DidBeside h b.middles jobs rows) → CrewDid s first packets hs d.did.histories (crew_lines s.workers (ports_of s.policy) b.calls (calls_by_port (ports_of s.policy) d.did.rows))
+crew_did h s hs first packets jobs firsts begun rows run same b d =
     let ps = ports_of s.policy in
     let before = placed_before (numbers_of s.policy) s.commands first in
     let quiet : PlacedTurns 0 ps [] b.middles d.quiet.histories (map (λ p. []) ps) = quiet_placed h s b.middles (no_calls h.docks) d.met run d.quiet in
     let turns : PlacedTurns 0 ps (before ++ []) hs d.quiet.histories (append_each b.calls (map (λ p. []) ps)) = turns_join 0 ps before [] hs b.middles d.quiet.histories b.calls (map (λ p. []) ps) b.turns quiet in
     let alone : PlacedTurns 0 ps (before ++ []) hs d.quiet.histories b.calls = subst (PlacedTurns 0 ps (before ++ []) hs d.quiet.histories) (none_last 0 ps before hs b.middles b.calls b.turns) turns in
     let done : PlacedTurns 0 ps before hs d.quiet.histories b.calls = subst (λ w. PlacedTurns 0 ps w hs d.quiet.histories b.calls) (append_end before) alone in
-    record {
+    let told : List PortRound = ports_told ps hs d.did.histories b.calls (calls_by_port ps d.did.rows) in record {
       middles = d.quiet.histories;
       firsts = b.calls;
       firsts_done = done;
       rows = d.did.rows;
       size = d.did.size ∙ callers_are h s run;
-      rows_done = rows_done h s (jobs_beside s first packets) d.quiet.histories d.did.histories d.did.rows run d.did.done;
+      told = told;
+      told_is = refl;
+      rows_done = subst (λ w. AreRows s.policy.controllers w 0 0 ps d.quiet.histories d.did.histories d.did.rows) (same told) (rows_done h s jobs d.quiet.histories d.did.histories d.did.rows run d.did.done);
       journals = subst (λ n. AreJournals n ps d.quiet.histories d.did.histories) (callers_are h s run) (journals_like (callers h) ps h.docks d.quiet.histories d.did.histories run.ports d.did.journals);
       texts_are = lines_are s.workers 0 ps before hs d.quiet.histories b.calls d.did.rows done;
     }
 
-worked : (h : HarbourSeen) (s : Setting) (hs : List (List Event)) (first : ℕ) (packets : List Record) (befores : List ℕ) (firsts : List (List (List TextLine))) (loose : List Loose) (begun rows : List (List (Lane StationSeen))) → IsOfRun h s → befores ≡ map length hs
-    → loose ≡ loose_among (macs_of s.policy) (numbered first packets) → (b : HasBegun h s hs first firsts begun) → DidBeside h b.middles (jobs_beside s first packets) rows → HasWorked h s hs first packets befores firsts loose rows
+worked : (h : HarbourSeen) (s : Setting) (hs : List (List Event)) (first : ℕ) (packets : List Record) (jobs : List Placed) (befores : List ℕ) (firsts : List (List (List TextLine))) (loose : List Loose) (begun rows : List (List (Lane StationSeen))) → IsOfRun h s
+    → ((told : List PortRound) → jobs ≡ jobs_beside s told first packets) → befores ≡ map length hs → loose ≡ loose_among (macs_of s.policy) (numbered first packets) → (b : HasBegun h s hs first firsts begun) → DidBeside h b.middles jobs rows → HasWorked h s hs first packets befores firsts loose rows
 unfolding crew_did
-worked h s hs first packets befores firsts loose begun rows run counts told b d =
+worked h s hs first packets jobs befores firsts loose begun rows run same counts told b d =
     let stand : RowsStand 0 h.docks d.did.histories (calls_by_port (ports_of s.policy) d.did.rows) rows =
     subst (λ w. RowsStand 0 h.docks d.did.histories w rows) (none_at_docks h.docks d.did.rows ∙ sym (calls_like (ports_of s.policy) h.docks d.did.rows run.ports)) d.did.stand in
     record {
       run = run;
       histories = d.did.histories;
       texts = crew_lines s.workers (ports_of s.policy) b.calls (calls_by_port (ports_of s.policy) d.did.rows);
-      did = crew_did h s hs first packets firsts begun rows run b d;
+      did = crew_did h s hs first packets jobs firsts begun rows run same b d;
       size = d.size;
       stand = stand;
       journals = journals_end (callers h) (ports_in h.docks) d.quiet.histories d.did.histories d.did.journals;
@@ -107,17 +113,16 @@ pub has_worked : (h : HarbourSeen) (lines : List Line) (first : ℕ) (packets : 
     → (s : Setting) (hs : List (List Event)) → IsOfRun h s → s.commands ≡ lines → AreReady h hs old → HasWorked h s hs first packets befores firsts loose rows
 has_worked h lines first packets befores firsts loose old begun rows counts begins told beside s hs run same ready =
     let b = begins s hs run same ready in
-    let d : DidBeside h b.middles (jobs_beside s first packets) rows = subst (λ w. DidBeside h b.middles w rows) (jobs_are h s lines first packets run same) (beside b.middles b.stand) in
     let some : 0 < length old = omega (arith, ready.size) in
-    worked h s hs first packets befores firsts loose begun rows run (counts ∙ counts_are 0 h.docks hs (no_calls h.docks) old some ready.stand) (told ∙ ap (λ ms. loose_among ms (numbered first packets)) (macs_are h s run)) b d
+    worked h s hs first packets (jobs_here h lines first packets) befores firsts loose begun rows run (λ told. jobs_are h s lines told first packets run same) (counts ∙ counts_are 0 h.docks hs (no_calls h.docks) old some ready.stand) (told ∙ ap (λ ms. loose_among ms (numbered first packets)) (macs_are h s run)) b (beside b.middles b.stand)
 
 -- the run with these commands
 pub run_with : List Line → Setting → Setting
-run_with lines s = record { workers = s.workers; policy = s.policy; commands = lines }
+run_with lines s = record { workers = s.workers; policy = s.policy; commands = lines; local = s.local }
 
 pub is_with : (h : HarbourSeen) (lines : List Line) (s : Setting) → IsOfRun h s → IsOfRun h (run_with lines s) × ((run_with lines s).commands ≡ lines)
 unfolding run_with
-is_with h lines s run = (record { workers = run.workers; ports = run.ports; controllers = run.controllers }, refl)
+is_with h lines s run = (record { workers = run.workers; ports = run.ports; controllers = run.controllers; apart = run.apart }, refl)
 
 -- ---- counts and loose packets, as calls gave them
 

@@ -19,7 +19,7 @@ use vsw_harbour::{Harbour, Lane, Naming, Station, Watch, ask_before, meet_all};
 use vsw_promise::Schedule;
 
 /// All callers meet the ports, and the commands before the packets of the round that begins with this one are asked.
-fn meet_and_ask<'g, J: Naming, G: Watch, R: Wait>(
+fn meet_to_ask<'g, J: Naming, G: Watch, R: Wait>(
     rt: &R,
     harbour: &Harbour<'g, J, G>,
     rows: &mut [Vec<Lane<Station>>],
@@ -32,6 +32,25 @@ fn meet_and_ask<'g, J: Naming, G: Watch, R: Wait>(
 {
     meet_all(rt, harbour.alloc, &harbour.docks, rows, &harbour.asks)?;
     ask_before(rt, harbour, rows, schedule, first)?;
+    Ok(())
+}
+
+/// The same. Where no command names the packet nobody asks, and no meeting is needed.
+fn meet_and_ask<'g, J: Naming, G: Watch, R: Wait>(
+    rt: &R,
+    harbour: &Harbour<'g, J, G>,
+    rows: &mut [Vec<Lane<Station>>],
+    schedule: &Schedule,
+    first: u32,
+) -> Result<(), NoMemory>
+    requires ready { (hs : List (List Event)) × AreReady harbour.now hs (rows_in rows.old) }
+    requires lines { Each (MayAsk harbour.now) schedule.now }
+    ensures asked { OnOk result ((s : Setting) (hs : List (List Event)) → IsOfRun harbour.now s → s.commands ≡ schedule.now → AreReady harbour.now hs (rows_in rows.old) → HasAsked harbour.now s hs first (rows_in rows.new)) }
+{
+    if schedule.places(first).is_empty() {
+        return Ok(());
+    }
+    meet_to_ask(rt, harbour, rows, schedule, first)?;
     Ok(())
 }
 

@@ -15,7 +15,7 @@ use std::marker::Model;
 use std::sync::Wait;
 use vsw_actors::{Packet, Port, RowPort, Work};
 use vsw_base::Mac;
-use vsw_frame::read_frame;
+use vsw_frame::{FrameRoom, read_frame};
 use vsw_live::{LivePort, Naming};
 
 /// A port of the policy, shared by threads. Any actor with a station there may do its jobs.
@@ -79,7 +79,8 @@ impl<'g, J: Naming, G: Watch> Dock<'g, J, G> {
         requires frame { (parts : Parts) × (frame_of packet.now.bytes.now ≡ Ok parts) }
         ensures does { Does (opening_of self.now.live.looking.1) (job_in (work.Packet packet.now)) station.old station.new }
     {
-        let Ok(frame) = read_frame(packet.bytes) else {
+        let mut headers = FrameRoom::new();
+        let Ok(frame) = read_frame(packet.bytes, &mut headers) else {
             unreachable!();
         };
         let answer = station.carry(rt, &self.port, packet, &frame);

@@ -6,7 +6,7 @@ ghost use Rattle.vsw_dock.specs.Meeting.{StationMeets};
 ghost use Rattle.vsw_dock.specs.Private.Does.{Does, Tells};
 ghost use Rattle.vsw_frame.specs.Frame.{parts};
 ghost use Rattle.vsw_port.specs.Calls.{Ask, Carry, controller_at};
-ghost use Rattle.vsw_live.specs.Calls.{FitsRoom};
+ghost use Rattle.vsw_live.specs.Calls.{Crosses, FitsRoom, call_of};
 ghost use Rattle.vsw_lookup.specs.Rules.{one_if};
 ghost use Rattle.vsw_report.specs.Line.{text_of};
 ghost use Rattle.vsw_policy.specs.Obey.{rules_given};
@@ -15,17 +15,17 @@ ghost use Rattle.vsw_promise.specs.Jobs.{crossing_by};
 ghost use Rattle.vsw_report.specs.declared.told.By.TheVariants as by;
 ghost use Rattle.vsw_report.specs.declared.told.What.TheVariants as what;
 ghost use Rattle.vsw_live.specs.StoryRows.{opening_of};
-ghost use Rattle.vsw_live.specs.Transit.{bytes_in, len_of};
+ghost use Rattle.vsw_live.specs.Transit.{IsOfFrame, bytes_in};
 
 use std::alloc::Global;
 use std::marker::Model;
 use std::mem::replace;
 use std::sync::Wait;
 use vsw_actors::Packet;
-use vsw_base::{Control, Crossing, Dir, Fate, Moment, NoMemory, Sizes, Stack, Ufid};
+use vsw_base::{Control, Crossing, Dir, Moment, NoMemory, Sizes, Stack, Ufid};
 use vsw_commandfile::Line;
 use vsw_frame::Frame;
-use vsw_live::{Answer, Desk, Held, LivePort, Naming, PortStory, Room, Told, Unit};
+use vsw_live::{Answer, Desk, Held, LivePort, Naming, PortStory, Room, Told, Unit, bytes_of};
 use vsw_lookup::Pass;
 use vsw_report::Caller;
 
@@ -101,17 +101,6 @@ fn spend(left: &mut u32, entry: bool)
     }
 }
 
-/// The outgoing bytes of a pass, which stand at the front of the room, and none of a drop.
-fn bytes_of(fate: Fate, room: &Room) -> &[u8]
-    requires { len_of fate ≤ 65700 }
-    ensures { result.now ≡ bytes_in fate room.now }
-{
-    match fate {
-        Fate::Pass { len } => room.bytes(len),
-        Fate::Drop(_) => &[],
-    }
-}
-
 /// Lines aren't whole from the first on for which memory was wanting.
 fn mark(whole: &mut bool, told: Result<(), NoMemory>)
     ensures { whole.new ≡ true → (whole.old ≡ true) × IsOk told }
@@ -121,16 +110,38 @@ fn mark(whole: &mut bool, told: Result<(), NoMemory>)
     }
 }
 
-/// Tells what became of a packet.
+/// A packet crosses the port with its frame. The two stand together for this call alone: the frame is told of afterwards.
+fn cross<J: Naming, R: Wait>(
+    rt: &R,
+    port: &LivePort<J>,
+    pass: &mut Pass<PortStory>,
+    crossing: &Crossing,
+    frame: &Frame<'_>,
+    desk: &mut Desk,
+    room: &mut Room,
+) -> Answer
+    requires of { IsOf port.now.looking pass.old }
+    requires frame { IsOfFrame crossing.now (parts frame.now) }
+    requires caller { crossing.now.caller ≡ pass.old.view.number }
+    requires permit { 0 < pass.old.view.permits }
+    ensures crosses { Crosses (opening_of port.now.looking.1) pass.old pass.new (call_of (record { crossing = crossing.now; parts = parts frame.now }) result room.new) }
+    ensures fits { FitsRoom result.fate }
+{
+    let unit = Unit::of(crossing, frame);
+    port.forward(rt, pass, &unit, desk, room)
+}
+
+/// Tells what became of a packet: of a pass with its frame's own bytes, or those at the front of the room.
 fn tell_packet(
     lines: &mut Caller,
     whole: &mut bool,
     packet: &Packet<'_>,
     answer: &Answer,
+    frame: &Frame<'_>,
     room: &Room,
 )
     requires fits { FitsRoom answer.now.fate }
-    ensures told { Tells lines.old whole.old lines.new whole.new (text_of (record { by = by.Worker packet.now.worker; item = packet.now.number; entry = answer.now.entry; count = answer.now.count; what = what.Fate answer.now.fate (bytes_in answer.now.fate room.now) })) }
+    ensures told { Tells lines.old whole.old lines.new whole.new (text_of (record { by = by.Worker packet.now.worker; item = packet.now.number; entry = answer.now.entry; count = answer.now.count; what = what.Fate answer.now.fate (bytes_in answer.now.own (parts frame.now) answer.now.fate room.now) })) }
 {
     let fate = answer.fate();
     let told = lines.tell_packet(
@@ -139,7 +150,7 @@ fn tell_packet(
         answer.entry(),
         answer.count(),
         &fate,
-        bytes_of(fate, room),
+        bytes_of(fate, answer.own(), frame, room),
     );
     mark(whole, told);
 }
@@ -223,14 +234,22 @@ impl Station {
         ensures does { Does (opening_of port.now.looking.1) (Carry (crossing_by packet.now.worker packet.now.number packet.now.place packet.now.micros (parts frame.now)) (parts frame.now)) self.old self.new }
     {
         bring(&mut self.crossing, packet, frame);
-        let unit = Unit::of(&self.crossing, frame);
-        let answer = port.forward(rt, &mut self.pass, &unit, &mut self.desk, &mut self.room);
+        let answer = cross(
+            rt,
+            port,
+            &mut self.pass,
+            &self.crossing,
+            frame,
+            &mut self.desk,
+            &mut self.room,
+        );
         spend(&mut self.left, answer.entry());
         tell_packet(
             &mut self.lines,
             &mut self.whole,
             packet,
             &answer,
+            frame,
             &self.room,
         );
         answer

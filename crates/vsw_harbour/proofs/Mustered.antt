@@ -126,7 +126,7 @@ made_mustered workers file made os e a =
     let ds : List DockSeen = docks_for made os in
     let like = are_like file ds (all.ports ∙ e) in
     record {
-      run = λ commands. record { workers = refl; ports = like; controllers = refl };
+      run = λ commands. record { workers = refl; ports = like; controllers = refl; apart = refl };
       size = all.many;
       lanes = rows_lanes 0 ds rows all.rows;
       stand = rows_stand 0 ds rows all.rows;

@@ -1,5 +1,5 @@
 -- What does not change in a run: the workers, the ports and the controllers.
-use Rattle.std.specs.Prelude.{◌≡◌, ◌<◌, ◌≤◌, ◌+◌, ℕ, List, [], ◌∷◌, length, map, replicate, ◌++◌, true}
+use Rattle.std.specs.Prelude.{◌≡◌, ◌<◌, ◌≤◌, ◌+◌, ℕ, List, [], ◌∷◌, length, map, replicate, ◌++◌, true, false}
 use Rattle.vsw_commandfile.specs.declared.line.Line.{Line}
 use Rattle.vsw_dock.specs.Docks.{port_in}
 use Rattle.vsw_dock.specs.Seen.{DockSeen}
@@ -63,3 +63,5 @@ pub record IsOfRun (h : HarbourSeen) (s : Setting) : Type 0 where
   pub workers : s.workers ≡ h.workers
   pub ports : AreLike (ports_of s.policy) h.docks
   pub controllers : s.policy.controllers ≡ h.controllers
+  -- it hands no packet on
+  pub apart : s.local ≡ false

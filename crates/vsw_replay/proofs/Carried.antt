@@ -1,11 +1,11 @@
 -- Rounds of a trace are rounds of a longer one, and on longer histories.
-use Rattle.std.proofs.Common.{◌≡◌, ◌<◌, ◌≤◌, ◌+◌, ◌-◌, inl, inr, ℕ, zero, suc, Bool, List, [], ◌∷◌, ◌++◌, length, map, take, drop, refl, ap, sym, ◌∙◌, subst, arith, length-take}
+use Rattle.std.proofs.Common.{◌≡◌, ◌<◌, ◌≤◌, ◌+◌, ◌-◌, inl, inr, ℕ, zero, suc, Bool, List, [], ◌∷◌, ◌++◌, length, map, take, drop, refl, ap, sym, ◌∙◌, subst, arith, length-take, false}
 use Rattle.vsw_pcap.specs.declared.capture.Record.{Record}
 use Rattle.vsw_promise.specs.Ports.{PortSeen, ports_of}
 use Rattle.vsw_port.specs.declared.event.Event.{Event}
 use Rattle.vsw_port.specs.Order.{numbered}
 use Rattle.vsw_promise.specs.Alone.{rounds_from}
-use Rattle.vsw_promise.specs.Jobs.{Setting, macs_of, loose_among, packets_between, packet_jobs, before_jobs, during_jobs}
+use Rattle.vsw_promise.specs.Jobs.{Setting, at_place, macs_of, loose_among, packets_between, placed_packets, before_jobs, during_jobs}
 use Rattle.vsw_promise.specs.Rounds.{IsRound, IsPortRound, ArePortRounds, AreRoundsAt, AreRounds, AreChained, AllBegin, end_before}
 use Rattle.vsw_promise.proofs.Exists.{rounds_exist, ports_later, none_yet, no_counts}
 use Rattle.vsw_report.specs.declared.round.PortRound.{PortRound}
@@ -69,24 +69,24 @@ packets_last given all first a e le =
 
 -- ---- a round, by its packets
 
-ports_same : (s : Setting) (given all : List Record) (a b c n : ℕ) (ps : List PortSeen) (hs : List (List Event)) (rs : List PortRound) → packets_between given a b ≡ packets_between all a c → ArePortRounds s given a b n ps hs rs → ArePortRounds s all a c n ps hs rs
-ports_same s given all a b c n [] [] [] e r = tt
-ports_same s given all a b c n (p ∷ ps) (h ∷ hs) (r ∷ rs) e q = (
-  subst (λ w. IsPortRound s.workers p h (record { first = before_jobs s.commands a p.number; later = during_jobs s.commands a p.number ++ packet_jobs s.workers (macs_of s.policy) n w }) r) e q.0,
-  ports_same s given all a b c (suc n) ps hs rs e q.1,
+ports_same : (s : Setting) (given all : List Record) (told : List PortRound) (a b c n : ℕ) (ps : List PortSeen) (hs : List (List Event)) (rs : List PortRound) → packets_between given a b ≡ packets_between all a c → ArePortRounds s given told a b n ps hs rs → ArePortRounds s all told a c n ps hs rs
+ports_same s given all told a b c n [] [] [] e r = tt
+ports_same s given all told a b c n (p ∷ ps) (h ∷ hs) (r ∷ rs) e q = (
+  subst (λ w. IsPortRound s.workers p h (record { first = before_jobs s.commands a p.number; later = during_jobs s.commands a p.number ++ at_place n (placed_packets s.workers s.local (macs_of s.policy) told w) }) r) e q.0,
+  ports_same s given all told a b c (suc n) ps hs rs e q.1,
 )
-ports_same s given all a b c n [] [] (r ∷ rs) e q = absurd q
-ports_same s given all a b c n [] (h ∷ hs) rs e q = absurd q
-ports_same s given all a b c n (p ∷ ps) [] rs e q = absurd q
-ports_same s given all a b c n (p ∷ ps) (h ∷ hs) [] e q = absurd q
+ports_same s given all told a b c n [] [] (r ∷ rs) e q = absurd q
+ports_same s given all told a b c n [] (h ∷ hs) rs e q = absurd q
+ports_same s given all told a b c n (p ∷ ps) [] rs e q = absurd q
+ports_same s given all told a b c n (p ∷ ps) (h ∷ hs) [] e q = absurd q
 
 round_same : (s : Setting) (given all : List Record) (hs : List (List Event)) (a b c : ℕ) (r : Round) → packets_between given a b ≡ packets_between all a c → IsRound s given hs a b r → IsRound s all hs a c r
-round_same s given all hs a b c r e q = record { first_is = q.first_is; loose = q.loose ∙ ap (loose_among (macs_of s.policy)) e; ports = ports_same s given all a b c 0 (ports_of s.policy) hs r.ports e q.ports }
+round_same s given all hs a b c r e q = record { first_is = q.first_is; loose = q.loose ∙ ap (loose_among (macs_of s.policy)) e; ports = ports_same s given all r.ports a b c 0 (ports_of s.policy) hs r.ports e q.ports }
 
 rounds_later : (s : Setting) (records : List Record) (hs ks : List (List Event)) (cuts : List ℕ) (rounds : List Round) → AllBegin hs ks → AreRoundsAt s records hs cuts rounds → AreRoundsAt s records ks cuts rounds
 rounds_later s records hs ks [] [] b a = tt
 rounds_later s records hs ks (cut ∷ cuts) (r ∷ rs) b a = (
-  record { first_is = a.0.first_is; loose = a.0.loose; ports = ports_later s records cut (end_before cuts (length records)) 0 (ports_of s.policy) hs ks r.ports b a.0.ports },
+  record { first_is = a.0.first_is; loose = a.0.loose; ports = ports_later s records r.ports cut (end_before cuts (length records)) 0 (ports_of s.policy) hs ks r.ports b a.0.ports },
   rounds_later s records hs ks cuts rs b a.1,
 )
 rounds_later s records hs ks [] (r ∷ rs) b a = absurd a
@@ -122,13 +122,14 @@ chain_append counts mid last [] more a b = subst (λ w. AreChained w more last) 
 chain_append counts mid last (r ∷ rs) more a b = (a.0, chain_append (map (λ p. p.after) r.ports) mid last rs more a.1 b)
 
 -- none yet
-pub none_so_far : (s : Setting) → AreSoFar s [] [] [] (map (λ p. []) (ports_of s.policy))
-none_so_far s = record { right = none_yet (ports_of s.policy); are = tt; chained = no_counts (ports_of s.policy) }
+pub none_so_far : (s : Setting) → s.local ≡ false → AreSoFar s [] [] [] (map (λ p. []) (ports_of s.policy))
+none_so_far s apart = record { apart = apart; right = none_yet (ports_of s.policy); are = tt; chained = no_counts (ports_of s.policy) }
 
 -- one more was run
 pub round_more : (s : Setting) (given all packets : List Record) (first : ℕ) (cs : List ℕ) (rounds : List Round) (hs : List (List Event)) (now : SwitchNow) (short : Bool) (old new : List ℕ) → given ≡ take first all → AreLow 0 first cs → packets_between all first (length all) ≡ numbered first packets → AreSoFar s given cs rounds hs
     → (r : TellsRound s hs first packets now short old new) → AreSoFar s all (cs ++ first ∷ []) (rounds ++ r.round ∷ []) r.histories
 round_more s given all packets first cs rounds hs now short old new e low are so r = record {
+  apart = so.apart;
   right = r.right;
   are = append_rounds s given all r.histories first 0 cs [] rounds (r.round ∷ []) e low (rounds_later s given hs r.histories cs rounds r.begin so.are) (r.is_round all (length all) are, tt);
   chained = chain_append (map (λ p. 0) (ports_of s.policy)) (map length hs) (map length r.histories) rounds (r.round ∷ []) so.chained (r.before, sym r.after);
@@ -146,11 +147,12 @@ pub record RoundsFollow (s : Setting) (all : List Record) (cs : List ℕ) (round
 
 pub rounds_follow : (s : Setting) (given all : List Record) (first : ℕ) (cs rest : List ℕ) (rounds : List Round) (hs : List (List Event)) → given ≡ take first all → AreLow 0 first cs → AreSoFar s given cs rounds hs → RoundsFollow s all (cs ++ first ∷ rest) rounds
 rounds_follow s given all first cs rest rounds hs e low so =
-    let next = rounds_exist s all hs (first ∷ rest) so.right in
+    let next = rounds_exist s all hs (first ∷ rest) so.apart so.right in
     let more = rounds_from s all hs (first ∷ rest) in record {
       more = more;
       histories = next.histories;
       so = record {
+        apart = so.apart;
         right = next.right;
         are = append_rounds s given all next.histories first 0 cs rest rounds more e low (rounds_later s given hs next.histories cs rounds next.begin so.are) next.are;
         chained = chain_append (map (λ p. 0) (ports_of s.policy)) (map length hs) (map length next.histories) rounds more so.chained next.chained;

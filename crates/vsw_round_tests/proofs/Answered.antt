@@ -1,5 +1,5 @@
 -- A packet and its reply.
-use Rattle.std.proofs.Common.{ℕ, List, [], ◌∷◌, refl}
+use Rattle.std.proofs.Common.{ℕ, false, List, [], ◌∷◌, refl}
 use Rattle.std.specs.Fmt.{digits}
 use Rattle.hex.specs.Hex.{encode_with}
 use Rattle.vsw_base.specs.Frame.{frame_in}
@@ -14,7 +14,7 @@ use Rattle.vsw_promise.proofs.Exists.{always_rounds}
 use Rattle.vsw_round_tests.specs.Replies.{Replies, reply_policy, reply_frame}
 
 abbrev setting : Setting
-setting = record { workers = 1; policy = reply_policy; commands = [] }
+setting = record { workers = 1; policy = reply_policy; commands = []; local = false }
 
 abbrev records : List Record
 records = captured 0 ∷ record { moment = 1000; original = 94; bytes = reply_frame } ∷ []

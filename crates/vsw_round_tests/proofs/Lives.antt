@@ -1,5 +1,5 @@
 -- The life of a connection.
-use Rattle.std.proofs.Common.{ℕ, List, [], ◌∷◌, refl}
+use Rattle.std.proofs.Common.{ℕ, false, List, [], ◌∷◌, refl}
 use Rattle.std.specs.Fmt.{digits}
 use Rattle.hex.specs.Hex.{encode_with}
 use Rattle.vsw_base.specs.Frame.{frame_in}
@@ -11,7 +11,7 @@ use Rattle.vsw_promise.proofs.Exists.{always_rounds}
 use Rattle.vsw_round_tests.specs.Life.{LifeOfAPair, life_policy, life_records, sweep_line}
 
 abbrev setting : Setting
-setting = record { workers = 1; policy = life_policy; commands = sweep_line ∷ [] }
+setting = record { workers = 1; policy = life_policy; commands = sweep_line ∷ []; local = false }
 
 pub life_of_a_pair : LifeOfAPair
 unfolding port_line digits encode_with frame_in walk_of

@@ -1,5 +1,5 @@
 -- Commands.
-use Rattle.std.proofs.Common.{ℕ, List, [], ◌∷◌, refl}
+use Rattle.std.proofs.Common.{ℕ, false, List, [], ◌∷◌, refl}
 use Rattle.std.specs.Fmt.{digits}
 use Rattle.hex.specs.Hex.{encode_with}
 use Rattle.vsw_base.specs.Frame.{frame_in}
@@ -12,7 +12,7 @@ use Rattle.vsw_promise.proofs.Exists.{always_rounds}
 use Rattle.vsw_round_tests.specs.Commands.{RefusedCommands, PastTheEnd, EndsEarly, refused_lines, late_lines}
 
 abbrev setting : Setting
-setting = record { workers = 1; policy = record { version = 1; controllers = 1 ∷ 2 ∷ []; ports = sample_policy.ports }; commands = refused_lines }
+setting = record { workers = 1; policy = record { version = 1; controllers = 1 ∷ 2 ∷ []; ports = sample_policy.ports; seed = tt }; commands = refused_lines; local = false }
 
 pub refused_commands : RefusedCommands
 unfolding port_line digits

@@ -26,7 +26,7 @@ abbrev pub refused_lines : List Line
 refused_lines = asks 1 1 (AddLayer (layer 10)) ∷ asks 2 1 (PutRules 10 9 []) ∷ map (λ i. asks (3 + i) 1 (AddLayer (layer (11 + i)))) (counted 0 16) ++ asks 19 1 (AddRule 10 1 (rule_with Allow)) ∷ asks 20 2 (AddLayer (layer 10)) ∷ []
 
 abbrev pub RefusedCommands : Type 0
-RefusedCommands = IsReport (record { workers = 1; policy = record { version = 1; controllers = 1 ∷ 2 ∷ []; ports = sample_policy.ports }; commands = refused_lines }) []
+RefusedCommands = IsReport (record { workers = 1; policy = record { version = 1; controllers = 1 ∷ 2 ∷ []; ports = sample_policy.ports; seed = tt }; commands = refused_lines; local = false }) []
     (codes "vsw report 1\nround 0\nport 1 0 20\nc1 1 +0 refused 2 LayerExists\nc1 2 +1 refused 3 NoGroup\nc1 3 +2 ok\nc1 4 +3 ok\nc1 5 +4 ok\nc1 6 +5 ok\nc1 7 +6 ok\nc1 8 +7 ok\nc1 9 +8 ok\nc1 10 +9 ok\nc1 11 +10 ok\nc1 12 +11 ok\nc1 13 +12 ok\nc1 14 +13 ok\nc1 15 +14 ok\nc1 16 +15 ok\nc1 17 +16 ok\nc1 18 +17 refused 7 ManyLayers\nc1 19 +18 refused 6 RuleExists\nc2 20 +19 ok\nloose\n")
 
 -- at packets 1 and 5 of a trace of two

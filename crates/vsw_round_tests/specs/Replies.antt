@@ -51,6 +51,7 @@ reply_policy = record {
         ∷ record { number = 2; dir = In; when = []; rules = rule (record { field = Vni; items = Range 5001 5001 ∷ [] } ∷ []) (Edit true no_set None) ∷ [] } ∷ [])
         ∷ [];
   } ∷ [];
+  seed = tt;
 }
 
 -- the answer of 10.0.0.9, in network 5001
@@ -58,5 +59,5 @@ abbrev pub reply_frame : List ℕ
 reply_frame = spelled (codes "020000000a01020000000a02080045000050000040004011e279ac100002ac100001f53012b5003c0000080000000013890002000000000102000000009908004500001e0000400040116ebf0a000009c000020700359c40000a2eeb6869")
 
 abbrev pub Replies : Type 0
-Replies = IsReport (record { workers = 1; policy = reply_policy; commands = [] }) (captured 0 ∷ record { moment = 1000; original = 94; bytes = reply_frame } ∷ [])
+Replies = IsReport (record { workers = 1; policy = reply_policy; commands = []; local = false }) (captured 0 ∷ record { moment = 1000; original = 94; bytes = reply_frame } ∷ [])
     (codes "vsw report 1\nround 0\nport 1 0 1\nw0 0 +0 pass 94 020000000a02020000000a01080045000050000040004011e279ac100001ac100002f53012b5003c0000080000000013890002000000009902000000000108004500001e0000400040116ebfc00002070a0000099c400035000a2eeb6869\nw0 1 @1 pass 44 02000000000102000000009908004500001e00004000401126c20a0000090a000005003504d2000a7e5c6869\nloose\n")

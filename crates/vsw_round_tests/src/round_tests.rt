@@ -117,6 +117,17 @@ fn two_shares(alloc: Global) -> Option<Vec<Vec<Placed<Packet>>>>
     Some(shares)
 }
 
+/// The first worker brings nothing.
+fn last_shares(alloc: Global) -> Option<Vec<Vec<Placed<Packet>>>>
+    ensures { IfSome result (λ v. AreThreeShares v.items) }
+{
+    let mut shares = Vec::with_capacity(alloc, 3).ok()?;
+    shares.push_reserved(Vec::new(alloc));
+    shares.push_reserved(new_share(alloc, 1, [20, 21, 22])?);
+    shares.push_reserved(new_share(alloc, 2, [30, 31, 32])?);
+    Some(shares)
+}
+
 fn three_shares(alloc: Global) -> Option<Vec<Vec<Placed<Packet>>>>
     ensures { IfSome result (λ v. AreThreeShares v.items) }
 {
@@ -250,6 +261,78 @@ fn controllers_stand_behind_the_workers_that_are_asked_for(rt: HostRuntime) {
     let shares = three_shares(rt.alloc()).expect(&rt, "memory");
     let jobs = counted(&rt, rt.alloc(), shares, lineup(1, 1)).expect(&rt, "memory");
     assert_eq!(rt; jobs, [3, 3, 266, 0, 0]);
+}
+
+#[test]
+fn actors_of_a_round_without_packets_are_told_by_the_same_numbers(rt: HostRuntime) {
+    let shares = last_shares(rt.alloc()).expect(&rt, "memory");
+    let jobs = counted(&rt, rt.alloc(), shares, lineup(1, 2)).expect(&rt, "memory");
+    assert_eq!(rt; jobs, [0, 3, 3, 266, 0]);
+}
+
+/// Where the actors behind the first one, two of them, wait for each other in their first jobs. Any thread may call it. An actor says that it is here
+/// by one store, and has seen the other from the load on that reads the other's.
+#[derive(Drop)]
+struct Meeting {
+    /// How often an actor looks for the other one before it gives up.
+    turns: u32,
+    here: [AtomicU64; 2],
+    saw: [AtomicU64; 2],
+}
+
+impl Gate for Meeting {
+    fn enter(&self, actor: u32, job: u32) {
+        if job > 0 || actor == 0 || actor > 2 {
+            return;
+        }
+        let place = actor as usize - 1;
+        self.here[place].store(1, Ordering::SeqCst);
+        for _ in 0..self.turns {
+            if self.here[1 - place].load(Ordering::SeqCst) == 1 {
+                self.saw[place].store(1, Ordering::SeqCst);
+                return;
+            }
+        }
+    }
+
+    fn leave(&self, _actor: u32, _job: u32) {}
+}
+
+/// Which of the two actors behind the first one saw the other in a round of one worker and two controllers.
+fn seen<R: Threads + Wait + Sync>(
+    rt: &R,
+    alloc: Global,
+    shares: Vec<Vec<Placed<Packet>>>,
+    turns: u32,
+) -> Option<[u64; 2]>
+    requires shares { AreThreeShares shares.items }
+{
+    let ports = [Refusing::new(1, 0), Refusing::new(2, 0)];
+    let meeting = Meeting {
+        turns,
+        here: [AtomicU64::new(0), AtomicU64::new(0)],
+        saw: [AtomicU64::new(0), AtomicU64::new(0)],
+    };
+    let _rows = round(rt, alloc, &ports, shares, lineup(1, 2), &meeting)?;
+    Some([
+        meeting.saw[0].load(Ordering::SeqCst),
+        meeting.saw[1].load(Ordering::SeqCst),
+    ])
+}
+
+#[test]
+fn controllers_beside_packets_see_each_other(rt: HostRuntime) {
+    let shares = three_shares(rt.alloc()).expect(&rt, "memory");
+    let saw = seen(&rt, rt.alloc(), shares, 100_000_000).expect(&rt, "memory");
+    assert_eq!(rt; saw, [1, 1]);
+}
+
+/// The first controller is done before the second begins: it looks in vain.
+#[test]
+fn controllers_without_packets_beside_them_take_turns(rt: HostRuntime) {
+    let shares = last_shares(rt.alloc()).expect(&rt, "memory");
+    let saw = seen(&rt, rt.alloc(), shares, 1_000_000).expect(&rt, "memory");
+    assert_eq!(rt; saw, [0, 1]);
 }
 
 /// How many rows of two ports, one of 10 rows and one of 600, were reconciled in a round, and which were the last.

@@ -101,16 +101,16 @@ pub forwards_next : (s t u : SwitchNow) (first i : ℕ) (packets : List Record) 
 forwards_next s t u first i packets r at a f =
     let before = numbered first (take i packets) in
     let n = first + i in
-    let jobs = placed_packets s.workers (macs_in s) before in
+    let jobs = placed_packets s.workers false (macs_in s) [] before in
     let loose = loose_among (macs_in s) before in
     let macs : macs_in t ≡ macs_in s = works_macs s t jobs loose a in
-    let one : Works t (placed_packet s.workers n r.moment (aim_of (macs_in s) r)) (loose_after n (aim_of (macs_in s) r)) u =
-    subst (λ k. Works t (placed_packet k n r.moment (aim_of (macs_in s) r)) (loose_after n (aim_of (macs_in s) r)) u) a.workers (subst (λ ms. Works t (placed_packet t.workers n r.moment (aim_of ms r)) (loose_after n (aim_of ms r)) u) macs f) in
+    let one : Works t (placed_packet s.workers n r.moment [] (aim_of (macs_in s) r)) (loose_after n (aim_of (macs_in s) r)) u =
+    subst (λ k. Works t (placed_packet k n r.moment [] (aim_of (macs_in s) r)) (loose_after n (aim_of (macs_in s) r)) u) a.workers (subst (λ ms. Works t (placed_packet t.workers n r.moment [] (aim_of ms r)) (loose_after n (aim_of ms r)) u) macs f) in
     let all : numbered first (take (i + 1) packets) ≡ before ++ (n, r) ∷ [] = ap (λ k. numbered first (take k packets)) (next i) ∙ packet_more first i packets r at in
-    let jobs_are : placed_packets s.workers (macs_in s) (before ++ (n, r) ∷ []) ≡ jobs ++ placed_packet s.workers n r.moment (aim_of (macs_in s) r) =
-    flat_map-append (λ p. placed_packet s.workers p.0 p.1.moment (aim_of (macs_in s) p.1)) before ((n, r) ∷ []) ∙ ap (λ w. jobs ++ w) (append_end (placed_packet s.workers n r.moment (aim_of (macs_in s) r))) in
+    let jobs_are : placed_packets s.workers false (macs_in s) [] (before ++ (n, r) ∷ []) ≡ jobs ++ placed_packet s.workers n r.moment [] (aim_of (macs_in s) r) =
+    flat_map-append (λ p. placed_packet s.workers p.0 p.1.moment [] (aim_of (macs_in s) p.1)) before ((n, r) ∷ []) ∙ ap (λ w. jobs ++ w) (append_end (placed_packet s.workers n r.moment [] (aim_of (macs_in s) r))) in
     let loose_are : loose_among (macs_in s) (before ++ (n, r) ∷ []) ≡ loose ++ loose_after n (aim_of (macs_in s) r) =
     flat_map-append (λ p. loose_after p.0 (aim_of (macs_in s) p.1)) before ((n, r) ∷ []) ∙ ap (λ w. loose ++ w) (append_end (loose_after n (aim_of (macs_in s) r))) in
     subst (λ w. ForwardsAll s w u) (sym all)
     (subst (λ js. Works s js (loose_among (macs_in s) (before ++ (n, r) ∷ [])) u) (sym jobs_are)
-    (subst (λ ls. Works s (jobs ++ placed_packet s.workers n r.moment (aim_of (macs_in s) r)) ls u) (sym loose_are) (works_join s t u jobs (placed_packet s.workers n r.moment (aim_of (macs_in s) r)) loose (loose_after n (aim_of (macs_in s) r)) a one)))
+    (subst (λ ls. Works s (jobs ++ placed_packet s.workers n r.moment [] (aim_of (macs_in s) r)) ls u) (sym loose_are) (works_join s t u jobs (placed_packet s.workers n r.moment [] (aim_of (macs_in s) r)) loose (loose_after n (aim_of (macs_in s) r)) a one)))

@@ -1,5 +1,5 @@
 -- The end of a round: what each port did is a port's round as promised, with the text that is appended.
-use Rattle.std.proofs.Common.{◌≡◌, ◌≤◌, ◌+◌, ◌-◌, ℕ, suc, ◌||◌, Bool, List, [], ◌∷◌, ◌++◌, length, map, refl, ap, ap₂, sym, ◌∙◌, subst}
+use Rattle.std.proofs.Common.{◌≡◌, ◌≤◌, ◌+◌, ◌-◌, ℕ, suc, ◌||◌, Bool, false, List, [], ◌∷◌, ◌++◌, length, map, refl, ap, ap₂, sym, ◌∙◌, subst}
 use Rattle.std.specs.List.{flat_map, list_any}
 use Rattle.vsw_base.specs.declared.fate.Fate.{Fate}
 use Rattle.vsw_port.specs.declared.event.Event.{Event}
@@ -11,7 +11,7 @@ use Rattle.vsw_report.specs.Order.{AllInCounts, emptied, in_order}
 use Rattle.vsw_pcap.specs.declared.capture.Record.{Record}
 use Rattle.vsw_policy.specs.Sound.{Each}
 use Rattle.vsw_promise.specs.Ports.{PortSeen}
-use Rattle.vsw_promise.specs.Jobs.{Jobs, Placed, Setting, at_place, before_jobs, during_jobs, macs_of, packet_jobs, packets_between}
+use Rattle.vsw_promise.specs.Jobs.{Jobs, Placed, Setting, at_place, before_jobs, during_jobs, jobs_of, macs_of, packets_between, placed_packets}
 use Rattle.vsw_promise.specs.Rounds.{AllBegin, AreHistories, ArePortRounds, IsPortRound, opening_of}
 use Rattle.vsw_promise.specs.Summary.{dropped, in_line, in_port, passed, size_of, total}
 use Rattle.vsw_promise.specs.Told.{in_told_order, line_of, lines_of}
@@ -140,7 +140,11 @@ all_go workers ts n (seen ∷ ss) (h ∷ hs) [] qs few s d = absurd s
 
 -- the jobs of the round of these packets, of the port of this number at this place
 abbrev pub jobs_with : Setting → ℕ → List (ℕ × Record) → ℕ → ℕ → Jobs
-jobs_with s first packets place number = record { first = before_jobs s.commands first number; later = during_jobs s.commands first number ++ packet_jobs s.workers (macs_of s.policy) place packets }
+jobs_with s first packets place number = record { first = before_jobs s.commands first number; later = during_jobs s.commands first number ++ at_place place (placed_packets s.workers false (macs_of s.policy) [] packets) }
+
+jobs_are : (s : Setting) (records : List Record) (told : List PortRound) (first next place number : ℕ) → s.local ≡ false → jobs_of s records told first next place number ≡ jobs_with s first (packets_between records first next) place number
+jobs_are s records told first next place number apart =
+    ap (λ (js : List Placed). record { first = before_jobs s.commands first number; later = during_jobs s.commands first number ++ at_place place js }) (ap (λ b. placed_packets s.workers b (macs_of s.policy) told (packets_between records first next)) apart)
 
 -- at each port these are its jobs
 abbrev pub AreDealt : Setting → ℕ → List (ℕ × Record) → List Placed → ℕ → List PortSeen → Type 0
@@ -151,7 +155,7 @@ AreDealt s first packets ts n (seen ∷ ss) = (at_place n ts ≡ (jobs_with s fi
 pub record Ended (s : Setting) (first : ℕ) (packets : List (ℕ × Record)) (n : ℕ) (ss : List PortSeen) (hs : List (List Event)) (ps : List PortNow) : Type 0 where
   pub histories : List (List Event)
   pub rounds : List PortRound
-  pub are : (records : List Record) (next : ℕ) → packets_between records first next ≡ packets → ArePortRounds s records first next n ss histories rounds
+  pub are : (records : List Record) (told : List PortRound) (next : ℕ) → packets_between records first next ≡ packets → ArePortRounds s records told first next n ss histories rounds
   pub right : AreHistories ss histories
   pub begin : AllBegin hs histories
   pub before : map (λ r. r.before) rounds ≡ map length hs
@@ -164,9 +168,9 @@ pub record Ended (s : Setting) (first : ℕ) (packets : List (ℕ × Record)) (n
   pub drop : total (λ p. p.tally.drop) ps ≡ total (in_port dropped) rounds
   pub size : total (λ p. p.tally.bytes) ps ≡ total (in_port size_of) rounds
 
-pub all_end : (s : Setting) (first : ℕ) (packets : List (ℕ × Record)) (ts : List Placed) (n : ℕ) (ss : List PortSeen) (hs : List (List Event)) (ps : List PortNow) → s.workers ≤ 16 → AreDealt s first packets ts n ss → AllGo s.workers ts n ss hs ps → Ended s first packets n ss hs ps
-all_end s first packets ts n [] [] [] few d g = record { histories = []; rounds = []; are = λ records next e. tt; right = tt; begin = tt; before = refl; after = refl; stand = tt; counts = tt; text = refl; short = refl; pass = refl; drop = refl; size = refl }
-all_end s first packets ts n (seen ∷ ss) (h ∷ hs) (p ∷ ps) few d g = joined seen ss h hs p ps (subst (λ js. PortGoes s.workers seen h js p) d.0 g.0) (all_end s first packets ts (suc n) ss hs ps few d.1 g.1)
+pub all_end : (s : Setting) (first : ℕ) (packets : List (ℕ × Record)) (ts : List Placed) (n : ℕ) (ss : List PortSeen) (hs : List (List Event)) (ps : List PortNow) → s.workers ≤ 16 → s.local ≡ false → AreDealt s first packets ts n ss → AllGo s.workers ts n ss hs ps → Ended s first packets n ss hs ps
+all_end s first packets ts n [] [] [] few apart d g = record { histories = []; rounds = []; are = λ records told next e. tt; right = tt; begin = tt; before = refl; after = refl; stand = tt; counts = tt; text = refl; short = refl; pass = refl; drop = refl; size = refl }
+all_end s first packets ts n (seen ∷ ss) (h ∷ hs) (p ∷ ps) few apart d g = joined seen ss h hs p ps (subst (λ js. PortGoes s.workers seen h js p) d.0 g.0) (all_end s first packets ts (suc n) ss hs ps few apart d.1 g.1)
   where
     joined : (seen : PortSeen) (ss : List PortSeen) (h : List Event) (hs : List (List Event)) (p : PortNow) (ps : List PortNow)
         → PortGoes s.workers seen h ((jobs_with s first packets n seen.number).first ++ (jobs_with s first packets n seen.number).later) p → Ended s first packets (suc n) ss hs ps → Ended s first packets n (seen ∷ ss) (h ∷ hs) (p ∷ ps)
@@ -176,7 +180,7 @@ all_end s first packets ts n (seen ∷ ss) (h ∷ hs) (p ∷ ps) few d g = joine
         record {
           histories = p.journal ∷ rest.histories;
           rounds = round_of p here.calls ∷ rest.rounds;
-          are = λ records next e. (subst (λ w. IsPortRound s.workers seen p.journal (jobs_with s first w n seen.number) (round_of p here.calls)) (sym e) (is_round s.workers seen h jobs p here), rest.are records next e);
+          are = λ records told next e. (subst (λ w. IsPortRound s.workers seen p.journal w (round_of p here.calls)) (sym (jobs_are s records told first next n seen.number apart ∙ ap (λ ps. jobs_with s first ps n seen.number) e)) (is_round s.workers seen h jobs p here), rest.are records told next e);
           right = (here.goes.right, rest.right);
           begin = ((entries_of here.calls, sym here.goes.grown), rest.begin);
           before = ap₂ (λ x y. x ∷ y) here.before_is rest.before;
@@ -189,7 +193,7 @@ all_end s first packets ts n (seen ∷ ss) (h ∷ hs) (p ∷ ps) few d g = joine
           drop = ap₂ (λ a b. a + b) (ap (λ t. t.drop) here.tally ∙ port_total dropped s.workers seen h (jobs.first ++ jobs.later) p few here) rest.drop;
           size = ap₂ (λ a b. a + b) (ap (λ t. t.bytes) here.tally ∙ port_total size_of s.workers seen h (jobs.first ++ jobs.later) p few here) rest.size;
         }
-all_end s first packets ts n [] [] (p ∷ ps) few d g = absurd g
-all_end s first packets ts n [] (h ∷ hs) ps few d g = absurd g
-all_end s first packets ts n (seen ∷ ss) [] ps few d g = absurd g
-all_end s first packets ts n (seen ∷ ss) (h ∷ hs) [] few d g = absurd g
+all_end s first packets ts n [] [] (p ∷ ps) few apart d g = absurd g
+all_end s first packets ts n [] (h ∷ hs) ps few apart d g = absurd g
+all_end s first packets ts n (seen ∷ ss) [] ps few apart d g = absurd g
+all_end s first packets ts n (seen ∷ ss) (h ∷ hs) [] few apart d g = absurd g

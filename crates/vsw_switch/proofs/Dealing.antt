@@ -1,36 +1,16 @@
 -- What is done over all ports in a round is at each what is to be done there.
-use Rattle.std.proofs.Common.{◌≡◌, ℕ, suc, ◌==◌, ◌&&◌, ◌||◌, not, Bool, true, false, if◌then◌else◌, List, [], ◌∷◌, ◌++◌, map, filter, Result, Ok, Err, refl, ap, sym, ◌∙◌, eq-eqb, ne_eqb}
+use Rattle.std.proofs.Common.{◌≡◌, ℕ, suc, ◌==◌, ◌&&◌, ◌||◌, not, Bool, true, false, if◌then◌else◌, List, [], ◌∷◌, ◌++◌, map, filter, refl, ap, sym, ◌∙◌, eq-eqb, ne_eqb}
 use native.Mathlib.Decide.{ℕ_discrete}
-use Rattle.vsw_base.specs.declared.flow.Place.{Place}
-use Rattle.vsw_base.specs.Frame.{Parts}
 use Rattle.vsw_commandfile.specs.declared.line.Line.{Line}
 use Rattle.vsw_port.specs.Calls.{Ask, Job}
 use Rattle.vsw_history_law.proofs.Callers.{place_one}
 use Rattle.vsw_pcap.specs.declared.capture.Record.{Record}
 use Rattle.vsw_policy.specs.Layers.{place_of}
 use Rattle.vsw_policy.specs.Sound.{are_distinct, is_listed}
-use Rattle.vsw_promise.specs.Jobs.{Placed, aim_of, aimed_at, at_place, before_jobs, during_jobs, packet_jobs, placed_packet, placed_packets}
-use Rattle.vsw_report.specs.declared.round.LooseCause.{LooseCause}
+use Rattle.vsw_promise.specs.Jobs.{Placed, at_place, before_jobs, during_jobs, placed_packets}
+use Rattle.vsw_promise.proofs.Handed.{place_append}
 use Rattle.vsw_promise.specs.Schedule.{commands_at}
 use Rattle.vsw_switch.specs.Does.{placed_line}
-use Rattle.vsw_switch.proofs.Steps.{place_append}
-
--- ---- packets
-
-one_packet : (workers i n moment : ℕ) (r : Result (Place × Parts) LooseCause) → at_place i (placed_packet workers n moment r) ≡ aimed_at workers i n moment r
-one_packet workers i n moment (Err why) = refl
-one_packet workers i n moment (Ok a) = by (a.0.port == i) refl
-  where
-    by : (b : Bool) → (a.0.port == i) ≡ b → at_place i (placed_packet workers n moment (Ok a)) ≡ aimed_at workers i n moment (Ok a)
-    by true e = rw e refl
-    by false e = rw e refl
-
-pub place_packets : (workers i : ℕ) (macs : List ℕ) (packets : List (ℕ × Record)) → at_place i (placed_packets workers macs packets) ≡ packet_jobs workers macs i packets
-place_packets workers i macs [] = refl
-place_packets workers i macs (p ∷ ps) =
-    place_append i (placed_packet workers p.0 p.1.moment (aim_of macs p.1)) (placed_packets workers macs ps)
-    ∙ (ap (λ w. w ++ at_place i (placed_packets workers macs ps)) (one_packet workers i p.0 p.1.moment (aim_of macs p.1))
-    ∙ ap (λ w. aimed_at workers i p.0 p.1.moment (aim_of macs p.1) ++ w) (place_packets workers i macs ps))
 
 -- ---- commands
 
@@ -67,16 +47,15 @@ lines_where t numbers (l ∷ ls) first i number at listed =
 
 -- all that is done in a round: the "before" commands, the "during" commands, and the packets
 abbrev pub jobs_done : ℕ → List ℕ → List ℕ → List Line → ℕ → List (ℕ × Record) → List Placed
-jobs_done workers numbers macs commands first packets = placed_lines (λ l. not l.during) numbers commands first ++ (placed_lines (λ l. l.during) numbers commands first ++ placed_packets workers macs packets)
+jobs_done workers numbers macs commands first packets = placed_lines (λ l. not l.during) numbers commands first ++ (placed_lines (λ l. l.during) numbers commands first ++ placed_packets workers false macs [] packets)
 
 pub jobs_there : (workers : ℕ) (numbers macs : List ℕ) (commands : List Line) (first : ℕ) (packets : List (ℕ × Record)) (i number : ℕ) → place_of number numbers ≡ i → is_listed numbers number ≡ true
-    → at_place i (jobs_done workers numbers macs commands first packets) ≡ before_jobs commands first number ++ (during_jobs commands first number ++ packet_jobs workers macs i packets)
+    → at_place i (jobs_done workers numbers macs commands first packets) ≡ before_jobs commands first number ++ (during_jobs commands first number ++ at_place i (placed_packets workers false macs [] packets))
 jobs_there workers numbers macs commands first packets i number at listed =
-    place_append i (placed_lines (λ l. not l.during) numbers commands first) (placed_lines (λ l. l.during) numbers commands first ++ placed_packets workers macs packets)
-    ∙ (ap (λ w. w ++ at_place i (placed_lines (λ l. l.during) numbers commands first ++ placed_packets workers macs packets)) (lines_where (λ l. not l.during) numbers commands first i number at listed)
-    ∙ ap (λ w. before_jobs commands first number ++ w) (place_append i (placed_lines (λ l. l.during) numbers commands first) (placed_packets workers macs packets)
-    ∙ (ap (λ w. w ++ at_place i (placed_packets workers macs packets)) (lines_where (λ l. l.during) numbers commands first i number at listed)
-    ∙ ap (λ w. during_jobs commands first number ++ w) (place_packets workers i macs packets))))
+    place_append i (placed_lines (λ l. not l.during) numbers commands first) (placed_lines (λ l. l.during) numbers commands first ++ placed_packets workers false macs [] packets)
+    ∙ (ap (λ w. w ++ at_place i (placed_lines (λ l. l.during) numbers commands first ++ placed_packets workers false macs [] packets)) (lines_where (λ l. not l.during) numbers commands first i number at listed)
+    ∙ ap (λ w. before_jobs commands first number ++ w) (place_append i (placed_lines (λ l. l.during) numbers commands first) (placed_packets workers false macs [] packets)
+    ∙ ap (λ w. w ++ at_place i (placed_packets workers false macs [] packets)) (lines_where (λ l. l.during) numbers commands first i number at listed)))
 
 -- ---- the places of numbers
 

@@ -41,10 +41,10 @@ all_work s t u v lines places first packets at before during forwarded =
     let both = works_join s t u (asked lines first (λ l. not l.during) (numbers_in s)) (asked lines first (λ l. l.during) (numbers_in s)) [] [] firsts seconds in
     let macs : macs_in u ≡ macs_in s = works_macs s u _ [] both in
     let workers : u.workers ≡ s.workers = both.workers in
-    let thirds : Works u (placed_packets s.workers (macs_in s) packets) (loose_among (macs_in s) packets) v =
-    subst (λ k. Works u (placed_packets k (macs_in s) packets) (loose_among (macs_in s) packets) v) workers (subst (λ ms. Works u (placed_packets u.workers ms packets) (loose_among ms packets) v) macs forwarded) in
-    works_join s t v (asked lines first (λ l. not l.during) (numbers_in s)) (asked lines first (λ l. l.during) (numbers_in s) ++ placed_packets s.workers (macs_in s) packets) [] (loose_among (macs_in s) packets) firsts
-    (works_join t u v (asked lines first (λ l. l.during) (numbers_in s)) (placed_packets s.workers (macs_in s) packets) [] (loose_among (macs_in s) packets) seconds thirds)
+    let thirds : Works u (placed_packets s.workers false (macs_in s) [] packets) (loose_among (macs_in s) packets) v =
+    subst (λ k. Works u (placed_packets k false (macs_in s) [] packets) (loose_among (macs_in s) packets) v) workers (subst (λ ms. Works u (placed_packets u.workers false ms [] packets) (loose_among ms packets) v) macs forwarded) in
+    works_join s t v (asked lines first (λ l. not l.during) (numbers_in s)) (asked lines first (λ l. l.during) (numbers_in s) ++ placed_packets s.workers false (macs_in s) [] packets) [] (loose_among (macs_in s) packets) firsts
+    (works_join t u v (asked lines first (λ l. l.during) (numbers_in s)) (placed_packets s.workers false (macs_in s) [] packets) [] (loose_among (macs_in s) packets) seconds thirds)
 
 dealt : (s : Setting) (first : ℕ) (packets : List (ℕ × Record)) (numbers : List ℕ) (n : ℕ) (ss : List PortSeen) → StandInPlace numbers n (map (λ p. p.number) ss) → AreDealt s first packets (jobs_done s.workers numbers (macs_of s.policy) s.commands first packets) n ss
 dealt s first packets numbers n [] p = tt
@@ -80,7 +80,7 @@ round_ends s hs first packets a b at apart w =
     let each = each_place done a.ports b.ports (subst (λ js. DoesAll js a.ports b.ports) jobs w.ports) in
     let stays : numbers_in b ≡ numbers_in a = works_numbers a b _ _ w in
     let places : StandInPlace (numbers_in a) 0 (map (λ p. p.number) ss) = subst (λ ns. StandInPlace (numbers_in a) 0 ns) numbers (stand_in_place (numbers_in a) (ap are_distinct (sym stays) ∙ apart)) in
-    all_end s first packets done 0 ss hs b.ports at.few (dealt s first packets (numbers_in a) 0 ss places) (all_go s.workers done 0 ss hs a.ports b.ports at.few at.ports each)
+    all_end s first packets done 0 ss hs b.ports at.few at.apart (dealt s first packets (numbers_in a) 0 ss places) (all_go s.workers done 0 ss hs a.ports b.ports at.few at.ports each)
 
 -- what the end of a round ensures
 pub record Closes (first : ℕ) (b c : SwitchNow) (short : Bool) (old new : List ℕ) : Type 0 where
@@ -102,11 +102,11 @@ runs_round s hs first packets a b c short old new at w closes =
     let loose : b.loose ≡ loose_among (macs_of s.policy) all = w.loose_are ∙ ap₂ (λ x ms. x ++ loose_among ms all) at.loose macs in
     let round : Round = record { first = first; ports = e.rounds; loose = loose_among (macs_of s.policy) all } in
     let text : round_now first b ≡ round_text round = ap₂ (λ t ls. codes "round " ++ decimal first ++ codes "\n" ++ t ++ codes "loose\n" ++ flat_map loose_text ls) e.text loose in
-    let stands : IsAt s e.histories (next_round b) = record { workers = w.workers ∙ at.workers; some = at.some; few = at.few; ports = e.stand; loose = refl } in
+    let stands : IsAt s e.histories (next_round b) = record { workers = w.workers ∙ at.workers; some = at.some; few = at.few; apart = at.apart; ports = e.stand; loose = refl } in
     let tells : TellsRound s hs first packets c short old new = record {
       histories = e.histories;
       round = round;
-      is_round = λ records next p. record { first_is = refl; loose = ap (loose_among (macs_of s.policy)) (sym p); ports = e.are records next p };
+      is_round = λ records next p. record { first_is = refl; loose = ap (loose_among (macs_of s.policy)) (sym p); ports = e.are records e.rounds next p };
       right = e.right;
       begin = e.begin;
       before = e.before;

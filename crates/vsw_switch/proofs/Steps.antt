@@ -3,6 +3,7 @@ use Rattle.std.proofs.Common.{◌≡◌, ◌<◌, ℕ, zero, suc, ◌+◌, ◌==
 use Rattle.vsw_port.specs.Calls.{Call, Job}
 use Rattle.vsw_port.proofs.Fronts.{append_end}
 use Rattle.vsw_promise.specs.Jobs.{Placed, at_place}
+use Rattle.vsw_promise.proofs.Handed.{place_append}
 use Rattle.vsw_report.specs.declared.round.Loose.{Loose}
 use Rattle.vsw_switch.specs.Does.{Does, DoesAt, DoesAll, Works, with_call, macs_in, numbers_in}
 use Rattle.vsw_switch.specs.Switch.{PortNow, SwitchNow}
@@ -59,15 +60,6 @@ AllEach ts n _ _ = ⊥
 each_join : (js ks : List Job) (p m q : PortNow) → DoesEach js p m → DoesEach ks m q → DoesEach (js ++ ks) p q
 each_join [] ks p m q d e = subst (λ w. DoesEach ks w q) d e
 each_join (j ∷ js) ks p m q d e = (d.0, d.1, each_join js ks d.0 m q d.2 e)
-
-pub place_append : (i : ℕ) (ts us : List Placed) → at_place i (ts ++ us) ≡ at_place i ts ++ at_place i us
-place_append i [] us = refl
-place_append i (t ∷ ts) us = by (t.0 == i) (place_append i ts us)
-  where
-    by : (b : Bool) → at_place i (ts ++ us) ≡ at_place i ts ++ at_place i us
-        → map (λ t. t.1) (if b then t ∷ filter (λ t. t.0 == i) (ts ++ us) else filter (λ t. t.0 == i) (ts ++ us)) ≡ map (λ t. t.1) (if b then t ∷ filter (λ t. t.0 == i) ts else filter (λ t. t.0 == i) ts) ++ at_place i us
-    by true ih = ap (λ w. t.1 ∷ w) ih
-    by false ih = ih
 
 places_join : (ts us : List Placed) (n : ℕ) (ps ms qs : List PortNow) → AllEach ts n ps ms → AllEach us n ms qs → AllEach (ts ++ us) n ps qs
 places_join ts us n [] [] [] a b = tt

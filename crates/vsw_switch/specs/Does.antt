@@ -96,4 +96,4 @@ Asks s l t = Works s (placed_line (numbers_in s) l ∷ []) [] t
 
 -- packet n went to its port, or is loose
 abbrev pub Forwards : SwitchNow → ℕ → Record → SwitchNow → Type 0
-Forwards s n r t = Works s (placed_packet s.workers n r.moment (aim_of (macs_in s) r)) (loose_after n (aim_of (macs_in s) r)) t
+Forwards s n r t = Works s (placed_packet s.workers n r.moment [] (aim_of (macs_in s) r)) (loose_after n (aim_of (macs_in s) r)) t

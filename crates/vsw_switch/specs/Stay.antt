@@ -57,5 +57,5 @@ why_of (Ok a) = None
 
 -- ports before and after packet n, which one of them met, or which is loose
 pub record Arrives (workers n : ℕ) (macs : List ℕ) (r : Record) (ps qs : List PortNow) (loose : Option LooseCause) : Type 0 where
-  pub ports : DoesAll (placed_packet workers n r.moment (aim_of macs r)) ps qs
+  pub ports : DoesAll (placed_packet workers n r.moment [] (aim_of macs r)) ps qs
   pub why : loose ≡ why_of (aim_of macs r)

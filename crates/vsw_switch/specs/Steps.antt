@@ -1,5 +1,5 @@
 -- The steps of a round.
-use Rattle.std.specs.Prelude.{ℕ, Bool, not, List, option_to_list, if◌then◌else◌}
+use Rattle.std.specs.Prelude.{ℕ, Bool, false, not, List, [], option_to_list, if◌then◌else◌}
 use Rattle.std.specs.List.{flat_map, slice_get}
 use Rattle.vsw_commandfile.specs.declared.line.Line.{Line}
 use Rattle.vsw_pcap.specs.declared.capture.Record.{Record}
@@ -17,4 +17,4 @@ is_when during l = if during then l.during else not l.during
 
 -- these packets were forwarded, each with its number
 abbrev pub ForwardsAll : SwitchNow → List (ℕ × Record) → SwitchNow → Type 0
-ForwardsAll s packets t = Works s (placed_packets s.workers (macs_in s) packets) (loose_among (macs_in s) packets) t
+ForwardsAll s packets t = Works s (placed_packets s.workers false (macs_in s) [] packets) (loose_among (macs_in s) packets) t

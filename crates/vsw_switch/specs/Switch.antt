@@ -1,5 +1,5 @@
 -- The ports of a run: how they stand between two rounds, and in the midst of one.
-use Rattle.std.specs.Prelude.{◌≡◌, ◌≤◌, ◌<◌, ℕ, List, [], ◌∷◌, length, map, true}
+use Rattle.std.specs.Prelude.{◌≡◌, ◌≤◌, ◌<◌, ℕ, List, [], ◌∷◌, length, map, true, false}
 use Rattle.vsw_commandfile.specs.declared.line.Line.{Line}
 use Rattle.vsw_port.specs.declared.event.Event.{Event}
 use Rattle.vsw_port.specs.History.{Opening, AllRight}
@@ -55,6 +55,8 @@ pub record IsAt (s : Setting) (hs : List (List Event)) (now : SwitchNow) : Type 
   pub workers : now.workers ≡ s.workers
   pub some : 0 < s.workers
   pub few : s.workers ≤ 16
+  -- it hands no packet on
+  pub apart : s.local ≡ false
   pub ports : AllStandAt s.workers (ports_of s.policy) hs now.ports
   pub loose : now.loose ≡ []
 

@@ -2,6 +2,7 @@
 
 ghost use Rattle.std.specs.Prelude.{◌≡◌, ◌≤◌, ◌<◌, [], IfOk, OnOk, length, not, replicate};
 ghost use Rattle.vsw_commandfile.specs.declared.line.Line.{Line};
+ghost use Rattle.vsw_frame.specs.Frame.{parts};
 ghost use Rattle.vsw_report.specs.Line.{text_of};
 ghost use Rattle.vsw_policy.specs.Obey.{is_memory};
 ghost use Rattle.vsw_policy.specs.Refusals.{reply_of};
@@ -11,12 +12,13 @@ ghost use Rattle.vsw_switch.specs.Does.{told_at};
 ghost use Rattle.vsw_sole.specs.Transit.{bytes_in, len_of};
 
 use std::alloc::Global;
-use vsw_base::{Crossing, Fate, NoMemory};
+use vsw_base::{Crossing, NoMemory};
 use vsw_commandfile::Line;
+use vsw_frame::Frame;
 use vsw_policy::{Refusal, Reply};
 use vsw_port::Outcome;
 use vsw_report::Caller;
-use vsw_sole::Room;
+use vsw_sole::{Room, bytes_of};
 
 /// So many callers with no lines.
 pub(crate) fn callers(alloc: Global, count: usize) -> Result<Vec<Caller>, NoMemory>
@@ -31,31 +33,21 @@ pub(crate) fn callers(alloc: Global, count: usize) -> Result<Vec<Caller>, NoMemo
     Ok(callers)
 }
 
-/// The outgoing bytes of a pass, which stand at the front of the room, and none of a drop.
-fn bytes_of(fate: Fate, room: &Room) -> &[u8]
-    requires { len_of fate ≤ 65700 }
-    ensures { result.now ≡ bytes_in fate room.now }
-{
-    match fate {
-        Fate::Pass { len } => room.bytes(len),
-        Fate::Drop(_) => &[],
-    }
-}
-
-/// A packet's worker tells what became of it.
+/// A packet's worker tells what became of it: of a pass with its frame's own bytes or those at the front of the room.
 pub(crate) fn tell_packet(
     workers: &mut Vec<Caller>,
     crossing: &Crossing,
     count: u32,
     outcome: Outcome,
+    frame: &Frame<'_>,
     room: &Room,
 ) -> Result<(), NoMemory>
     requires worker { crossing.now.caller < length workers.old.items }
     requires len { len_of outcome.fate ≤ 65700 }
-    ensures told { OnOk result (workers.new.items ≡ told_at crossing.now.caller (text_of (record { by = by.Worker crossing.now.caller; item = crossing.now.packet; entry = outcome.entry; count = count; what = what.Fate outcome.fate (bytes_in outcome.fate room.now) })) workers.old.items) }
+    ensures told { OnOk result (workers.new.items ≡ told_at crossing.now.caller (text_of (record { by = by.Worker crossing.now.caller; item = crossing.now.packet; entry = outcome.entry; count = count; what = what.Fate outcome.fate (bytes_in outcome.own (parts frame.now) outcome.fate room.now) })) workers.old.items) }
     ensures stays { length workers.new.items ≡ length workers.old.items }
 {
-    let bytes = bytes_of(outcome.fate, room);
+    let bytes = bytes_of(outcome.fate, outcome.own, frame, room);
     let worker = &mut workers[crossing.caller as usize];
     worker.tell_packet(
         crossing.caller,

@@ -146,7 +146,7 @@ impl Live {
         let outcome = transit(&mut self.port, crossing, frame, room);
         let tally = self.tally.and(Tally::of(outcome.fate))?;
         self.tally = tally;
-        tell_packet(&mut self.workers, crossing, count, outcome, room)
+        tell_packet(&mut self.workers, crossing, count, outcome, frame, room)
     }
 
     /// Does or refuses what a controller asks, and tells the reply. After `NoMemory` nothing is said of the history.

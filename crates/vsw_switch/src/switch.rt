@@ -1,6 +1,6 @@
 //! A switch.
 
-ghost use Rattle.std.specs.Prelude.{◌≡◌, ◌≤◌, ◌<◌, ◌^◌, ◌++◌, ◌∷◌, [], List, IfOk, OnOk, length, map, true};
+ghost use Rattle.std.specs.Prelude.{◌≡◌, ◌≤◌, ◌<◌, ◌^◌, ◌++◌, ◌∷◌, [], List, IfOk, OnOk, false, length, map, true};
 ghost use Rattle.std.specs.List.{flat_map, list_any};
 ghost use Rattle.vsw_commandfile.specs.declared.line.Line.{Line};
 ghost use Rattle.vsw_frame.specs.Frame.{parts};
@@ -25,7 +25,7 @@ use std::marker::Model;
 use vsw_base::{Items, Mac, NoMemory, Place};
 use vsw_commandfile::Line;
 use vsw_config::PolicyFile;
-use vsw_frame::{Frame, read_frame};
+use vsw_frame::{Frame, FrameRoom, read_frame};
 use vsw_header::choose_port;
 use vsw_pcap::Captured;
 use vsw_promise::{Port, macs, ports_of};
@@ -42,6 +42,8 @@ pub struct Switch {
     macs: Items<Mac>,
     loose: Vec<Loose>,
     rooms: Worker,
+    /// Where the headers of a frame stand while it is forwarded.
+    headers: FrameRoom,
 }
 
 impl Model for Switch {
@@ -124,6 +126,7 @@ fn arrive(
     packet: u32,
     captured: &Captured<'_>,
     rooms: &mut Worker,
+    headers: &mut FrameRoom,
 ) -> Result<Option<LooseCause>, NoMemory>
     requires some { 1 ≤ workers }
     requires callers { Each (λ p. length p.workers ≡ workers) ports.old.items }
@@ -135,8 +138,7 @@ fn arrive(
     if captured.bytes.len() < captured.original as usize {
         return Ok(Some(LooseCause::Snapped));
     }
-    // The frame is large: it is looked at where it was read, and not moved.
-    let read = read_frame(captured.bytes);
+    let read = read_frame(captured.bytes, headers);
     match &read {
         Err(fault) => Ok(Some(LooseCause::Malformed(*fault))),
         Ok(frame) => match choose_port(macs, frame.stack()) {
@@ -209,7 +211,7 @@ impl Switch {
         requires good { IsGoodPolicy file.now }
         requires some { 0 < workers }
         requires few { workers ≤ 16 }
-        ensures opens { IfOk result (λ switch. (commands : List Line) → IsAt (record { workers = workers; policy = file.now; commands = commands }) (map (λ p. []) (ports_of file.now)) switch) }
+        ensures opens { IfOk result (λ switch. (commands : List Line) → IsAt (record { workers = workers; policy = file.now; commands = commands; local = false }) (map (λ p. []) (ports_of file.now)) switch) }
         ensures served { IfOk result (λ switch. (lines : List Line) → Each (λ l. is_listed file.now.controllers l.controller ≡ true) lines → Each (λ l. is_listed (map (λ p. p.number) (ports_of file.now)) l.port ≡ true) lines → Each (λ l. Each IsGoodRule (rules_given l.command)) lines → AreServed switch lines) }
     {
         let made = ports_of(alloc, file)?;
@@ -223,6 +225,7 @@ impl Switch {
             macs,
             loose: Vec::new(alloc),
             rooms: Worker::new(alloc)?,
+            headers: FrameRoom::new(),
         })
     }
 
@@ -249,6 +252,7 @@ impl Switch {
             packet,
             captured,
             &mut self.rooms,
+            &mut self.headers,
         )? {
             None => Ok(()),
             Some(cause) => push(&mut self.loose, Loose { packet, cause }),

@@ -1,4 +1,4 @@
-//! One round: all jobs of all actors, each actor in a thread of its own.
+//! One round: all jobs of all actors, each actor in a thread of its own or one after the other.
 
 ghost use Rattle.std.specs.Prelude.{◌≡◌, ℕ, List, ◌<◌, length, slice_index_or};
 ghost use Rattle.vsw_workers.specs.Rounds.{Finishes, AllFinish};
@@ -41,6 +41,34 @@ fn run_each<R: Threads + Wait + Sync, F: Forwarder + Send, G: Gate + Sync>(
         threads,
         &|place, actor| run_actor(rt, alloc, place, actor, gate),
     );
+}
+
+/// Does every job of every actor, one actor after the other. No thread is started, so a gate that waits for another actor gives up.
+pub fn run_in_turn<R: Wait, F: Forwarder, G: Gate>(
+    rt: &R,
+    alloc: Global,
+    actors: &mut [F],
+    gate: &G,
+)
+    ensures { AllFinish F.what F.done F.todo actors.old actors.new }
+{
+    run_from(rt, alloc, 0, actors, gate);
+}
+
+/// The same of actors of which the first has this place.
+fn run_from<R: Wait, F: Forwarder, G: Gate>(
+    rt: &R,
+    alloc: Global,
+    place: usize,
+    actors: &mut [F],
+    gate: &G,
+)
+    ensures { AllFinish F.what F.done F.todo actors.old actors.new }
+{
+    if let Some((actor, others)) = actors.split_first_mut() {
+        run_actor(rt, alloc, place, actor, gate);
+        run_from(rt, alloc, place.wrapping_add(1), others, gate);
+    }
 }
 
 /// Does all jobs of the actor at `place`. A place of 2^32 or more, which no memory has room for, would be

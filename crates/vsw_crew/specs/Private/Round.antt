@@ -1,5 +1,5 @@
 -- A round of a crew, step by step.
-use Rattle.std.specs.Prelude.{◌≡◌, ◌++◌, ℕ, Bool, List, [], length, map}
+use Rattle.std.specs.Prelude.{◌≡◌, ◌++◌, ℕ, Bool, false, List, [], length, map}
 use Rattle.vsw_harbour.specs.Lane.{Lane}
 use Rattle.vsw_commandfile.specs.declared.line.Line.{Line}
 use Rattle.vsw_harbour.specs.Crew.{CrewDid, CrewTells, crew_text, is_short_crew}
@@ -29,7 +29,7 @@ macs_in h = map (λ d. d.mac) h.docks
 
 -- what is done beside each other in the round of these packets
 abbrev pub jobs_here : HarbourSeen → List Line → ℕ → List Record → List Placed
-jobs_here h lines first packets = placed_lines (numbers_in h) lines first ++ placed_packets h.workers (macs_in h) (numbered first packets)
+jobs_here h lines first packets = placed_lines (numbers_in h) lines first ++ placed_packets h.workers false (macs_in h) [] (numbered first packets)
 
 -- since all were ready at these histories, the commands before the packets were asked in turn
 pub record HasAsked (h : HarbourSeen) (s : Setting) (hs : List (List Event)) (first : ℕ) (rows : List (List (Lane StationSeen))) : Type 0 where

@@ -1,4 +1,4 @@
-use Rattle.std.proofs.Common.{◌≡◌, [], List, map, refl, subst, sym}
+use Rattle.std.proofs.Common.{◌≡◌, [], List, map, refl, subst, sym, false}
 use Rattle.vsw_harbour.specs.Mustered.{no_entries}
 use Rattle.vsw_promise.specs.Ports.{ports_of}
 use Rattle.vsw_promise.specs.Jobs.{Setting}
@@ -23,7 +23,7 @@ run_trace-requires-clause-served g c κs within =
 pub returns : goal.returns
 returns g c =
     let h = c.in-Ok.harbour in
-    let s : Setting = record { workers = c.args.workers; policy = c.args.policy.now; commands = c.args.schedule.now } in
+    let s : Setting = record { workers = c.args.workers; policy = c.args.policy.now; commands = c.args.schedule.now; local = false } in
     let m = c.in-Ok.ensures c.args.workers c.args.policy.now c.requires.opened in
     let is = crew_first c.args.workers c.args.policy.now h _ c.new.result c.beside-runner.result m c.new.ensures.now c.beside-runner.ensures in
     let at = first_at c.args.workers c.args.policy.now c.args.schedule.now h _ c.requires.opened.more c.requires.opened.most m in

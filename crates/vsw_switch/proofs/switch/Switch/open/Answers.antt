@@ -15,6 +15,7 @@ returns-clause-opens c commands = record {
   workers = refl;
   some = c.requires.some;
   few = c.requires.few;
+  apart = refl;
   ports = all_stand c.args.file.now c.args.workers c.in_ok-made.made c.in_ok-ports.ports.items c.in_ok-made.ensures c.in_ok-ports.ensures;
   loose = c.new.ensures.items;
 }

@@ -1,0 +1,5 @@
+pub mod Buckets
+pub mod Standing
+pub mod Replaying
+pub mod Replayed
+pub mod Audited

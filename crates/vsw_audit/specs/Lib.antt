@@ -1,0 +1,4 @@
+pub mod Check
+pub mod Order
+pub mod Replay
+pub mod Audit

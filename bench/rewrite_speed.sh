@@ -57,7 +57,7 @@ ghost use Rattle.vsw_transpose.specs.Fits.{fits};
 use std::process::ExitCode;
 use std::{env, fs, io};
 use vsw_base::{Header, Ip4, Mac};
-use vsw_frame::{Frame, read_frame, rewrite};
+use vsw_frame::{Frame, FrameRoom, read_frame, rewrite};
 use vsw_transpose::{Act, Change, Transposition};
 
 fn acts() -> [Act; 6]
@@ -107,7 +107,8 @@ fn run(bytes: &[u8], out: &mut [u8], count: u64) -> u64
     let Ok(by) = Transposition::of(&acts()) else {
         return 0;
     };
-    match read_frame(bytes) {
+    let mut room = FrameRoom::new();
+    match read_frame(bytes, &mut room) {
         Ok(frame) => {
             if by.fits(frame.stack()) {
                 turns(&frame, &by, out, count)

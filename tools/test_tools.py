@@ -15,7 +15,7 @@ import unittest
 import xml.etree.ElementTree as ElementTree
 from typing import Any, Sequence
 
-from vswlib import ending, policies, reports, shadows
+from vswlib import ending, policies, reports, shadows, specs
 from vswlib.captures import Record, parse_capture, write_capture, write_commented
 from vswlib.frames import differences, flow_text, ones_sum, read_frame
 from vswlib.jsontext import BadJson, Document, NotWhole, line_and_column
@@ -336,6 +336,80 @@ class Tools(unittest.TestCase):
                 lines = len(file.readlines())
             made = [json.loads(line) for line in run_tool("report_to_json", example(folder, "report.txt")).stdout.splitlines()]
             self.assertEqual([members["line"] for members in made], list(range(1, lines + 1)), folder)
+
+
+class Definitions(unittest.TestCase):
+    """Which definitions others name (vswlib.specs), over a repository of two crates."""
+
+    FILES = {
+        "crates.txt": "# two\nlow: byteorder\nhigh: low\n",
+        "crates/low/specs/Lib.antt": "pub mod Num\n",
+        "crates/low/specs/Num.antt": "use Rattle.std.specs.Prelude.{ℕ, ◌+◌, suc, zero}\n\n-- one more\nabbrev pub next : ℕ → ℕ\nnext n = n + 1\n\n"
+                                     "abbrev pub idle : ℕ\nidle = next 1\n\npub data Kind : Type 0 where\n  Odd : Kind\n  -- even ones\n  Even : Kind\n\n"
+                                     "module _ {A : Type 0} where\n  abbrev pub same : A → A\n  same a = a\n\n  module _ (n : ℕ) where\n    abbrev pub kept : ℕ\n    kept = next n\n",
+        "crates/high/specs/Lib.antt": "pub use Rattle.low.specs.Num as Numbers\npub mod Top\n",
+        "crates/high/specs/Top.antt": "use Rattle.std.specs.Prelude.{ℕ, ◌≡◌}\nuse Rattle.high.specs.Numbers.{Kind, Even, next, idle}\nuse Rattle.low.specs.declared.item.Item.TheVariants as item\n\n"
+                                      "-- binds `idle`, sets a field `next`, and names neither\nabbrev pub other : ℕ → ℕ\nother idle = record { next = idle }\n\n"
+                                      "pub record Is (kind : Kind) : Type 0 where\n  pub next : next 1 ≡ 2\n  pub idle : kind ≡ Even\n  pub made : item.Made idle ≡ next\n",
+    }
+
+    def repository(self, folder: str) -> specs.Repository:
+        for name, text in self.FILES.items():
+            os.makedirs(os.path.dirname(os.path.join(folder, name)), exist_ok=True)
+            with open(os.path.join(folder, name), "w", encoding="utf-8") as file:
+                file.write(text)
+        return specs.Repository(folder)
+
+    def test_what_is_reached_through_a_reexport(self) -> None:
+        with tempfile.TemporaryDirectory() as folder:
+            repository = self.repository(folder)
+            reached, outside = specs.closure(repository, {("high.specs.Top", "Is")})
+            self.assertEqual({path: sorted(found) for path, found in reached.items()}, {"high.specs.Top": ["Is"], "low.specs.Num": ["Kind", "next"]})
+            self.assertEqual(specs.reading_order(repository, reached), ["low.specs.Num", "high.specs.Top"])
+            self.assertIn(("low.specs.declared.item.Item.TheVariants", "Made"), outside)
+            kind, following = (repository.module("low.specs.Num").definitions[name] for name in ("Kind", "next"))
+            self.assertEqual((kind.lines, kind.comments, kind.above), (3, 1, False))
+            self.assertEqual((following.lines, following.comments, following.above), (2, 1, True))
+            self.assertEqual(list(repository.module("low.specs.Num").definitions), ["next", "idle", "Kind", "same", "kept"])
+
+    def test_names_that_are_bound_are_none(self) -> None:
+        with tempfile.TemporaryDirectory() as folder:
+            uses = self.repository(folder).module("high.specs.Top").definitions["other"].uses
+            self.assertEqual(uses, {("std.specs.Prelude", "ℕ")})
+
+    def test_the_page_has_each_module_of_the_promise(self) -> None:
+        page = os.path.join(os.path.dirname(TOOLS), "docs", "READING.md")
+        done = run_tool("must_be_believed", "--check", page)
+        self.assertEqual((done.returncode, done.stderr), (0, ""), done.stdout)
+        with open(page, encoding="utf-8") as file:
+            lines = file.read().splitlines()
+        entries = [number for number, line in enumerate(lines) if line.startswith("- [")]
+        first, last = entries[0], entries[-1]
+        for changed, words in ((lines[:first] + lines[first + 1:], "is missing"), (lines[:last] + [lines[first]] + lines[last:], "stands twice"),
+                               (lines[:first] + [lines[last]] + lines[first:last] + lines[last + 1:], "which doesn't stand before it"),
+                               (lines + ["- [it](../crates/vsw_port/specs/Core.antt)"], "isn't under the promise")):
+            with tempfile.TemporaryDirectory() as folder:
+                path = os.path.join(folder, "page.md")
+                with open(path, "w", encoding="utf-8") as file:
+                    file.write("\n".join(changed))
+                done = run_tool("must_be_believed", "--check", path)
+                self.assertEqual(done.returncode, 1)
+                self.assertIn(words, done.stdout)
+
+    def test_each_name_that_a_definition_uses_is_one(self) -> None:
+        repository = specs.Repository(os.path.dirname(TOOLS))
+        for module in specs.all_modules(repository):
+            for one in module.definitions.values():
+                for name in one.uses:
+                    repository.definition(name)  # refuses a name that its module lacks
+
+    def test_each_imported_name_of_the_list_is_in_use(self) -> None:
+        repository = specs.Repository(os.path.dirname(TOOLS))
+        reached, _ = specs.closure(repository, {("vsw_app.specs.Exit", "Exits")})
+        for path in reached:
+            module = repository.module(path)
+            used = set().union(*(one.uses for one in module.definitions.values()))
+            self.assertEqual([word for word, name in module.imports.items() if name not in used], [], path)
 
 
 if __name__ == "__main__":

@@ -21,4 +21,4 @@ records = captured 0 ∷ record { moment = 1000; original = 94; bytes = reply_fr
 
 pub replies : Replies
 unfolding port_line digits encode_with frame_in walk_of pushed_checksum
-replies = record { rounds = rounds_alone setting records (0 ∷ []); are = always_rounds setting records (0 ∷ []); text_is = refl }
+replies = record { rounds = rounds_alone setting records (0 ∷ []); are = always_rounds setting records (0 ∷ []) refl; text_is = refl }

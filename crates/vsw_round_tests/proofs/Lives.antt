@@ -15,4 +15,4 @@ setting = record { workers = 1; policy = life_policy; commands = sweep_line ∷ 
 
 pub life_of_a_pair : LifeOfAPair
 unfolding port_line digits encode_with frame_in walk_of
-life_of_a_pair = record { rounds = rounds_alone setting life_records (0 ∷ 6 ∷ []); are = always_rounds setting life_records (0 ∷ 6 ∷ []); text_is = refl }
+life_of_a_pair = record { rounds = rounds_alone setting life_records (0 ∷ 6 ∷ []); are = always_rounds setting life_records (0 ∷ 6 ∷ []) refl; text_is = refl }

@@ -16,12 +16,12 @@ setting = record { workers = 1; policy = record { version = 1; controllers = 1 �
 
 pub refused_commands : RefusedCommands
 unfolding port_line digits
-refused_commands = record { rounds = rounds_alone setting [] (0 ∷ []); are = always_rounds setting [] (0 ∷ []); text_is = refl }
+refused_commands = record { rounds = rounds_alone setting [] (0 ∷ []); are = always_rounds setting [] (0 ∷ []) refl; text_is = refl }
 
 pub past_the_end : PastTheEnd
 unfolding port_line digits encode_with frame_in walk_of
-past_the_end = record { rounds = rounds_alone (sample_setting late_lines) (captured 0 ∷ captured 1000 ∷ []) (0 ∷ 1 ∷ 5 ∷ []); are = always_rounds (sample_setting late_lines) (captured 0 ∷ captured 1000 ∷ []) (0 ∷ 1 ∷ 5 ∷ []); text_is = refl }
+past_the_end = record { rounds = rounds_alone (sample_setting late_lines) (captured 0 ∷ captured 1000 ∷ []) (0 ∷ 1 ∷ 5 ∷ []); are = always_rounds (sample_setting late_lines) (captured 0 ∷ captured 1000 ∷ []) (0 ∷ 1 ∷ 5 ∷ []) refl; text_is = refl }
 
 pub ends_early : EndsEarly
 unfolding port_line digits encode_with frame_in walk_of
-ends_early = record { rounds = rounds_alone (sample_setting late_lines) (captured 0 ∷ []) (0 ∷ []); are = always_rounds (sample_setting late_lines) (captured 0 ∷ []) (0 ∷ []); text_is = refl }
+ends_early = record { rounds = rounds_alone (sample_setting late_lines) (captured 0 ∷ []) (0 ∷ []); are = always_rounds (sample_setting late_lines) (captured 0 ∷ []) (0 ∷ []) refl; text_is = refl }

@@ -12,8 +12,8 @@ use Rattle.vsw_round_tests.specs.OnePacket.{NoPacket, OnePacket}
 
 pub one_packet : OnePacket
 unfolding port_line digits encode_with frame_in walk_of
-one_packet = record { rounds = rounds_alone (sample_setting []) (captured 0 ∷ []) (0 ∷ []); are = always_rounds (sample_setting []) (captured 0 ∷ []) (0 ∷ []); text_is = refl }
+one_packet = record { rounds = rounds_alone (sample_setting []) (captured 0 ∷ []) (0 ∷ []); are = always_rounds (sample_setting []) (captured 0 ∷ []) (0 ∷ []) refl; text_is = refl }
 
 pub no_packet : NoPacket
 unfolding port_line digits
-no_packet = record { rounds = rounds_alone (sample_setting []) [] (0 ∷ []); are = always_rounds (sample_setting []) [] (0 ∷ []); text_is = refl }
+no_packet = record { rounds = rounds_alone (sample_setting []) [] (0 ∷ []); are = always_rounds (sample_setting []) [] (0 ∷ []) refl; text_is = refl }

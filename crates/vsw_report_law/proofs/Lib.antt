@@ -1,0 +1,3 @@
+mod Outgoing
+mod Layers
+mod Causes

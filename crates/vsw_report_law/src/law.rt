@@ -1,0 +1,5 @@
+//! What the text of a report fixes.
+
+/// Nothing yet.
+pub fn laws()
+{}

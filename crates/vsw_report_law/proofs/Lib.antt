@@ -1,3 +1,6 @@
 mod Outgoing
 mod Layers
 mod Causes
+mod Fates
+mod Jobs
+mod Histories

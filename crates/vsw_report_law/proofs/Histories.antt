@@ -118,6 +118,9 @@ entries_each n (c ∷ cs) = by (c.entry && (c.count == n)) refl (entries_each n 
     by true t ih = let u = and_true c.entry (c.count == n) t in ((u.0, eqb_is c.count n u.1), ih)
     by false t ih = ih
 
+entry_same : (o : Opening) (h g : List Event) (n : ℕ) (f : (c : Call) × ((IsCall o h c × IsCall o g c) × ((c.entry ≡ true) × (c.count ≡ n)))) → slice_get h n ≡ slice_get g n
+entry_same o h g n f = stands_here o h n f.0 f.1.0.0 f.1.1 ∙ sym (stands_here o g n f.0 f.1.0.1 f.1.1)
+
 first_of : (P : Call → Type 0) (xs : List Call) (l : ToldLine) → map line_of xs ≡ l ∷ [] → Each P xs → (c : Call) × P c
 first_of P [] l e h = absurd (cc e)
 first_of P (c ∷ xs) l e h = (c, h.0)
@@ -150,9 +153,7 @@ round_entry workers p h g jobs r known i j n low high =
     let lines : map line_of (entry_at n cs) ≡ line_of told.call ∷ [] =
     ap (map line_of) (sym (told_at ns cs n r.before more low (omega (arith, low, high)))) ∙ (sym (map_filter n (in_told_order ns cs r.before more)) ∙ (ap (entry_lines n) (sym i.lines) ∙ told.line)) in
     let f = first_of (λ c. (IsCall o (take r.after h) c × IsCall o (take r.after g) c) × ((c.entry ≡ true) × (c.count ≡ n))) (entry_at n cs) (line_of told.call) lines (each_both (λ c. IsCall o (take r.after h) c × IsCall o (take r.after g) c) (λ c. (c.entry ≡ true) × (c.count ≡ n)) (entry_at n cs) here (entries_each n cs)) in
-    let one : slice_get (take r.after h) n ≡ Some (event_of f.0.deed) = stands_here o (take r.after h) n f.0 f.1.0.0 f.1.1 in
-    let two : slice_get (take r.after g) n ≡ Some (event_of f.0.deed) = stands_here o (take r.after g) n f.0 f.1.0.1 f.1.1 in
-    sym (get_take r.after n h high) ∙ (one ∙ (sym two ∙ get_take r.after n g high))
+    sym (get_take r.after n h high) ∙ (entry_same o (take r.after h) (take r.after g) n f ∙ get_take r.after n g high)
 
 -- ---- the entries of a run
 

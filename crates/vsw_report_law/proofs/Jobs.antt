@@ -329,7 +329,7 @@ lines_given : (cs : List ℕ) (ls : List Line) → Each (λ d. d < 2 ^ 16) cs �
 lines_given cs [] e f a = tt
 lines_given cs (l ∷ ls) e f a = ((f.0, listed_small cs l.controller e a.0), lines_given cs ls e f.1 a.1)
 
-asks_fit : (s : Setting) (records : List Record) (p : Line → Bool) → AreGiven s records → Each FitsJob (map Ask (filter p s.commands))
+pub asks_fit : (s : Setting) (records : List Record) (p : Line → Bool) → AreGiven s records → Each FitsJob (map Ask (filter p s.commands))
 asks_fit s records p given = each_map FitsJob Ask (filter p s.commands) (each_filter (λ l. FitsLine l × (l.controller < 2 ^ 16)) p s.commands (lines_given s.policy.controllers s.commands given.policy.0 given.commands given.served.asked))
 
 pub jobs_fit : (s : Setting) (records : List Record) (told : List PortRound) (first next i number : ℕ) → AreGiven s records → AllTold (macs_of s.policy) records told → Each FitsJob ((jobs_of s records told first next i number).first ++ (jobs_of s records told first next i number).later)

@@ -3,4 +3,7 @@ mod Layers
 mod Causes
 mod Fates
 mod Jobs
+mod Few
+mod Proper
 mod Histories
+mod Texts

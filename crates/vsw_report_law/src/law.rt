@@ -1,8 +1,13 @@
 //! What the text of a report fixes.
 
-ghost use Rattle.vsw_report_law.specs.Law.{OneHistory};
+ghost use Rattle.vsw_report_law.specs.Law.{OneHistory, OneText, ReportIsRead, RoundsAreProper, TextFixesHistories};
 
-/// Rounds fix the histories.
+/// The rounds of a run are proper, so they are read back from their text, and their text is a report. Rounds fix the
+/// histories, and so does the text.
 pub fn laws()
+    ensures proper { RoundsAreProper }
+    ensures text { OneText }
+    ensures read { ReportIsRead }
     ensures history { OneHistory }
+    ensures fixes { TextFixesHistories }
 {}

@@ -1,9 +1,7 @@
 -- The causes of drops name what stands in layers, so their numbers are as small as those.
-use Rattle.std.proofs.Common.{◌≡◌, ◌≤◌, ◌<◌, ◌+◌, ◌^◌, ◌==◌, ℕ, zero, suc, Bool, true, false, List, [], ◌∷◌, ◌++◌, map, length, take, Option, Some, None, Result, Ok, Err, refl, sym, ap, subst, ◌∙◌, arith}
-use Rattle.std.specs.Prelude.{if◌then◌else◌, nat_le, nat_lt}
+use Rattle.std.proofs.Common.{◌<◌, ◌+◌, ◌^◌, ℕ, zero, suc, Bool, true, false, List, [], ◌∷◌, length, Option, Some, None, sym, subst, arith}
+use Rattle.std.specs.Prelude.{if◌then◌else◌, nat_le}
 use Rattle.std.specs.List.{cons_option, filter_map, slice_get}
-use Rattle.vsw_base.specs.declared.fate.Cause.{Cause}
-use Rattle.vsw_base.specs.declared.fate.Cause.TheVariants as cause
 use Rattle.vsw_base.specs.declared.fate.Fate.{Fate}
 use Rattle.vsw_base.specs.declared.fate.Fate.TheVariants as fate
 use Rattle.vsw_base.specs.declared.fate.Verdict.{Verdict}
@@ -15,7 +13,7 @@ use Rattle.vsw_base.specs.declared.packet.Control.{Control}
 use Rattle.vsw_base.specs.declared.packet.Dir.{Dir}
 use Rattle.vsw_base.specs.Shape.{encaps}
 use Rattle.vsw_header.specs.Key.{key_from}
-use Rattle.vsw_layerflow.specs.Pairs.{back, holder, holds, pair_of, touch_if, touched, without}
+use Rattle.vsw_layerflow.specs.Pairs.{back, holder, holds, pair_of, touched}
 use Rattle.vsw_layerflow.specs.Track.{track_of}
 use Rattle.vsw_layerflow.specs.declared.pair.Pair.{Pair}
 use Rattle.vsw_layerflow.specs.declared.pair.Probe.{Probe}

@@ -12,7 +12,7 @@ use Rattle.vsw_base.specs.declared.fate.Verdict.{Verdict}
 use Rattle.vsw_base.specs.declared.fate.Verdict.TheVariants as verdict
 use Rattle.vsw_base.specs.declared.flow.Crossing.{Crossing}
 use Rattle.vsw_base.specs.declared.header.Header.{Header}
-use Rattle.vsw_base.specs.Frame.{Parts, frame_of, size_at, sizes_of}
+use Rattle.vsw_base.specs.Frame.{Parts, frame_of, sizes_of}
 use Rattle.vsw_base.specs.Shape.{encaps}
 use Rattle.vsw_frame.proofs.Carried.{frame_few}
 use Rattle.vsw_frame.specs.Bytes.{outgoing, pushes, total_over}

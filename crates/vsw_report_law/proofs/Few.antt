@@ -1,5 +1,5 @@
 -- A run has no more jobs at a port than commands and twice the records, where packets are handed on too.
-use Rattle.std.proofs.Common.{◌≡◌, ◌≢◌, ◌≤◌, ◌<◌, inl, inr, ℕ, zero, suc, ◌+◌, ◌*◌, ◌/◌, ◌^◌, ◌==◌, ◌&&◌, not, Bool, true, false, if◌then◌else◌, List, [], ◌∷◌, ◌++◌, length, map, filter, Option, Some, None, Result, Ok, Err, nat_lt, refl, ap, sym, ◌∙◌, subst, arith, eq-eqb, ne_eqb, length-append}
+use Rattle.std.proofs.Common.{◌≡◌, ◌≢◌, ◌≤◌, inl, inr, ℕ, suc, ◌+◌, ◌*◌, ◌==◌, ◌&&◌, not, Bool, true, false, if◌then◌else◌, List, [], ◌∷◌, ◌++◌, length, map, filter, Option, Some, None, Result, Ok, Err, nat_lt, refl, ap, sym, ◌∙◌, subst, arith, eq-eqb, ne_eqb, length-append}
 use Rattle.std.specs.Prelude.{option_to_list}
 use Rattle.std.specs.List.{flat_map, slice_get}
 use Rattle.vsw_base.specs.declared.fate.Fate.TheVariants as fate
@@ -23,7 +23,7 @@ use Rattle.vsw_port.specs.Calls.{Ask}
 use Rattle.vsw_port.specs.Order.{StandsOnce}
 use Rattle.vsw_port.specs.declared.event.Event.{Event}
 use Rattle.vsw_promise.specs.Agree.{lines_at}
-use Rattle.vsw_promise.specs.Jobs.{Hop, Placed, Setting, aim_of, at_place, before_jobs, cuts, cuts_within, during_jobs, fates_told, handed_on, hop_of, hops_of, jobs_of, macs_of, packets_between, placed_packet, placed_packets, second_job, worker_of}
+use Rattle.vsw_promise.specs.Jobs.{Hop, Placed, Setting, aim_of, at_place, before_jobs, cuts, cuts_within, during_jobs, fates_told, handed_on, hop_of, hops_of, macs_of, packets_between, placed_packet, placed_packets, second_job, worker_of}
 use Rattle.vsw_promise.specs.Ports.{PortSeen, ports_of}
 use Rattle.vsw_promise.specs.Rounds.{AreRounds, end_before}
 use Rattle.vsw_promise.specs.Told.{fates_in}

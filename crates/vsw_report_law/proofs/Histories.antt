@@ -1,5 +1,5 @@
 -- Rounds fix the histories: each caller's calls are its lines and its jobs, and each entry is a call of the round that tells it.
-use Rattle.std.proofs.Common.{◌≡◌, ◌≢◌, ◌≤◌, ◌<◌, ◌+◌, ◌-◌, ◌==◌, ◌&&◌, Bool, true, false, true≢false, if◌then◌else◌, ℕ, zero, suc, List, [], ◌∷◌, ◌++◌, length, map, filter, take, Option, Some, None, nat_lt, refl, ap, sym, subst, ◌∙◌, arith, eq-eqb, ne_eqb}
+use Rattle.std.proofs.Common.{◌≡◌, ◌≤◌, ◌<◌, ◌+◌, ◌-◌, ◌==◌, ◌&&◌, Bool, true, false, true≢false, if◌then◌else◌, ℕ, zero, suc, List, [], ◌∷◌, ◌++◌, length, map, take, Some, nat_lt, refl, ap, sym, subst, ◌∙◌, arith, ne_eqb}
 use Rattle.std.proofs.lemmas.Grind.{common_steps}
 use Rattle.std.specs.List.{slice_get}
 use native.Mathlib.Decide.{ℕ_discrete}
@@ -8,7 +8,7 @@ use Rattle.vsw_history_law.proofs.Callers.{eqb_is}
 use Rattle.vsw_history_law.proofs.Entries.{each_entry_is_told, map_filter, told_at}
 use Rattle.vsw_history_law.proofs.Reports.{each_filter, jobs_of_calls, lines_are_calls, map_at, port_at, round_jobs}
 use Rattle.vsw_history_law.proofs.Values.{jobs_stand}
-use Rattle.vsw_history_law.specs.Law.{AreServed, entry_lines, lines_by}
+use Rattle.vsw_history_law.specs.Law.{AreServed, entry_lines}
 use Rattle.vsw_pcap.specs.declared.capture.Record.{Record}
 use Rattle.vsw_policy.specs.Sound.{Each}
 use Rattle.vsw_port.proofs.Calls.{each_of_all}
@@ -238,4 +238,4 @@ one_history s records cuts rounds served run other = all_same (ports_of s.policy
     let last : map length run.histories ≡ map length other.histories = one_last (map (λ p. 0) (ports_of s.policy)) rounds (map length run.histories) (map length other.histories) run.chained other.chained in
     let size : length h ≡ length g = same_number (length h) (length g) (sym (map_at length run.histories i h f) ∙ (ap (λ w. slice_get w i) last ∙ map_at length other.histories i g t)) in
     same_list h g size (λ n lt. run_entry s records run.histories other.histories i p h g served (names_at s.policy.controllers s.policy.ports i p e) e f t cuts rounds (map (λ p. 0) (ports_of s.policy)) (map length run.histories) 0 (length h) n run.are other.are run.chained (map_at (λ p. 0) (ports_of s.policy) i p e) (map_at length run.histories i h f) (omega arith) lt)
-  ))
+    ))

@@ -1,7 +1,7 @@
 -- The jobs of a round are of numbers in the ranges of their types, and their frames are bytes.
-use Rattle.std.proofs.Common.{◌≡◌, ◌≤◌, ◌<◌, ◌+◌, ◌-◌, ◌%◌, ◌^◌, ◌==◌, ◌&&◌, ◌||◌, not, ℕ, zero, suc, Bool, true, false, true≢false, if◌then◌else◌, List, [], ◌∷◌, ◌++◌, length, map, filter, take, Option, Some, None, Result, Ok, Err, nat_lt, refl, sym, ap, subst, ◌∙◌, arith, eq-eqb}
+use Rattle.std.proofs.Common.{◌≡◌, ◌≤◌, ◌<◌, ◌-◌, ◌^◌, ◌==◌, ◌&&◌, ◌||◌, not, ℕ, zero, suc, Bool, true, false, true≢false, if◌then◌else◌, List, [], ◌∷◌, ◌++◌, length, map, filter, take, Option, Some, None, Result, Ok, Err, nat_lt, refl, sym, ap, subst, ◌∙◌, arith, eq-eqb}
 use Rattle.std.specs.Prelude.{option_and_then, option_map, option_to_list}
-use Rattle.std.specs.List.{flat_map, list_any, slice_get}
+use Rattle.std.specs.List.{flat_map, slice_get}
 use Rattle.std.proofs.lemmas.Nat.{mod_below}
 use Rattle.hex.specs.Hex.{IsBytes}
 use Rattle.vsw_base.specs.declared.fate.Fate.{Fate}
@@ -10,11 +10,11 @@ use Rattle.vsw_base.specs.declared.fault.BadFrame.{BadFrame}
 use Rattle.vsw_base.specs.declared.flow.Place.{Place}
 use Rattle.vsw_base.specs.declared.packet.Dir.{Dir}
 use Rattle.vsw_base.specs.declared.packet.Dir.TheVariants.{Out, In}
-use Rattle.vsw_base.specs.Frame.{Parts, frame_of, sizes_of}
+use Rattle.vsw_base.specs.Frame.{Parts, frame_of}
 use Rattle.vsw_commandfile.specs.declared.line.Line.{Line}
 use Rattle.vsw_header.specs.FlowSum.{flow_sum_of}
 use Rattle.vsw_header.specs.PortChoice.{choose, in_of}
-use Rattle.vsw_history_law.proofs.Agrees.{AreNumbered, between_are}
+use Rattle.vsw_history_law.proofs.Agrees.{between_are}
 use Rattle.vsw_history_law.proofs.Callers.{eqb_is}
 use Rattle.vsw_history_law.proofs.Reports.{each_filter, each_map, each_told, map_each, round_jobs}
 use Rattle.vsw_pcap.specs.declared.capture.Record.{Record}
@@ -24,7 +24,7 @@ use Rattle.vsw_port.proofs.Fronts.{take_prefix}
 use Rattle.vsw_port.specs.Calls.{Ask, Asked, Call, Carried, Carry, Deed, HasBytes, IsCall, Job, job_of}
 use Rattle.vsw_port.specs.History.{Opening}
 use Rattle.vsw_port.specs.declared.event.Event.{Event}
-use Rattle.vsw_promise.specs.Jobs.{Hop, Jobs, Placed, Setting, aim_of, at_place, before_jobs, crossing_by, during_jobs, fates_told, handed_on, hop_of, hops_of, if_other, jobs_of, local_to, macs_of, packets_between, placed_packet, placed_packets, second_job, worker_of}
+use Rattle.vsw_promise.specs.Jobs.{Hop, Jobs, Placed, Setting, aim_of, at_place, crossing_by, during_jobs, fates_told, handed_on, hop_of, hops_of, if_other, jobs_of, local_to, macs_of, packets_between, placed_packet, placed_packets, second_job, worker_of}
 use Rattle.vsw_promise.specs.Ports.{PortSeen}
 use Rattle.vsw_promise.specs.Rounds.{IsPortRound, opening_of}
 use Rattle.vsw_promise.specs.Told.{fates_in, in_told_order, is_packet, is_worker, line_of}
@@ -162,10 +162,10 @@ packet_own workers macs records i p (Ok a) hops known e away = (
     seconds [] w = tt
     seconds (h ∷ hs) w = (
       (λ here r b g f k. absurd (
-        let same : a ≡ b = same_aim macs records p.0 r p.1 a b known.is g e f in
-        let at : h.port ≡ a.0.port = eqb_is h.port i here ∙ (sym (eqb_is b.0.port i k) ∙ ap (λ (t : Place × Parts). t.0.port) (sym same)) in
-        true≢false (sym (eq-eqb h.port a.0.port at) ∙ w.0)
-      )),
+          let same : a ≡ b = same_aim macs records p.0 r p.1 a b known.is g e f in
+          let at : h.port ≡ a.0.port = eqb_is h.port i here ∙ (sym (eqb_is b.0.port i k) ∙ ap (λ (t : Place × Parts). t.0.port) (sym same)) in
+          true≢false (sym (eq-eqb h.port a.0.port at) ∙ w.0)
+          )),
       seconds hs w.1,
     )
 

@@ -1,5 +1,5 @@
 -- The numbers of layers along a history: commands keep them within 16 bits, those of pairs within 32.
-use Rattle.std.proofs.Common.{◌≡◌, ◌<◌, ◌^◌, ◌==◌, ℕ, Bool, true, false, not, List, [], ◌∷◌, ◌++◌, filter, Option, Some, None, refl, arith}
+use Rattle.std.proofs.Common.{◌<◌, ◌^◌, ℕ, Bool, true, false, not, List, [], ◌∷◌, ◌++◌, filter}
 use Rattle.std.specs.Prelude.{if◌then◌else◌}
 use Rattle.vsw_base.specs.declared.packet.Dir.{Dir}
 use Rattle.vsw_base.specs.declared.packet.Dir.TheVariants.{Out, In}
@@ -7,7 +7,7 @@ use Rattle.vsw_layerflow.specs.Life.{is_over}
 use Rattle.vsw_layerflow.specs.Pairs.{of_rule}
 use Rattle.vsw_layerflow.specs.declared.pair.Pair.{Pair}
 use Rattle.vsw_policy.specs.Groups.{changed, is_group, is_rule, removed, rules_in, with_rule, with_rules, without_rule}
-use Rattle.vsw_policy.specs.Layer.{LayerSeen, defaulting, with_parts}
+use Rattle.vsw_policy.specs.Layer.{LayerSeen, with_parts}
 use Rattle.vsw_policy.specs.Layers.{is_before, is_layer}
 use Rattle.vsw_policy.specs.Obey.{after, empty_layer, placed, put_part, put_parts, within}
 use Rattle.vsw_policy.specs.Sound.{Each}
@@ -15,7 +15,6 @@ use Rattle.vsw_policy.specs.Staying.{goes, staying}
 use Rattle.vsw_policy.specs.declared.command.Command.{Command}
 use Rattle.vsw_policy.specs.declared.command.Command.TheVariants.{AddLayer, RemoveLayer, AddGroup, RemoveGroup, PutRules, PutMany, AddRule, RemoveRule, SetDefault, Sweep}
 use Rattle.vsw_policy.specs.declared.command.Part.{Part}
-use Rattle.vsw_policy.specs.declared.layer.LayerSpec.{LayerSpec}
 use Rattle.vsw_rule.specs.declared.rule.Group.{Group}
 use Rattle.vsw_rule.specs.declared.rule.Rule.{Rule}
 use Rattle.vsw_report_law.specs.Fits.{FitsCommand, FitsGroup, FitsRule}

@@ -1,19 +1,18 @@
 -- What leaves is bytes, where the frame was.
-use Rattle.std.proofs.Common.{◌≡◌, ◌≤◌, ◌<◌, ℕ, zero, suc, ◌+◌, ◌*◌, ◌-◌, ◌/◌, ◌%◌, ◌^◌, ◌==◌, Bool, true, false, if◌then◌else◌, List, [], ◌∷◌, ◌++◌, length, take, drop, slice_index, Option, Some, None, Ok, nat_lt, refl, ap, sym, ◌∙◌, subst, arith, length-append}
+use Rattle.std.proofs.Common.{◌≡◌, ◌≤◌, ◌<◌, ℕ, zero, suc, ◌+◌, ◌*◌, ◌/◌, ◌%◌, ◌^◌, ◌==◌, Bool, true, false, if◌then◌else◌, List, [], ◌∷◌, ◌++◌, length, take, drop, Option, Some, None, Ok, ap, sym, subst, arith, length-append}
 use Rattle.hex.specs.Hex.{IsBytes}
 use Rattle.byteorder.specs.Endian.{big_bytes, big_number}
 use Rattle.vsw_base.proofs.Readings.{short_is}
 use Rattle.vsw_base.specs.declared.header.Header.{Header}
-use Rattle.vsw_base.specs.declared.header.Header.TheVariants.{Ether, Ip, Vxlan, Ports, Six}
-use Rattle.vsw_base.specs.Ethernet.{EtherFields, ether_of}
-use Rattle.vsw_base.specs.Frame.{Level, Opened, Parts, encap_parts, frame_of, level_of, opened_of, plain_parts, size_at, within}
-use Rattle.vsw_base.specs.Shape.{encaps, inner, ipv4_kind}
-use Rattle.vsw_frame.specs.Bytes.{encap_kept, levels_changed, outgoing, pushes, drops, source_port}
-use Rattle.vsw_frame.specs.Change.{addresses_changed, ends_changed, ether_frame_changed, frame_changed, over_changed, packet_changed, segment_changed}
+use Rattle.vsw_base.specs.declared.header.Header.TheVariants.{Ether, Ip, Vxlan, Six}
+use Rattle.vsw_base.specs.Frame.{Level, Parts, frame_of, size_at}
+use Rattle.vsw_base.specs.Shape.{inner, ipv4_kind}
+use Rattle.vsw_frame.specs.Bytes.{levels_changed, outgoing, pushes, drops, source_port}
+use Rattle.vsw_frame.specs.Change.{addresses_changed, frame_changed, over_changed, packet_changed, segment_changed}
 use Rattle.vsw_frame.specs.Differ.{differ}
-use Rattle.vsw_frame.specs.Headers.{ends_of, ends_with, outers_of}
+use Rattle.vsw_frame.specs.Headers.{ends_with}
 use Rattle.vsw_frame.specs.Kept.{udp_at, udp_kept}
-use Rattle.vsw_frame.specs.Push.{covered, encap_pushed, packet_pushed, pushed}
+use Rattle.vsw_frame.specs.Push.{encap_pushed, packet_pushed, pushed}
 use Rattle.vsw_frame.proofs.Cases.{read_in}
 use Rattle.vsw_frame.proofs.Tiles.{frame_tiles}
 use Rattle.vsw_frame.specs.Room.{header_of}
@@ -24,7 +23,7 @@ use Rattle.vsw_header.specs.Ip.{ip_bytes, pushed_checksum, pushed_ip_bytes}
 use Rattle.vsw_header.specs.Ip6.{ip6_changed}
 use Rattle.vsw_header.specs.IpChange as ip
 use Rattle.vsw_header.specs.IpChange.{ip_changed}
-use Rattle.vsw_header.specs.L4Change.{are_alike, checksum_changed, tcp_changed, udp_changed, udp_checksum_changed, unchecked}
+use Rattle.vsw_header.specs.L4Change.{are_alike, checksum_changed, tcp_changed, udp_changed, udp_checksum_changed}
 use Rattle.vsw_header.specs.declared.l4_change.Addresses.{Addresses}
 use Rattle.vsw_header.specs.declared.l4_change.Addresses.TheVariants as at
 use Rattle.vsw_header.specs.declared.l4_change.Endpoints.{Endpoints}

@@ -1,6 +1,6 @@
 -- The rounds of a run are proper.
-use Rattle.std.proofs.Common.{◌≡◌, ◌≤◌, ◌<◌, ◌+◌, ◌*◌, ◌-◌, ◌/◌, ◌^◌, ◌==◌, ◌&&◌, not, ℕ, zero, suc, Bool, true, false, if◌then◌else◌, List, [], ◌∷◌, ◌++◌, length, map, filter, take, drop, Option, Some, None, Result, Ok, Err, nat_lt, refl, sym, ap, subst, ◌∙◌, arith, eq-eqb}
-use Rattle.std.specs.List.{flat_map, slice_get}
+use Rattle.std.proofs.Common.{◌≡◌, ◌≤◌, ◌<◌, ◌+◌, ◌*◌, ◌/◌, ◌^◌, ◌==◌, ◌&&◌, not, ℕ, zero, suc, Bool, true, false, if◌then◌else◌, List, [], ◌∷◌, ◌++◌, length, map, filter, Some, Result, Ok, Err, nat_lt, refl, sym, subst, arith, eq-eqb}
+use Rattle.std.specs.List.{slice_get}
 use Rattle.vsw_base.specs.declared.flow.Place.{Place}
 use Rattle.vsw_base.specs.Frame.{Parts}
 use Rattle.vsw_commandfile.specs.declared.line.Line.{Line}
@@ -10,7 +10,6 @@ use Rattle.vsw_history_law.proofs.Reports.{each_filter, each_map, map_each, runs
 use Rattle.vsw_history_law.specs.Law.{all_jobs}
 use Rattle.vsw_history_law.specs.Short.{AreCuts}
 use Rattle.vsw_pcap.specs.declared.capture.Record.{Record}
-use Rattle.vsw_policy.specs.Layer.{LayerSeen}
 use Rattle.vsw_policy.specs.Sound.{Each}
 use Rattle.vsw_port.proofs.Calls.{each_append}
 use Rattle.vsw_port.proofs.Next.{each_of}
@@ -20,11 +19,10 @@ use Rattle.vsw_port.specs.Order.{ascending, counted, put_in}
 use Rattle.vsw_port.specs.declared.event.Event.{Event}
 use Rattle.vsw_promise.proofs.Handed.{each_packet_at}
 use Rattle.vsw_promise.proofs.Placing.{each-in_order}
-use Rattle.vsw_promise.specs.Jobs.{Setting, aim_of, at_place, cuts, cuts_within, during_jobs, jobs_of, loose_after, loose_among, macs_of, multiples_below, packets_between, placed_packets}
+use Rattle.vsw_promise.specs.Jobs.{Setting, aim_of, at_place, cuts, during_jobs, jobs_of, loose_after, loose_among, macs_of, multiples_below, packets_between, placed_packets}
 use Rattle.vsw_promise.specs.Ports.{PortSeen, port_of, ports_of, whole}
-use Rattle.vsw_promise.specs.Rounds.{AreHistories, ArePortRounds, AreRounds, AreRoundsAt, IsPortRound, end_before, opening_of}
-use Rattle.vsw_report.specs.Proper.{AreProper, AreProperLines, AreProperLoose, AreProperPorts, IsProper, IsProperLine}
-use Rattle.vsw_report.specs.declared.round.Loose.{Loose}
+use Rattle.vsw_promise.specs.Rounds.{AreHistories, ArePortRounds, AreRounds, AreRoundsAt, end_before, opening_of}
+use Rattle.vsw_report.specs.Proper.{AreProper, AreProperLines, AreProperLoose, AreProperPorts, IsProperLine}
 use Rattle.vsw_report.specs.declared.round.LooseCause.{LooseCause}
 use Rattle.vsw_report.specs.declared.round.PortRound.{PortRound}
 use Rattle.vsw_report.specs.declared.round.Round.{Round}
@@ -34,7 +32,7 @@ use Rattle.vsw_report_law.proofs.Fates.{FitsHistory, FitsJob, call_proper}
 use Rattle.vsw_report_law.proofs.Few.{either_cuts, histories_few}
 use Rattle.vsw_report_law.proofs.Jobs.{AllTold, IsPacket, ToldAt, asks_fit, jobs_fit, lines_fit, lines_own, packets_known}
 use Rattle.vsw_report_law.proofs.Layers.{FitsSeen}
-use Rattle.vsw_report_law.specs.Fits.{FitsCommand, FitsLayer, FitsLine, FitsPort}
+use Rattle.vsw_report_law.specs.Fits.{FitsLayer, FitsLine, FitsPort}
 use Rattle.vsw_report_law.specs.Given.{AreGiven}
 use Rattle.vsw_report_law.specs.Law.{RoundsAreProper}
 

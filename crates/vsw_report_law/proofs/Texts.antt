@@ -1,10 +1,7 @@
 -- The text of a run's rounds is read back, and so it fixes them.
-use Rattle.std.proofs.Common.{◌≡◌, ℕ, List, refl, subst}
-use Rattle.vsw_pcap.specs.declared.capture.Record.{Record}
-use Rattle.vsw_promise.specs.Jobs.{Setting}
+use Rattle.std.proofs.Common.{◌≡◌, refl, subst}
 use Rattle.vsw_promise.specs.Rounds.{AreRounds}
 use Rattle.vsw_report.proofs.RoundsBack.{one_report}
-use Rattle.vsw_report.specs.declared.round.Round.{Round}
 use Rattle.vsw_run.proofs.Ordered.{rounds_are_told}
 use Rattle.vsw_report_law.proofs.Histories.{one_history}
 use Rattle.vsw_report_law.proofs.Proper.{rounds_are_proper}

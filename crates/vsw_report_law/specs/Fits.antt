@@ -1,5 +1,5 @@
 -- Numbers in the ranges of their types, as the readers of a policy and of commands give them.
-use Rattle.std.specs.Prelude.{◌<◌, ◌^◌, ℕ, List}
+use Rattle.std.specs.Prelude.{◌<◌, ◌^◌}
 use Rattle.vsw_commandfile.specs.declared.line.Line.{Line}
 use Rattle.vsw_config.specs.declared.file.LayerFile.{LayerFile}
 use Rattle.vsw_config.specs.declared.file.PolicyFile.{PolicyFile}

@@ -6,4 +6,5 @@ mod Jobs
 mod Few
 mod Proper
 mod Histories
+mod Read
 mod Texts

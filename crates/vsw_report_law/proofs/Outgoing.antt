@@ -42,12 +42,12 @@ both : (xs ys : List ℕ) → IsBytes xs → IsBytes ys → IsBytes (xs ++ ys)
 both [] ys h k = k
 both (x ∷ xs) ys h k = one_more x (xs ++ ys) (h 0) (both xs ys (λ i. h (suc i)) k)
 
-front : (n : ℕ) (xs : List ℕ) → IsBytes xs → IsBytes (take n xs)
+pub front : (n : ℕ) (xs : List ℕ) → IsBytes xs → IsBytes (take n xs)
 front zero xs h = no_bytes
 front (suc n) [] h = no_bytes
 front (suc n) (x ∷ xs) h = one_more x (take n xs) (h 0) (front n xs (λ i. h (suc i)))
 
-rest : (n : ℕ) (xs : List ℕ) → IsBytes xs → IsBytes (drop n xs)
+pub rest : (n : ℕ) (xs : List ℕ) → IsBytes xs → IsBytes (drop n xs)
 rest zero xs h = h
 rest (suc n) [] h = no_bytes
 rest (suc n) (x ∷ xs) h = rest n xs (λ i. h (suc i))

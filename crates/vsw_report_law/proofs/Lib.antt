@@ -8,3 +8,4 @@ mod Proper
 mod Histories
 mod Read
 mod Texts
+mod Files

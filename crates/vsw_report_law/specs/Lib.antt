@@ -1,3 +1,4 @@
 pub mod Law
+pub mod Files
 pub mod Given
 pub mod Fits

@@ -3,4 +3,4 @@
 
 mod law;
 
-pub use law::laws;
+pub use law::{file_laws, laws};

@@ -1,19 +1,16 @@
 -- What is put of files that are read is a report, as one is read.
-use Rattle.std.proofs.Common.{◌≡◌, ◌≤◌, ◌<◌, ◌⊎◌, inl, inr, ℕ, Bool, true, false, List, [], length, take, drop, Option, Some, None, Ok, refl, sym, subst, arith}
+use Rattle.std.proofs.Common.{◌≡◌, ◌≤◌, ◌⊎◌, inl, inr, ℕ, Bool, true, false, List, [], length, drop, Some, Ok, refl, sym, subst, arith}
 use Rattle.hex.specs.Hex.{IsBytes}
 use Rattle.vsw_check.specs.Report.{IsReport}
 use Rattle.vsw_commandfile.proofs.LinesRead.{each_is_good}
 use Rattle.vsw_commandfile.specs.Commands.{commands_file_of}
 use Rattle.vsw_config.specs.Policy.{policy_file_of}
-use Rattle.vsw_history_law.specs.Short.{AreCuts}
 use Rattle.vsw_host.specs.Outside.{Opened, Outside}
 use Rattle.vsw_pcap.specs.Capture.{Splits}
 use Rattle.vsw_pcap.specs.declared.capture.Form.{Form}
 use Rattle.vsw_pcap.specs.declared.capture.Record.{Record}
-use Rattle.vsw_pcap.specs.declared.fault.BadTrace.{BadTrace}
 use Rattle.vsw_pcap.specs.declared.fault.BadTrace.TheVariants as bad
 use Rattle.vsw_promise.specs.Jobs.{Setting}
-use Rattle.vsw_promise.specs.Rounds.{AreRounds}
 use Rattle.vsw_report.specs.declared.round.Round.{Round}
 use Rattle.vsw_run.proofs.Bounds.{counted}
 use Rattle.vsw_run.proofs.Grammars.{reads_grammar}

@@ -1,5 +1,5 @@
 -- What the readers of a policy, of commands and of a trace give lies in the ranges of its types.
-use Rattle.std.proofs.Common.{◌≡◌, ◌≤◌, ◌<◌, ◌+◌, ◌^◌, ◌==◌, ◌&&◌, ℕ, zero, suc, get_or, Bool, true, false, List, [], ◌∷◌, ◌++◌, length, take, drop, nat_lt, Option, Some, None, Result, Ok, Err, refl, sym, ap, subst, arith, if◌then◌else◌}
+use Rattle.std.proofs.Common.{◌≡◌, ◌≤◌, ◌<◌, ◌+◌, ◌^◌, ◌==◌, ◌&&◌, ℕ, suc, get_or, Bool, true, false, List, [], ◌∷◌, ◌++◌, length, drop, nat_lt, Option, Some, None, Result, Ok, Err, sym, ap, subst, arith, if◌then◌else◌}
 use Rattle.std.specs.List.{list_any}
 use Rattle.std.specs.Prelude.{IfSome, option_to_list}
 use Rattle.hex.specs.Hex.{IsBytes}
@@ -39,7 +39,7 @@ use Rattle.vsw_config.specs.declared.file.LayerFile.{LayerFile}
 use Rattle.vsw_config.specs.declared.file.PolicyFile.{PolicyFile}
 use Rattle.vsw_config.specs.declared.file.PortFile.{PortFile}
 use Rattle.vsw_config.specs.declared.word.Word.TheVariants as word
-use Rattle.vsw_pcap.specs.Capture.{Splits, record_of}
+use Rattle.vsw_pcap.specs.Capture.{Splits}
 use Rattle.vsw_pcap.specs.declared.capture.Form.{Form}
 use Rattle.vsw_pcap.specs.declared.capture.Record.{Record}
 use Rattle.vsw_policy.specs.Sound.{Each}

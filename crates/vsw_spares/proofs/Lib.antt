@@ -1,0 +1,11 @@
+pub mod Walks
+pub mod Keys
+pub mod Picks
+pub mod Layers
+pub mod Places
+pub mod Parts
+pub mod Commands
+pub mod Entries
+pub mod Handy
+pub mod Betweens
+pub mod Stayed

@@ -24,7 +24,7 @@ module _ (κ : NamedLft) (J : RattleType) (n : Naming.Ghosts J.Denot) (s : IsSen
   worker_send : IsSend (Worker.the_row κ J n)
   worker_send =
       let fields : FieldsHave IsSend ((worker.the_type κ J n).parts) =
-      (search (port_sync, sendable), (search (event.the_send, pass.the_send, sendable), (search sendable, (search sendable, (search sendable, (desk.the_send, (room.the_send, (search (answered.the_send, crosses), tt)))))))) in
+      (search (port_sync, sendable), (search (event.the_send, pass.the_send, sendable), (search sendable, (search sendable, (search sendable, (desk.the_send, (room.the_send, (search (answered.the_send, crosses), (search sendable, tt))))))))) in
       view_send _ _ _ _ _ (declared_send (worker.the_type κ J n) fields)
 
   controller_send : IsSend (Controller.the_row κ J n)

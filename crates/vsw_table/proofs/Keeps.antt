@@ -1,14 +1,13 @@
 -- Each kind of step keeps the rule, and tells what it promises.
-use Rattle.std.proofs.Common.{◌≡◌, ◌≢◌, ℕ, zero, suc, ◌+◌, ◌*◌, ◌-◌, ◌/◌, ◌%◌, max, ◌<◌, ◌≤◌, ◌==◌, ◌||◌, Bool, true, false, if◌then◌else◌, List, [], ◌∷◌, ◌++◌, length, refl, ap, sym, ◌∙◌, subst, arith, slice_set, slice_index, set, get_or, replicate, eq-eqb, Some, None}
+use Rattle.std.proofs.Common.{◌≡◌, ◌≢◌, ℕ, ◌+◌, ◌*◌, ◌-◌, ◌/◌, ◌%◌, max, ◌<◌, ◌≤◌, ◌==◌, Bool, true, false, if◌then◌else◌, List, [], ◌∷◌, ◌++◌, length, refl, ap, sym, ◌∙◌, subst, arith, slice_set, slice_index, set, get_or, replicate, eq-eqb, Some, None}
 use mathlib.Core.List.{IsPrefix}
 use mathlib.Core.Option.{some, none, some-injective}
 use lib.ListN.{get_elem?}
 use prog.Atomic.{either}
-use Rattle.atomic_table.specs.Table.{State, Me, keeps, step, Allows, Splits, Joins}
+use Rattle.atomic_table.specs.Table.{State, keeps, step, Allows, Splits, Joins}
 use Rattle.atomic_table.proofs.Lists.{set_again, set_else}
 use Rattle.vsw_stamps.specs.declared.shown.Seen.{Seen}
-use Rattle.vsw_stamps.specs.declared.shown.Record.{Record}
-use Rattle.vsw_stamps.specs.declared.step.Load.TheVariants.{Stamp, Word, Count, Again}
+use Rattle.vsw_stamps.specs.declared.step.Load.TheVariants.{Word, Count, Again}
 use Rattle.vsw_stamps.specs.Machine.{has_row, with_word, is_closed, recorded, finished_by, longer, actor_at}
 use Rattle.vsw_stamps.specs.Sound.{AreRight}
 use Rattle.vsw_table.specs.declared.view.View.{View}

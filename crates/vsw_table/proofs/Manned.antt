@@ -1,12 +1,12 @@
 -- What each step keeps of the passes, their entries and their permits.
-use Rattle.std.proofs.Common.{◌≡◌, ◌≢◌, ◌⊎◌, ℕ, zero, suc, ◌+◌, ◌*◌, ◌-◌, ◌<◌, ◌≤◌, ◌==◌, Bool, true, false, if◌then◌else◌, List, [], ◌∷◌, ◌++◌, length, refl, ap, sym, ◌∙◌, subst, arith, inl, inr, ⊎_elim, set, get_or, length-set, get_or-set_same, get_or-set_other, length-append, eq-eqb, ne_eqb}
-use mathlib.Core.Option.{some, none, some-injective, some-ne-none}
+use Rattle.std.proofs.Common.{◌≡◌, ◌≢◌, ℕ, ◌+◌, ◌*◌, ◌-◌, ◌<◌, ◌≤◌, ◌==◌, true, false, if◌then◌else◌, List, [], ◌∷◌, ◌++◌, length, refl, ap, sym, ◌∙◌, subst, arith, ⊎_elim, set, get_or, length-set, get_or-set_same, get_or-set_other, length-append, eq-eqb, ne_eqb}
+use mathlib.Core.Option.{some, some-injective}
 use lib.ListN.{get_elem?}
 use native.Mathlib.Decide.{ℕ_discrete}
 use mathlib.Core.Logic.{dite}
 use Rattle.atomic_table.proofs.Lists.{at_set, set_else, set_again, at_longer}
 use Rattle.vsw_table.specs.declared.view.View.{View}
-use Rattle.vsw_table.specs.Rules.{IsManned, IsDesk, Fits, spent, moved, lent, writer_of, pass_of, granted, advanced, one_more, newcomer, by_caller, permits_of, first_view}
+use Rattle.vsw_table.specs.Rules.{IsManned, IsDesk, Fits, spent, lent, writer_of, pass_of, granted, advanced, one_more, newcomer, by_caller, permits_of, first_view}
 use Rattle.vsw_table.proofs.Words.{at_end, set_at, set_comm, get_or-longer, get_or-beyond, first_of}
 use Rattle.vsw_table.proofs.Counts.{length_bounded, by_caller-mine, by_caller-other, all_below-append, all_below-more, none_named}
 

@@ -1,5 +1,5 @@
 -- The words of a row, one after another.
-use Rattle.std.proofs.Common.{◌≡◌, ℕ, zero, suc, ◌+◌, ◌*◌, ◌-◌, ◌<◌, ◌≤◌, Bool, true, false, if◌then◌else◌, nat_lt, List, [], ◌∷◌, ◌++◌, length, take, drop, replicate, refl, ap, sym, ◌∙◌, subst, arith, set, get_or, length-set, get_or-set_same, length-append, length-drop, append_assoc}
+use Rattle.std.proofs.Common.{◌≡◌, ℕ, zero, suc, ◌+◌, ◌*◌, ◌-◌, ◌<◌, ◌≤◌, Bool, true, false, if◌then◌else◌, List, [], ◌∷◌, ◌++◌, length, take, drop, replicate, refl, ap, sym, ◌∙◌, subst, arith, set, get_or, length-set, get_or-set_same, length-append, length-drop, append_assoc}
 use Rattle.std.proofs.lemmas.List.{set-get_or, append-nil, drop_all, length-take-le, length-replicate}
 use Rattle.std.proofs.Math.Seq.{take-append_seam, drop-append_seam, take-suc-set}
 use borrow.Rule.Slice.PartMut.{put_mid}

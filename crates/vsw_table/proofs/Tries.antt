@@ -1,22 +1,20 @@
 -- Words that are read one after another, and what one row that was tried tells.
-use Rattle.std.proofs.Common.{◌≡◌, ◌≢◌, ◌⊎◌, ℕ, zero, suc, ◌+◌, ◌-◌, ◌%◌, ◌<◌, ◌≤◌, ◌==◌, ◌&&◌, Bool, true, false, if◌then◌else◌, Some, None, Option, List, [], ◌∷◌, ◌++◌, length, take, get_or, set, ap, refl, sym, ◌∙◌, subst, arith, inl, inr, ⊎_elim, eq-eqb, ne_eqb, append_assoc, length-append, replicate, MatchBool}
+use Rattle.std.proofs.Common.{◌≡◌, ◌≢◌, ℕ, zero, suc, ◌+◌, ◌-◌, ◌%◌, ◌<◌, ◌≤◌, ◌==◌, ◌&&◌, Bool, true, false, if◌then◌else◌, Some, None, List, [], ◌∷◌, ◌++◌, length, take, get_or, set, ap, refl, sym, ◌∙◌, subst, arith, inl, inr, eq-eqb, ne_eqb, append_assoc, length-append, replicate, MatchBool}
 use Rattle.std.proofs.lemmas.List.{append-nil}
 use Rattle.std.proofs.Math.Seq.{take-length, take-suc-set}
-use mathlib.Core.List.{IsPrefix}
 use mathlib.Core.Logic.{dite}
 use native.Mathlib.Decide.{ℕ_discrete}
-use native.Mathlib.Numerals.{unary_clauses}
 use Rattle.atomic_table.specs.Table.{Me}
 use Rattle.vsw_stamps.specs.declared.step.Load.TheVariants.{Again}
 use Rattle.vsw_stamps.specs.declared.shown.Seen.{Seen}
 use Rattle.vsw_stamps.specs.Machine.{Lookup, held, finished_by, is_closed, longer}
-use Rattle.vsw_stamps.specs.Sound.{AreRight, IsRight, Has, Tells}
+use Rattle.vsw_stamps.specs.Sound.{AreRight, IsRight, Has}
 use Rattle.vsw_stamps.proofs.Whole.{all_good}
 use Rattle.vsw_table.specs.declared.view.View.{View}
 use Rattle.vsw_table.specs.declared.view.Tried.{Tried}
-use Rattle.vsw_table.specs.Steps.{appended, numbered, grown, marked, is_same, stamped, worded, counted, ended, compared, Counted}
+use Rattle.vsw_table.specs.Steps.{appended, numbered, grown, marked, stamped, worded, counted, ended, compared, Counted}
 use Rattle.vsw_table.specs.Held.{HasTop, Differs, Fills, Found, IsMissed, Missed, IsRead}
-use Rattle.vsw_table.proofs.Fronts.{prefix_self, prefix_trans}
+use Rattle.vsw_table.proofs.Fronts.{prefix_trans}
 use Rattle.vsw_table.proofs.Shows.{longer_nothing}
 
 -- words with their places

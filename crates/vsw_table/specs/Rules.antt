@@ -1,19 +1,15 @@
 -- The rule of the shared table: it shows a state of the machine that steps of the machine lead to, and each pass holds what the writer keeps for it.
-use Rattle.std.specs.Prelude.{ℕ, ◌≡◌, ◌≢◌, ◌⊎◌, ◌+◌, ◌*◌, ◌-◌, ◌/◌, ◌%◌, ◌<◌, ◌≤◌, ◌==◌, ◌||◌, nat_lt, if◌then◌else◌, Bool, true, false, List, [], ◌∷◌, ◌++◌, length, take, replicate, slice_index_or, slice_set, Option, Some, None}
+use Rattle.std.specs.Prelude.{ℕ, ◌≡◌, ◌+◌, ◌-◌, ◌<◌, ◌≤◌, ◌==◌, if◌then◌else◌, true, false, List, [], ◌∷◌, ◌++◌, length, replicate, slice_index_or, slice_set, Some, None}
 use mathlib.Core.List.{IsPrefix}
 use mathlib.Core.Option.{some}
 use lib.ListN.{get_elem?}
 use Rattle.atomic_table.specs.Table as table
 use Rattle.atomic_table.specs.Table.{Me}
-use Rattle.atomic_table.specs.Seated.{TableId}
 use Rattle.vsw_stamps.specs.declared.step.Step.{Step}
-use Rattle.vsw_stamps.specs.declared.step.Load.TheVariants.{Stamp, Word, Count, Again}
-use Rattle.vsw_stamps.specs.declared.shown.Seen.{Seen}
+use Rattle.vsw_stamps.specs.declared.step.Load.TheVariants.{Count}
 use Rattle.vsw_stamps.specs.declared.shown.Record.{Record}
-use Rattle.vsw_stamps.specs.Machine.{State, no_record, recorded, record_of, finished_by, has_row, is_closed, actor_at, is_live, longer, fresh, Leads}
-use Rattle.vsw_stamps.specs.Sound.{AreRight}
+use Rattle.vsw_stamps.specs.Machine.{State, no_record, recorded, record_of, actor_at, is_live, longer, fresh, Leads}
 use Rattle.vsw_table.specs.declared.view.View.{View}
-use Rattle.vsw_table.specs.declared.view.Tried.{Tried}
 
 module _ {E : Type 0} (who : E → ℕ) where
   -- the entries that name n, in order

@@ -1,11 +1,10 @@
 -- What each step on the table tells.
-use Rattle.std.specs.Prelude.{ℕ, ◌≡◌, ◌≢◌, ◌⊎◌, ◌+◌, ◌*◌, ◌-◌, ◌/◌, ◌%◌, ◌<◌, ◌≤◌, ◌==◌, ◌||◌, nat_lt, if◌then◌else◌, Bool, true, false, List, [], ◌∷◌, ◌++◌, length, slice_index_or, slice_set, Option, Some, None}
+use Rattle.std.specs.Prelude.{ℕ, ◌≡◌, ◌+◌, ◌-◌, ◌/◌, ◌%◌, ◌<◌, ◌==◌, ◌||◌, if◌then◌else◌, Bool, false, List, [], ◌∷◌, ◌++◌, length, slice_index_or, slice_set, Some, None}
 use mathlib.Core.List.{IsPrefix}
 use mathlib.Core.Option.{some}
 use Rattle.atomic_table.specs.Table.{Me, Step}
 use Rattle.vsw_stamps.specs.declared.step.Load.TheVariants.{Stamp, Count, Again}
 use Rattle.vsw_stamps.specs.declared.shown.Seen.{Seen}
-use Rattle.vsw_stamps.specs.declared.shown.Record.{Record}
 use Rattle.vsw_stamps.specs.Machine.{recorded, finished_by, has_row, is_closed, longer}
 use Rattle.vsw_stamps.specs.Sound.{AreRight}
 use Rattle.vsw_table.specs.declared.view.View.{View}

@@ -2,7 +2,6 @@ use Rattle.vsw_stamps.specs.Machine.{finished}
 use Rattle.vsw_stamps.proofs.Between.{all_between}
 use Rattle.vsw_stamps.proofs.Whole.{all_good}
 use Rattle.vsw_table.proofs.Shows.{sound_of}
-use Rattle.vsw_table.proofs.Keeps.{reads_stamp}
 use Rattle.vsw_table.proofs.law.laws.Goals as goal
 
 pub returns-clause-sound : goal.returns-clause-sound

@@ -1,4 +1,4 @@
-use Rattle.std.proofs.Common.{arith, ap, sym, subst, refl, ◌∙◌, ◌++◌, ◌≡◌, ◌%◌, length}
+use Rattle.std.proofs.Common.{arith, ap, sym, subst, refl, ◌∙◌, ◌++◌, ◌≡◌, length}
 use Rattle.vsw_table.specs.Steps.{stamped, worded}
 use Rattle.vsw_table.specs.Held.{Fills, HasTop}
 use Rattle.vsw_table.proofs.Tries.{read_row, read_more, top_told, missed_zero, missed_key, counted_top, missed_again, hit_seen, hit_found, hit_good, opens_on}

@@ -1,4 +1,4 @@
-use Rattle.std.proofs.Common.{arith, ◌+◌, ◌∙◌, sym}
+use Rattle.std.proofs.Common.{arith, ◌+◌}
 use Rattle.vsw_table.proofs.Keeps.{restamps}
 use Rattle.vsw_table.proofs.put.renew_row.Goals as goal
 

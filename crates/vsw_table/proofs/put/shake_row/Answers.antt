@@ -1,6 +1,5 @@
-use Rattle.std.proofs.Common.{arith, ◌+◌, ◌∙◌, sym}
+use Rattle.std.proofs.Common.{arith, ◌+◌, ◌∙◌}
 use Rattle.vsw_table.proofs.Keeps.{shakes}
-use Rattle.vsw_table.proofs.Puts.{shaken_same}
 use Rattle.vsw_table.proofs.put.shake_row.Goals as goal
 
 pub store-requires : goal.store-requires

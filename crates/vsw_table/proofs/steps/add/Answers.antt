@@ -1,4 +1,4 @@
-use Rattle.std.proofs.Common.{arith, ◌+◌, refl}
+use Rattle.std.proofs.Common.{◌+◌, refl}
 use Rattle.vsw_table.proofs.Keeps.{adds}
 use Rattle.vsw_table.proofs.steps.add.Goals as goal
 

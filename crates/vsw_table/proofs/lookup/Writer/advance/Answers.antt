@@ -1,4 +1,4 @@
-use Rattle.std.proofs.Common.{ap, sym, ◌∙◌, ◌+◌, ◌≡◌}
+use Rattle.std.proofs.Common.{ap, sym, ◌∙◌, ◌≡◌}
 use Rattle.vsw_table.proofs.Puts.{writer_again, pass_again}
 use Rattle.vsw_table.proofs.lookup.Writer.advance.Goals as goal
 

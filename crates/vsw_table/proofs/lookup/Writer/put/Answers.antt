@@ -1,4 +1,4 @@
-use Rattle.std.proofs.Common.{arith, ap, ◌∙◌, refl}
+use Rattle.std.proofs.Common.{arith, ap, ◌∙◌}
 use Rattle.vsw_table.proofs.Puts.{put_me, put_kept}
 use Rattle.vsw_table.proofs.lookup.Writer.put.Goals as goal
 

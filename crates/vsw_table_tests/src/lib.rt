@@ -1,0 +1,20 @@
+//! Tests of `vsw_stamps` and `vsw_table`, kept apart from them: with tests of its own, a crate is proved once more.
+#![tactic(auto)]
+
+mod callers;
+mod counted;
+#[cfg(test)]
+mod judge;
+#[cfg(test)]
+mod machine_row_tests;
+#[cfg(test)]
+mod machine_trial;
+#[cfg(test)]
+mod refused_tests;
+#[cfg(test)]
+mod row_tests;
+#[cfg(test)]
+mod run_tests;
+
+pub use callers::{add_and_put, add_and_tell, counts_of};
+pub use counted::Counted;

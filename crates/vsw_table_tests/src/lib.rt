@@ -3,6 +3,7 @@
 
 mod callers;
 mod counted;
+mod flows;
 #[cfg(test)]
 mod judge;
 #[cfg(test)]
@@ -15,6 +16,11 @@ mod refused_tests;
 mod row_tests;
 #[cfg(test)]
 mod run_tests;
+mod settling;
+#[cfg(test)]
+mod thread_tests;
 
 pub use callers::{add_and_put, add_and_tell, counts_of};
 pub use counted::Counted;
+pub use flows::Flows;
+pub use settling::{put_flow, settle};

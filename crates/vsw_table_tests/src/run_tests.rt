@@ -5,7 +5,7 @@ use crate::machine_trial::{eight_rows, make};
 use std::alloc::Global;
 use vsw_stamps::{Machine, Step};
 
-const STEPS: u32 = 10_000;
+const STEPS: u32 = 20_000;
 
 /// The next pseudo-random number (xorshift, 64 bits).
 fn next(seed: u64) -> u64 {
@@ -35,12 +35,26 @@ fn read_on(machine: &mut Machine<Counted>, actor: u32, place: &mut u32, row: u32
     };
 }
 
-/// The writer takes a row's stamp away, stores its 73 words, all of one version, and then gives it a stamp.
+/// In one of five turns the stamp is taken away; else the row's last word is stored, which is refused where it has a stamp.
+fn clear_or_not(turn: u32, row: u32) -> Step<u64> {
+    if turn % 5 == 0 {
+        Step::ClearStamp { row }
+    } else {
+        Step::StoreWord {
+            row,
+            word: 72,
+            value: 0,
+        }
+    }
+}
+
+/// The writer stores a row's 73 words, all of one version, and then gives it a stamp. Of a row that has one it takes the stamp away in one of five turns, and
+/// otherwise its stores are refused.
 fn write_on(machine: &mut Machine<Counted>, place: u32) {
     let row = place / 75 % 8;
     let count = machine.history().len() as u64;
     let step = match place % 75 {
-        0 => Step::ClearStamp { row },
+        0 => clear_or_not(place / 75, row),
         1 => Step::StoreWord {
             row,
             word: 0,
@@ -78,7 +92,7 @@ fn run(machine: &mut Machine<Counted>) {
     for i in 0..STEPS {
         seed = next(seed);
         let actor = (seed / 1_048_576 % 32) as u32;
-        if i % 2_000 == 1_999 {
+        if i % 4_000 == 3_999 {
             enter(machine, seed);
         } else if actor < 16 {
             write_on(machine, writer);

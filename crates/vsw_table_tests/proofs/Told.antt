@@ -1,7 +1,8 @@
 -- Tallies after one more entry.
-use Rattle.std.proofs.Common.{◌≡◌, ◌≢◌, ℕ, zero, suc, ◌+◌, ◌%◌, ◌<◌, ◌≤◌, ◌==◌, nat_lt, if◌then◌else◌, Bool, true, false, List, [], ◌∷◌, ◌++◌, length, refl, ap, sym, ◌∙◌, subst, arith, set, get_or, get_or-set_same, get_or-set_other, slice_index, replicate}
+use Rattle.std.proofs.Common.{◌≡◌, ◌≢◌, ℕ, zero, suc, ◌+◌, ◌%◌, ◌<◌, ◌≤◌, if◌then◌else◌, Bool, true, false, List, [], ◌∷◌, ◌++◌, length, refl, ap, sym, ◌∙◌, arith, set, get_or, get_or-set_same, get_or-set_other, slice_index, replicate}
 use mathlib.Core.Logic.{dite}
 use native.Mathlib.Decide.{ℕ_discrete}
+use Rattle.vsw_stamps.proofs.Keeps.{inside}
 use Rattle.vsw_table_tests.specs.Flows.{touches, tallied, tally, IsGoodFlow, IsTold, AreTallies}
 
 swapped : (a b : Bool) (n : ℕ) → (if a then ((if b then (n + 1) % 18446744073709551616 else n) + 1) % 18446744073709551616 else (if b then (n + 1) % 18446744073709551616 else n))
@@ -47,3 +48,14 @@ none_told flow small = zeros 16 flow
     zeros zero i = refl
     zeros (suc n) zero = refl
     zeros (suc n) (suc i) = zeros n i
+
+-- a stamp that was taken away is 0
+pub shaken_none : (stamps : List ℕ) (r : ℕ) → get_or (set stamps r 0) r 0 ≡ 0
+shaken_none [] zero = refl
+shaken_none [] (suc r) = refl
+shaken_none (x ∷ xs) zero = refl
+shaken_none (x ∷ xs) (suc r) = shaken_none xs r
+
+-- what holds of the rows that there are holds of all that have a stamp
+pub kept_all : (stamps : List ℕ) (n : ℕ) (P : ℕ → Type 0) → length stamps ≤ n → ((r : ℕ) → r < n → get_or stamps r 0 ≢ 0 → P r) → (r : ℕ) → get_or stamps r 0 ≢ 0 → P r
+kept_all stamps n P le holds r ne = let lt = inside stamps r ne in holds r (omega (arith, lt, le)) ne

@@ -1,5 +1,5 @@
 //! The writer takes the stamps of exactly those rows away that an entry has made bad.
-ghost use Rattle.std.specs.Prelude.{◌≡◌, ◌≢◌, ◌<◌, ℕ, Some, slice_index};
+ghost use Rattle.std.specs.Prelude.{◌≡◌, ◌≢◌, ◌<◌, ℕ, length};
 ghost use Rattle.vsw_table.specs.Rules.{stamp_at, row_at};
 ghost use Rattle.vsw_table_tests.specs.Flows.{IsTold, AreTallies};
 
@@ -21,18 +21,29 @@ fn settle_row(lookup: &Lookup<Flows>, writer: &mut Writer<Flows>, tallies: &[u64
     }
 }
 
+/// How many rows there are.
+fn rows_of(lookup: &Lookup<Flows>, writer: &Writer<Flows>) -> u32
+    requires { writer.now.table ≡ lookup.now.0 }
+    ensures { (result ≡ lookup.now.2) × (result ≡ length writer.now.view.stamps) }
+{
+    let rows = lookup.rows();
+    // It tells the proof that the writer has as many.
+    let _ = writer.rows();
+    rows
+}
+
 /// The same for all rows.
 pub fn settle(lookup: &Lookup<Flows>, writer: &mut Writer<Flows>, tallies: &[u64; 16])
     requires { writer.old.table ≡ lookup.now.0 }
     ensures same { writer.new ≡ record writer.old { view = record writer.old.view { stamps = writer.new.view.stamps } } }
     ensures kept { (r : ℕ) → stamp_at writer.new.view.stamps r ≢ 0 → IsTold tallies.now (row_at writer.old.view.rows r) }
 {
-    let rows = writer.rows();
-    // It tells the proof that the lookup has as many.
-    let _ = lookup.rows();
+    let rows = rows_of(lookup, writer);
     for row in 0..rows {
         settle_row(lookup, writer, tallies, row);
     }
+    // It tells the proof that no further row has a stamp.
+    rows_of(lookup, writer);
 }
 
 /// Writes a row of a flow, in the place of one that gives way.

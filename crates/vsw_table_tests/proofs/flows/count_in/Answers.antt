@@ -2,8 +2,8 @@ use Rattle.std.proofs.Common.{arith, length-set, ◌∙◌}
 use Rattle.vsw_table_tests.proofs.Told.{so_far_next, so_far_first, tallies_next}
 use Rattle.vsw_table_tests.proofs.flows.count_in.Goals as goal
 
-pub loop-flow-entry : goal.loop-flow-entry
-loop-flow-entry c = (c.told-tallies, so_far_first c.args.entry c.args.tallies.now)
+pub loop-flow-init : goal.loop-flow-init
+loop-flow-init c = (c.told-tallies, so_far_first c.args.entry c.args.tallies.now)
 
 pub loop-flow-preserved : goal.loop-flow-preserved
 loop-flow-preserved c = (

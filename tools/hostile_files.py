@@ -4,34 +4,31 @@
     tools/hostile_files.py [COPIES] [SEED] [PROGRAM]
 
 A copy is changed in one of these ways: bytes set, cut out, put in, doubled or taken from another file; a policy's or a command's JSON by its
-structure (a value of another type or size, a member taken away, added, named twice or moved, values nested deep); a packet's frame by its
+structure (a value of another type or size or from another place, a member taken away, added, named twice or moved, values nested deep); a packet's frame by its
 headers (fields set to their ends, a header taken away or doubled, the packet cut), over IPv4 and IPv6. Each run, by one to four workers, has
-to end by a status of docs/FORMATS.md, never by a signal; to say why on standard error where it isn't 0; and where it is 0, to have one line for
-each packet and command. Prints how often each status came. PROGRAM stands for ./vsw, which builds one.
+to end within 20 seconds as the plain programs have it (tools/vswlib/outcome.py): by that status, with those words on standard error, and with
+their report, or one of many workers that is legal; and by one worker to end so twice. Prints how often each status came, and the numbers of runs
+that were wrong; ends with 1 where there are such, and leaves their files in /tmp. PROGRAM stands for ./vsw, which builds one.
 """
 import collections
 import json
 import os
 import random
-import re
+import shutil
 import struct
 import subprocess
 import sys
 import tempfile
 
+from vswlib.outcome import fault, outcome
+
 ROOT = os.path.dirname(os.path.dirname(os.path.abspath(__file__)))
-EXAMPLES = [os.path.join(ROOT, "examples", name) for name in ("7-commands", "10-ipv6", "11-roll-out", "3-translation", "4-vxlan")]
+EXAMPLES = [os.path.join(ROOT, "examples", name) for name in (
+    "7-commands", "10-ipv6", "11-roll-out", "2-two-controllers", "3-translation", "4-vxlan", "5-groups")]
 NAMES = ["policy.json", "commands.jsonl", "trace.pcap"]
-TOLD = {
-    2: rb"vsw: usage\n", 3: rb"vsw: read fault\n", 4: rb"vsw: write fault\n", 9: rb"vsw: memory\n",
-    5: rb"vsw: refused (policy|commands \d+|trace) \w+ ?[^\n]*\n", 6: rb"vsw: limit (policy|ports|controllers|commands|lines|records)\n",
-}
-OWN = re.compile(rb"(?:w\d+|c\d+) (\d+) [@+]\d+ |(\d+) (?:snapped|malformed|noport)")
-
-
 def run(program, files, output=subprocess.PIPE, workers=1):
     words = [program, "forward", "--workers", str(workers), *files]
-    return subprocess.run(words, stdout=output, stderr=subprocess.PIPE, timeout=60)
+    return subprocess.run(words, stdout=output, stderr=subprocess.PIPE, timeout=20)
 
 
 def change_bytes(data, draw, others):
@@ -65,6 +62,12 @@ def places(value, path=()):
         yield from places(item, (*path, key))
 
 
+def at_path(value, path):
+    for step in path:
+        value = value[step]
+    return value
+
+
 def odd_value(draw):
     deep = 0
     for _ in range(draw.choice([1, 100, 127, 128, 5000])):
@@ -81,10 +84,8 @@ def change_value(value, draw):
     path = draw.choice(list(places(value)))
     if not path:
         return odd_value(draw)
-    holder = value
-    for step in path[:-1]:
-        holder = holder[step]
-    last, kind = path[-1], draw.randrange(5)
+    holder = at_path(value, path[:-1])
+    last, kind = path[-1], draw.randrange(8)
     if kind == 0:
         del holder[last]
     elif kind == 1 and isinstance(holder, dict):
@@ -95,6 +96,9 @@ def change_value(value, draw):
         holder[last] += draw.choice([-1, 1, 2**16, 2**32])
     elif kind == 3 and isinstance(holder, list):
         holder.extend([holder[last]] * draw.choice([1, 16, 70, 1000]))
+    elif kind < 7:
+        alike = [other for other in places(value) if type(at_path(value, other)) is type(holder[last]) and other[-1:] == path[-1:]]
+        holder[last] = json.loads(json.dumps(at_path(value, draw.choice(alike))))
     else:
         holder[last] = odd_value(draw)
     return value
@@ -176,17 +180,24 @@ def change_packets(trace, draw, _others):
     return header + b"".join(struct.pack("<4I", *words) + frame for words, frame in records)
 
 
-def wrong_end(made, trace, commands):
-    """What is wrong with how the run ended, if something is."""
-    status = made.returncode
-    if status != 0:
-        return None if status in TOLD and re.fullmatch(TOLD[status], made.stderr) else f"status {status}, {made.stderr[-200:]!r}"
-    told = collections.Counter(line.split(b" ")[0][:1] == b"c" for line in made.stdout.split(b"\n") if OWN.match(line))
-    wanted = len(packets_of(trace)[1]) if trace[:4] == b"\xd4\xc3\xb2\xa1" else told[False]
-    lines = sum(1 for line in commands.split(b"\n") if line.strip(b" \t\r"))
-    if (told[False], told[True]) != (wanted, lines):
-        return f"{told[False]} lines of {wanted} packets, {told[True]} of {lines} commands"
-    return None
+def ended(program, paths, workers):
+    """How a run ended: status, what it put, what it complained; None where it didn't within its time."""
+    try:
+        made = run(program, paths, workers=workers)
+    except subprocess.TimeoutExpired:
+        return None
+    return made.returncode, made.stdout.decode("latin-1"), made.stderr.decode("latin-1")
+
+
+def wrong_end(program, paths, files, workers):
+    """The status of a run over these files, and what is wrong with how it ended, if something is."""
+    found = ended(program, paths, workers)
+    if found is None:
+        return None, "no end in 20 seconds"
+    status, text, words = found
+    if workers == 1 and ended(program, paths, 1) != found:
+        return status, "two runs over the same files end otherwise"
+    return status, fault(outcome(paths, *files), status, words, text, workers)
 
 
 def bad_outsides(program):
@@ -200,32 +211,48 @@ def bad_outsides(program):
                 assert run(program, [*files[:place], other, *files[place + 1:]]).returncode == 3
 
 
+def changed(draw, held, all_files):
+    """Files of an example of which one is changed, and now and then another, and in which way."""
+    files, ways = list(held[draw.choice(EXAMPLES)]), []
+    for place in [draw.choice([0, 1, 2, 2])] + [draw.randrange(3)] * (draw.random() < 0.1):
+        way = draw.choice([change_bytes, change_packets if place == 2 else change_json])
+        way = way if files[place].strip() else change_bytes
+        try:
+            files[place] = way(files[place], draw, all_files)
+        except (ValueError, IndexError):  # what was changed before is no JSON or no packets any more
+            files[place] = change_bytes(files[place], draw, all_files)
+        ways.append(f"{NAMES[place]} {way.__name__}")
+    return files, " and ".join(sorted(ways))
+
+
 def main():
     sys.setrecursionlimit(30000)  # for values that are nested deep
     copies = int(sys.argv[1]) if len(sys.argv) > 1 else 100
-    draw = random.Random(int(sys.argv[2]) if len(sys.argv) > 2 else 1)
+    seed = int(sys.argv[2]) if len(sys.argv) > 2 else 1
     program = sys.argv[3] if len(sys.argv) > 3 else os.path.join(ROOT, "vsw")
     bad_outsides(program)
     held = {example: [open(os.path.join(example, name), "rb").read() for name in NAMES] for example in EXAMPLES}
     all_files = [data for files in held.values() for data in files]
-    counts = collections.Counter()
+    counts, wrong = collections.Counter(), []
     with tempfile.TemporaryDirectory() as folder:
         paths = [os.path.join(folder, name) for name in NAMES]
         for number in range(copies):
-            example, place = draw.choice(EXAMPLES), draw.choice([0, 1, 2, 2])
-            files = list(held[example])
-            ways = [change_bytes, change_packets if place == 2 else change_json]
-            way = draw.choice(ways) if files[place].strip() else change_bytes
-            files[place] = way(files[place], draw, all_files)
+            draw = random.Random(f"{seed} {number}")
+            files, ways = changed(draw, held, all_files)
             for path, data in zip(paths, files):
                 with open(path, "wb") as file:
                     file.write(data)
-            made = run(program, paths, workers=draw.choice([1, 1, 2, 4]))
-            wrong = wrong_end(made, files[2], files[1])
-            assert wrong is None, (number, example, way.__name__, wrong)
-            counts[NAMES[place], way.__name__, made.returncode] += 1
-    for (name, way, status), count in sorted(counts.items()):
-        print(name, way, "status", status, "times", count)
+            workers = draw.choice([1, 1, 2, 4])
+            status, why = wrong_end(program, paths, files, workers)
+            counts[ways, status] += 1
+            if why is not None:
+                wrong.append(number)
+                kept = shutil.copytree(folder, tempfile.mkdtemp(prefix=f"hostile-{number}-"), dirs_exist_ok=True)
+                print(f"run {number}, {workers} workers, {ways}: {why}; files in {kept}", flush=True)
+    for (ways, status), count in sorted(counts.items(), key=str):
+        print(f"{ways}: status {status}, {count} times")
+    print(f"{copies - len(wrong)} of {copies} runs are right; numbers of those that aren't: {wrong}")
+    sys.exit(1 if wrong else 0)
 
 
 if __name__ == "__main__":

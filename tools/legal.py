@@ -4,12 +4,18 @@ Written from docs/MODEL.md and docs/FORMATS.md over the plain program's packets 
 switch. A port's lines tell its one history: entries in order, and before each the reads at its count. So the lines are gone
 through once. Each must be what the plain program gives where it stands, and change its port exactly where it is an entry.
 """
+import copy
 import json
 
 import plain_switch
 from packets import read_capture
 from vswlib.ending import Ending
 from vswlib.reports import CommandLine, parse_report
+
+
+# Want of memory, which may be told of any command, and of any packet that would make a pair; nothing changes then, and a command that was to come before
+# the packets needn't.
+WANT = ("drop memory", "refused 10 Memory")
 
 
 class Illegal(Exception):
@@ -30,6 +36,13 @@ def carry(port, places, call, by, workers):
     return plain_switch.cross(port, call["way"], call["packet"], call["moment"])
 
 
+def makes_pair(port, call):
+    """Whether a packet would make a pair at its port as it stands."""
+    after = copy.deepcopy(port)
+    plain_switch.cross(after, call["way"], call["packet"], call["moment"])
+    return any(layer["next"] > before["next"] for layer, before in zip(after["layers"], port["layers"]))
+
+
 def named(call):
     """The kind of a call, its caller, what it brings, and what it was told."""
     if isinstance(call, CommandLine):
@@ -39,7 +52,8 @@ def named(call):
 
 def go_through(port, places, lines, calls, workers):
     """A port's lines of one round. `calls` has the packets and the commands, each of which has one line."""
-    before = [item for (kind, item), call in calls.items() if kind == "c" and call["when"] == "before"]
+    wanting = {line.number for line in lines if isinstance(line, CommandLine) and line.reply in WANT}
+    before = [item for (kind, item), call in calls.items() if kind == "c" and call["when"] == "before" and item not in wanting]
     last, at = {}, None
     for number, line in enumerate(lines):
         (kind, by, item, told), is_before, where = named(line), number < len(before), f"line {line.line}"
@@ -51,8 +65,10 @@ def go_through(port, places, lines, calls, workers):
         expect(last.get((kind, by, is_before), -1) < item, True, f"order of its caller, at {where}")
         expect((kind, item) in calls, True, f"one line each, at {where}")
         at, last[kind, by, is_before] = stands, item
-        is_told = carry(port, places, calls.pop((kind, item)), by, workers)
-        expect((told, line.is_entry), is_told, where)
+        call = calls.pop((kind, item))
+        if told == "drop memory":
+            expect(makes_pair(port, call), True, f"a pair to be made at {where}")
+        expect((told, line.is_entry), (told, False) if told in WANT else carry(port, places, call, by, workers), where)
         port["count"] += line.is_entry
     expect(calls, {}, "without a line")
 

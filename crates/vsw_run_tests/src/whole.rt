@@ -2,11 +2,11 @@
 
 mod command_tests;
 mod edit_tests;
-mod frames;
+pub mod frames;
 mod ipv6_tests;
 mod length_tests;
 mod pair_tests;
-mod policies;
+pub mod policies;
 mod rule_tests;
-mod running;
+pub mod running;
 mod workload_tests;

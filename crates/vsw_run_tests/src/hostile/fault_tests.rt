@@ -1,0 +1,154 @@
+//! Calls that fail, and reads that give few bytes.
+
+ghost use Rattle.std.specs.Prelude.{◌<◌};
+
+use crate::hostile::files::{
+    COMMANDS, FIRST, FRAMES, HEAD, RUNS, Small, WHOLE, WrongAt, ends, front_of,
+};
+use crate::memory::{FORWARD, words_of};
+use std::alloc::Global;
+use std::sync::Wait;
+use std::thread::Threads;
+use vsw_app::{Open, run_words};
+use vsw_host::MemoryHost;
+use vsw_run::{Status, Word};
+
+const READ: &str = "vsw: read fault\n";
+
+const WRITE: &str = "vsw: write fault\n";
+
+/// A call that fails, how the run ends, how many pieces of the report are put, and what is complained.
+///
+/// Calls 1 to 3 open and read the policy, 4 to 6 the commands; 7 and 8 open the trace and read its only piece; 9 and 10 put the head line and the
+/// first round; 11 finds the trace's end, and 12 puts the second round.
+const FAULTS: [(u64, Status, usize, &str); 13] = [
+    (1, Status::ReadFault, 0, READ),
+    (2, Status::ReadFault, 0, READ),
+    (3, Status::ReadFault, 0, READ),
+    (4, Status::ReadFault, 0, READ),
+    (5, Status::ReadFault, 0, READ),
+    (6, Status::ReadFault, 0, READ),
+    (7, Status::ReadFault, 0, READ),
+    (8, Status::ReadFault, 0, READ),
+    (9, Status::WriteFault, 0, WRITE),
+    (10, Status::WriteFault, HEAD, WRITE),
+    (11, Status::ReadFault, WHOLE, READ),
+    (12, Status::WriteFault, FIRST, WRITE),
+    (13, Status::Done, WHOLE, ""),
+];
+
+/// Lets one call after the other fail.
+fn check_faults<R: Threads + Wait + Sync>(
+    rt: &R,
+    alloc: Global,
+    small: &Small,
+    words: &[&str],
+    report: &'static [&'static str],
+) -> Result<(), WrongAt> {
+    for (call, status, pieces, complaint) in FAULTS {
+        let host = small.host(alloc, &[call]);
+        let wanted = (status, front_of(report, pieces), complaint);
+        if !ends(rt, alloc, words, host, wanted) {
+            return Err(WrongAt::Call(call));
+        }
+    }
+    Ok(())
+}
+
+#[test]
+fn each_call_that_fails_ends_a_run_after_what_was_read(rt: HostRuntime) -> Result<(), WrongAt> {
+    let Some(small) = Small::of(rt.alloc(), COMMANDS, FRAMES) else {
+        return Err(WrongAt::Start);
+    };
+    for (words, report) in RUNS {
+        check_faults(&rt, rt.alloc(), &small, words, report)?;
+    }
+    Ok(())
+}
+
+/// Whether a run whose reads give so many bytes at most puts the report.
+fn reads<R: Threads + Wait + Sync>(
+    rt: &R,
+    alloc: Global,
+    small: &Small,
+    words: &[&str],
+    report: &'static [&'static str],
+    most: usize,
+) -> bool
+    requires some { 0 < most }
+{
+    match small.host(alloc, &[]) {
+        Some(mut host) => {
+            host.read_at_most(most);
+            ends(rt, alloc, words, Some(host), (Status::Done, report, ""))
+        }
+        None => false,
+    }
+}
+
+fn check_reads<R: Threads + Wait + Sync>(
+    rt: &R,
+    alloc: Global,
+    small: &Small,
+    words: &[&str],
+    report: &'static [&'static str],
+) -> Result<(), WrongAt> {
+    for most in [1, 2, 3, 7, 61, 193, 4_096] {
+        if !reads(rt, alloc, small, words, report, most) {
+            return Err(WrongAt::Place(most));
+        }
+    }
+    Ok(())
+}
+
+#[test]
+fn reads_of_any_size_give_the_same_report(rt: HostRuntime) -> Result<(), WrongAt> {
+    let Some(small) = Small::of(rt.alloc(), COMMANDS, FRAMES) else {
+        return Err(WrongAt::Start);
+    };
+    for (words, report) in RUNS {
+        check_reads(&rt, rt.alloc(), &small, words, report)?;
+    }
+    Ok(())
+}
+
+/// Runs over these files, and tells whether the run ends as one of a cut trace, with a front of the words that tell so.
+fn ends_cut<R: Threads + Wait + Sync>(
+    rt: &R,
+    alloc: Global,
+    words: &[Word],
+    host: Option<MemoryHost>,
+) -> bool {
+    match host {
+        Some(mut host) => {
+            let status = run_words(rt, alloc, words, &mut host, &Open);
+            status == Status::Refused
+                && b"vsw: refused trace Cut 84\n".starts_with(host.complained())
+        }
+        None => false,
+    }
+}
+
+/// Lets one call after the other fail, from the one on that puts the first words.
+fn check_complaints<R: Threads + Wait + Sync>(
+    rt: &R,
+    alloc: Global,
+    words: &[Word],
+    small: &Small,
+) -> Result<(), WrongAt> {
+    for call in 12..=16 {
+        if !ends_cut(rt, alloc, words, small.host(alloc, &[call])) {
+            return Err(WrongAt::Call(call));
+        }
+    }
+    Ok(())
+}
+
+#[test]
+fn a_complaint_that_fails_leaves_the_status(rt: HostRuntime) -> Result<(), WrongAt> {
+    let alloc = rt.alloc();
+    match (words_of(alloc, FORWARD), Small::cut(alloc, 100)) {
+        (Ok(words), Some(small)) => check_complaints(&rt, alloc, &words, &small),
+        _ => Err(WrongAt::Start),
+    }
+}

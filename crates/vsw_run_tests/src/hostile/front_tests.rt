@@ -3,8 +3,9 @@
 use crate::hostile::files::{
     COMMANDS, Ending, FORWARD_BY_FOUR, FRAMES, REMOVE, SWEEP, Small, WrongAt, ends,
 };
-use crate::memory::FORWARD;
+use crate::memory::{FORWARD, text_of};
 use crate::whole::frames::{QUERY, REPLY, SENT_QUERY, SENT_REPLY};
+use crate::whole::policies::{ALLOWING, END, LAYER, LAYER_END, PORT};
 use std::alloc::Global;
 use std::sync::Wait;
 use std::thread::Threads;
@@ -109,6 +110,9 @@ fn the_same_ends_are_met_by_four_workers(rt: HostRuntime) -> Result<(), WrongAt>
     }
 }
 
+/// A policy of one layer.
+const ONE_LAYER: &[&str] = &[PORT, LAYER, ALLOWING, LAYER_END, END];
+
 /// Runs over each front of the policy but the whole, the longest first.
 fn check_policies<R: Threads + Wait + Sync>(
     rt: &R,
@@ -128,9 +132,16 @@ fn check_policies<R: Threads + Wait + Sync>(
 
 #[test]
 fn no_front_of_a_policy_is_one(rt: HostRuntime) -> Result<(), WrongAt> {
-    match Small::of(rt.alloc(), COMMANDS, FRAMES) {
-        Some(mut small) => check_policies(&rt, rt.alloc(), &mut small),
-        None => Err(WrongAt::Start),
+    let alloc = rt.alloc();
+    match (
+        Small::of(alloc, COMMANDS, FRAMES),
+        text_of(alloc, ONE_LAYER),
+    ) {
+        (Some(mut small), Ok(policy)) => {
+            small.policy = policy;
+            check_policies(&rt, alloc, &mut small)
+        }
+        _ => Err(WrongAt::Start),
     }
 }
 

@@ -1,4 +1,4 @@
-//! Lengths of packets and files at their limits, and one byte beyond.
+//! Packets as long as they may be, and one byte longer.
 
 use crate::hostile::files::{Ending, WrongAt, ends, host_of};
 use crate::memory::{FORWARD, empty_trace, text_of};
@@ -7,44 +7,24 @@ use std::alloc::{AllocError, Global};
 use vsw_host::MemoryHost;
 use vsw_run::Status;
 
+const NO_PORT: &[&str] = &["vsw report 1\nround 0\nport 1 0 0\nloose\n0 noport\n"];
+
+const TOO_LONG: &[&str] = &["vsw report 1\nround 0\nport 1 0 0\nloose\n0 malformed 9 TooLong\n"];
+
+const HEAD: &[&str] = &["vsw report 1\n"];
+
+const HUGE: &str = "vsw: refused trace Huge 24\n";
+
 /// A packet's bytes, and how a run over it alone ends: a frame has at most 65,600, a record 262,144. All are 0, so the packet is of no port.
 const LENGTHS: [(u32, Ending); 4] = [
-    (
-        65_600,
-        (
-            Status::Done,
-            &["vsw report 1\nround 0\nport 1 0 0\nloose\n0 noport\n"],
-            "",
-        ),
-    ),
-    (
-        65_601,
-        (
-            Status::Done,
-            &["vsw report 1\nround 0\nport 1 0 0\nloose\n0 malformed 9 TooLong\n"],
-            "",
-        ),
-    ),
-    (
-        262_144,
-        (
-            Status::Done,
-            &["vsw report 1\nround 0\nport 1 0 0\nloose\n0 malformed 9 TooLong\n"],
-            "",
-        ),
-    ),
-    (
-        262_145,
-        (
-            Status::Refused,
-            &["vsw report 1\n"],
-            "vsw: refused trace Huge 24\n",
-        ),
-    ),
+    (65_600, (Status::Done, NO_PORT, "")),
+    (65_601, (Status::Done, TOO_LONG, "")),
+    (262_144, (Status::Done, TOO_LONG, "")),
+    (262_145, (Status::Refused, HEAD, HUGE)),
 ];
 
-fn repeated(alloc: Global, byte: u8, count: usize) -> Result<Vec<u8>, AllocError> {
-    vec![in alloc; byte; count]
+fn zeros(alloc: Global, count: usize) -> Result<Vec<u8>, AllocError> {
+    vec![in alloc; 0; count]
 }
 
 /// A trace of one packet of so many zeros.
@@ -53,7 +33,7 @@ fn trace_of(alloc: Global, len: u32) -> Option<Vec<u8>> {
     for word in [0, 0, len, len] {
         trace.extend_from_slice(&word.to_le_bytes()).ok()?;
     }
-    let packet = repeated(alloc, 0, usize::try_from(len).ok()?).ok()?;
+    let packet = zeros(alloc, usize::try_from(len).ok()?).ok()?;
     trace.extend_from_slice(&packet).ok()?;
     Some(trace)
 }
@@ -70,31 +50,6 @@ fn a_packet_may_be_as_long_as_its_limits(rt: HostRuntime) -> Result<(), WrongAt>
         let host = host_over(rt.alloc(), len);
         if !ends(&rt, rt.alloc(), FORWARD, host, wanted) {
             return Err(WrongAt::Place(place));
-        }
-    }
-    Ok(())
-}
-
-/// A host of so many spaces as commands, and a trace that is none.
-fn host_of_spaces(alloc: Global, count: usize) -> Option<MemoryHost> {
-    let policy = text_of(alloc, THREE_LAYERS).ok()?;
-    host_of(
-        alloc,
-        &policy,
-        &repeated(alloc, b' ', count).ok()?,
-        b"",
-        &[],
-    )
-}
-
-#[test]
-fn a_byte_more_than_commands_may_have_is_not_read_on(rt: HostRuntime) -> Result<(), WrongAt> {
-    let most: Ending = (Status::Refused, &[], "vsw: refused trace NotPcap\n");
-    let more: Ending = (Status::Limit, &[], "vsw: limit commands\n");
-    for (count, wanted) in [(16_777_216, most), (16_777_217, more)] {
-        let host = host_of_spaces(rt.alloc(), count);
-        if !ends(&rt, rt.alloc(), FORWARD, host, wanted) {
-            return Err(WrongAt::Place(count));
         }
     }
     Ok(())

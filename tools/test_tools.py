@@ -15,10 +15,12 @@ import unittest
 import xml.etree.ElementTree as ElementTree
 from typing import Any, Sequence
 
+import legal
 from vswlib import ending, policies, reports, shadows, specs
 from vswlib.captures import Record, parse_capture, write_capture, write_commented
 from vswlib.frames import differences, flow_text, ones_sum, read_frame
 from vswlib.jsontext import BadJson, Document, NotWhole, line_and_column
+from vswlib.outcome import fault, outcome
 from vswlib.replay import Replay, disagreement_lines, hits
 
 TOOLS = os.path.dirname(os.path.abspath(__file__))
@@ -264,6 +266,46 @@ class Replays(unittest.TestCase):
             list(replay.calls())
             self.assertEqual(replay.disagreements, 1, change)
             self.assertIn("!!! THE REPORT SAYS OTHERWISE", disagreement_lines(replay)[0])
+
+
+class Outcomes(unittest.TestCase):
+    """How a run has to end (tools/vswlib/outcome.py): the examples end so, and other ends are told."""
+
+    def files(self, folder: str) -> tuple[list[str], list[bytes]]:
+        names = [example(folder, name) for name in ("policy.json", "commands.jsonl", "trace.pcap")]
+        return names, [ending.read_bytes(name) for name in names]
+
+    def test_the_examples_end_well(self) -> None:
+        for folder in GOOD:
+            names, files = self.files(folder)
+            report = ending.read_bytes(example(folder, "report.txt")).decode()
+            wanted = outcome(names, *files)
+            self.assertEqual((wanted.status, wanted.words), (0, ""))
+            self.assertIsNone(fault(wanted, 0, "", report, 1), folder)
+            lines = report.splitlines(keepends=True)
+            for line in lines[::len(lines) // 8 + 1]:
+                self.assertIsNotNone(fault(wanted, 0, "", report.replace(line, "", 1), 1), line)
+            self.assertIsNotNone(fault(wanted, 9, "vsw: memory\n", report, 1))
+            self.assertIsNotNone(fault(wanted, 0, "vsw: usage\n", report, 1))
+
+    def test_traces_that_are_cut(self) -> None:
+        names, files = self.files("7-commands")
+        report = ending.read_bytes(example("7-commands", "report.txt")).decode()
+        second = 24 + 16 + int.from_bytes(files[2][32:36], "little")
+        for length, words, head in (0, "NotPcap", False), (23, "NotPcap", False), (30, "Cut 24", True), (second + 5, f"Cut {second}", False):
+            wanted = outcome(names, *files[:2], files[2][:length])
+            self.assertEqual((wanted.status, wanted.words, wanted.is_head_alone), (5, f"vsw: refused trace {words}\n", head))
+            self.assertIsNotNone(fault(wanted, 5, wanted.words, report, 1))
+        huge = files[2][:32] + b"\x01\0\x04\0" + files[2][36:]
+        self.assertEqual(outcome(names, *files[:2], huge).words, "vsw: refused trace Huge 24\n")
+
+    def test_want_of_memory_is_legal_of_commands_and_new_pairs_alone(self) -> None:
+        _, (policy, commands, trace) = self.files("flows")
+        report = ending.read_bytes(example("flows", "report.txt")).decode()
+        self.assertIsNone(legal.fault(policy, commands, trace, 1, report))
+        first, told = next((line, line.split(" ", 3)) for line in report.splitlines() if line.startswith("w") and " @" in line)
+        read = report.replace(first, f"{told[0]} {told[1]} {told[2]} drop memory")
+        self.assertIn("a pair to be made", legal.fault(policy, commands, trace, 1, read))
 
 
 class Tools(unittest.TestCase):

@@ -121,11 +121,11 @@ def one_rule(i):
     return {"do": "remove_rule", "layer": 10, "group": 1, "rule": 2} if i % 2 == 0 else {"do": "add_rule", "layer": 10, "group": 1, "rule": rule(2)}
 
 
-def times_of(bench, hostile, ordinary, spare=("empty", "empty")):
+def times_of(bench, hostile, ordinary, spare=("empty", "empty"), workers=1):
     """Seconds of both runs less those of the same policy over the spare traces."""
     none = bench.write("none", b"")
     def cost(policy, commands, trace, rest):
-        return bench.seconds(policy, commands or none, trace) - bench.seconds(policy, none, rest)
+        return bench.seconds(policy, commands or none, trace, workers) - bench.seconds(policy, none, rest, workers)
     a = cost(*hostile, spare[0]) if spare[0] != "empty" else cost(*hostile, bench.trace("empty", []))
     b = cost(*ordinary, spare[1]) if spare[1] != "empty" else cost(*ordinary, bench.trace("empty", []))
     return a, max(b, 0.01)
@@ -213,6 +213,16 @@ def commands(bench):
     return times_of(bench, (policy, bench.commands("c", 99, 1000, flip), trace), (policy, None, trace))
 
 
+def often(bench, workers=1):
+    """65,536 commands are as many as there may be, and so are 1,048,576 packets: a quarter of both."""
+    policy, trace = bench.policy("p", 3), repeated(bench, "o", 262144, 10000)
+    return times_of(bench, (policy, bench.commands("c", 16383, 16, flip), trace), (policy, None, trace), workers=workers)
+
+
+def often_by_four(bench):
+    return often(bench, 4)
+
+
 def rules(bench):
     policy = bench.policy("p", 1, rules=[rule(n) for n in range(1, 1001)])
     trace = repeated(bench, "o", 1001)
@@ -224,15 +234,20 @@ def memory_of(bench, policy, commands):
     return bench.run(policy, commands, empty)[2], bench.run(bench.policy("p", 1), bench.write("none", b""), empty)[2]
 
 
+def deep_objects(size):
+    """A list of at most so many bytes, of objects in objects: nothing takes more memory a byte."""
+    one = '{"":' * 120 + "0" + "}" * 120
+    return "[" + ",".join([one] * (size // (len(one) + 1) - 1)) + "]"
+
+
 def line_memory(bench):
-    inner = "[" + '{"":0},' * (16777216 // 7 - 200) + "0]"
-    line = '{"at":0,"when":"before","controller":1,"port":1,"do":"remove_layer","layer":%s}' % inner
+    line = '{"at":0,"when":"before","controller":1,"port":1,"do":"remove_layer","layer":%s}' % deep_objects(16777216)
     return memory_of(bench, bench.policy("p", 1), bench.write("c", line.encode()))
 
 
 def policy_memory(bench):
-    inner = "[" + ",".join(['{"a":{"b":0}}'] * 290000) + "]"
-    return memory_of(bench, bench.write("q", ('{"version":1,"controllers":%s,"ports":[]}' % inner).encode()), bench.write("none", b""))
+    text = '{"version":1,"controllers":%s,"ports":[]}' % deep_objects(4194304)
+    return memory_of(bench, bench.write("q", text.encode()), bench.write("none", b""))
 
 
 # A row, what it measures, the unit, and its bound: so many times the ordinary run's seconds, or so many MB more than an empty run.
@@ -248,9 +263,11 @@ ROWS = [
     (scan, "a scan of 50,000 flows, then 10,000 flows", "times", 8),
     (greatest, "frames of 65,549 bytes", "times", 400),
     (commands, "a command each 1,000 packets", "times", 8),
+    (often, "a command each 16 packets", "times", 20),
+    (often_by_four, "the same by four workers", "times", 60),
     (rules, "commands on a group of 1,000 rules", "times", 400),
-    (line_memory, "a commands line of 16 MiB", "MB", 3000),
-    (policy_memory, "a policy of 4 MiB of nested objects", "MB", 800),
+    (line_memory, "a commands line of 16 MiB", "MB", 3500),
+    (policy_memory, "a policy of 4 MiB of nested objects", "MB", 900),
 ]
 
 

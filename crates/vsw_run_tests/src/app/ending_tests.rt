@@ -2,14 +2,13 @@
 
 use crate::app::running::{
     Files, HEAD, POLICY, QUERY, RECORD, REPORT, ROOM, TRACE, Wrong, check, check_files,
-    check_trace, host_of, joined,
+    check_trace, host_of,
 };
-use crate::memory::{FORWARD, HEADER, words_of};
+use crate::memory::HEADER;
 use std::alloc::{AllocError, Global};
 use std::sync::Wait;
 use std::thread::Threads;
-use vsw_app::{Open, run_words};
-use vsw_run::{Status, Word};
+use vsw_run::Status;
 
 #[test]
 fn a_cut_record_ends_the_run_after_the_packets_before_it(rt: HostRuntime) -> Result<(), Wrong> {
@@ -141,117 +140,4 @@ fn words_outside_the_grammar_are_refused(rt: HostRuntime) -> Result<(), Wrong> {
         }
     }
     Ok(())
-}
-
-/// Whether these bytes are a front of the report.
-fn is_front(alloc: Global, bytes: &[u8]) -> bool {
-    match joined(alloc, REPORT) {
-        Ok(report) => report.starts_with(bytes),
-        Err(_) => false,
-    }
-}
-
-/// Whether a run of which this call fails ends as it must, and leaves a front of the report.
-fn leaves_front<R: Threads + Wait + Sync>(
-    rt: &R,
-    alloc: Global,
-    words: &[Word],
-    call: u64,
-) -> bool {
-    let files = Files {
-        policy: POLICY,
-        commands: b"",
-        trace: TRACE,
-    };
-    let wanted = if call < 9 {
-        Status::ReadFault
-    } else {
-        Status::WriteFault
-    };
-    match host_of(alloc, &files, ROOM, &[call]) {
-        Ok(mut host) => {
-            run_words(rt, alloc, words, &mut host, &Open) == wanted
-                && is_front(alloc, host.written())
-        }
-        Err(_) => false,
-    }
-}
-
-/// Lets one call after the other fail.
-fn check_calls<R: Threads + Wait + Sync>(
-    rt: &R,
-    alloc: Global,
-    words: &[Word],
-) -> Result<(), Wrong> {
-    for call in 1..=10 {
-        if !leaves_front(rt, alloc, words, call) {
-            return Err(Wrong::Call(call));
-        }
-    }
-    Ok(())
-}
-
-#[test]
-fn any_failing_call_leaves_a_front_of_the_report(rt: HostRuntime) -> Result<(), Wrong> {
-    let Ok(words) = words_of(rt.alloc(), FORWARD) else {
-        return Err(Wrong::Start);
-    };
-    check_calls(&rt, rt.alloc(), &words)?;
-    check_trace(&rt, rt.alloc(), TRACE, &[11], (Status::Done, REPORT, b""))
-}
-
-/// Whether a run over these bytes as policy and trace ends so.
-fn ends<R: Threads + Wait + Sync>(
-    rt: &R,
-    alloc: Global,
-    words: &[Word],
-    policy: &[u8],
-    trace: &[u8],
-    wanted: Status,
-) -> bool {
-    let files = Files {
-        policy: &[policy],
-        commands: b"",
-        trace: &[trace],
-    };
-    match host_of(alloc, &files, 4_096, &[]) {
-        Ok(mut host) => run_words(rt, alloc, words, &mut host, &Open) == wanted,
-        Err(_) => false,
-    }
-}
-
-/// Runs over every front of the trace, and every front of the policy.
-fn check_fronts<R: Threads + Wait + Sync>(
-    rt: &R,
-    alloc: Global,
-    words: &[Word],
-    policy: &[u8],
-    trace: &[u8],
-) -> Result<(), Wrong> {
-    for len in 0..trace.len() {
-        let whole = len == 24;
-        let wanted = if whole { Status::Done } else { Status::Refused };
-        if !ends(rt, alloc, words, policy, &trace[..len], wanted) {
-            return Err(Wrong::Run(len));
-        }
-    }
-    for len in 0..policy.len() {
-        if !ends(rt, alloc, words, &policy[..len], trace, Status::Refused) {
-            return Err(Wrong::Run(len));
-        }
-    }
-    Ok(())
-}
-
-#[test]
-fn every_front_of_the_files_has_its_status(rt: HostRuntime) -> Result<(), Wrong> {
-    let alloc = rt.alloc();
-    match (
-        words_of(alloc, FORWARD),
-        joined(alloc, POLICY),
-        joined(alloc, TRACE),
-    ) {
-        (Ok(words), Ok(policy), Ok(trace)) => check_fronts(&rt, alloc, &words, &policy, &trace),
-        _ => Err(Wrong::Start),
-    }
 }

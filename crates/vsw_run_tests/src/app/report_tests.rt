@@ -1,12 +1,10 @@
 //! What is put, on outside values.
 
-ghost use Rattle.std.specs.Prelude.{◌<◌};
-
 use crate::app::running::{
     ALLOW, DROP, FAR, Files, HEAD, POLICY, POLICY_END, POLICY_START, QUERY, QUERY_LINE, RECORD,
-    REPORT, ROOM, ROUND, TRACE, Wrong, add, check, check_files, check_trace, host_of,
+    REPORT, ROUND, TRACE, Wrong, add, check_files, check_trace,
 };
-use crate::memory::{FORWARD, HEADER};
+use crate::memory::HEADER;
 use std::alloc::{AllocError, Global};
 use std::sync::Wait;
 use std::thread::Threads;
@@ -109,34 +107,6 @@ fn a_capture_of_the_other_order_and_unit_is_read(rt: HostRuntime) -> Result<(), 
     let record = b"\x00\x00\x00\x00\x00\x00\x00\x00\x00\x00\x00\x2c\x00\x00\x00\x2c";
     let trace: &[&[u8]] = &[header, record, QUERY];
     check_trace(&rt, rt.alloc(), trace, &[], (Status::Done, REPORT, b""))
-}
-
-/// A run whose reads give so many bytes at most.
-fn check_reads<R: Threads + Wait + Sync>(rt: &R, alloc: Global, most: usize) -> Result<(), Wrong>
-    requires some { 0 < most }
-{
-    let files = Files {
-        policy: POLICY,
-        commands: b"",
-        trace: TRACE,
-    };
-    match host_of(alloc, &files, ROOM, &[]) {
-        Ok(mut host) => {
-            host.read_at_most(most);
-            check(rt, alloc, &mut host, FORWARD, (Status::Done, REPORT, b""))
-        }
-        Err(wrong) => Err(wrong),
-    }
-}
-
-#[test]
-fn reads_of_any_size_give_the_same_report(rt: HostRuntime) -> Result<(), Wrong> {
-    for most in [1, 7, 4_096] {
-        if check_reads(&rt, rt.alloc(), most).is_err() {
-            return Err(Wrong::Run(most));
-        }
-    }
-    Ok(())
 }
 
 /// Appends pieces, of which the middle one is a number.

@@ -6,7 +6,7 @@
 # The program's bitcode is compiled by the kit's clang with -fsanitize-coverage=trace-pc-guard and linked with AFL++'s own runtime; nothing of it is
 # changed else, so a call that breaks a `requires` still stops it. Each of the three files is changed for SECONDS (300 if not given), one after another,
 # beside the others of one policy with pairs, edits and encapsulations, by WORKERS workers (1 if not given). Prints the runs, the places that were
-# found, and the crashes and hangs (a run of more than two seconds), and ends with 1 where there was one. Another status than 0, 3, 5 and 6 is a crash, too.
+# found, and the crashes and hangs (a run of more than two seconds), and ends with 1 where there was one. Status 9, want of memory, counts as a crash.
 set -eu
 root=$(cd "$(dirname "$0")/.." && pwd)
 seconds=${1:-300}

@@ -165,14 +165,14 @@ const NO_COMMAND: &[&str] = &[
 /// How a run ends over so many bytes of the commands: the line feed of a line may be wanting.
 fn ending_of_commands(len: usize) -> Ending {
     let first = SWEEP.len();
-    let end = first + REMOVE.len();
+    let end = first.saturating_add(REMOVE.len());
     if len == 0 {
         (Status::Done, NO_COMMAND, "")
-    } else if len + 1 < first {
+    } else if len < first.saturating_sub(1) {
         (Status::Refused, &[], "vsw: refused commands 1 Json /\n")
     } else if len <= first {
         (Status::Done, ONE_COMMAND, "")
-    } else if len + 1 < end {
+    } else if len < end.saturating_sub(1) {
         (Status::Refused, &[], "vsw: refused commands 2 Json /\n")
     } else {
         (Status::Done, BOTH_PACKETS, "")

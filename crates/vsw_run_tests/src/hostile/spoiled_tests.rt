@@ -300,7 +300,13 @@ fn any_byte_of_a_reply_may_be_spoiled(rt: HostRuntime) -> Result<(), Wrong> {
 const LINES: usize = 4 + 1 + 2 * BYTES;
 
 fn count_lines(text: &[u8]) -> usize {
-    text.iter().filter(|byte| **byte == b'\n').count()
+    let mut count: usize = 0;
+    for byte in text {
+        if *byte == b'\n' {
+            count = count.saturating_add(1);
+        }
+    }
+    count
 }
 
 /// Runs by four workers, and counts the lines.

@@ -2,9 +2,7 @@
 
 ghost use Rattle.std.specs.Prelude.{◌<◌};
 
-use crate::hostile::files::{
-    COMMANDS, FIRST, FRAMES, HEAD, RUNS, Small, WHOLE, WrongAt, ends, front_of,
-};
+use crate::hostile::files::{COMMANDS, FIRST, FRAMES, HEAD, RUNS, Small, WrongAt, ends};
 use crate::memory::{FORWARD, words_of};
 use std::alloc::Global;
 use std::sync::Wait;
@@ -13,28 +11,30 @@ use vsw_app::{Open, run_words};
 use vsw_host::MemoryHost;
 use vsw_run::{Status, Word};
 
+const NOTHING: &[&str] = &[];
+
 const READ: &str = "vsw: read fault\n";
 
 const WRITE: &str = "vsw: write fault\n";
 
-/// A call that fails, how the run ends, how many pieces of the report are put, and what is complained.
+/// A call that fails, how the run ends, what of the report is put, where it isn't all, and what is complained.
 ///
 /// Calls 1 to 3 open and read the policy, 4 to 6 the commands; 7 and 8 open the trace and read its only piece; 9 and 10 put the head line and the
 /// first round; 11 finds the trace's end, and 12 puts the second round.
-const FAULTS: [(u64, Status, usize, &str); 13] = [
-    (1, Status::ReadFault, 0, READ),
-    (2, Status::ReadFault, 0, READ),
-    (3, Status::ReadFault, 0, READ),
-    (4, Status::ReadFault, 0, READ),
-    (5, Status::ReadFault, 0, READ),
-    (6, Status::ReadFault, 0, READ),
-    (7, Status::ReadFault, 0, READ),
-    (8, Status::ReadFault, 0, READ),
-    (9, Status::WriteFault, 0, WRITE),
-    (10, Status::WriteFault, HEAD, WRITE),
-    (11, Status::ReadFault, WHOLE, READ),
-    (12, Status::WriteFault, FIRST, WRITE),
-    (13, Status::Done, WHOLE, ""),
+const FAULTS: [(u64, Status, Option<&[&str]>, &str); 13] = [
+    (1, Status::ReadFault, Some(NOTHING), READ),
+    (2, Status::ReadFault, Some(NOTHING), READ),
+    (3, Status::ReadFault, Some(NOTHING), READ),
+    (4, Status::ReadFault, Some(NOTHING), READ),
+    (5, Status::ReadFault, Some(NOTHING), READ),
+    (6, Status::ReadFault, Some(NOTHING), READ),
+    (7, Status::ReadFault, Some(NOTHING), READ),
+    (8, Status::ReadFault, Some(NOTHING), READ),
+    (9, Status::WriteFault, Some(NOTHING), WRITE),
+    (10, Status::WriteFault, Some(HEAD), WRITE),
+    (11, Status::ReadFault, None, READ),
+    (12, Status::WriteFault, Some(FIRST), WRITE),
+    (13, Status::Done, None, ""),
 ];
 
 /// Lets one call after the other fail.
@@ -45,9 +45,9 @@ fn check_faults<R: Threads + Wait + Sync>(
     words: &[&str],
     report: &'static [&'static str],
 ) -> Result<(), WrongAt> {
-    for (call, status, pieces, complaint) in FAULTS {
+    for (call, status, put, complaint) in FAULTS {
         let host = small.host(alloc, &[call]);
-        let wanted = (status, front_of(report, pieces), complaint);
+        let wanted = (status, put.unwrap_or(report), complaint);
         if !ends(rt, alloc, words, host, wanted) {
             return Err(WrongAt::Call(call));
         }

@@ -34,8 +34,7 @@ pub const COMMANDS: &[&str] = &[SWEEP, REMOVE];
 /// A query, the reply to what leaves of it, a query whose reply would be the same, and the query again.
 pub const FRAMES: &[&str] = &[QUERY, SENT_REPLY, OTHER_QUERY, QUERY];
 
-/// What a run over the three layers, both commands and these frames puts, in pieces: the head line, the round of the first packet, and that of the
-/// others. Worked out by tools/plain_switch.py.
+/// What a run over the three layers, both commands and these frames puts, in pieces. Worked out by tools/plain_switch.py.
 pub const REPORT: &[&str] = &[
     "vsw report 1\n",
     "round 0\nport 1 0 1\nw0 0 +0 pass 94 ",
@@ -61,23 +60,18 @@ pub const REPORT_BY_FOUR: &[&str] = &[
     "\nw1 2 @3 drop taken 2/20 0\nloose\n",
 ];
 
-/// How many pieces of the report stand up to the head line, up to the first round, and in all.
-pub const HEAD: usize = 1;
+/// What both put up to the head line, and up to the first round.
+pub const HEAD: &[&str] = &["vsw report 1\n"];
 
-pub const FIRST: usize = 4;
-
-pub const WHOLE: usize = 9;
+pub const FIRST: &[&str] = &[
+    "vsw report 1\n",
+    "round 0\nport 1 0 1\nw0 0 +0 pass 94 ",
+    SENT_QUERY,
+    "\nloose\n",
+];
 
 /// A run by so many workers: its words and its report.
 pub const RUNS: [(&[&str], &[&str]); 2] = [(FORWARD, REPORT), (FORWARD_BY_FOUR, REPORT_BY_FOUR)];
-
-/// The first pieces of a report.
-pub fn front_of<'a>(report: &'a [&'a str], pieces: usize) -> &'a [&'a str] {
-    match report.get(..pieces) {
-        Some(front) => front,
-        None => report,
-    }
-}
 
 fn add_frame(alloc: Global, trace: &mut Vec<u8>, number: u16, frame: &str) -> Option<()> {
     let packet = hex::decode(alloc, frame.as_bytes()).ok()?;

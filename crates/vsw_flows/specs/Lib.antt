@@ -1,0 +1,4 @@
+pub mod Leant
+pub mod Spots
+pub mod Leaners
+pub mod Hashed

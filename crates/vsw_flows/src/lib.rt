@@ -1,0 +1,7 @@
+//! The rows of unified flows of a port under their writer, each with a stamp of its own.
+#![tactic(auto)]
+
+mod leaners;
+mod leaning;
+mod looks;
+mod spot;

@@ -1,0 +1,69 @@
+//! The looks on which one row leans, in a room that is kept when the row is put again.
+
+ghost use Rattle.std.specs.Prelude.{◌≡◌, ◌≢◌, [], ℕ, true};
+ghost use Rattle.vsw_flows.specs.Leant.{kept_at};
+
+use std::alloc::Global;
+use std::marker::Model;
+use vsw_walk::Looked;
+
+/// What the packets of a row look for.
+#[derive(Drop)]
+pub struct Looks {
+    items: Vec<Looked>,
+}
+
+impl Model for Looks {
+    ghost use Rattle.std.specs.Prelude.{List};
+    ghost use Rattle.vsw_walk.specs.declared.scratch.Looked.{Looked};
+
+    ghost Value = { List Looked };
+
+    ghost view = { λ s. s.items.items };
+}
+
+impl Looks {
+    /// None. It takes no memory.
+    pub fn new(alloc: Global) -> Looks
+        ensures { result ≡ [] }
+    {
+        Looks {
+            items: Vec::new(alloc),
+        }
+    }
+
+    pub fn as_slice(&self) -> &[Looked]
+        ensures { result.now ≡ self.now }
+    {
+        &self.items
+    }
+
+    /// They are these, unless memory is wanting.
+    pub fn set(&mut self, looks: &[Looked]) -> bool
+        ensures { result ≡ true → self.new ≡ looks.now }
+    {
+        self.items.clear();
+        self.items.extend_from_slice(looks).is_ok()
+    }
+}
+
+/// The looks of the row at a place.
+pub fn looks_at(kept: &[Looks], row: u32) -> &[Looked]
+    ensures { result.now ≡ kept_at kept.now row }
+{
+    match kept.get(row as usize) {
+        Some(looks) => looks.as_slice(),
+        None => &[],
+    }
+}
+
+/// The row at a place has these looks, unless memory is wanting.
+pub fn set_looks(kept: &mut Vec<Looks>, row: u32, looks: &[Looked]) -> bool
+    ensures here { result ≡ true → kept_at kept.new.items row ≡ looks.now }
+    ensures others { (place : ℕ) → place ≢ row → kept_at kept.new.items place ≡ kept_at kept.old.items place }
+{
+    if row as usize >= kept.len() {
+        return false;
+    }
+    kept[row as usize].set(looks)
+}

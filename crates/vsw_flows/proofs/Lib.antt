@@ -1,2 +1,10 @@
 pub mod Marks
 pub mod Spots
+pub mod Thinned
+pub mod Settled
+pub mod Shaken
+pub mod Standings
+pub mod Placed
+pub mod Calls
+pub mod Searched
+pub mod Obeyed

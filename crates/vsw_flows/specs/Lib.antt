@@ -1,3 +1,8 @@
+pub mod Finding
+pub mod Flows
+pub mod Obeying
+pub mod Standing
+pub mod Shaking
 pub mod Leant
 pub mod Spots
 pub mod Leaners

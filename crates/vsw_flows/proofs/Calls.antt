@@ -14,6 +14,9 @@ use Rattle.vsw_table.specs.Held.{put_in}
 use Rattle.vsw_table.specs.Rules.{row_at, stamp_at}
 use Rattle.vsw_walk.specs.declared.scratch.Looked.{Looked}
 use Rattle.vsw_walk.specs.declared.scratch.Wanted.{Wanted}
+use Rattle.vsw_flows.specs.declared.places.Found.{Found}
+use Rattle.vsw_flows.specs.declared.places.Found.TheVariants.{Own}
+use Rattle.vsw_flows.specs.Finding.{IsFound}
 use Rattle.vsw_flows.specs.Flows.{AllSpared, Any, Falls, IsCurrent, NoneShaken, OthersStay, Puts, Spares, Writing}
 use Rattle.vsw_flows.specs.Leant.{Leant, kept_at}
 use Rattle.vsw_flows.specs.Shaking.{IsShaken, NoneLeft}
@@ -60,3 +63,12 @@ settled_stand row v x l k g s = fallen Any v x l k g.falls g.stands s
 
 pub put_stands : (p : PolicySeen) (row : ℕ) (words : List ℕ) (qs : List Looked) (v x w : Writing) (l k : Leant) → Fresh p words qs v → row < length x.view.rows → Settles row v x l k → (kept_at k.kept row ≡ qs) × StandsAll k row qs → w ≡ record x { view = put_in x.view row words } → AreStanding v l → AreStanding w k
 put_stands p row words qs v x w l k f lt g there is s = put_stand p row words qs v x w l k f.opens lt f.fresh g there.0 there.1 is s
+
+-- a current row that is found is good
+pub found_good : (p : PolicySeen) (v : Writing) (l : Leant) (rows : ℕ) (key : List ℕ) (after : Found) → v.view.opening ≡ Some p → AreStanding v l → IsFound rows key v after → (place : ℕ) → after ≡ Own place → IsGoodRow (opening_of p) v.view.history (row_at v.view.rows place)
+found_good p v l rows key after opens s is place e =
+    let own : IsFound rows key v (Own place) = subst (IsFound rows key v) e is in
+    current_good p v l opens s place own.1
+
+pub row_formed : (p : PolicySeen) (v : Writing) (l : Leant) → v.view.opening ≡ Some p → AreStanding v l → (place : ℕ) → IsFormed (row_at v.view.rows place)
+row_formed p v l opens s = (s p opens).1

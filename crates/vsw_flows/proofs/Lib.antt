@@ -8,3 +8,4 @@ pub mod Placed
 pub mod Calls
 pub mod Searched
 pub mod Obeyed
+pub mod Owed

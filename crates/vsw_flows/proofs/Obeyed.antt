@@ -2,8 +2,10 @@
 use Rattle.std.proofs.Common.{◌≡◌, ◌≢◌, ◌+◌, ◌<◌, ◌≤◌, ◌==◌, ℕ, zero, suc, Bool, true, false, not, ◌&&◌, ◌||◌, List, [], ◌∷◌, length, map, get_or, refl, sym, ap, subst, ◌∙◌, arith, true≢false}
 use Rattle.std.specs.List.{list_all, slice_get}
 use Rattle.vsw_policy.specs.declared.command.Command.{Command}
+use Rattle.vsw_policy.specs.declared.command.Command.TheVariants.{PutMany, PutRules}
 use Rattle.vsw_policy.specs.declared.command.Part.{Part}
 use Rattle.vsw_policy.specs.Layer.{LayerSeen}
+use Rattle.vsw_rule.specs.declared.rule.Rule.{Rule}
 use Rattle.vsw_walk.specs.declared.scratch.Looked.{Looked}
 use Rattle.vsw_spares.specs.Spared.{as_put, is_within, leaves_in, singles, spares, spares_one}
 use Rattle.vsw_table.specs.Rules.{stamp_at}
@@ -112,3 +114,13 @@ parts_more ls c ps p rest v w x l k j is f here g later place current =
     ap (λ us. list_all (λ m. spares_one ls c m (kept_at l.kept place)) (map as_put us)) is
     ∙ (ap (λ b. b && list_all (λ m. spares_one ls c m (kept_at l.kept place)) (map as_put rest)) (here place (was_current Any w x place (g.falls.each place) current))
     ∙ (ap (λ ks. list_all (λ m. spares_one ls c m (kept_at ks place)) (map as_put rest)) (sym f.kept) ∙ later place current))
+
+pub spared_put : (ls : List LayerSeen) (c : ℕ) (m : Command) (n g : ℕ) (rs : List Rule) (qs : List Looked) → m ≡ PutRules n g rs → leaves_all ls c (PutRules n g rs) qs ≡ true → spares ls c m qs ≡ true
+spared_put ls c m n g rs qs is h = subst (λ k. spares ls c k qs ≡ true) (sym is) (spared_alone ls c (PutRules n g rs) qs refl refl h)
+
+pub spared_many : (ls : List LayerSeen) (c : ℕ) (m : Command) (ps : List Part) (qs : List Looked) → m ≡ PutMany ps → list_all (λ k. spares_one ls c k qs) (map as_put ps) ≡ true → spares ls c m qs ≡ true
+spared_many ls c m ps qs is h = subst (λ k. spares ls c k qs ≡ true) (sym is) h
+
+-- where all fall
+pub all_thins : (v w : Writing) (l m : Leant) → Falls Any v w → ((place : ℕ) → IsCurrent w place → ⊥) → m.kept ≡ l.kept → Thins Any v w l m
+all_thins v w l m f none kept = record { falls = f; kept = kept; stands = λ ls s place current. absurd (none place current) }

@@ -5,8 +5,14 @@ mod falling;
 mod leaners;
 mod leaning;
 mod looks;
+mod obeying;
 mod places;
 mod putting;
+mod rows;
 mod shaking;
 mod spot;
 mod story;
+
+pub use places::Found;
+pub use rows::Rows;
+pub use story::PortStory;

@@ -1,0 +1,11 @@
+use Rattle.std.proofs.Common.{map}
+use Rattle.std.specs.List.{slice_get}
+use Rattle.vsw_policy.specs.Layer.{seen}
+use Rattle.vsw_spares.specs.Spared.{leaves_in}
+use Rattle.vsw_flows.proofs.Obeyed.{all_more}
+use Rattle.vsw_flows.proofs.obeying.+leaves_all.Goals as goal
+
+pub returns-then-leaves_look : goal.returns-then-leaves_look
+returns-then-leaves_look t c e =
+    let ls = map seen c.args.layers.now in
+    all_more (λ q. leaves_in c.args.controller c.args.command.now (slice_get ls q.layer) q) c.args.looks.now c.in-Some.look.now c.in-Some.rest.now c.in-Some.ensures.cases.0 (c.leaves_look.ensures c.if-leaves_look.true) (c.leaves_all.ensures e)

@@ -1,0 +1,9 @@
+//! The rows of ports as a file, written and read to the byte, and what such rows answer a frame.
+#![tactic(auto)]
+
+mod fault;
+mod number;
+mod port_rows;
+
+pub use fault::BadRows;
+pub use port_rows::PortRows;

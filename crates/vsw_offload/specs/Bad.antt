@@ -22,18 +22,18 @@ pub data Done : Type 0 where
 
 -- its bytes
 abbrev pub ports_text : ℕ → List PortRows → List ℕ
-ports_text count ps = head ++ (little_bytes 4 count ++ flat_map port_bytes ps)
+ports_text count ps = head ++ little_bytes 4 count ++ flat_map port_bytes ps
 
-abbrev pub entries_text : ℕ → ℕ → ℕ → List ℕ
-entries_text port mac entries = little_bytes 4 port ++ (big_bytes 6 mac ++ little_bytes 4 entries)
+abbrev pub entries_text : ℕ → List PortRows → ℕ → ℕ → ℕ → List ℕ
+entries_text count ps port mac entries = ports_text count ps ++ little_bytes 4 port ++ big_bytes 6 mac ++ little_bytes 4 entries
 
 abbrev pub text_of : Done → List ℕ
 text_of Head = head
 text_of (Ports count ps) = ports_text count ps
 text_of (Number count ps port) = ports_text count ps ++ little_bytes 4 port
-text_of (Address count ps port mac) = ports_text count ps ++ (little_bytes 4 port ++ big_bytes 6 mac)
-text_of (Entries count ps port mac entries) = ports_text count ps ++ entries_text port mac entries
-text_of (Rows count ps p rows) = ports_text count ps ++ (entries_text p.port p.mac p.entries ++ (little_bytes 4 rows ++ all_rows_bytes p.rows))
+text_of (Address count ps port mac) = ports_text count ps ++ little_bytes 4 port ++ big_bytes 6 mac
+text_of (Entries count ps port mac entries) = entries_text count ps port mac entries
+text_of (Rows count ps p rows) = entries_text count ps p.port p.mac p.entries ++ little_bytes 4 rows ++ all_rows_bytes p.rows
 
 -- nothing of it is at fault, and it isn't all: so many bytes are read next
 pub record IsNew (count : ℕ) (ps : List PortRows) (port : ℕ) : Type 0 where
@@ -69,10 +69,14 @@ pub record Begins (bytes : List ℕ) (at : ℕ) (text : List ℕ) : Type 0 where
   pub within : at ≤ length bytes
   pub is : take at bytes ≡ text
 
--- the bytes before a place are these, and behind it the next part is whole
-pub record Stands (bytes : List ℕ) (at : ℕ) (d : Done) : Type 0 where
+-- the bytes before a place are these, and more is to come
+pub record Reaches (bytes : List ℕ) (at : ℕ) (d : Done) : Type 0 where
   pub begins : Begins bytes at (text_of d)
   pub open_is : IsOpen d
+
+-- and the next part is whole
+pub record Stands (bytes : List ℕ) (at : ℕ) (d : Done) : Type 0 where
+  pub reaches : Reaches bytes at d
   pub whole : at + next_size d ≤ length bytes
 
 -- the words of eight bytes each
@@ -82,12 +86,11 @@ words_in (suc n) bytes = little_number 8 bytes ∷ words_in n (drop 8 bytes)
 
 -- the next row
 abbrev pub row_at : List ℕ → ℕ → List ℕ
-row_at bytes at = words_in 73 (drop at bytes)
+row_at bytes at = words_in 73 (take 584 (drop at bytes))
 
 pub record IsCut (bytes : List ℕ) (at : ℕ) : Type 0 where
   pub done : Done
-  pub begins : Begins bytes at (text_of done)
-  pub open_is : IsOpen done
+  pub reaches : Reaches bytes at done
   pub short : length bytes < at + next_size done
 
 pub record NumberTwice (bytes : List ℕ) (at : ℕ) : Type 0 where

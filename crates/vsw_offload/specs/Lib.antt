@@ -1,3 +1,3 @@
-pub mod Row
 pub mod Rows
 pub mod Bad
+pub mod Private

@@ -3,7 +3,9 @@ use Rattle.std.specs.Prelude.{◌≡◌, ◌<◌, ◌≤◌, ◌^◌, ◌==◌, 
 use Rattle.std.specs.List.{flat_map}
 use Rattle.byteorder.specs.Endian.{big_bytes, little_bytes}
 use Rattle.vsw_base.specs.declared.fate.Verdict.TheVariants.{Pass}
-use Rattle.vsw_offload.specs.Row.{Each, Row, Says}
+use Rattle.vsw_policy.specs.Sound.{Each}
+use Rattle.vsw_rows.specs.Good.{Row}
+use Rattle.vsw_rows.specs.Rows.{Says}
 use Rattle.vsw_offload.specs.declared.port_rows.PortRows.{PortRows}
 use Rattle.vsw_transpose.specs.Fits as fit
 
@@ -18,14 +20,14 @@ all_rows_bytes rows = flat_map row_bytes rows
 
 -- a port: its number, its address as a frame has it, how many entries its history had, how many rows it has, and these
 abbrev pub port_bytes : PortRows → List ℕ
-port_bytes p = little_bytes 4 p.port ++ (big_bytes 6 p.mac ++ (little_bytes 4 p.entries ++ (little_bytes 4 (length p.rows) ++ all_rows_bytes p.rows)))
+port_bytes p = little_bytes 4 p.port ++ big_bytes 6 p.mac ++ little_bytes 4 p.entries ++ little_bytes 4 (length p.rows) ++ all_rows_bytes p.rows
 
 abbrev pub head : List ℕ
 head = codes "VSWROWS1"
 
 -- the file: its head, how many ports there are, and these
 abbrev pub rows_bytes : List PortRows → List ℕ
-rows_bytes ps = head ++ (little_bytes 4 (length ps) ++ flat_map port_bytes ps)
+rows_bytes ps = head ++ little_bytes 4 (length ps) ++ flat_map port_bytes ps
 
 -- ---- what stands in it
 

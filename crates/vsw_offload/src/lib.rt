@@ -2,8 +2,11 @@
 #![tactic(auto)]
 
 mod fault;
+mod judging;
 mod number;
+mod order;
 mod port_rows;
+mod reading;
 
 pub use fault::BadRows;
 pub use port_rows::PortRows;

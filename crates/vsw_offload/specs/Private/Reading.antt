@@ -1,0 +1,22 @@
+-- The steps of reading a rows file.
+use Rattle.std.specs.Prelude.{◌≡◌, ◌≤◌, ℕ, List, [], ◌∷◌, Bool, true, false, length}
+use Rattle.vsw_offload.specs.Bad.{Begins, IsNewAt, Rows, text_of}
+use Rattle.vsw_offload.specs.Rows.{IsPortRows, is_before}
+use Rattle.vsw_offload.specs.declared.port_rows.PortRows.{PortRows}
+
+-- a port with these rows
+abbrev pub port_of : ℕ → ℕ → ℕ → List (List ℕ) → PortRows
+port_of port mac entries rows = record { port = port; mac = mac; entries = entries; rows = rows }
+
+-- behind so many ports, rows of one more were read up to a place, of so many that are told
+pub record HasRows (bytes : List ℕ) (at count : ℕ) (ps : List PortRows) (p : PortRows) (rows : ℕ) : Type 0 where
+  pub begins : Begins bytes at (text_of (Rows count ps p rows))
+  pub new : IsNewAt count ps p.port p.mac
+  pub is : IsPortRows p
+  pub few : rows ≤ 16384
+
+-- the words come behind the last of these rows
+abbrev pub is_next : List (List ℕ) → List ℕ → Bool
+is_next [] words = true
+is_next (r ∷ []) words = is_before r words
+is_next (r ∷ s ∷ rs) words = is_next (s ∷ rs) words

@@ -1,3 +1,5 @@
 pub mod Numbers
+pub mod Rising
 pub mod Steps
 pub mod Judged
+pub mod Exits

@@ -1,6 +1,6 @@
 //! Numbers at a place of a file.
 
-ghost use Rattle.std.specs.Prelude.{◌≡◌, ◌≤◌, ◌+◌, ◌*◌, drop, length, take};
+ghost use Rattle.std.specs.Prelude.{◌≡◌, ◌≤◌, ◌+◌, ◌*◌, ◌<◌, ◌^◌, drop, length, take};
 ghost use Rattle.std.specs.List.{flat_map};
 ghost use Rattle.byteorder.specs.Endian.{big_bytes, big_number, little_bytes, little_number};
 ghost use Rattle.vsw_header.specs.Sum.{AreBytes};
@@ -34,6 +34,7 @@ pub(crate) fn number_at(bytes: &[u8], at: usize) -> u32
     requires { at + 4 ≤ length bytes.now }
     ensures value { result ≡ little_number 4 (drop at bytes.now) }
     ensures back { little_bytes 4 result ≡ take 4 (drop at bytes.now) }
+    ensures below { result < 2 ^ 32 }
 {
     number(&bytes[at..])
 }
@@ -53,8 +54,11 @@ pub(crate) fn address_at(bytes: &[u8], at: usize) -> Mac
     requires { at + 6 ≤ length bytes.now }
     ensures value { result ≡ big_number 6 (drop at bytes.now) }
     ensures back { big_bytes 6 result ≡ take 6 (drop at bytes.now) }
+    ensures below { result < 2 ^ 48 }
 {
-    address(&bytes[at..])
+    let mac = address(&bytes[at..]);
+    let _ = mac.number();
+    mac
 }
 
 /// Reads words of eight bytes each, the lowest first.

@@ -26,6 +26,7 @@ pub(crate) fn is_before(left: &[u64; 73], right: &[u64; 73]) -> bool
 }
 
 /// Whether a row comes behind the last of these.
+#[tactic(auto, using(crate::proofs::Rising::next_last))]
 pub(crate) fn is_next(rows: &[[u64; 73]], words: &[u64; 73]) -> bool
     ensures { result ≡ is_next rows.now words.now }
 {

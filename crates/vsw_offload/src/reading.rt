@@ -4,7 +4,7 @@ ghost use Rattle.std.specs.Prelude.{◌≡◌, ◌≢◌, ◌≤◌, ◌<◌, �
 ghost use Rattle.vsw_offload.specs.Bad as spec;
 ghost use Rattle.vsw_offload.specs.Bad.{Address, Begins, Done, Entries, Head, IsBadRows, Number, Ports, Reaches, next_size, ports_text, text_of};
 ghost use Rattle.vsw_offload.specs.Private.Reading.{HasRows, port_of};
-ghost use Rattle.vsw_offload.specs.Rows.{AreRows, is_among, macs_of, numbers_of};
+ghost use Rattle.vsw_offload.specs.Rows.{AreRows, head, is_among, macs_of, numbers_of, rows_bytes};
 ghost use Rattle.vsw_offload.specs.declared.fault.BadRows.TheVariants.{Memory};
 ghost use Rattle.vsw_offload.specs.declared.port_rows.PortRows.{PortRows};
 
@@ -16,8 +16,17 @@ use crate::port_rows::PortRows;
 use std::alloc::Global;
 use vsw_base::{Items, Mac};
 
+/// What a rows file begins with.
+const HEAD: [u8; 8] = *b"VSWROWS1";
+
 /// Bytes of the head.
 const HEAD_LEN: usize = 8;
+
+/// Bytes of a number.
+const NUMBER_LEN: usize = 4;
+
+/// Bytes of an address.
+const ADDRESS_LEN: usize = 6;
 
 /// The most ports of a file.
 const MOST_PORTS: u32 = 16;
@@ -62,7 +71,7 @@ fn read_number(bytes: &[u8], at: usize, ports: &[PortRows]) -> Result<u32, BadRo
     ensures ok { (count : ℕ) → Reaches bytes.now at (Ports count ports.now) → IfOk result (λ port. Reaches bytes.now (at + 4) (Number count ports.now port)) }
     ensures bad { (count : ℕ) → Reaches bytes.now at (Ports count ports.now) → IfErr result (λ why. IsBadRows bytes.now why) }
 {
-    whole(bytes, at, 4)?;
+    whole(bytes, at, NUMBER_LEN)?;
     let port = number_at(bytes, at);
     if has_number(ports, port) {
         return Err(BadRows::PortTwice { at: at as u64 });
@@ -77,9 +86,8 @@ fn read_address(bytes: &[u8], at: usize, ports: &[PortRows]) -> Result<Mac, BadR
     ensures ok { (count port : ℕ) → Reaches bytes.now at (Number count ports.now port) → IfOk result (λ mac. Reaches bytes.now (at + 6) (Address count ports.now port mac)) }
     ensures bad { (count port : ℕ) → Reaches bytes.now at (Number count ports.now port) → IfErr result (λ why. IsBadRows bytes.now why) }
 {
-    whole(bytes, at, 6)?;
+    whole(bytes, at, ADDRESS_LEN)?;
     let mac = address_at(bytes, at);
-    let _ = mac.number();
     if has_address(ports, mac) {
         return Err(BadRows::PortTwice { at: at as u64 });
     }
@@ -93,7 +101,7 @@ fn read_entries(bytes: &[u8], at: usize) -> Result<u32, BadRows>
     ensures ok { (count port mac : ℕ) (ps : List PortRows) → Reaches bytes.now at (Address count ps port mac) → IfOk result (λ entries. Reaches bytes.now (at + 4) (Entries count ps port mac entries)) }
     ensures bad { (count port mac : ℕ) (ps : List PortRows) → Reaches bytes.now at (Address count ps port mac) → IfErr result (λ why. IsBadRows bytes.now why) }
 {
-    whole(bytes, at, 4)?;
+    whole(bytes, at, NUMBER_LEN)?;
     Ok(number_at(bytes, at))
 }
 
@@ -104,7 +112,7 @@ fn read_row_count(bytes: &[u8], at: usize) -> Result<u32, BadRows>
     ensures ok { (count port mac entries : ℕ) (ps : List PortRows) → Reaches bytes.now at (Entries count ps port mac entries) → IfOk result (λ rows. HasRows bytes.now (at + 4) count ps (port_of port mac entries []) rows) }
     ensures bad { (count port mac entries : ℕ) (ps : List PortRows) → Reaches bytes.now at (Entries count ps port mac entries) → IfErr result (λ why. IsBadRows bytes.now why) }
 {
-    whole(bytes, at, 4)?;
+    whole(bytes, at, NUMBER_LEN)?;
     let rows = number_at(bytes, at);
     if rows > MOST_ROWS {
         return Err(BadRows::ManyRows { at: at as u64 });
@@ -157,12 +165,13 @@ fn read_rows(
     requires within { first ≤ length bytes.now }
     requires none { rows.old ≡ [] }
     ensures all { OnOk result (length rows.new ≡ count) }
+    ensures within { IfOk result (λ end. end ≤ length bytes.now) }
     ensures ok { (ports : ℕ) (ps : List PortRows) (port mac entries : ℕ) → HasRows bytes.now first ports ps (port_of port mac entries []) count → IfOk result (λ end. HasRows bytes.now end ports ps (port_of port mac entries rows.new) count) }
     ensures bad { (ports : ℕ) (ps : List PortRows) (port mac entries : ℕ) → HasRows bytes.now first ports ps (port_of port mac entries []) count → IfErr result (λ why. IsBadRows bytes.now why) }
 {
     let mut at = first;
     let mut rooms = Rooms::new();
-    for _row in 0..count {
+    for row in 0..count {
         read_row(bytes, at, rows, &mut rooms)?;
         at += ROW_LEN;
     }
@@ -193,11 +202,14 @@ fn read_port(
     ensures bad { (count : ℕ) → Reaches bytes.now at (Ports count ports.old) → IfErr result (λ why. IsBadRows bytes.now why) }
 {
     let port = read_number(bytes, at, ports.as_slice())?;
-    let mac = read_address(bytes, at + 4, ports.as_slice())?;
-    let entries = read_entries(bytes, at + 10)?;
-    let count = read_row_count(bytes, at + 14)?;
+    let mac_at = at + NUMBER_LEN;
+    let mac = read_address(bytes, mac_at, ports.as_slice())?;
+    let entries_at = mac_at + ADDRESS_LEN;
+    let entries = read_entries(bytes, entries_at)?;
+    let count_at = entries_at + NUMBER_LEN;
+    let count = read_row_count(bytes, count_at)?;
     let mut rows = Items::new(alloc);
-    let end = read_rows(bytes, at + 18, count, &mut rows)?;
+    let end = read_rows(bytes, count_at + NUMBER_LEN, count, &mut rows)?;
     push_port(
         ports,
         PortRows {
@@ -208,4 +220,72 @@ fn read_port(
         },
     )?;
     Ok(end)
+}
+
+/// All ports, of which none was read. It answers where they end.
+fn read_ports(
+    alloc: Global,
+    bytes: &[u8],
+    count: u32,
+    ports: &mut Items<PortRows>,
+) -> Result<usize, BadRows>
+    requires few { count ≤ 16 }
+    requires begins { Begins bytes.now 12 (ports_text count []) }
+    requires none { ports.old ≡ [] }
+    ensures all { OnOk result (length ports.new ≡ count) }
+    ensures ok { IfOk result (λ end. Begins bytes.now end (ports_text count ports.new) × AreRows ports.new) }
+    ensures bad { IfErr result (λ why. IsBadRows bytes.now why) }
+{
+    let mut at = HEAD_LEN + NUMBER_LEN;
+    for port in 0..count {
+        at = read_port(alloc, bytes, at, ports)?;
+    }
+    Ok(at)
+}
+
+/// Whether the bytes begin with the head.
+fn has_head(bytes: &[u8]) -> bool
+    ensures told { result ≡ true → (take 8 bytes.now ≡ head) × (8 ≤ length bytes.now) }
+    ensures back { take 8 bytes.now ≡ head → result ≡ true }
+{
+    match bytes.first_chunk::<8>() {
+        None => false,
+        Some(front) => *front == HEAD,
+    }
+}
+
+/// How many ports there are.
+fn read_count(bytes: &[u8]) -> Result<u32, BadRows>
+    requires within { 8 ≤ length bytes.now }
+    requires head { take 8 bytes.now ≡ head }
+    ensures few { IfOk result (λ count. count ≤ 16) }
+    ensures ok { IfOk result (λ count. Begins bytes.now 12 (ports_text count [])) }
+    ensures bad { IfErr result (λ why. IsBadRows bytes.now why) }
+{
+    whole(bytes, HEAD_LEN, NUMBER_LEN)?;
+    let count = number_at(bytes, HEAD_LEN);
+    if count > MOST_PORTS {
+        return Err(BadRows::ManyPorts {
+            at: HEAD_LEN as u64,
+        });
+    }
+    Ok(count)
+}
+
+/// The ports of a rows file, or what is first at fault.
+pub(crate) fn read_file(alloc: Global, bytes: &[u8]) -> Result<Items<PortRows>, BadRows>
+    ensures are { IfOk result (λ ports. AreRows ports) }
+    ensures file { IfOk result (λ ports. bytes.now ≡ rows_bytes ports) }
+    ensures bad { IfErr result (λ why. IsBadRows bytes.now why) }
+{
+    if !has_head(bytes) {
+        return Err(BadRows::NotRows);
+    }
+    let count = read_count(bytes)?;
+    let mut ports = Items::new(alloc);
+    let end = read_ports(alloc, bytes, count, &mut ports)?;
+    if end < bytes.len() {
+        return Err(BadRows::Extra { at: end as u64 });
+    }
+    Ok(ports)
 }

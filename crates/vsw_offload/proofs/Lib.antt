@@ -3,3 +3,5 @@ pub mod Rising
 pub mod Steps
 pub mod Judged
 pub mod Exits
+pub mod Answered
+pub mod Said

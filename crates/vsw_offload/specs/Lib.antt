@@ -1,3 +1,4 @@
 pub mod Rows
 pub mod Bad
+pub mod Answered
 pub mod Private

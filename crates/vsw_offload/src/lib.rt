@@ -3,10 +3,14 @@
 
 mod fault;
 mod judging;
+mod law;
 mod number;
 mod order;
 mod port_rows;
 mod reading;
+mod rows;
 
 pub use fault::BadRows;
+pub use law::laws;
 pub use port_rows::PortRows;
+pub use rows::Rows;

@@ -5,3 +5,5 @@ pub mod Judged
 pub mod Exits
 pub mod Answered
 pub mod Said
+pub mod Sorted
+pub mod Placed

@@ -6,11 +6,14 @@ mod judging;
 mod law;
 mod number;
 mod order;
+mod placing;
 mod port_rows;
 mod reading;
 mod rows;
+mod writing;
 
 pub use fault::BadRows;
 pub use law::laws;
 pub use port_rows::PortRows;
 pub use rows::Rows;
+pub use writing::write_rows;

@@ -17,7 +17,7 @@ use std::alloc::Global;
 use vsw_base::{Items, Mac};
 
 /// What a rows file begins with.
-const HEAD: [u8; 8] = *b"VSWROWS1";
+pub(crate) const HEAD: [u8; 8] = *b"VSWROWS1";
 
 /// Bytes of the head.
 const HEAD_LEN: usize = 8;

@@ -46,11 +46,11 @@ passes_with (verdict.Rule controller layer group rule) stop hs k w e = absurd (c
 passes_with (verdict.Default controller layer dir) stop hs k w e = absurd (cc e)
 
 told : (ls : List LayerSeen) (x : Crossing) (frame : List ℕ) (parts : Parts) (r : Row) (fate : Fate) (out : List ℕ) → frame_of frame ≡ Ok parts → is_stack parts.stack ≡ true → x.id.stack ≡ parts.stack → x.sizes ≡ sizes_of parts.levels → (v : Verdict)
-    → fate ≡ fate_by r parts v → out ≡ bytes_by r parts fate
+    → fate ≡ fate_by r.acts parts v → out ≡ bytes_by r.acts parts fate
     → (cross_of ls x).fate ≡ fate_after v (on_pass v (if is_long x (apply r.acts parts.stack) (kept r.acts) then Some Long else None)) (apply r.acts parts.stack) (kept r.acts)
     → (fate ≡ port.fate_at ls x) × Shows ls x parts fate out
-told ls x frame parts r fate out is good stack sizes (verdict.Rule controller layer group rule) f b c = (f ∙ sym (ap (port.fate_by x) c), subst (λ w. Shows ls x parts w out) (sym f) (b ∙ ap (bytes_by r parts) f))
-told ls x frame parts r fate out is good stack sizes (verdict.Default controller layer dir) f b c = (f ∙ sym (ap (port.fate_by x) c), subst (λ w. Shows ls x parts w out) (sym f) (b ∙ ap (bytes_by r parts) f))
+told ls x frame parts r fate out is good stack sizes (verdict.Rule controller layer group rule) f b c = (f ∙ sym (ap (port.fate_by x) c), subst (λ w. Shows ls x parts w out) (sym f) (b ∙ ap (bytes_by r.acts parts) f))
+told ls x frame parts r fate out is good stack sizes (verdict.Default controller layer dir) f b c = (f ∙ sym (ap (port.fate_by x) c), subst (λ w. Shows ls x parts w out) (sym f) (b ∙ ap (bytes_by r.acts parts) f))
 told ls x frame parts r fate out is good stack sizes verdict.Pass f b c = by (is_long x hs k) refl c
   where
     hs : List Header
@@ -66,7 +66,7 @@ told ls x frame parts r fate out is good stack sizes verdict.Pass f b c = by (is
     by true l c =
         let t : nat_lt 65535 (bytes.outer_total parts hs k) ≡ true = sym alike ∙ l in
         let g : fate ≡ Drop cause.Long = f ∙ rw t refl in
-        (g ∙ sym (ap (port.fate_by x) c), subst (λ w. Shows ls x parts w out) (sym g) (b ∙ ap (bytes_by r parts) g))
+        (g ∙ sym (ap (port.fate_by x) c), subst (λ w. Shows ls x parts w out) (sym g) (b ∙ ap (bytes_by r.acts parts) g))
     by false l c =
         let t : nat_lt 65535 (bytes.outer_total parts hs k) ≡ false = sym alike ∙ l in
         let g : fate ≡ Pass (length_of hs k) = f ∙ rw t refl in
@@ -74,7 +74,7 @@ told ls x frame parts r fate out is good stack sizes verdict.Pass f b c = by (is
         let long : length_of hs k ≡ outgoing_size x hs k = subst (λ n. length_of hs n ≡ outgoing_size x hs n) w.1 (subst (λ s. length_of s (walk_of ls x).kept ≡ outgoing_size x s (walk_of ls x).kept) w.0 (sized ls x parts frame is stack sizes)) in
         (
           g ∙ (ap Pass long ∙ sym (ap (port.fate_by x) c)),
-          subst (λ w. Shows ls x parts w out) (sym g) ((b ∙ ap (bytes_by r parts) g) ∙ (ap (λ s. bytes.outgoing parts s k) (sym w.0) ∙ ap (bytes.outgoing parts (walk_of ls x).stack) (sym w.1))),
+          subst (λ w. Shows ls x parts w out) (sym g) ((b ∙ ap (bytes_by r.acts parts) g) ∙ (ap (λ s. bytes.outgoing parts s k) (sym w.0) ∙ ap (bytes.outgoing parts (walk_of ls x).stack) (sym w.1))),
         )
       where
         length_of : List Header → ℕ → ℕ

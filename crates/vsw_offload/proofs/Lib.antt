@@ -7,3 +7,5 @@ pub mod Answered
 pub mod Said
 pub mod Sorted
 pub mod Placed
+pub mod Written
+pub mod Found

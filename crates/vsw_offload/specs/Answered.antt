@@ -1,5 +1,5 @@
 -- What the rows of a port answer a packet.
-use Rattle.std.specs.Prelude.{◌≡◌, ◌≢◌, ◌⊎◌, ◌<◌, ℕ, List, [], ◌∷◌, ◌++◌, true, length, Option, Some, None, Result, Ok, Err}
+use Rattle.std.specs.Prelude.{◌≡◌, ◌≢◌, ◌⊎◌, ◌<◌, ℕ, zero, suc, List, [], ◌∷◌, ◌++◌, true, take, Option, Some, None, Result, Ok, Err}
 use Rattle.vsw_base.specs.declared.fate.Cause.{Cause}
 use Rattle.vsw_base.specs.declared.fate.Cause.TheVariants as cause
 use Rattle.vsw_base.specs.declared.fate.Fate.{Fate}
@@ -8,10 +8,12 @@ use Rattle.vsw_base.specs.declared.fate.Verdict.{Verdict}
 use Rattle.vsw_base.specs.declared.fate.Verdict.TheVariants as verdict
 use Rattle.vsw_base.specs.declared.fault.Long.{Long}
 use Rattle.vsw_base.specs.declared.flow.Crossing.{Crossing}
+use Rattle.vsw_base.specs.declared.flow.Place.{Place}
 use Rattle.vsw_base.specs.declared.packet.Control.TheVariants as control
 use Rattle.vsw_base.specs.Frame.{Parts, frame_of, sizes_of}
 use Rattle.vsw_base.specs.Shape.{is_stack}
 use Rattle.vsw_frame.specs.Bytes.{answer, outgoing}
+use Rattle.vsw_offload.specs.declared.port_rows.PortRows.{PortRows}
 use Rattle.vsw_policy.specs.Sound.{Each}
 use Rattle.vsw_port.specs.declared.event.Event.{Event}
 use Rattle.vsw_port.specs.Calls.{Carried, Reads, ShowsAt}
@@ -19,6 +21,7 @@ use Rattle.vsw_port.specs.History.{Opening, replay}
 use Rattle.vsw_rows.specs.Good.{MayAnswer, Row}
 use Rattle.vsw_rows.specs.GoodRows.{IsGoodRow}
 use Rattle.vsw_rows.specs.Rows.{Says}
+use Rattle.vsw_transpose.specs.declared.act.Act.{Act}
 use Rattle.vsw_transpose.specs.Apply.{apply}
 use Rattle.vsw_transpose.specs.Fits.{kept}
 
@@ -27,15 +30,15 @@ abbrev pub passed : Result ℕ Long → Fate
 passed (Ok len) = Pass len
 passed (Err why) = Drop cause.Long
 
--- the fate of a frame by a row
-abbrev pub fate_by : Row → Parts → Verdict → Fate
-fate_by r p verdict.Pass = passed (answer p (apply r.acts p.stack) (kept r.acts))
-fate_by r p (verdict.Rule controller layer group rule) = Drop (cause.Rule controller layer group rule)
-fate_by r p (verdict.Default controller layer dir) = Drop (cause.Default controller layer dir)
+-- the fate of a frame by what a row says: a verdict, and acts
+abbrev pub fate_by : List Act → Parts → Verdict → Fate
+fate_by acts p verdict.Pass = passed (answer p (apply acts p.stack) (kept acts))
+fate_by acts p (verdict.Rule controller layer group rule) = Drop (cause.Rule controller layer group rule)
+fate_by acts p (verdict.Default controller layer dir) = Drop (cause.Default controller layer dir)
 
-abbrev pub bytes_by : Row → Parts → Fate → List ℕ
-bytes_by r p (Pass len) = outgoing p (apply r.acts p.stack) (kept r.acts)
-bytes_by r p (Drop why) = []
+abbrev pub bytes_by : List Act → Parts → Fate → List ℕ
+bytes_by acts p (Pass len) = outgoing p (apply acts p.stack) (kept acts)
+bytes_by acts p (Drop why) = []
 
 -- words among these say this row
 pub data SaysOne (rows : List (List ℕ)) (r : Row) : Type 0 where
@@ -50,12 +53,30 @@ pub record IsAnswered (rows : List (List ℕ)) (x : Crossing) (p : Parts) (fate 
   pub row : Row
   pub says : SaysOne rows row
   pub may : MayAnswer row x
-  pub fate_is : fate ≡ fate_by row p row.verdict
-  pub bytes_are : bytes ≡ bytes_by row p fate
+  pub fate_is : fate ≡ fate_by row.acts p row.verdict
+  pub bytes_are : bytes ≡ bytes_by row.acts p fate
 
 abbrev pub Answered : List (List ℕ) → Crossing → Parts → Option Fate → List ℕ → Type 0
 Answered rows x p None bytes = IsUnanswered rows x
 Answered rows x p (Some fate) bytes = IsAnswered rows x p fate bytes
+
+-- the rows of the port at a place
+abbrev pub rows_at : List PortRows → ℕ → List (List ℕ)
+rows_at [] n = []
+rows_at (p ∷ ps) zero = p.rows
+rows_at (p ∷ ps) (suc n) = rows_at ps n
+
+-- the bytes that were put at the front of a room
+abbrev pub bytes_left : Option Fate → List ℕ → List ℕ
+bytes_left None out = []
+bytes_left (Some (Pass len)) out = take len out
+bytes_left (Some (Drop why)) out = []
+
+-- a packet of a frame, at a port and a moment
+pub record IsPacketOf (x : Crossing) (place : Place) (p : Parts) (moment : ℕ) : Type 0 where
+  pub id : x.id ≡ record { dir = place.dir; stack = p.stack }
+  pub control : x.control ≡ p.control
+  pub moment_is : x.moment ≡ moment
 
 -- ---- what holds of it
 

@@ -2,6 +2,7 @@
 #![tactic(auto)]
 
 mod fault;
+mod finding;
 mod judging;
 mod law;
 mod number;

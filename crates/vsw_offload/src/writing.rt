@@ -1,10 +1,10 @@
 //! A rows file, written.
 
-ghost use Rattle.std.specs.Prelude.{◌≡◌, ◌<◌, ◌≤◌, ◌+◌, ◌*◌, ◌++◌, ◌∷◌, [], IfOk, OnOk, codes, length, map};
+ghost use Rattle.std.specs.Prelude.{◌≡◌, ◌<◌, ◌≤◌, ◌+◌, ◌*◌, ◌++◌, ◌∷◌, [], IfOk, OnOk, get_or, length, map};
 ghost use Rattle.std.specs.List.{flat_map};
 ghost use Rattle.byteorder.specs.Endian.{big_bytes, little_bytes};
 ghost use Rattle.vsw_offload.specs.Private.Writing.{AreBelow, placed};
-ghost use Rattle.vsw_offload.specs.Rows.{all_rows_bytes, head, ordered, port_bytes, row_bytes, rows_bytes};
+ghost use Rattle.vsw_offload.specs.Rows.{all_rows_bytes, ordered, port_bytes, row_bytes, rows_bytes};
 ghost use Rattle.vsw_policy.specs.Sound.{Each};
 
 use crate::placing::{at_place, places_in_order};
@@ -54,13 +54,20 @@ fn write_row(words: &[u64; 73], out: &mut Vec<u8>) -> Result<(), NoMemory>
     append(out, &bytes)
 }
 
+fn place_at(places: &[u32], index: usize) -> u32
+    requires { index < length places.now }
+    ensures { result ≡ get_or places.now index 0 }
+{
+    places[index]
+}
+
 /// The rows at places, one after the other.
 fn write_placed(rows: &[[u64; 73]], places: &[u32], out: &mut Vec<u8>) -> Result<(), NoMemory>
-    requires { AreBelow (length rows.now) places.now }
+    requires below { AreBelow (length rows.now) places.now }
     ensures { OnOk result (out.new.items ≡ out.old.items ++ all_rows_bytes (placed rows.now places.now)) }
 {
-    for place in places {
-        write_row(at_place(rows, *place), out)?;
+    for index in 0..places.len() {
+        write_row(at_place(rows, place_at(places, index)), out)?;
     }
     Ok(())
 }

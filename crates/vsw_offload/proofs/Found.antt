@@ -1,5 +1,6 @@
 -- A row is looked for from the middle.
 use Rattle.std.proofs.Common.{◌≡◌, ◌<◌, ℕ, List, [], ◌∷◌, ◌++◌, Bool, true, false, true≢false, refl, ap, sym, ◌∙◌, subst}
+use Rattle.std.specs.Prelude.{IfNone, IfSome, None, Option, Some}
 use Rattle.std.proofs.lemmas.List.{append_assoc}
 use Rattle.vsw_offload.proofs.Sorted.{less_not_self, less_trans, rise_behind, rise_split, rise_tail}
 use Rattle.vsw_offload.specs.Private.Finding.{HasNone, HasOne}
@@ -53,3 +54,11 @@ pub none_ahead : (rows front : List (List ℕ)) (r : List ℕ) (back : List (Lis
 none_ahead rows front r back key is rise less other none =
     let s = rise_split front r back (subst Rise is rise) in
     subst (λ rs. HasNone rs key) (sym is) (join front r back key none (λ same. true≢false (sym (other same))) (greater r key back less (rise_behind r back s.1)))
+
+pub some_on : {X : Type 0} (r : Option X) (P Q : X → Type 0) → ((x : X) → P x → Q x) → IfSome r P → IfSome r Q
+some_on (Some x) P Q f h = f x h
+some_on None P Q f h = tt
+
+pub none_on : {X : Type 0} (r : Option X) (A B : Type 0) → (A → B) → IfNone r A → IfNone r B
+none_on (Some x) A B f h = tt
+none_on None A B f h = f h

@@ -9,3 +9,4 @@ pub mod Sorted
 pub mod Placed
 pub mod Written
 pub mod Found
+pub mod ByRow

@@ -48,7 +48,7 @@ fn identity_in(words: &[u64; 73], out: &mut Ufid) -> bool
 }
 
 /// Reads the body of a row's words. False exactly where they are of none.
-fn body_in(words: &[u64; 73], out: &mut Body) -> bool
+pub(crate) fn body_in(words: &[u64; 73], out: &mut Body) -> bool
     ensures told { result ≡ true → IsTold (drop 16 words.now) out.new.verdict out.new.by out.new.until }
     ensures back { (verdict : Verdict) (by : List Act) (until : ℕ) → IsBody verdict by → drop 16 words.now ≡ body_words verdict by until → (result ≡ true) × (out.new.verdict ≡ verdict) × (out.new.by ≡ by) × (out.new.until ≡ until) }
 {

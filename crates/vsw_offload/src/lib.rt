@@ -1,8 +1,10 @@
 //! The rows of ports as a file, written and read to the byte, and what such rows answer a frame.
 #![tactic(auto)]
 
+mod answer;
 mod fault;
 mod finding;
+mod id;
 mod judging;
 mod law;
 mod number;
@@ -14,6 +16,7 @@ mod rows;
 mod writing;
 
 pub use fault::BadRows;
+pub use id::id_of;
 pub use law::laws;
 pub use port_rows::PortRows;
 pub use rows::Rows;

@@ -380,6 +380,53 @@ class Tools(unittest.TestCase):
             self.assertEqual([members["line"] for members in made], list(range(1, lines + 1)), folder)
 
 
+def rows_file(*rows: dict[int, int]) -> bytes:
+    """The file of port 1, whose address ends in 1, with these rows: the words that aren't 0, by their places."""
+    front = b"VSWROWS1" + struct.pack("<II", 1, 1) + bytes.fromhex("020000000001") + struct.pack("<II", 0, len(rows))
+    return front + b"".join(struct.pack("<73Q", *(row.get(place, 0) for place in range(73))) for row in rows)
+
+
+# Queries from 10.0.0.5:1234 to 10.0.0.9:53 of the table of docs/FORMATS.md, with each header left as it is.
+ROW = {0: 0x0035_04D2_0800_1131, 2: 0x0200_0000_0099, 3: 0x0200_0000_0001, 8: 0x0A00_0005_0A00_0009, 17: 2**64 - 1, 18: 3, 19: 8, 22: 8, 25: 8}
+# Their answers, which come to the port in VXLAN: it is popped, and the destination is written.
+ANSWER = {0: 0x04D2_0035_0800_1137, 1: 5001, 2: 0x0200_0000_0A02, 3: 0x0200_0000_0A01, 4: 0x0200_0000_0001, 5: 0x0200_0000_0099,
+          8: 0xAC10_0001_AC10_0002, 9: 0x0A00_0009_C000_0207, 17: 240_000_001, 18: 6, 19: 4, 22: 4, 25: 4, 28: 8, 31: 0x26, 33: 0x0A00_0005, 34: 8}
+# Dropped by rule 3 of group 2 in layer 10 of controller 1, and by a default, a frame of ARP.
+DROP = {**{place: word for place, word in ROW.items() if place < 18}, 0: 0x0036_04D2_0800_1131, 16: 1, 19: 1 | 10 << 16 | 2 << 32 | 3 << 48}
+ARP = {0: 0x0806_0001, 2: 0xFFFF_FFFF_FFFF, 3: 0x0200_0000_0001, 16: 2, 17: 2**64 - 1, 19: 1 | 10 << 16}
+
+
+class Rows(unittest.TestCase):
+    """Rows files in words, as a tool tells them."""
+
+    def told(self, data: bytes) -> subprocess.CompletedProcess[str]:
+        with tempfile.NamedTemporaryFile() as file:
+            file.write(data)
+            file.flush()
+            return run_tool("rows_text", file.name)
+
+    def test_a_row_a_line(self) -> None:
+        self.assertEqual(len(rows_file(ROW)), 614)
+        done = self.told(rows_file(ARP, ROW, DROP, ANSWER))
+        self.assertEqual(done.stdout.splitlines(), [
+            "port 1 02:00:00:00:00:01: 4 rows after 0 entries",
+            "port 1 out 02:00:00:00:00:01 > ff:ff:ff:ff:ff:ff ARP: drop by the default of layer 10 of controller 1 for outbound packets, without an end",
+            "port 1 out 02:00:00:00:00:01 > 02:00:00:00:00:99 UDP 10.0.0.5:1234 > 10.0.0.9:53: pass, without an end",
+            "port 1 out 02:00:00:00:00:01 > 02:00:00:00:00:99 UDP 10.0.0.5:1234 > 10.0.0.9:54: drop by rule 3 of group 2 in layer 10 of controller 1, without an end",
+            "port 1 in vxlan 5001 172.16.0.1 > 172.16.0.2, 02:00:00:00:00:99 > 02:00:00:00:00:01 UDP 10.0.0.9:53 > 192.0.2.7:1234: pass, pop, pop, pop, "
+            "set IPv4 destination 10.0.0.5, until 240.000001"])
+        self.assertEqual((done.returncode, done.stderr), (0, ""))
+
+    def test_what_is_no_rows_file(self) -> None:
+        whole = rows_file(ROW)
+        for data, why in (whole[:7], "not a rows file"), (whole[:613], "cut at byte 30"), (whole + b"\0", "more bytes behind the last port at byte 614"), \
+                (whole[:8] + b"\x11" + whole[9:], "too many ports at byte 8"), (whole[:27] + b"\x41" + whole[28:], "too many rows at byte 26"), \
+                (rows_file(ROW, ROW), "the key doesn't rise at byte 614"):
+            done = self.told(data)
+            self.assertEqual((done.returncode, done.stdout), (5, ""))
+            self.assertIn(why, done.stderr)
+
+
 class Definitions(unittest.TestCase):
     """Which definitions others name (vswlib.specs), over a repository of two crates."""
 

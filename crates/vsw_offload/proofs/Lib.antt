@@ -10,3 +10,5 @@ pub mod Placed
 pub mod Written
 pub mod Found
 pub mod ByRow
+pub mod Cut
+pub mod Exact

@@ -1,4 +1,5 @@
 pub mod Rows
 pub mod Bad
 pub mod Answered
+pub mod Exact
 pub mod Private

@@ -17,7 +17,7 @@ mod writing;
 
 pub use fault::BadRows;
 pub use id::id_of;
-pub use law::laws;
+pub use law::{file_laws, laws};
 pub use port_rows::PortRows;
 pub use rows::Rows;
 pub use writing::write_rows;

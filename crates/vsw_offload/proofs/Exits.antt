@@ -17,6 +17,10 @@ pub exit : {T : Type 0} (bytes : List ℕ) (r : Result T BadRows) (e : BadRows) 
 exit bytes (Ok x) e h b = absurd h
 exit bytes (Err y) e h b = subst (IsBadRows bytes) (sym h) b
 
+pub exit_as : {T : Type 0} (P : BadRows → Type 0) (r : Result T BadRows) (e : BadRows) → IsErrAnd r (λ y. y ≡ e) → P e → IfErr r P
+exit_as P (Ok x) e h p = absurd h
+exit_as P (Err y) e h p = subst P (sym h) p
+
 -- want of memory is no fault of the bytes
 pub memory : {T : Type 0} (bytes : List ℕ) (r : Result T BadRows) → IfErr r (λ why. why ≡ Memory) → IfErr r (λ why. IsBadRows bytes why)
 memory bytes (Ok x) h = tt

@@ -7,6 +7,8 @@ ghost use Rattle.vsw_offload.specs.Answered.{Answered, IsPacketOf, bytes_left, r
 ghost use Rattle.vsw_offload.specs.Bad.{IsBadRows};
 ghost use Rattle.vsw_offload.specs.Rows.{AreRows, rows_bytes};
 ghost use Rattle.vsw_policy.specs.Sound.{Each};
+ghost use Rattle.vsw_offload.specs.declared.fault.BadRows.TheVariants.{Memory};
+ghost use Rattle.vsw_offload.specs.declared.port_rows.PortRows.{PortRows};
 
 use crate::answer::answer;
 use crate::fault::BadRows;
@@ -36,11 +38,14 @@ impl Model for Rows {
 }
 
 impl Rows {
-    /// The rows of a file of these bytes, or why they are none: the first part, as they are read, that is at fault.
+    /// The rows of a file of these bytes, or why they are none: the first part, as they are read, that is at fault. A rows file is
+    /// refused for want of memory alone.
     pub fn read(alloc: Global, bytes: &[u8]) -> Result<Rows, BadRows>
         ensures are { IfOk result (λ rows. AreRows rows) }
         ensures file { IfOk result (λ rows. bytes.now ≡ rows_bytes rows) }
         ensures bad { IfErr result (λ why. IsBadRows bytes.now why) }
+        ensures taken { (ps : List PortRows) → AreRows ps → bytes.now ≡ rows_bytes ps → IfErr result (λ why. why ≡ Memory) }
+        ensures same { (ps : List PortRows) → AreRows ps → bytes.now ≡ rows_bytes ps → IfOk result (λ rows. rows ≡ ps) }
     {
         let ports = read_file(alloc, bytes)?;
         Ok(Rows { ports })

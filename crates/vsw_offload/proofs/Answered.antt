@@ -71,8 +71,7 @@ told ls x frame parts r fate out is good stack sizes verdict.Pass f b c = by (is
         let t : nat_lt 65535 (bytes.outer_total parts hs k) ≡ false = sym alike ∙ l in
         let g : fate ≡ Pass (length_of hs k) = f ∙ rw t refl in
         let w = passes_with (walk_of ls x).verdict _ (walk_of ls x).stack (walk_of ls x).kept (record { stack = hs; kept = k }) c in
-        let long : length_of hs k ≡ outgoing_size x hs k = subst (λ n. length_of hs n ≡ outgoing_size x hs n) w.1 (subst (λ s. length_of s (walk_of ls x).kept ≡ outgoing_size x s (walk_of ls x).kept) w.0 (sized ls x parts frame is stack sizes)) in
-        (
+        let long : length_of hs k ≡ outgoing_size x hs k = subst (λ n. length_of hs n ≡ outgoing_size x hs n) w.1 (subst (λ s. length_of s (walk_of ls x).kept ≡ outgoing_size x s (walk_of ls x).kept) w.0 (sized ls x parts frame is stack sizes)) in (
           g ∙ (ap Pass long ∙ sym (ap (port.fate_by x) c)),
           subst (λ w. Shows ls x parts w out) (sym g) ((b ∙ ap (bytes_by r.acts parts) g) ∙ (ap (λ s. bytes.outgoing parts s k) (sym w.0) ∙ ap (bytes.outgoing parts (walk_of ls x).stack) (sym w.1))),
         )
@@ -92,6 +91,6 @@ rows_answer_as_layers one o h rows x frame parts fate out all is good stack size
         let same : theirs.row ≡ a.row = one words theirs.row a.row (record { words_is = theirs.words_is; id = theirs.id; body = theirs.body }) says in
         let crossed : cross_of ls x ≡ answer_by ls a.row x = row_answers ls a.row x (subst (Good ls) same theirs.good) a.may in
         let at : (cross_of ls x).fate ≡ fate_after a.row.verdict (on_pass a.row.verdict (if is_long x (apply a.row.acts parts.stack) (kept a.row.acts) then Some Long else None)) (apply a.row.acts parts.stack) (kept a.row.acts) =
-            subst (λ s. (cross_of ls x).fate ≡ fate_after a.row.verdict (on_pass a.row.verdict (if is_long x (apply a.row.acts s) (kept a.row.acts) then Some Long else None)) (apply a.row.acts s) (kept a.row.acts)) stack (ap (λ c. c.fate) crossed) in
+        subst (λ s. (cross_of ls x).fate ≡ fate_after a.row.verdict (on_pass a.row.verdict (if is_long x (apply a.row.acts s) (kept a.row.acts) then Some Long else None)) (apply a.row.acts s) (kept a.row.acts)) stack (ap (λ c. c.fate) crossed) in
         let t = told ls x frame parts a.row fate out is good stack sizes a.row.verdict a.fate_is a.bytes_are at in
         ((t.0, ap (λ c. c.changed) crossed), t.1)

@@ -56,14 +56,20 @@ reaches_row bytes at count ps p told h more = record { begins = h.begins; open_i
 
 pub bad_row : (bytes : List ℕ) (at count : ℕ) (ps : List PortRows) (p : PortRows) (told : ℕ) (words : List ℕ) → HasRows bytes at count ps p told → length p.rows < told → at + 584 ≤ length bytes → words ≡ row_at bytes at → (IsRow words → false ≡ true) → HasBadRow bytes at
 bad_row bytes at count ps p told words h more whole is back = record {
-  count = count; ps = ps; p = p; rows = told;
+  count = count;
+  ps = ps;
+  p = p;
+  rows = told;
   stands = record { reaches = reaches_row bytes at count ps p told h more; whole = whole };
   bad = λ r. true≢false (sym (back (subst IsRow (sym is) r)));
 }
 
 pub falls : (bytes : List ℕ) (at count : ℕ) (ps : List PortRows) (p : PortRows) (told : ℕ) (words : List ℕ) → HasRows bytes at count ps p told → length p.rows < told → at + 584 ≤ length bytes → words ≡ row_at bytes at → IsRow words → is_next p.rows words ≡ false → Falls bytes at
 falls bytes at count ps p told words h more whole is row next = record {
-  count = count; ps = ps; p = p; rows = told;
+  count = count;
+  ps = ps;
+  p = p;
+  rows = told;
   stands = record { reaches = reaches_row bytes at count ps p told h more; whole = whole };
   good = subst IsRow is row;
   falls = λ rise. next_not p.rows words next (subst (λ w. Rise (p.rows ++ w ∷ [])) (sym is) rise);

@@ -16,6 +16,7 @@ use vsw_base::{Mac, NoMemory};
 
 /// Bytes of a file before its ports, and of a port before its rows.
 const FRONT_LEN: usize = 12;
+
 const PORT_LEN: usize = 18;
 
 /// Bytes of a row.

@@ -27,7 +27,11 @@ fn answered(alloc: Global, file: &[u8], frame: &[u8], dir: Dir, moment: u64) -> 
     let read = read_frame(frame, &mut room).ok()?;
     let mut out = [0; 65_700];
     let fate = rows.answer(Place { port: 0, dir }, &read, Moment::of(moment), &mut out)?;
-    if &out[..44] == frame { Some(fate) } else { None }
+    if &out[..44] == frame {
+        Some(fate)
+    } else {
+        None
+    }
 }
 
 #[test]

@@ -60,16 +60,19 @@ fn parts_that_are_cut(rt: HostRuntime) {
         why_cut(alloc, 613),
         why_cut(alloc, 614),
     ];
-    assert!(&rt; found == [
-        Some(BadRows::NotRows),
-        Some(BadRows::Cut { at: 8 }),
-        Some(BadRows::Cut { at: 12 }),
-        Some(BadRows::Cut { at: 16 }),
-        Some(BadRows::Cut { at: 22 }),
-        Some(BadRows::Cut { at: 26 }),
-        Some(BadRows::Cut { at: 30 }),
-        None,
-    ]);
+    assert!(&rt;
+        found
+            == [
+                Some(BadRows::NotRows),
+                Some(BadRows::Cut { at: 8 }),
+                Some(BadRows::Cut { at: 12 }),
+                Some(BadRows::Cut { at: 16 }),
+                Some(BadRows::Cut { at: 22 }),
+                Some(BadRows::Cut { at: 26 }),
+                Some(BadRows::Cut { at: 30 }),
+                None,
+            ]
+    );
 }
 
 #[test]
@@ -80,11 +83,14 @@ fn numbers_that_are_too_great(rt: HostRuntime) {
         why_with(alloc, 8, 17),
         why_with(alloc, 27, 0x41),
     ];
-    assert!(&rt; found == [
-        Some(BadRows::NotRows),
-        Some(BadRows::ManyPorts { at: 8 }),
-        Some(BadRows::ManyRows { at: 26 }),
-    ]);
+    assert!(&rt;
+        found
+            == [
+                Some(BadRows::NotRows),
+                Some(BadRows::ManyPorts { at: 8 }),
+                Some(BadRows::ManyRows { at: 26 }),
+            ]
+    );
 }
 
 #[test]
@@ -95,11 +101,14 @@ fn ports_that_stand_already(rt: HostRuntime) {
         why(alloc, &two_ports(1, 1, 2, 1)),
         why(alloc, &two_ports(1, 1, 2, 2)),
     ];
-    assert!(&rt; found == [
-        Some(BadRows::PortTwice { at: 30 }),
-        Some(BadRows::PortTwice { at: 34 }),
-        None,
-    ]);
+    assert!(&rt;
+        found
+            == [
+                Some(BadRows::PortTwice { at: 30 }),
+                Some(BadRows::PortTwice { at: 34 }),
+                None,
+            ]
+    );
 }
 
 #[test]
@@ -113,12 +122,15 @@ fn rows_that_are_none(rt: HostRuntime) {
         why_behind(alloc, 1, &[0]),
         why_behind(alloc, 2, &[0]),
     ];
-    assert!(&rt; found == [
-        Some(BadRows::BadRow { at: 30 }),
-        Some(BadRows::BadRow { at: 30 }),
-        Some(BadRows::BadRow { at: 30 }),
-        Some(BadRows::Order { at: 614 }),
-        Some(BadRows::Extra { at: 614 }),
-        Some(BadRows::Cut { at: 614 }),
-    ]);
+    assert!(&rt;
+        found
+            == [
+                Some(BadRows::BadRow { at: 30 }),
+                Some(BadRows::BadRow { at: 30 }),
+                Some(BadRows::BadRow { at: 30 }),
+                Some(BadRows::Order { at: 614 }),
+                Some(BadRows::Extra { at: 614 }),
+                Some(BadRows::Cut { at: 614 }),
+            ]
+    );
 }

@@ -16,5 +16,5 @@ loop-index-preserved c =
     let lt : c.loop-index.index < length c.args.places.now = omega (arith, c.loop-index-test.true) in
     record {
       items = written_on rows c.args.places.now c.loop-index.index c.args.out.now.items before c.write_row.new.out.items lt c.loop-index.invariant.items
-      (c.in_ok-write_row.ensures ∙ ap (λ x. before ++ row_bytes x) (c.at_place.ensures ∙ ap (at_place rows) c.place_at.ensures));
+          (c.in_ok-write_row.ensures ∙ ap (λ x. before ++ row_bytes x) (c.at_place.ensures ∙ ap (at_place rows) c.place_at.ensures));
     }

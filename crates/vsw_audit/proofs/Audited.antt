@@ -6,20 +6,20 @@ use Rattle.vsw_config.specs.declared.file.PortFile.{PortFile}
 use Rattle.vsw_pcap.specs.declared.capture.Record.{Record}
 use Rattle.vsw_policy.specs.Sound.{Each}
 use Rattle.vsw_port.specs.declared.event.Event.{Event}
-use Rattle.vsw_port.specs.Calls.{AreShares, Call, HasBytes, IsCall, IsOneOrder, Job, ShowsAt, calls_of, entries_naming, entries_of, job_doer, named}
+use Rattle.vsw_port.specs.Calls.{AreShares, Call, HasBytes, IsCall, IsOneOrder, ShowsAt, calls_of, entries_naming, entries_of, job_doer, named}
 use Rattle.vsw_port.specs.History.{AllRight, Opening, replay}
 use Rattle.vsw_port.specs.Order.{StandsOnce}
 use Rattle.vsw_port.proofs.Calls.{calls_append, each_of_all, entries_append}
-use Rattle.vsw_port.proofs.Fronts.{prefix_take, prefix_trans, take_prefix}
+use Rattle.vsw_port.proofs.Fronts.{prefix_take, take_prefix}
 use Rattle.vsw_port.proofs.Next.{count_within, naming_append, naming_calls}
 use Rattle.vsw_promise.specs.Ports.{PortSeen, port_of, ports_of}
 use Rattle.vsw_promise.specs.Told.{callers}
 use Rattle.vsw_promise.proofs.Exists.{begin_self, begin_trans, no_counts, none_yet, ports_later}
-use Rattle.vsw_promise.proofs.PortRounds.{port_round_later, take_length, take_whole}
+use Rattle.vsw_promise.proofs.PortRounds.{take_length}
 use Rattle.vsw_report.specs.declared.round.PortRound.{PortRound}
 use Rattle.vsw_report.specs.declared.round.Round.{Round}
 use Rattle.vsw_history_law.proofs.Values.{jobs_stand, right_front}
-use Rattle.vsw_audit.specs.Audit.{AreKnown, AuditIsComplete, AuditIsSound, PortsReplay, ReplayDecides, RoundReplays, RunReplays}
+use Rattle.vsw_audit.specs.Audit.{AreKnown, AuditIsComplete, AuditIsSound, PortsReplay, ReplayDecides, RunReplays}
 use Rattle.vsw_audit.specs.Check.{OneAnswer, checked}
 use Rattle.vsw_promise.specs.Jobs.{Jobs, Setting, cuts, jobs_of}
 use Rattle.vsw_audit.specs.Replay.{Replays, continued}

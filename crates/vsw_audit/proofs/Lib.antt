@@ -3,3 +3,13 @@ pub mod Standing
 pub mod Replaying
 pub mod Replayed
 pub mod Audited
+pub mod Tasks
+pub mod Going
+pub mod Carrying
+pub mod Ending
+pub mod Dealt
+pub mod Cutting
+pub mod Rounding
+pub mod Checking
+pub mod Judging
+pub mod Porting

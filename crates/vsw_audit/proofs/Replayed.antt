@@ -1,29 +1,25 @@
 -- A round is replayed.
-use Rattle.std.proofs.Common.{◌≡◌, ◌≢◌, ◌≤◌, ◌<◌, ◌+◌, ◌-◌, ◌==◌, ◌&&◌, not, Bool, true, false, true≢false, if◌then◌else◌, ℕ, zero, suc, List, [], ◌∷◌, ◌++◌, length, map, filter, take, Option, Some, None, slice_get, refl, ap, sym, subst, ◌∙◌, arith, eq-eqb, ne_eqb}
+use Rattle.std.proofs.Common.{◌≡◌, ◌≢◌, ◌≤◌, ◌+◌, ◌-◌, ◌==◌, ◌&&◌, not, Bool, true, false, true≢false, if◌then◌else◌, ℕ, zero, suc, List, [], ◌∷◌, ◌++◌, length, map, filter, take, Option, Some, None, slice_get, refl, ap, sym, subst, ◌∙◌, arith, eq-eqb, ne_eqb}
 use Rattle.std.specs.List.{flat_map}
 use native.Mathlib.Decide.{ℕ_discrete}
-use mathlib.Core.List.{IsPrefix}
 use Rattle.vsw_policy.specs.Sound.{Each}
 use Rattle.vsw_port.specs.declared.event.Event.{Event}
-use Rattle.vsw_port.specs.Calls.{AreShares, Call, Entry, HasBytes, InOrder, IsCall, IsOneOrder, IsShare, Job, Read, Short, calls_of, doer, entries_of, event_of, job_doer, job_of, jobs_by, named, next_count}
-use Rattle.vsw_port.specs.History.{Opening, AllRight}
+use Rattle.vsw_port.specs.Calls.{AreShares, Call, Entry, HasBytes, InOrder, IsCall, IsOneOrder, Read, Short, calls_of, doer, entries_of, event_of, job_doer, job_of, jobs_by, named, next_count}
+use Rattle.vsw_port.specs.History.{Opening}
 use Rattle.vsw_port.specs.Order.{StandsOnce}
 use Rattle.vsw_port.proofs.Calls.{each_of_all, order_lower}
 use Rattle.vsw_port.proofs.Fronts.{take_prefix}
-use Rattle.vsw_port.proofs.Next.{count_next, each_of, named_doer}
+use Rattle.vsw_port.proofs.Next.{named_doer}
 use Rattle.vsw_promise.proofs.PortRounds.{take_length, take_whole}
-use Rattle.vsw_promise.specs.Jobs.{Jobs}
-use Rattle.vsw_promise.specs.Ports.{PortSeen}
-use Rattle.vsw_promise.specs.Rounds.{IsPortRound, opening_of}
-use Rattle.vsw_promise.specs.Told.{callers, entry_at, in_told_order, line_of, reads_at, reads_by_caller}
-use Rattle.vsw_report.specs.declared.round.PortRound.{PortRound}
+use Rattle.vsw_promise.specs.Rounds.{opening_of}
+use Rattle.vsw_promise.specs.Told.{callers, entry_at, in_told_order, reads_at, reads_by_caller}
 use Rattle.vsw_history_law.proofs.Callers.{eqb_is}
 use Rattle.vsw_history_law.proofs.Reports.{doer_job, each_told, jobs_of_calls, map_each, round_jobs}
 use Rattle.vsw_history_law.proofs.Telling.{drops, entry_test, none_below, told_calls}
 use Rattle.vsw_history_law.proofs.Ones as values
 use Rattle.vsw_history_law.proofs.Ones.{runs_of}
 use Rattle.vsw_many.proofs.Orders.{each_same, one_order, order_is_free, shares_same}
-use Rattle.vsw_audit.specs.Replay.{ReplayIsComplete, Replays, Runs}
+use Rattle.vsw_audit.specs.Replay.{ReplayIsComplete, Runs}
 use Rattle.vsw_audit.proofs.Replaying.{take_more}
 
 -- ---- at most one call is the entry of a number

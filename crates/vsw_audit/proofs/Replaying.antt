@@ -1,21 +1,16 @@
 -- Lines that are replayed are a round.
-use Rattle.std.proofs.Common.{◌≡◌, ◌≤◌, ◌+◌, ◌-◌, ℕ, zero, suc, List, [], ◌∷◌, ◌++◌, length, map, take, refl, ap, sym, subst, ◌∙◌, arith, append_assoc, length-append}
-use mathlib.Core.List.{IsPrefix}
-use Rattle.vsw_policy.specs.Sound.{Each}
+use Rattle.std.proofs.Common.{◌≡◌, ◌+◌, ◌-◌, ℕ, suc, List, [], ◌∷◌, ◌++◌, length, take, refl, ap, sym, subst, ◌∙◌, arith, append_assoc, length-append}
 use Rattle.vsw_port.specs.declared.event.Event.{Event}
 use Rattle.vsw_port.specs.Calls.{AreShares, Call, HasBytes, InOrder, IsOneOrder, entries_of}
-use Rattle.vsw_port.specs.History.{Opening, AllRight}
+use Rattle.vsw_port.specs.History.{Opening}
 use Rattle.vsw_port.specs.Next.{Goes}
 use Rattle.vsw_port.proofs.Calls.{entries_append}
 use Rattle.vsw_port.proofs.Fronts.{append_end}
 use Rattle.vsw_port.proofs.Next.{goes_none, goes_on, shares_of, take_front}
 use Rattle.vsw_promise.proofs.PortRounds.{take_whole}
-use Rattle.vsw_promise.specs.Jobs.{Jobs}
-use Rattle.vsw_promise.specs.Ports.{PortSeen}
-use Rattle.vsw_promise.specs.Rounds.{IsPortRound, opening_of}
-use Rattle.vsw_report.specs.declared.round.PortRound.{PortRound}
+use Rattle.vsw_promise.specs.Rounds.{opening_of}
 use Rattle.vsw_many.proofs.Orders.{each_same, one_order, order_is_free, shares_same}
-use Rattle.vsw_audit.specs.Replay.{ReplayIsSound, Replays, Runs}
+use Rattle.vsw_audit.specs.Replay.{ReplayIsSound, Runs}
 
 pub goes_all : (o : Opening) (h mid : List Event) (done cs : List Call) → Goes o h mid done → Runs o mid cs → Goes o h (mid ++ entries_of cs) (done ++ cs)
 goes_all o h mid done [] g r = subst (λ m. Goes o h m (done ++ [])) (sym (append_end mid)) (subst (λ d. Goes o h mid d) (sym (append_end done)) g)

@@ -1,14 +1,13 @@
 -- Lines that pass one look over them stand in the order of the report: put into that order they are as they were.
-use Rattle.std.proofs.Common.{◌≡◌, ◌≢◌, ◌⊎◌, inl, inr, ℕ, zero, suc, ◌+◌, ◌^◌, ◌-◌, ◌<◌, ◌≤◌, ◌==◌, Bool, true, false, true≢false, not, ◌&&◌, if◌then◌else◌, MatchBool, List, [], ◌∷◌, ◌++◌, map, filter, length, nat_lt, refl, ap, sym, subst, ◌∙◌, arith, append_assoc, eq-eqb, ne_eqb}
+use Rattle.std.proofs.Common.{◌≡◌, ◌≢◌, ◌⊎◌, inl, inr, ℕ, zero, suc, ◌+◌, ◌^◌, ◌-◌, ◌<◌, ◌≤◌, ◌==◌, Bool, true, false, true≢false, not, ◌&&◌, if◌then◌else◌, MatchBool, List, [], ◌∷◌, ◌++◌, map, filter, nat_lt, refl, ap, sym, subst, ◌∙◌, arith, append_assoc, eq-eqb, ne_eqb}
 use Rattle.std.proofs.lemmas.Grind.{common_steps}
 use Rattle.std.specs.List.{flat_map}
 use native.Mathlib.Decide.{ℕ_discrete}
-use Rattle.vsw_policy.specs.Layers.{place_of}
-use Rattle.vsw_policy.specs.Sound.{Each, is_listed}
-use Rattle.vsw_port.specs.Calls.{Asked, Call, Carried, Deed, calls_of, controller_at, doer, next_count}
-use Rattle.vsw_port.specs.Order.{StandsOnce, ascending, counted, put_in}
+use Rattle.vsw_policy.specs.Sound.{Each}
+use Rattle.vsw_port.specs.Calls.{Asked, Call, Carried, Deed, calls_of, controller_at, doer}
+use Rattle.vsw_port.specs.Order.{ascending, counted, put_in}
 use Rattle.vsw_promise.specs.Told.{by_of, callers, entry_at, in_told_order, line_of, reads_at, reads_by_caller}
-use Rattle.vsw_history_law.proofs.Callers.{ascending_once, eqb_is, place_one}
+use Rattle.vsw_history_law.proofs.Callers.{ascending_once, place_one}
 use Rattle.vsw_history_law.proofs.Telling.{entry_test}
 use Rattle.vsw_check.specs.Report.{Tells, rank}
 use Rattle.vsw_audit.specs.Order.{IsDeedOf, IsOf, ToldIsAsItStands}

@@ -2,3 +2,4 @@ pub mod Check
 pub mod Order
 pub mod Replay
 pub mod Audit
+pub mod Private

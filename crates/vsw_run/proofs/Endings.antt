@@ -3,6 +3,7 @@ use Rattle.std.proofs.Common.{◌≡◌, ◌<◌, ◌≤◌, ◌⊎◌, inl, inr
 use Rattle.std.proofs.lemmas.List.{length-append, drop-append-le}
 use Rattle.vsw_pcap.specs.Capture.{header_of, front_of, record_of, Splits, Stops, IsCapture}
 use Rattle.vsw_pcap.specs.declared.capture.Form.{Form}
+use Rattle.vsw_pcap.specs.declared.capture.Front.{Front}
 use Rattle.vsw_pcap.specs.declared.capture.Front.TheVariants.{Whole, Oversize}
 use Rattle.vsw_pcap.specs.declared.capture.Record.{Record}
 use Rattle.vsw_pcap.specs.declared.fault.BadTrace.{BadTrace}
@@ -108,24 +109,32 @@ one_ending file ending.Done ending.WriteFault rs qs a b = absurd b
 one_ending file ending.Done (ending.Policy why) rs qs a b = absurd b
 one_ending file ending.Done (ending.Commands why) rs qs a b = absurd b
 one_ending file ending.Done ending.Memory rs qs a b = absurd b
+one_ending file ending.Done (ending.Report why) rs qs a b = absurd b
+one_ending file ending.Done ending.Illegal rs qs a b = absurd b
 one_ending file (ending.Trace bad) ending.Usage rs qs a b = absurd b
 one_ending file (ending.Trace bad) ending.ReadFault rs qs a b = absurd b
 one_ending file (ending.Trace bad) ending.WriteFault rs qs a b = absurd b
 one_ending file (ending.Trace bad) (ending.Policy why) rs qs a b = absurd b
 one_ending file (ending.Trace bad) (ending.Commands why) rs qs a b = absurd b
 one_ending file (ending.Trace bad) ending.Memory rs qs a b = absurd b
+one_ending file (ending.Trace bad) (ending.Report why) rs qs a b = absurd b
+one_ending file (ending.Trace bad) ending.Illegal rs qs a b = absurd b
 one_ending file ending.Records ending.Usage rs qs a b = absurd b
 one_ending file ending.Records ending.ReadFault rs qs a b = absurd b
 one_ending file ending.Records ending.WriteFault rs qs a b = absurd b
 one_ending file ending.Records (ending.Policy why) rs qs a b = absurd b
 one_ending file ending.Records (ending.Commands why) rs qs a b = absurd b
 one_ending file ending.Records ending.Memory rs qs a b = absurd b
+one_ending file ending.Records (ending.Report why) rs qs a b = absurd b
+one_ending file ending.Records ending.Illegal rs qs a b = absurd b
 one_ending file ending.Usage f rs qs a b = absurd a
 one_ending file ending.ReadFault f rs qs a b = absurd a
 one_ending file ending.WriteFault f rs qs a b = absurd a
 one_ending file (ending.Policy why) f rs qs a b = absurd a
 one_ending file (ending.Commands why) f rs qs a b = absurd a
 one_ending file ending.Memory f rs qs a b = absurd a
+one_ending file (ending.Report why) f rs qs a b = absurd a
+one_ending file ending.Illegal f rs qs a b = absurd a
 
 -- ---- what was read of a file tells what it says
 
@@ -138,7 +147,7 @@ pub record IsOfFile (file : List ℕ) (t : Trace) : Type 0 where
 longer : (bytes more : List ℕ) (rs : List Record) (form : Form) (rest : List ℕ) → header_of bytes ≡ Ok form → Splits form (drop 24 bytes) rs rest → Splits form (drop 24 (bytes ++ more)) rs (rest ++ more)
 longer bytes more rs form rest h s = rw (drop-append-le 24 bytes more (accepted_long bytes form h)) (Splits-append form (drop 24 bytes) rs rest more s)
 
-huge_longer : (bytes more : List ℕ) (rs : List Record) (at : ℕ) → Stops bytes rs at Oversize → Stops (bytes ++ more) rs at Oversize
+pub huge_longer : (bytes more : List ℕ) (rs : List Record) (at : ℕ) → Stops bytes rs at Oversize → Stops (bytes ++ more) rs at Oversize
 huge_longer bytes more rs at s = record {
   form = s.form;
   rest = s.rest ++ more;
@@ -170,3 +179,7 @@ says_more s file t text i r = (
   },
   r.full,
 )
+
+-- the same of a whole file
+pub says_many : (file : List ℕ) (records : List Record) (at : ℕ) (front : Front) → Stops file records at front → at < length file → length records ≡ most_records → Says file ending.Records records
+says_many file records at front s more full = (record { form = s.form; rest = s.rest; header = s.header; splits = s.splits; more = omega (arith, more, s.place) }, full)

@@ -1,22 +1,15 @@
--- The words after `forward`: what the grammar says of them is worked out of them, and nothing else.
-use Rattle.std.proofs.Common.{◌≡◌, ◌≢◌, ℕ, suc, Bool, true, false, List, [], ◌∷◌, ◌++◌, length, take, drop, Option, Some, None, inl, inr, cond, refl, sym, ap, ap₂, ◌∙◌, subst, arith, append-nil, append_assoc}
-use Rattle.std.specs.Prelude.{codes, decimal, bytes_eq, option_and_then}
-use Rattle.std.specs.List.{All, list_any}
-use Rattle.std.proofs.Math.Seq.{take-append_seam, drop-append_seam}
+-- The words after `forward` and after `check`: what the grammar says of them is worked out of them, and nothing else.
+use Rattle.std.proofs.Common.{◌≡◌, ◌≢◌, ℕ, suc, Bool, true, false, List, [], ◌∷◌, length, Option, Some, None, cond, refl, sym, ap, ◌∙◌, subst, arith}
+use Rattle.std.specs.Prelude.{option_and_then}
+use Rattle.std.specs.List.{list_any}
 use Rattle.std.proofs.lemmas.Bool.{cond-false, ne_eqb, or_from, or_parts, both_ways}
-use Rattle.std.proofs.lemmas.List.{take-append-drop}
-use Rattle.std.proofs.lemmas.List.Elements.{All-nil, All-cons, All-head, All-tail, All-append, All-take, All-drop}
-use Rattle.std.proofs.lemmas.Option.{none-some, same_Some, cond_some}
-use Rattle.std.proofs.lemmas.Slice.Eq.{bytes_eq-Decides}
-use Rattle.vsw_run.specs.Grammar.{IsDashed, IsCount, IsOption, IsBehind, IsForward}
-use Rattle.vsw_run.specs.Words.{Request, Opted, number_in, is_empty, before_dash, from_dash, behind_in, opted, joined_in, next_in, option_in, request_of, after_option, forward_of, forward_in}
-use Rattle.vsw_run.proofs.Decimals.{number_is, number_of}
-use Rattle.vsw_run.proofs.Stops.{Undashed, Stops, before_is, from_is, undashed, behind_stops, behind_of}
+use Rattle.std.proofs.lemmas.List.Elements.{All-nil, All-cons, All-head, All-tail}
+use Rattle.std.proofs.lemmas.Option.{none-some, same_Some}
+use Rattle.vsw_run.specs.Grammar.{AreNames, IsForward, IsClaim, files_of}
+use Rattle.vsw_run.specs.Words.{Request, Claim, Named, is_empty, request_of, claim_of, named_in, forward_in, check_in}
+use Rattle.vsw_run.proofs.Naming.{Full, names_read, names_are}
 
--- ---- three names, none of them empty
-
-abbrev Full : List (List ℕ) → Type 0
-Full names = All (λ name. name ≢ []) names
+-- ---- names, none of them empty
 
 full : (word : List ℕ) → word ≢ [] → is_empty word ≡ false
 full [] h = absurd (h refl)
@@ -34,203 +27,73 @@ all_full [] f = All-nil (λ name. name ≢ [])
 all_full (name ∷ names) f =
     let (one, more) = or_parts (is_empty name) (list_any is_empty names) f in All-cons (λ name. name ≢ []) name names (filled name one) (all_full names more)
 
--- the names of a request
-abbrev named : Request → List (List ℕ)
-named q = q.policy ∷ q.commands ∷ q.trace ∷ []
-
-request_fits : (n : ℕ) (names : List (List ℕ)) (q : Request) → q.workers ≡ n → names ≡ named q → Full names → request_of n names ≡ Some q
-request_fits n names q count are h =
-    ap (request_of n) are ∙ (cond-false (list_any is_empty (named q)) None _ (none_empty (named q) (subst Full are h))
-    ∙ ap (λ m. Some (record { workers = m; policy = q.policy; commands = q.commands; trace = q.trace })) (sym count))
-
 -- what is answered unless a test passes
 unless : {A : Type 0} (b : Bool) (r q : A) → cond b None (Some r) ≡ Some q → (b ≡ false) × (r ≡ q)
 unless true r q e = absurd (none-some q e)
 unless false r q e = (refl, same_Some r q e)
 
-request_is : (n : ℕ) (names : List (List ℕ)) (q : Request) → request_of n names ≡ Some q → (q.workers ≡ n) × (names ≡ named q) × Full names
+-- what is read of names that were read
+through : {A : Type 0} (f : ℕ → List (List ℕ) → Option A) (words : List (List ℕ)) (n : ℕ) (names : List (List ℕ)) → AreNames words n names → option_and_then (λ (m : Named). f m.workers m.names) (named_in words) ≡ f n names
+through f words n names h = ap (option_and_then (λ (m : Named). f m.workers m.names)) (names_read words n names h)
+
+-- the names of which something was read
+record Behind {A : Type 0} (f : ℕ → List (List ℕ) → Option A) (words : List (List ℕ)) (x : A) : Type 0 where
+  named : Named
+  read : named_in words ≡ Some named
+  is : f named.workers named.names ≡ Some x
+
+behind : {A : Type 0} (f : ℕ → List (List ℕ) → Option A) (words : List (List ℕ)) (x : A) → option_and_then (λ (m : Named). f m.workers m.names) (named_in words) ≡ Some x → Behind f words x
+behind {A} f words x e = by (named_in words) refl e where
+  by : (o : Option Named) → named_in words ≡ o → option_and_then (λ (m : Named). f m.workers m.names) o ≡ Some x → Behind f words x
+  by None is e = absurd (none-some x e)
+  by (Some n) is e = record { named = n; read = is; is = e }
+
+-- ---- three names
+
+request_fits : (q : Request) → Full (files_of q) → request_of q.workers (files_of q) ≡ Some q
+request_fits q h = cond-false (list_any is_empty (files_of q)) None _ (none_empty (files_of q) h)
+
+request_is : (n : ℕ) (names : List (List ℕ)) (q : Request) → request_of n names ≡ Some q → (n ≡ q.workers) × (names ≡ files_of q) × Full names
 request_is n [] q e = absurd (none-some q e)
 request_is n (p ∷ []) q e = absurd (none-some q e)
 request_is n (p ∷ c ∷ []) q e = absurd (none-some q e)
 request_is n (p ∷ c ∷ t ∷ []) q e =
     let (f, is) = unless (list_any is_empty (p ∷ c ∷ t ∷ [])) (record { workers = n; policy = p; commands = c; trace = t }) q e in
-    (sym (ap (λ (r : Request). r.workers) is), ap named is, all_full (p ∷ c ∷ t ∷ []) f)
+    (ap (λ (r : Request). r.workers) is, ap files_of is, all_full (p ∷ c ∷ t ∷ []) f)
 request_is n (p ∷ c ∷ t ∷ x ∷ xs) q e = absurd (none-some q e)
 
--- ---- the option
-
-two_words : (n : ℕ) (rest : List (List ℕ)) → IsCount n → option_in (codes "--workers" ∷ decimal n ∷ rest) ≡ Some (record { workers = n; rest = rest })
-two_words n rest h = ap (opted rest) (number_of 1 16 n (omega arith) h.0 h.1)
-
-one_word : (n : ℕ) (rest : List (List ℕ)) → IsCount n → option_in ((codes "--workers=" ++ decimal n) ∷ rest) ≡ Some (record { workers = n; rest = rest })
-one_word n rest h = ap (opted rest) (number_of 1 16 n (omega arith) h.0 h.1)
-
-opted_is : (rest : List (List ℕ)) (r : Option ℕ) (o : Opted) → opted rest r ≡ Some o → (r ≡ Some o.workers) × (rest ≡ o.rest)
-opted_is rest None o e = absurd (none-some o e)
-opted_is rest (Some n) o e =
-    let is = same_Some (record { workers = n; rest = rest }) o e in (ap (λ (o : Opted). Some o.workers) is, ap (λ (o : Opted). o.rest) is)
-
--- what is answered only if a test passes
-only_if : {A : Type 0} (b : Bool) (r : Option A) (x : A) → cond b r None ≡ Some x → (b ≡ true) × (r ≡ Some x)
-only_if true r x e = (refl, e)
-only_if false r x e = absurd (none-some x e)
-
--- an option in front
-record Front (words : List (List ℕ)) (o : Opted) : Type 0 where
-  option : List (List ℕ)
-  is : IsOption option o.workers
-  splits : words ≡ option ++ o.rest
-
-joined_is : (word : List ℕ) (words : List (List ℕ)) (o : Opted) → opted words (joined_in word) ≡ Some o → Front (word ∷ words) o
-joined_is word words o e =
-    let (r, rest) = opted_is words (joined_in word) o e in
-    let (t, number) = only_if (bytes_eq (take 10 word) (codes "--workers=")) (number_in 1 16 (drop 10 word)) o.workers r in
-    let (digits, low, high) = number_is 1 16 (drop 10 word) o.workers number in
-    let is : word ≡ codes "--workers=" ++ decimal o.workers = sym (take-append-drop 10 word) ∙ ap₂ (λ xs ys. xs ++ ys) ((bytes_eq-Decides (take 10 word) (codes "--workers=")).0 t) digits in
-    record { option = (codes "--workers=" ++ decimal o.workers) ∷ []; is = inr (inl ((low, high), refl)); splits = ap₂ (λ w ws. w ∷ ws) is rest }
-
-next_is : (words : List (List ℕ)) (o : Opted) → next_in words ≡ Some o → Front (codes "--workers" ∷ words) o
-next_is [] o e = absurd (none-some o e)
-next_is (word ∷ words) o e =
-    let (r, rest) = opted_is words (number_in 1 16 word) o e in
-    let (digits, low, high) = number_is 1 16 word o.workers r in
-    record {
-      option = codes "--workers" ∷ decimal o.workers ∷ [];
-      is = inl ((low, high), refl);
-      splits = ap₂ (λ w ws. codes "--workers" ∷ w ∷ ws) digits rest;
-    }
-
-option_is : (words : List (List ℕ)) (o : Opted) → option_in words ≡ Some o → Front words o
-option_is [] o e = absurd (none-some o e)
-option_is (word ∷ words) o e = by (bytes_eq word (codes "--workers")) refl e where
-  by : (b : Bool) → bytes_eq word (codes "--workers") ≡ b → cond b (next_in words) (opted words (joined_in word)) ≡ Some o → Front (word ∷ words) o
-  by true t e = subst (λ w. Front (w ∷ words) o) (sym ((bytes_eq-Decides word (codes "--workers")).0 t)) (next_is words o e)
-  by false t e = joined_is word words o e
-
--- ---- `--` and the names behind it
-
-behind_is : (end behind : List (List ℕ)) → behind_in end ≡ Some behind → IsBehind end behind
-behind_is [] behind e = inr (refl, sym (same_Some [] behind e))
-behind_is (word ∷ words) behind e =
-    let (t, is) = cond_some (bytes_eq word (codes "--")) words behind e in inl (ap₂ (λ w ws. w ∷ ws) ((bytes_eq-Decides word (codes "--")).0 t) is)
-
--- ---- words of the grammar are read
-
-all_left : (xs ys : List (List ℕ)) → Undashed (xs ++ ys) → Undashed xs
-all_left xs ys h = subst Undashed (take-append_seam xs ys) (All-take (λ name. ¬ (IsDashed name)) (length xs) (xs ++ ys) h)
-
-all_right : (xs ys : List (List ℕ)) → Undashed (xs ++ ys) → Undashed ys
-all_right xs ys h = subst Undashed (drop-append_seam xs ys) (All-drop (λ name. ¬ (IsDashed name)) (length xs) (xs ++ ys) h)
-
--- what is read of the parts, once `--` is looked for
-abbrev judged : List (List ℕ) → List (List ℕ) → Option (List (List ℕ)) → Option Request
-judged before rest found = elim found [ Some behind ↦ request_of 1 (before ++ behind) | None ↦ option_and_then (after_option before) (option_in rest) ]
-
-without_option : (names end behind : List (List ℕ)) (q : Request) → Undashed names → IsBehind end behind → q.workers ≡ 1 → names ++ behind ≡ named q → Full (names ++ behind) → forward_in (names ++ end) ≡ Some q
-without_option names end behind q h last count are full =
-    ap₂ forward_of (before_is names end h (behind_stops end behind last)) (from_is names end h (behind_stops end behind last))
-    ∙ (ap (judged names end) (behind_of end behind last)
-    ∙ request_fits 1 (names ++ behind) q count are full)
-
--- the words from the option on
-record Opens (option rest : List (List ℕ)) (n : ℕ) : Type 0 where
-  stops : Stops (option ++ rest)
-  no_end : behind_in (option ++ rest) ≡ None
-  read : option_in (option ++ rest) ≡ Some (record { workers = n; rest = rest })
-
-abbrev then_names : ℕ → List (List ℕ) → List (List ℕ) → Option (List (List ℕ)) → Option Request
-then_names n before after found = option_and_then (λ behind. request_of n (before ++ after ++ behind)) found
-
-with_option : (before option after end behind : List (List ℕ)) (q : Request) → Undashed before → Undashed after → Opens option (after ++ end) q.workers → IsBehind end behind → before ++ after ++ behind ≡ named q → Full (before ++ after ++ behind) → forward_in (before ++ (option ++ (after ++ end))) ≡ Some q
-with_option before option after end behind q h k opens last are full =
-    let rest : List (List ℕ) = option ++ (after ++ end) in
-    let tail = behind_stops end behind last in
-    ap₂ forward_of (before_is before rest h opens.stops) (from_is before rest h opens.stops)
-    ∙ (ap (judged before rest) opens.no_end
-    ∙ (ap (option_and_then (after_option before)) opens.read
-    ∙ (ap₂ (λ mid end. then_names q.workers before mid (behind_in end)) (before_is after end k tail) (from_is after end k tail)
-    ∙ (ap (then_names q.workers before after) (behind_of end behind last)
-    ∙ request_fits q.workers (before ++ after ++ behind) q refl are full))))
-
-opens_two : (n : ℕ) (rest : List (List ℕ)) → IsCount n → Opens (codes "--workers" ∷ decimal n ∷ []) rest n
-opens_two n rest h = record { stops = refl; no_end = refl; read = two_words n rest h }
-
-opens_one : (n : ℕ) (rest : List (List ℕ)) → IsCount n → Opens ((codes "--workers=" ++ decimal n) ∷ []) rest n
-opens_one n rest h = record { stops = refl; no_end = refl; read = one_word n rest h }
-
 pub forward_reads : (words : List (List ℕ)) (q : Request) → IsForward words q → forward_in words ≡ Some q
-forward_reads words q f = ap forward_in f.shape ∙ by f.option f.option_is where
-  first : Undashed f.before
-  first = all_left f.before f.after f.undashed
-
-  second : Undashed f.after
-  second = all_right f.before f.after f.undashed
-
-  grouped : (option : List (List ℕ)) → f.before ++ option ++ f.after ++ f.end ≡ f.before ++ (option ++ (f.after ++ f.end))
-  grouped option = append_assoc (f.before ++ option) f.after f.end ∙ append_assoc f.before option (f.after ++ f.end)
-
-  opened : (option : List (List ℕ)) → Opens option (f.after ++ f.end) q.workers → forward_in (f.before ++ option ++ f.after ++ f.end) ≡ Some q
-  opened option opens = ap forward_in (grouped option) ∙ with_option f.before option f.after f.end f.behind q first second opens f.end_is f.names f.nonempty
-
-  by : (option : List (List ℕ)) → IsOption option q.workers → forward_in (f.before ++ option ++ f.after ++ f.end) ≡ Some q
-  by option (inl o) = subst (λ option. forward_in (f.before ++ option ++ f.after ++ f.end) ≡ Some q) (sym o.1) (opened _ (opens_two q.workers (f.after ++ f.end) o.0))
-  by option (inr (inl o)) = subst (λ option. forward_in (f.before ++ option ++ f.after ++ f.end) ≡ Some q) (sym o.1) (opened _ (opens_one q.workers (f.after ++ f.end) o.0))
-  by option (inr (inr o)) =
-      subst (λ option. forward_in (f.before ++ option ++ f.after ++ f.end) ≡ Some q) (sym o.1)
-      (ap (λ names. forward_in (names ++ f.after ++ f.end)) (append-nil f.before) ∙ without_option (f.before ++ f.after) f.end f.behind q f.undashed f.end_is o.0 f.names f.nonempty)
-
--- ---- words that are read are of the grammar
-
-all_append : (xs ys : List (List ℕ)) → Undashed xs → Undashed ys → Undashed (xs ++ ys)
-all_append xs ys h k = All-append (λ name. ¬ (IsDashed name)) xs ys h k
-
-read_plain : (words behind : List (List ℕ)) (q : Request) → behind_in (from_dash words) ≡ Some behind → request_of 1 (before_dash words ++ behind) ≡ Some q → IsForward words q
-read_plain words behind q last e =
-    let (count, are, full) = request_is 1 (before_dash words ++ behind) q e in
-    let nil : before_dash words ++ [] ≡ before_dash words = append-nil (before_dash words) in
-    record {
-      before = before_dash words;
-      option = [];
-      after = [];
-      end = from_dash words;
-      behind = behind;
-      shape = sym (take-append-drop _ words) ∙ ap (λ xs. xs ++ from_dash words) (sym nil ∙ ap (λ xs. xs ++ []) (sym nil));
-      option_is = inr (inr (count, refl));
-      end_is = behind_is (from_dash words) behind last;
-      undashed = subst Undashed (sym nil) (undashed words);
-      names = ap (λ xs. xs ++ behind) nil ∙ are;
-      nonempty = subst (λ xs. Full (xs ++ behind)) (sym nil) full;
-    }
-
-read_opted : (words : List (List ℕ)) (o : Opted) (behind : List (List ℕ)) (q : Request) → Front (from_dash words) o → behind_in (from_dash o.rest) ≡ Some behind → request_of o.workers (before_dash words ++ before_dash o.rest ++ behind) ≡ Some q → IsForward words q
-read_opted words o behind q front last e =
-    let (count, are, full) = request_is o.workers (before_dash words ++ before_dash o.rest ++ behind) q e in
-    record {
-      before = before_dash words;
-      option = front.option;
-      after = before_dash o.rest;
-      end = from_dash o.rest;
-      behind = behind;
-      shape =
-          sym (take-append-drop _ words) ∙ (ap (λ xs. before_dash words ++ xs) (front.splits ∙ ap (λ xs. front.option ++ xs) (sym (take-append-drop _ o.rest)))
-          ∙ (sym (append_assoc (before_dash words) front.option (before_dash o.rest ++ from_dash o.rest)) ∙ sym (append_assoc (before_dash words ++ front.option) (before_dash o.rest) (from_dash o.rest))));
-      option_is = subst (IsOption front.option) (sym count) front.is;
-      end_is = behind_is (from_dash o.rest) behind last;
-      undashed = all_append (before_dash words) (before_dash o.rest) (undashed words) (undashed o.rest);
-      names = are;
-      nonempty = full;
-    }
+forward_reads words q f = through request_of words q.workers (files_of q) f ∙ request_fits q f.nonempty
 
 pub forward_is : (words : List (List ℕ)) (q : Request) → forward_in words ≡ Some q → IsForward words q
-forward_is words q e = by (behind_in (from_dash words)) refl e where
-  named_last : (o : Opted) → option_in (from_dash words) ≡ Some o → (found : Option (List (List ℕ))) → behind_in (from_dash o.rest) ≡ found → then_names o.workers (before_dash words) (before_dash o.rest) found ≡ Some q → IsForward words q
-  named_last o is None last e = absurd (none-some q e)
-  named_last o is (Some behind) last e = read_opted words o behind q (option_is (from_dash words) o is) last e
+forward_is words q e =
+    let b = behind request_of words q e in
+    let (count, are, full) = request_is b.named.workers b.named.names q b.is in
+    subst (λ n. AreNames words n (files_of q)) count (subst (AreNames words b.named.workers) are (names_are words b.named b.read full))
 
-  opted_last : (r : Option Opted) → option_in (from_dash words) ≡ r → option_and_then (after_option (before_dash words)) r ≡ Some q → IsForward words q
-  opted_last None is e = absurd (none-some q e)
-  opted_last (Some o) is e = named_last o is (behind_in (from_dash o.rest)) refl e
+-- ---- four names
 
-  by : (found : Option (List (List ℕ))) → behind_in (from_dash words) ≡ found → judged (before_dash words) (from_dash words) found ≡ Some q → IsForward words q
-  by (Some behind) last e = read_plain words behind q last e
-  by None last e = opted_last (option_in (from_dash words)) refl e
+abbrev named : Claim → List (List ℕ)
+named c = c.run.policy ∷ c.run.commands ∷ c.run.trace ∷ c.report ∷ []
+
+claim_fits : (c : Claim) → Full (named c) → claim_of c.run.workers (named c) ≡ Some c
+claim_fits c h = cond-false (list_any is_empty (named c)) None _ (none_empty (named c) h)
+
+claim_is : (n : ℕ) (names : List (List ℕ)) (c : Claim) → claim_of n names ≡ Some c → (n ≡ c.run.workers) × (names ≡ named c) × Full names
+claim_is n [] c e = absurd (none-some c e)
+claim_is n (p ∷ []) c e = absurd (none-some c e)
+claim_is n (p ∷ m ∷ []) c e = absurd (none-some c e)
+claim_is n (p ∷ m ∷ t ∷ []) c e = absurd (none-some c e)
+claim_is n (p ∷ m ∷ t ∷ r ∷ []) c e =
+    let (f, is) = unless (list_any is_empty (p ∷ m ∷ t ∷ r ∷ [])) (record { run = record { workers = n; policy = p; commands = m; trace = t }; report = r }) c e in
+    (ap (λ (k : Claim). k.run.workers) is, ap named is, all_full (p ∷ m ∷ t ∷ r ∷ []) f)
+claim_is n (p ∷ m ∷ t ∷ r ∷ x ∷ xs) c e = absurd (none-some c e)
+
+pub check_reads : (words : List (List ℕ)) (c : Claim) → IsClaim words c → check_in words ≡ Some c
+check_reads words c f = through claim_of words c.run.workers (named c) f ∙ claim_fits c f.nonempty
+
+pub check_is : (words : List (List ℕ)) (c : Claim) → check_in words ≡ Some c → IsClaim words c
+check_is words c e =
+    let b = behind claim_of words c e in
+    let (count, are, full) = claim_is b.named.workers b.named.names c b.is in
+    subst (λ n. AreNames words n (named c)) count (subst (AreNames words b.named.workers) are (names_are words b.named b.read full))

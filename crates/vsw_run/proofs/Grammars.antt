@@ -5,9 +5,9 @@ use Rattle.std.proofs.lemmas.Option.{none-some, same_Some}
 use Rattle.std.proofs.lemmas.Slice.Eq.{bytes_eq-Decides}
 use Rattle.vsw_run.specs.Grammar.{IsGenerate, Asks}
 use Rattle.vsw_run.specs.GrammarLaw.{ReadsGrammar, RefusesOthers, ReadsForward, OneReading}
-use Rattle.vsw_run.specs.Words.{Request, Asked, Forward, Generate, number_in, forward_in, generate_in, asked_in, request_in}
+use Rattle.vsw_run.specs.Words.{Request, Claim, Asked, Forward, Check, Generate, number_in, forward_in, check_in, generate_in, asked_in, request_in}
 use Rattle.vsw_run.proofs.Decimals.{number_is, number_of}
-use Rattle.vsw_run.proofs.Forwards.{forward_reads, forward_is}
+use Rattle.vsw_run.proofs.Forwards.{forward_reads, forward_is, check_reads, check_is}
 
 -- ---- the words after `generate`
 
@@ -49,10 +49,14 @@ generate_is (a ∷ b ∷ []) asked e = first (number_in 0 2147483647 a) refl e w
 
 asked_reads : (words : List (List ℕ)) (asked : Asked) → Asks words asked → asked_in words ≡ Some asked
 asked_reads words (Forward q) h = ap asked_in h.2 ∙ ap (option_map Forward) (forward_reads h.1 q h.3)
+asked_reads words (Check c) h = ap asked_in h.2 ∙ ap (option_map Check) (check_reads h.1 c h.3)
 asked_reads words (Generate start packets) h = ap asked_in h.2 ∙ generate_reads h.1 start packets h.3
 
 forward_asks : (program command : List ℕ) (words : List (List ℕ)) (q : Request) → bytes_eq command (codes "forward") ≡ true → forward_in words ≡ Some q → Asks (program ∷ command ∷ words) (Forward q)
 forward_asks program command words q t e = (program, words, ap (λ c. program ∷ c ∷ words) ((bytes_eq-Decides command (codes "forward")).0 t), forward_is words q e)
+
+check_asks : (program command : List ℕ) (words : List (List ℕ)) (c : Claim) → bytes_eq command (codes "check") ≡ true → check_in words ≡ Some c → Asks (program ∷ command ∷ words) (Check c)
+check_asks program command words c t e = (program, words, ap (λ c. program ∷ c ∷ words) ((bytes_eq-Decides command (codes "check")).0 t), check_is words c e)
 
 asked_is : (words : List (List ℕ)) (asked : Asked) → asked_in words ≡ Some asked → Asks words asked
 asked_is [] asked e = absurd (none-some asked e)
@@ -62,15 +66,23 @@ asked_is (program ∷ command ∷ words) asked e = first (bytes_eq command (code
   forwards t None is e = absurd (none-some asked e)
   forwards t (Some q) is e = subst (Asks (program ∷ command ∷ words)) (same_Some (Forward q) asked e) (forward_asks program command words q t is)
 
-  second : (b : Bool) → bytes_eq command (codes "generate") ≡ b → cond b (generate_in words) None ≡ Some asked → Asks (program ∷ command ∷ words) asked
-  second false t e = absurd (none-some asked e)
-  second true t e =
+  checks : bytes_eq command (codes "check") ≡ true → (r : Option Claim) → check_in words ≡ r → option_map Check r ≡ Some asked → Asks (program ∷ command ∷ words) asked
+  checks t None is e = absurd (none-some asked e)
+  checks t (Some c) is e = subst (Asks (program ∷ command ∷ words)) (same_Some (Check c) asked e) (check_asks program command words c t is)
+
+  third : (b : Bool) → bytes_eq command (codes "generate") ≡ b → cond b (generate_in words) None ≡ Some asked → Asks (program ∷ command ∷ words) asked
+  third false t e = absurd (none-some asked e)
+  third true t e =
       let g = generate_is words asked e in
       subst (Asks (program ∷ command ∷ words)) g.is (program, words, ap (λ c. program ∷ c ∷ words) ((bytes_eq-Decides command (codes "generate")).0 t), g.said)
 
-  first : (b : Bool) → bytes_eq command (codes "forward") ≡ b → cond b (option_map Forward (forward_in words)) (cond (bytes_eq command (codes "generate")) (generate_in words) None) ≡ Some asked → Asks (program ∷ command ∷ words) asked
+  second : (b : Bool) → bytes_eq command (codes "check") ≡ b → cond b (option_map Check (check_in words)) (cond (bytes_eq command (codes "generate")) (generate_in words) None) ≡ Some asked → Asks (program ∷ command ∷ words) asked
+  second true t e = checks t (check_in words) refl e
+  second false t e = third (bytes_eq command (codes "generate")) refl e
+
+  first : (b : Bool) → bytes_eq command (codes "forward") ≡ b → cond b (option_map Forward (forward_in words)) (cond (bytes_eq command (codes "check")) (option_map Check (check_in words)) (cond (bytes_eq command (codes "generate")) (generate_in words) None)) ≡ Some asked → Asks (program ∷ command ∷ words) asked
   first true t e = forwards t (forward_in words) refl e
-  first false t e = second (bytes_eq command (codes "generate")) refl e
+  first false t e = second (bytes_eq command (codes "check")) refl e
 
 -- ---- the laws
 

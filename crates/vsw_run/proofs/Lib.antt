@@ -1,9 +1,11 @@
 pub mod Bounds
 pub mod Decimals
+pub mod Naming
 pub mod Forwards
 pub mod Grammars
 pub mod Stops
 pub mod Endings
+pub mod Checking
 pub mod Wants
 pub mod Runs
 pub mod Wholes

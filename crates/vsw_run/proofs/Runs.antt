@@ -30,9 +30,10 @@ use Rattle.vsw_promise.specs.Jobs.{Setting, cuts, cuts_within}
 use Rattle.vsw_report.specs.Print.{report_text}
 use Rattle.vsw_promise.specs.Rounds.{AreRounds}
 use Rattle.vsw_run.specs.Trace.{All as Whole, Trace, Tells}
-use Rattle.vsw_run.specs.Words.{Request, Asked, Forward, Generate, asked_in}
+use Rattle.vsw_run.specs.Words.{Request, Asked, Forward, Check, Generate, asked_in}
 use Rattle.vsw_history_law.specs.Law.{AreAsked}
 use Rattle.vsw_run.specs.Law.{AreAlike, HasNoFault, OneText, OneStatus, OneRun, TellsWant}
+use Rattle.vsw_run.proofs.Checking.{ByPolicy, found_check, one_by_policy, put_by}
 use Rattle.vsw_run.proofs.Endings.{Says, one_ending, IsOfFile, header_longer, says_cut, says_huge, says_more}
 use Rattle.vsw_history_law.proofs.Values.{one_value}
 use Rattle.vsw_run.proofs.Wants.{plenty_rounds}
@@ -85,6 +86,8 @@ one_text_by s ending.WriteFault rs text other i apart w asked none nothing a b =
 one_text_by s (ending.Policy why) rs text other i apart w asked none nothing a b = absurd i
 one_text_by s (ending.Commands why) rs text other i apart w asked none nothing a b = absurd i
 one_text_by s ending.Memory rs text other i apart w asked none nothing a b = absurd i
+one_text_by s (ending.Report why) rs text other i apart w asked none nothing a b = absurd i
+one_text_by s ending.Illegal rs text other i apart w asked none nothing a b = absurd i
 
 -- ---- what a run found in the files
 
@@ -165,6 +168,8 @@ shown_by s file t ending.WriteFault text b i r = absurd b
 shown_by s file t (ending.Policy why) text b i r = absurd b
 shown_by s file t (ending.Commands why) text b i r = absurd b
 shown_by s file t ending.Memory text b i r = absurd b
+shown_by s file t (ending.Report why) text b i r = absurd b
+shown_by s file t ending.Illegal text b i r = absurd b
 
 found_trace : (q : Request) (old new : Outside) (a : Inputs) (e : Ending) (r : Runs q old new e) → old.inputs ≡ Some a → IsByTrace e → EndsByTrace q old new r.files e → FoundTrace q a.files old.put new.put e
 found_trace q old new a e r told b ends =
@@ -221,6 +226,8 @@ found q old new a ending.ReadFault told clean n r = absurd (clean.read r.ends.0)
 found q old new a ending.WriteFault told clean n r = absurd (clean.put r.ends.0)
 found q old new a ending.Memory told clean n r = absurd (n refl)
 found q old new a ending.Usage told clean n r = absurd r.ends
+found q old new a (ending.Report why) told clean n r = absurd r.ends
+found q old new a ending.Illegal told clean n r = absurd r.ends
 
 -- ---- two such runs
 
@@ -304,6 +311,8 @@ summarized start packets old new (ending.Policy why) clean plenty r = absurd r.e
 summarized start packets old new (ending.Commands why) clean plenty r = absurd r.ends
 summarized start packets old new (ending.Trace bad) clean plenty r = absurd r.ends
 summarized start packets old new ending.Records clean plenty r = absurd r.ends
+summarized start packets old new (ending.Report why) clean plenty r = absurd r.ends
+summarized start packets old new ending.Illegal clean plenty r = absurd r.ends
 
 -- there is one summary
 one_summary : (start packets : ℕ) (a b : List ℕ) → Summarizes start packets false a → Summarizes start packets false b → a ≡ b
@@ -334,6 +343,11 @@ both words old new other last s t (Some (Forward q)) e same clean also r u m n =
     let b = found q other last same.others u.end same.told_too also (λ k. n (u.status_is ∙ k)) (runs_as words (Some (Forward q)) other last t u e) in
     let agreed = agree q same.files.files old.put new.put other.put last.put r.end u.end a (subst (λ f. Found q f other.put last.put u.end) (sym same.same) b) in
     record { ends = agreed.ends; text = λ w. agreed.text (w q refl) }
+both words old new other last s t (Some (Check c)) e same clean also r u m n =
+    let a = found_check c old new same.files r.end same.told clean (λ k. m (r.status_is ∙ ap status_of k)) (runs_as words (Some (Check c)) old new s r e) in
+    let b = found_check c other last same.others u.end same.told_too also (λ k. n (u.status_is ∙ ap status_of k)) (runs_as words (Some (Check c)) other last t u e) in
+    let ends = one_by_policy same.files.files c r.end u.end a.0 (subst (λ f. ByPolicy f c u.end) (sym same.same) b.0) in
+    record { ends = ends; text = λ w x y o p k l none nothing. put_is old.put new.put (put_by r.end) x o k a.1 ∙ (ap put_by ends ∙ sym (put_is other.put last.put (put_by u.end) y p l b.1)) }
 both words old new other last s t (Some (Generate start packets)) e same clean also r u m n =
     let a = summarized start packets old new r.end clean (λ k. m (r.status_is ∙ k)) (runs_as words (Some (Generate start packets)) old new s r e) in
     let b = summarized start packets other last u.end also (λ k. n (u.status_is ∙ k)) (runs_as words (Some (Generate start packets)) other last t u e) in

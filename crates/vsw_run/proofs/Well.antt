@@ -18,7 +18,7 @@ use Rattle.vsw_run.proofs.Bounds.{counted}
 use Rattle.vsw_run.proofs.Grammars.{reads_grammar}
 use Rattle.vsw_run.proofs.Runs.{each_asked, runs_as}
 use Rattle.vsw_run.proofs.Wholes.{done_reads_all}
-use Rattle.vsw_run.specs.Complaint.{commands_status, policy_status, status_of}
+use Rattle.vsw_run.specs.Complaint.{commands_status, policy_status, report_status, status_of}
 use Rattle.vsw_run.specs.Well.{DoneRanWell, RanWell}
 use Rattle.vsw_run.specs.Files.{IsWhole, Reaches}
 use Rattle.vsw_run.specs.Grammar.{Asks, IsCount}
@@ -27,6 +27,8 @@ use Rattle.vsw_run.specs.Trace.{TellsAll}
 use Rattle.vsw_run.specs.Words.{Forward, Request, asked_in}
 use Rattle.vsw_run.specs.declared.ending.Ending.{Ending}
 use Rattle.vsw_run.specs.declared.ending.Ending.TheVariants as ending
+use Rattle.vsw_run.specs.declared.ending.ReportFault.{ReportFault}
+use Rattle.vsw_run.specs.declared.ending.ReportFault.TheVariants as report
 use Rattle.vsw_run.specs.declared.ending.Status.TheVariants as status
 
 not_policy : (why : ConfigFault) → status.Done ≡ policy_status why → ⊥
@@ -42,6 +44,10 @@ not_commands commands.CommandsLimit e = cc e
 not_commands commands.LinesLimit e = cc e
 not_commands commands.Memory e = cc e
 
+not_report : (why : ReportFault) → status.Done ≡ report_status why → ⊥
+not_report (report.Line number) e = cc e
+not_report report.ReportLimit e = cc e
+
 -- one ending has this status
 done_is : (end : Ending) → status.Done ≡ status_of end → end ≡ ending.Done
 done_is ending.Done e = refl
@@ -53,6 +59,8 @@ done_is (ending.Commands why) e = absurd (not_commands why e)
 done_is (ending.Trace bad) e = absurd (cc e)
 done_is ending.Records e = absurd (cc e)
 done_is ending.Memory e = absurd (cc e)
+done_is (ending.Report why) e = absurd (not_report why e)
+done_is ending.Illegal e = absurd (cc e)
 
 workers_are : (words : List (List ℕ)) (q : Request) → asked_in words ≡ Some (Forward q) → IsCount q.workers
 workers_are words q e = let h : Asks words (Forward q) = (reads_grammar words (Forward q)).0 e in counted h.3.option q.workers h.3.option_is

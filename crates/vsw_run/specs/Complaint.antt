@@ -13,6 +13,8 @@ use Rattle.vsw_config.specs.declared.file.ConfigFault.{ConfigFault}
 use Rattle.vsw_config.specs.declared.file.ConfigFault.TheVariants as policy
 use Rattle.vsw_run.specs.declared.ending.Ending.{Ending}
 use Rattle.vsw_run.specs.declared.ending.Ending.TheVariants as ending
+use Rattle.vsw_run.specs.declared.ending.ReportFault.{ReportFault}
+use Rattle.vsw_run.specs.declared.ending.ReportFault.TheVariants as report
 use Rattle.vsw_run.specs.declared.ending.Status.{Status}
 use Rattle.vsw_run.specs.declared.ending.Status.TheVariants as status
 
@@ -27,6 +29,10 @@ commands_status (commands.Bad line kind path) = status.Refused
 commands_status commands.Memory = status.Memory
 commands_status _ = status.Limit
 
+abbrev pub report_status : ReportFault → Status
+report_status (report.Line number) = status.Refused
+report_status report.ReportLimit = status.Limit
+
 -- the status of an ending
 abbrev pub status_of : Ending → Status
 status_of ending.Done = status.Done
@@ -37,6 +43,8 @@ status_of (ending.Policy why) = policy_status why
 status_of (ending.Commands why) = commands_status why
 status_of (ending.Trace bad) = status.Refused
 status_of ending.Records = status.Limit
+status_of (ending.Report why) = report_status why
+status_of ending.Illegal = status.Illegal
 status_of ending.Memory = status.Memory
 
 -- the exit status: the number with which the program ends
@@ -47,6 +55,7 @@ number_of status.ReadFault = 3
 number_of status.WriteFault = 4
 number_of status.Refused = 5
 number_of status.Limit = 6
+number_of status.Illegal = 8
 number_of status.Memory = 9
 
 -- the kind of a fault, and the path to it
@@ -70,6 +79,11 @@ commands_text commands.CommandsLimit = codes "vsw: limit commands\n"
 commands_text commands.LinesLimit = codes "vsw: limit lines\n"
 commands_text commands.Memory = memory_text
 
+-- what is complained of a report
+abbrev pub report_text : ReportFault → List ℕ
+report_text (report.Line number) = codes "vsw: refused report " ++ decimal number ++ codes "\n"
+report_text report.ReportLimit = codes "vsw: limit report\n"
+
 -- the byte at which a record is cut or huge
 abbrev pub byte_text : BadTrace → List ℕ
 byte_text NotPcap = []
@@ -78,7 +92,7 @@ byte_text LinkType = []
 byte_text (Cut at) = codes " " ++ decimal at
 byte_text (Huge at) = codes " " ++ decimal at
 
--- the words that a run complains by its ending
+-- the words that a run complains by its ending. That a report is illegal is put, and nothing complained
 abbrev pub complaint : Ending → List ℕ
 complaint ending.Done = []
 complaint ending.Usage = codes "vsw: usage\n"
@@ -88,6 +102,8 @@ complaint (ending.Policy why) = policy_text why
 complaint (ending.Commands why) = commands_text why
 complaint (ending.Trace bad) = codes "vsw: refused trace " ++ trace_name bad ++ byte_text bad ++ codes "\n"
 complaint ending.Records = codes "vsw: limit records\n"
+complaint (ending.Report why) = report_text why
+complaint ending.Illegal = []
 complaint ending.Memory = memory_text
 
 -- these words were complained, or a front of them if the host counted a fault

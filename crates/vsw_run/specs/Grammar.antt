@@ -1,7 +1,8 @@
--- The command line as a grammar: `vsw forward [--workers N] POLICY COMMANDS TRACE` and `vsw generate START PACKETS`.
+-- The command line as a grammar: `vsw forward [--workers N] POLICY COMMANDS TRACE`, `vsw check [--workers N] POLICY COMMANDS TRACE REPORT` and
+-- `vsw generate START PACKETS`.
 use Rattle.std.specs.Prelude.{◌≡◌, ◌≢◌, ◌⊎◌, ◌≤◌, ℕ, List, [], ◌∷◌, ◌++◌, codes, decimal}
 use Rattle.std.specs.List.{All}
-use Rattle.vsw_run.specs.Words.{Request, Asked, Forward, Generate}
+use Rattle.vsw_run.specs.Words.{Request, Claim, Asked, Forward, Check, Generate}
 
 -- a word of more than one byte that begins with a dash
 abbrev pub IsDashed : List ℕ → Type 0
@@ -22,20 +23,32 @@ IsOption words n =
 abbrev pub IsBehind : List (List ℕ) → List (List ℕ) → Type 0
 IsBehind words names = (words ≡ codes "--" ∷ names) ⊎ ((words ≡ []) × (names ≡ []))
 
--- the words after `forward`: names, the option, names, and perhaps `--` and further names. The names before `--` aren't dashed, so it is the first;
--- those behind it may be. There are three names, none of them empty
-pub record IsForward (words : List (List ℕ)) (request : Request) : Type 0 where
+-- the words after a command that takes the option: names, the option, names, and perhaps `--` and further names. The names before `--` aren't
+-- dashed, so it is the first; those behind it may be. None is empty
+pub record AreNames (words : List (List ℕ)) (workers : ℕ) (names : List (List ℕ)) : Type 0 where
   pub before : List (List ℕ)
   pub option : List (List ℕ)
   pub after : List (List ℕ)
   pub end : List (List ℕ)
   pub behind : List (List ℕ)
   pub shape : words ≡ before ++ option ++ after ++ end
-  pub option_is : IsOption option request.workers
+  pub option_is : IsOption option workers
   pub end_is : IsBehind end behind
   pub undashed : All (λ name. ¬ (IsDashed name)) (before ++ after)
-  pub names : before ++ after ++ behind ≡ request.policy ∷ request.commands ∷ request.trace ∷ []
-  pub nonempty : All (λ name. name ≢ []) (before ++ after ++ behind)
+  pub all : before ++ after ++ behind ≡ names
+  pub nonempty : All (λ name. name ≢ []) names
+
+-- the files of a run
+abbrev pub files_of : Request → List (List ℕ)
+files_of q = q.policy ∷ q.commands ∷ q.trace ∷ []
+
+-- the words after `forward`: three names
+abbrev pub IsForward : List (List ℕ) → Request → Type 0
+IsForward words request = AreNames words request.workers (files_of request)
+
+-- the words after `check`: the same three, and the report's
+abbrev pub IsClaim : List (List ℕ) → Claim → Type 0
+IsClaim words claim = AreNames words claim.run.workers (files_of claim.run ++ claim.report ∷ [])
 
 -- the words after `generate`: the number that packets are drawn from, and how many packets
 pub record IsGenerate (words : List (List ℕ)) (start packets : ℕ) : Type 0 where
@@ -46,10 +59,12 @@ pub record IsGenerate (words : List (List ℕ)) (start packets : ℕ) : Type 0 w
 -- what the words after a command ask for
 abbrev pub IsAsked : List (List ℕ) → Asked → Type 0
 IsAsked words (Forward request) = IsForward words request
+IsAsked words (Check claim) = IsClaim words claim
 IsAsked words (Generate start packets) = IsGenerate words start packets
 
 abbrev pub command_of : Asked → List ℕ
 command_of (Forward request) = codes "forward"
+command_of (Check claim) = codes "check"
 command_of (Generate start packets) = codes "generate"
 
 -- a command line: the program's name, the command, and the words after it

@@ -6,6 +6,7 @@ use Rattle.vsw_commandfile.specs.Commands.{commands_file_of}
 use Rattle.vsw_pcap.specs.Capture.{IsCapture}
 use Rattle.vsw_pcap.specs.declared.capture.Record.{Record}
 use Rattle.vsw_config.specs.Policy.{policy_file_of}
+use Rattle.vsw_run.specs.Checks.{AreGood, Checks}
 use Rattle.vsw_run.specs.Complaint.{status_of, complaint, Complains}
 use Rattle.vsw_run.specs.declared.ending.Ending.{Ending}
 use Rattle.vsw_run.specs.declared.ending.Ending.TheVariants as ending
@@ -15,7 +16,7 @@ use Rattle.vsw_run.specs.Files.{Opens, HasBadPolicy, HasBadCommands, LacksTrace,
 use Rattle.vsw_run.specs.Generated.{Summarizes}
 use Rattle.vsw_promise.specs.Jobs.{Setting}
 use Rattle.vsw_run.specs.Trace.{Trace, Tells, MayTell, most_records}
-use Rattle.vsw_run.specs.Words.{Request, Asked, Forward, Generate, asked_in}
+use Rattle.vsw_run.specs.Words.{Request, Claim, Asked, Forward, Check, Generate, asked_in}
 
 -- a text was put, or a front of it, or nothing
 abbrev pub Puts : Outside → Outside → List ℕ → Type 0
@@ -59,7 +60,7 @@ Ends q old new files ending.Done = EndsByTrace q old new files ending.Done
 Ends q old new files ending.ReadFault = Rose old.input_faults new.input_faults × ((LacksTrace files × PutsNothing old new) ⊎ EndsByTrace q old new files ending.ReadFault)
 Ends q old new files ending.WriteFault = Rose old.put_faults new.put_faults × BreaksOff q old new files
 Ends q old new files ending.Memory = PutsNothing old new ⊎ EndsByTrace q old new files ending.Memory ⊎ BreaksOff q old new files
-Ends q old new files ending.Usage = ⊥
+Ends q old new files _ = ⊥
 
 -- the words ask for a run over files
 pub record Runs (q : Request) (old new : Outside) (end : Ending) : Type 0 where
@@ -102,6 +103,7 @@ pub record RunsGenerated (start packets : ℕ) (old new : Outside) (end : Ending
 abbrev pub RunsBy : Option Asked → Outside → Outside → Ending → Type 0
 RunsBy None old new end = RunsNot old new end
 RunsBy (Some (Forward q)) old new end = Runs q old new end
+RunsBy (Some (Check c)) old new end = Checks c old new end
 RunsBy (Some (Generate start packets)) old new end = RunsGenerated start packets old new end
 
 -- the whole program: what a run of these words left, by its status
@@ -137,3 +139,7 @@ IsComplete words old new s = AreAdmitted words old.inputs → ¬ (Rose old.input
 -- the words ask for a generated workload: then nothing but a fault of putting or want of memory does so
 abbrev pub IsCompleteAlone : List (List ℕ) → Outside → Outside → Status → Type 0
 IsCompleteAlone words old new s = (start packets : ℕ) → asked_in words ≡ Some (Generate start packets) → ¬ (Rose old.put_faults new.put_faults) → (s ≡ status.Done) ⊎ (s ≡ status.Memory)
+
+-- the words ask for a check of good files: then nothing but a fault or want of memory keeps it from an answer
+abbrev pub IsAnswered : List (List ℕ) → Outside → Outside → Status → Type 0
+IsAnswered words old new s = (c : Claim) → asked_in words ≡ Some (Check c) → AreGood c old.inputs → ¬ (Rose old.input_faults new.input_faults) → ¬ (Rose old.put_faults new.put_faults) → (s ≡ status.Done) ⊎ (s ≡ status.Illegal) ⊎ (s ≡ status.Memory)

@@ -7,6 +7,7 @@ pub mod Trace
 pub mod Files
 pub mod Complaint
 pub mod Generated
+pub mod Checks
 pub mod IsRun
 pub mod Law
 pub mod Well

@@ -10,9 +10,15 @@ pub record Request : Type 0 where
   pub commands : List ℕ
   pub trace : List ℕ
 
--- what the words ask for: to forward, or to generate so many packets, which are drawn from a number
+-- what `check` is asked for: the run that is claimed, and the name of its report
+pub record Claim : Type 0 where
+  pub run : Request
+  pub report : List ℕ
+
+-- what the words ask for: to forward, to check a report, or to generate so many packets, which are drawn from a number
 pub data Asked : Type 0 where
   Forward : Request → Asked
+  Check : Claim → Asked
   Generate : (start packets : ℕ) → Asked
 
 -- what the word's digits are worth, where that number within the bounds is written so
@@ -63,34 +69,57 @@ option_in (word ∷ words) = if bytes_eq word (codes "--workers") then next_in w
 abbrev pub is_empty : List ℕ → Bool
 is_empty word = length word == 0
 
+-- a number of workers, and names
+pub record Named : Type 0 where
+  pub workers : ℕ
+  pub names : List (List ℕ)
+
+-- the words after the option, where these names stand before it
+abbrev pub after_option : List (List ℕ) → Opted → Option Named
+after_option names o = option_map (λ behind. record { workers = o.workers; names = names ++ before_dash o.rest ++ behind }) (behind_in (from_dash o.rest))
+
+-- names up to their end, or an option between names
+abbrev pub named_of : (before rest : List (List ℕ)) → Option Named
+named_of before rest = elim (behind_in rest) [ Some behind ↦ Some (record { workers = 1; names = before ++ behind }) | None ↦ option_and_then (after_option before) (option_in rest) ]
+
+-- the words after a command that takes the option
+abbrev pub named_in : List (List ℕ) → Option Named
+named_in words = named_of (before_dash words) (from_dash words)
+
 -- three file names, none of them empty
 abbrev pub request_of : ℕ → List (List ℕ) → Option Request
 request_of workers (p ∷ c ∷ t ∷ []) = if list_any is_empty (p ∷ c ∷ t ∷ []) then None else Some (record { workers = workers; policy = p; commands = c; trace = t })
 request_of workers names = None
 
--- the words after the option, where these names stand before it
-abbrev pub after_option : List (List ℕ) → Opted → Option Request
-after_option names o = option_and_then (λ behind. request_of o.workers (names ++ before_dash o.rest ++ behind)) (behind_in (from_dash o.rest))
-
--- names up to their end, or an option between names
-abbrev pub forward_of : (before rest : List (List ℕ)) → Option Request
-forward_of before rest = elim (behind_in rest) [ Some behind ↦ request_of 1 (before ++ behind) | None ↦ option_and_then (after_option before) (option_in rest) ]
-
 -- the words after `forward`
 abbrev pub forward_in : List (List ℕ) → Option Request
-forward_in words = forward_of (before_dash words) (from_dash words)
+forward_in words = option_and_then (λ n. request_of n.workers n.names) (named_in words)
+
+-- four file names, none of them empty
+abbrev pub claim_of : ℕ → List (List ℕ) → Option Claim
+claim_of workers (p ∷ c ∷ t ∷ r ∷ []) = if list_any is_empty (p ∷ c ∷ t ∷ r ∷ []) then None else Some (record { run = record { workers = workers; policy = p; commands = c; trace = t }; report = r })
+claim_of workers names = None
+
+-- the words after `check`
+abbrev pub check_in : List (List ℕ) → Option Claim
+check_in words = option_and_then (λ n. claim_of n.workers n.names) (named_in words)
 
 -- the words after `generate`: two numbers
 abbrev pub generate_in : List (List ℕ) → Option Asked
 generate_in (start ∷ packets ∷ []) = option_and_then (λ s. option_map (λ n. Generate s n) (number_in 1 1048576 packets)) (number_in 0 2147483647 start)
 generate_in _ = None
 
--- the program's name, the command, and what it is asked for
-abbrev pub asked_in : List (List ℕ) → Option Asked
-asked_in (program ∷ command ∷ words) =
+-- the words after a command
+abbrev pub asked_by : List ℕ → List (List ℕ) → Option Asked
+asked_by command words =
     if bytes_eq command (codes "forward") then option_map Forward (forward_in words)
+    else if bytes_eq command (codes "check") then option_map Check (check_in words)
     else if bytes_eq command (codes "generate") then generate_in words
     else None
+
+-- the program's name, the command, and what it is asked for
+abbrev pub asked_in : List (List ℕ) → Option Asked
+asked_in (program ∷ command ∷ words) = asked_by command words
 asked_in _ = None
 
 -- the same, for who only forwards

@@ -4,16 +4,25 @@ use vsw_commandfile::CommandsFault;
 use vsw_config::ConfigFault;
 use vsw_pcap::BadTrace;
 
+/// What is wrong with a report that was to be checked.
+#[derive(Clone, Copy, Debug, PartialEq, Eq)]
+pub enum ReportFault {
+    /// No report's text begins with the lines up to this one, counted from 1, and some does with those before it.
+    Line { number: u32 },
+    /// It has more bytes than a report may have.
+    ReportLimit,
+}
+
 /// How a run ended, with what the complaint names.
 #[derive(Drop)]
 pub enum Ending {
-    /// All files were read to their ends, and the whole report was put. No want of memory stands in it.
+    /// All files were read to their ends, and the whole report was put. No want of memory stands in it. Of a run that checks: the report is legal.
     Done,
     /// The words aren't of the grammar.
     Usage,
     /// A file couldn't be opened or read.
     ReadFault,
-    /// The report couldn't be put.
+    /// The report, or the answer, couldn't be put.
     WriteFault,
     /// The policy is refused, or over a limit.
     Policy(ConfigFault),
@@ -23,6 +32,10 @@ pub enum Ending {
     Trace(BadTrace),
     /// The trace has more records than it may have.
     Records,
+    /// The report that was to be checked is refused, or over its limit.
+    Report(ReportFault),
+    /// The report that was checked isn't that of such a run.
+    Illegal,
     /// There was no memory: for the run itself, or for a packet or a command of the report.
     Memory,
 }
@@ -42,6 +55,8 @@ pub enum Status {
     Refused,
     /// 6.
     Limit,
+    /// 8.
+    Illegal,
     /// 9.
     Memory,
 }

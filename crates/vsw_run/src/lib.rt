@@ -1,15 +1,18 @@
 //! What a run of the program is: the words of its command line, what it opens, reads, puts and complains, and how it ends.
 #![tactic(auto)]
 
+mod claim;
 mod ending;
 mod forward;
 mod grammar_law;
 mod law;
+mod names;
 mod numbers;
 mod reading;
 mod words;
 
-pub use ending::{Ending, Status};
+pub use claim::Claim;
+pub use ending::{Ending, ReportFault, Status};
 pub use forward::Request;
 pub use grammar_law::grammar_laws;
 pub use law::{done_laws, order_laws, program_laws, statuses};

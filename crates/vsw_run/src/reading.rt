@@ -2,8 +2,9 @@
 
 ghost use Rattle.std.specs.Prelude.{◌≡◌, IfSome, option_and_then, option_map};
 ghost use Rattle.vsw_run.specs.Seen.{IsWithin, asked_seen, forwarded};
-ghost use Rattle.vsw_run.specs.Words.{asked_in, generate_in, request_in};
+ghost use Rattle.vsw_run.specs.Words.{asked_by, asked_in, generate_in, request_in};
 
+use crate::claim::{Claim, read_check};
 use crate::forward::{Request, read_forward};
 use crate::numbers::read_number;
 use crate::words::Word;
@@ -14,10 +15,11 @@ const MOST_START: u32 = 2_147_483_647;
 /// Most packets of a workload.
 const MOST_PACKETS: u32 = 1_048_576;
 
-/// What the words ask for: to forward, or to generate so many packets, which are drawn from a number.
+/// What the words ask for: to forward, to check a report, or to generate so many packets, which are drawn from a number.
 #[derive(Clone, Copy)]
 pub enum Asked<'a> {
     Forward(Request<'a>),
+    Check(Claim<'a>),
     Generate { start: u32, packets: u32 },
 }
 
@@ -34,22 +36,29 @@ fn read_generate(words: &[Word]) -> Option<Asked<'_>>
     }
 }
 
+/// What the words after a command ask for.
+fn read_after<'a>(command: &str, words: &'a [Word]) -> Option<Asked<'a>>
+    ensures { option_map asked_seen result ≡ asked_by command.now words.now }
+{
+    match command {
+        "forward" => Some(Asked::Forward(read_forward(words)?)),
+        "check" => Some(Asked::Check(read_check(words)?)),
+        "generate" => read_generate(words),
+        _ => None,
+    }
+}
+
 fn read(words: &[Word]) -> Option<Asked<'_>>
-    ensures asked { option_map asked_seen result ≡ asked_in words.now }
-    ensures forward { option_and_then forwarded result ≡ request_in words.now }
+    ensures { option_map asked_seen result ≡ asked_in words.now }
 {
     match words {
-        [_, command, rest @ ..] => match command.text() {
-            "forward" => Some(Asked::Forward(read_forward(rest)?)),
-            "generate" => read_generate(rest),
-            _ => None,
-        },
+        [_, command, rest @ ..] => read_after(command.text(), rest),
         _ => None,
     }
 }
 
 /// What the words ask for, if they are of the grammar. The first word is the program's name.
-#[tactic(auto, using(crate::proofs::Bounds::within))]
+#[tactic(auto, using(crate::proofs::Bounds::within, crate::proofs::Bounds::forwarded_is))]
 pub fn read_words(words: &[Word]) -> Option<Asked<'_>>
     ensures asked { option_map asked_seen result ≡ asked_in words.now }
     ensures forward { option_and_then forwarded result ≡ request_in words.now }

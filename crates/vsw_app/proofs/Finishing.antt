@@ -7,17 +7,21 @@ use Rattle.vsw_host.specs.Told.{TellsSince}
 use Rattle.vsw_host.proofs.CallerLemmas.{TellsSince-SameInputs}
 use Rattle.vsw_config.specs.declared.file.ConfigFault.{ConfigFault}
 use Rattle.vsw_config.specs.declared.file.ConfigFault.TheVariants as policy
-use Rattle.vsw_run.specs.Complaint.{policy_status, commands_status, status_of, complaint, Complains}
+use Rattle.vsw_run.specs.Checks.{answer_text}
+use Rattle.vsw_run.specs.Checks as checks
+use Rattle.vsw_run.specs.Complaint.{policy_status, commands_status, report_status, status_of, complaint, Complains}
 use Rattle.vsw_run.specs.Files.{Opens}
 use Rattle.vsw_run.specs.IsRun.{Ends, EndsByTrace, EndsGenerated, BreaksOff, PutsSummary, TraceRead, RunsBy, IsRun}
 use Rattle.vsw_run.specs.declared.ending.Ending.{Ending}
 use Rattle.vsw_run.specs.declared.ending.Ending.TheVariants as ending
+use Rattle.vsw_run.specs.declared.ending.ReportFault.{ReportFault}
+use Rattle.vsw_run.specs.declared.ending.ReportFault.TheVariants as report
 use Rattle.vsw_run.specs.declared.ending.Status.{Status}
 use Rattle.vsw_run.specs.declared.ending.Status.TheVariants as status
-use Rattle.vsw_run.specs.Words.{Request, Asked, Forward, Generate, asked_in}
+use Rattle.vsw_run.specs.Words.{Request, Claim, Asked, Forward, Check, Generate, asked_in}
 use Rattle.vsw_app.specs.Speaks.{KeepsPut}
 use Rattle.vsw_app.specs.Stages.{HasEndedBy}
-use Rattle.vsw_app.proofs.Growing.{grows_none, grows_as, rose_as}
+use Rattle.vsw_files.proofs.Growing.{grows_none, grows_as, rose_as}
 use Rattle.vsw_app.proofs.Running.{read_as}
 
 -- ---- behind the complaint
@@ -57,6 +61,26 @@ ends_later q old b c files ending.Memory l (inl e) = inl (grows_later old b c []
 ends_later q old b c files ending.Memory l (inr (inl e)) = inr (inl (by_trace_later q old b c files ending.Memory l e))
 ends_later q old b c files ending.Memory l (inr (inr e)) = inr (inr (break_later q old b c files l e))
 ends_later q old b c files ending.Usage l e = absurd e
+ends_later q old b c files (ending.Report why) l e = absurd e
+ends_later q old b c files ending.Illegal l e = absurd e
+
+-- the same of a run that checks
+checked_later : (k : Claim) (old b c : Outside) (files : List Opened) (end : Ending) → IsLater b c → checks.Ends k old b files end → checks.Ends k old c files end
+checked_later k old b c files ending.Done l e = (e.0, grows_later old b c (answer_text true) l e.1)
+checked_later k old b c files ending.Illegal l e = (e.0, grows_later old b c (answer_text false) l e.1)
+checked_later k old b c files (ending.Policy why) l e = (e.0, grows_later old b c [] l e.1)
+checked_later k old b c files (ending.Commands why) l e = (e.0, grows_later old b c [] l e.1)
+checked_later k old b c files (ending.Trace bad) l e = (e.0, grows_later old b c [] l e.1)
+checked_later k old b c files ending.Records l e = (e.0, grows_later old b c [] l e.1)
+checked_later k old b c files (ending.Report why) l e = (e.0, grows_later old b c [] l e.1)
+checked_later k old b c files ending.ReadFault l e = (rose_as old.input_faults b.input_faults old.input_faults c.input_faults refl l.inputs.input_faults e.0, e.1, grows_later old b c [] l e.2)
+checked_later k old b c files ending.WriteFault l e =
+    (rose_as old.put_faults b.put_faults old.put_faults c.put_faults refl l.put.put_faults e.0, (e.1.0, e.1.1, e.1.2, grows_later old b c (take e.1.1 (answer_text e.1.0)) l e.1.3))
+checked_later k old b c files ending.Memory l e = grows_later old b c [] l e
+checked_later k old b c files ending.Usage l e = absurd e
+
+check_opens_later : (k : Claim) (old b c : Outside) (files : List Opened) → IsLater b c → checks.Opens old b k files → checks.Opens old c k files
+check_opens_later k old b c files l o = record { since = subst (λ i. TellsSince old.inputs i files) (sym l.inputs.inputs) o.since; held = o.held; within = o.within; in_turn = o.in_turn }
 
 -- words that were complained where nothing had been since
 complains_from : (a b c : Outside) (text : List ℕ) → b.complained ≡ a.complained → b.complain_faults ≡ a.complain_faults → Complains b c text → Complains a c text
@@ -78,6 +102,8 @@ generated_later start packets old b c (ending.Policy why) l e = absurd e
 generated_later start packets old b c (ending.Commands why) l e = absurd e
 generated_later start packets old b c (ending.Trace bad) l e = absurd e
 generated_later start packets old b c ending.Records l e = absurd e
+generated_later start packets old b c (ending.Report why) l e = absurd e
+generated_later start packets old b c ending.Illegal l e = absurd e
 
 -- the words ask for a run, which ended and was complained of
 pub run_asked : (words : List (List ℕ)) (a : Asked) (old now new : Outside) (end : Ending) (s : Status) → asked_in words ≡ Some a → HasEndedBy a old now end → s ≡ status_of end → Complains now new (complaint end) → SameInputs now new → KeepsPut now new → IsRun words old new s
@@ -87,6 +113,14 @@ run_asked words (Forward q) old now new end s asked h is complains same keeps =
       end = end;
       status_is = is;
       runs = subst (λ o. RunsBy o old new end) (sym asked) (record { files = h.runs.files; opens = opens_later q old now new h.runs.files later h.runs.opens; ends = ends_later q old now new h.runs.files end later h.runs.ends });
+      complains = complains_from old now new (complaint end) h.complained h.complain_faults complains;
+    }
+run_asked words (Check k) old now new end s asked h is complains same keeps =
+    let later : IsLater now new = record { inputs = same; put = keeps } in
+    record {
+      end = end;
+      status_is = is;
+      runs = subst (λ o. RunsBy o old new end) (sym asked) (record { files = h.runs.files; opens = check_opens_later k old now new h.runs.files later h.runs.opens; ends = checked_later k old now new h.runs.files end later h.runs.ends });
       complains = complains_from old now new (complaint end) h.complained h.complain_faults complains;
     }
 run_asked words (Generate start packets) old now new end s asked h is complains same keeps =
@@ -129,6 +163,10 @@ own_commands commands.CommandsLimit = tt
 own_commands commands.LinesLimit = tt
 own_commands commands.Memory = tt
 
+own_report : (why : ReportFault) → IsOwn (report_status why) (ending.Report why)
+own_report (report.Line number) = tt
+own_report report.ReportLimit = tt
+
 own : (end : Ending) → IsOwn (status_of end) end
 own ending.Done = tt
 own ending.Usage = refl
@@ -139,6 +177,8 @@ own (ending.Commands why) = own_commands why
 own (ending.Trace bad) = tt
 own ending.Records = tt
 own ending.Memory = tt
+own (ending.Report why) = own_report why
+own ending.Illegal = tt
 
 end_of : (words : List (List ℕ)) (old new : Outside) (s t : Status) (r : IsRun words old new s) → s ≡ t → IsOwn t r.end
 end_of words old new s t r e = subst (λ u. IsOwn u r.end) (sym r.status_is ∙ e) (own r.end)
@@ -147,6 +187,7 @@ end_of words old new s t r e = subst (λ u. IsOwn u r.end) (sym r.status_is ∙ 
 usage_by : (o : Option Asked) (old new : Outside) (end : Ending) → RunsBy o old new end → (end ≡ ending.Usage) ↔ (o ≡ None)
 usage_by None old new end r = ((λ e. refl), (λ e. r.usage))
 usage_by (Some (Forward q)) old new end r = ((λ e. absurd (subst (Ends q old new r.files) e r.ends)), (λ e. absurd (cc e)))
+usage_by (Some (Check k)) old new end r = ((λ e. absurd (subst (checks.Ends k old new r.files) e r.ends)), (λ e. absurd (cc e)))
 usage_by (Some (Generate start packets)) old new end r = ((λ e. absurd (subst (EndsGenerated start packets old new) e r.ends)), (λ e. absurd (cc e)))
 
 pub usage_is : (words : List (List ℕ)) (old new : Outside) (s : Status) → IsRun words old new s → (s ≡ status.Usage) ↔ (asked_in words ≡ None)
@@ -158,6 +199,7 @@ usage_is words old new s r =
 read_by : (o : Option Asked) (old new : Outside) (end : Ending) → RunsBy o old new end → end ≡ ending.ReadFault → Rose old.input_faults new.input_faults
 read_by None old new end r e = absurd (let u = r.usage in cc (u, e))
 read_by (Some (Forward q)) old new end r e = (subst (Ends q old new r.files) e r.ends).0
+read_by (Some (Check k)) old new end r e = (subst (checks.Ends k old new r.files) e r.ends).0
 read_by (Some (Generate start packets)) old new end r e = absurd (subst (EndsGenerated start packets old new) e r.ends)
 
 pub read_fault_is : (words : List (List ℕ)) (old new : Outside) (s : Status) → IsRun words old new s → s ≡ status.ReadFault → Rose old.input_faults new.input_faults
@@ -166,6 +208,7 @@ read_fault_is words old new s r e = read_by (asked_in words) old new r.end r.run
 write_by : (o : Option Asked) (old new : Outside) (end : Ending) → RunsBy o old new end → end ≡ ending.WriteFault → Rose old.put_faults new.put_faults
 write_by None old new end r e = absurd (let u = r.usage in cc (u, e))
 write_by (Some (Forward q)) old new end r e = (subst (Ends q old new r.files) e r.ends).0
+write_by (Some (Check k)) old new end r e = (subst (checks.Ends k old new r.files) e r.ends).0
 write_by (Some (Generate start packets)) old new end r e = (subst (EndsGenerated start packets old new) e r.ends).0
 
 pub write_fault_is : (words : List (List ℕ)) (old new : Outside) (s : Status) → IsRun words old new s → s ≡ status.WriteFault → Rose old.put_faults new.put_faults

@@ -1,9 +1,7 @@
-pub mod Growing
 pub mod Speaking
-pub mod Reading
-pub mod Limits
-pub mod Opening
 pub mod Running
+pub mod Answering
+pub mod Answered
 pub mod Mustering
 pub mod Drawing
 pub mod Finishing

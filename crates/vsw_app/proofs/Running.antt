@@ -25,9 +25,10 @@ use Rattle.vsw_replay.specs.declared.ending.TraceEnd.{TraceEnd}
 use Rattle.vsw_replay.specs.declared.ending.TraceEnd.TheVariants as end
 use Rattle.vsw_run.specs.Words.{Request}
 use Rattle.vsw_app.specs.Ending.{ending_of}
-use Rattle.vsw_app.specs.Stages.{HasCommands, HasEnded}
-use Rattle.vsw_app.proofs.Growing.{grows_none, grows_as, rose_from, rose_as}
-use Rattle.vsw_app.proofs.Opening.{opens_more, opens_same}
+use Rattle.vsw_app.specs.Stages.{HasEnded}
+use Rattle.vsw_files.specs.Early.{EndsEarly, HasCommands, IsEarly}
+use Rattle.vsw_files.proofs.Growing.{grows_none, grows_same, grows_as, rose_from, rose_as}
+use Rattle.vsw_files.proofs.Opening.{opens_more, opens_same}
 
 -- ---- what each line of the commands asks can be asked
 
@@ -50,6 +51,30 @@ all_ports p (l ∷ ls) h = (port_listed p.controllers l.port p.ports ∙ (h 0 l 
 pub all_rules : (p : PolicyFile) (ls : List Line) → All (CanAsk p) ls → Each (λ l. Each IsGoodRule (rules_given l.command)) ls
 all_rules p [] h = tt
 all_rules p (l ∷ ls) h = ((h 0 l (omega arith)).2, all_rules p ls (λ i d lt. h (suc i) d (omega (arith, lt))))
+
+-- ---- a run that ended before its trace
+
+pub ended_early : (q : Request) (old new : Outside) (end : Ending) → EndsEarly q old new end → HasEnded q old new end
+ended_early q old new end e = by end e.why
+  where
+    none : Grows old.put new.put []
+    none = grows_same old.put new.put e.outputs.put
+
+    so : (end : Ending) → Ends q old new e.files end → HasEnded q old new end
+    so end ends = record { runs = record { files = e.files; opens = e.opens; ends = ends }; complained = e.outputs.complained; complain_faults = e.outputs.complain_faults }
+
+    by : (end : Ending) → IsEarly old new e.files end → HasEnded q old new end
+    by (ending.Policy why) w = so (ending.Policy why) (w, none)
+    by (ending.Commands why) w = so (ending.Commands why) (w, none)
+    by ending.ReadFault w = so ending.ReadFault (w.0, inl (w.1, none))
+    by ending.Memory w = so ending.Memory (inl none)
+    by ending.Done w = absurd w
+    by ending.Usage w = absurd w
+    by ending.WriteFault w = absurd w
+    by (ending.Trace bad) w = absurd w
+    by ending.Records w = absurd w
+    by (ending.Report why) w = absurd w
+    by ending.Illegal w = absurd w
 
 -- ---- no memory before the trace
 

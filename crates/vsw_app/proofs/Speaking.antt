@@ -8,7 +8,7 @@ use Rattle.vsw_config.specs.declared.fault.Step.{Step}
 use Rattle.vsw_config.specs.declared.fault.Step.TheVariants.{Member, Place}
 use Rattle.vsw_run.specs.Complaint.{Complains}
 use Rattle.vsw_app.specs.Speaks.{Says, Speaks, KeepsPut, name_text}
-use Rattle.vsw_app.proofs.Growing.{grows_then, front_then, front_more, rose_from}
+use Rattle.vsw_files.proofs.Growing.{grows_then, front_then, front_more, rose_from}
 
 same_inputs : (a b c : Outside) → SameInputs a b → SameInputs b c → SameInputs a c
 same_inputs a b c p q = record { inputs = q.inputs ∙ p.inputs; opens = q.opens ∙ p.opens; input_faults = q.input_faults ∙ p.input_faults }
@@ -44,6 +44,9 @@ speaks_is a b xs ys r same s = let P : List ℕ → Type 0 = λ t. Speaks a b t 
 -- texts that were said from the last of four on
 pub four : (xs ys zs ws : List ℕ) → xs ++ (ys ++ (zs ++ ws)) ≡ xs ++ ys ++ zs ++ ws
 four xs ys zs ws = sym (append_assoc (xs ++ ys) zs ws ∙ append_assoc xs ys (zs ++ ws))
+
+pub three : (xs ys zs : List ℕ) → xs ++ (ys ++ zs) ≡ xs ++ ys ++ zs
+three xs ys zs = sym (append_assoc xs ys zs)
 
 -- the text of a value, which is known by its kind
 pub speaks_of : (A : Type 0) (text : A → List ℕ) (a b : Outside) (e f : A) (r : Result ⊤ Failed) → e ≡ f → Speaks a b (text f) r → Speaks a b (text e) r

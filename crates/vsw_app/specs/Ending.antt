@@ -1,4 +1,5 @@
--- How a run ends by its trace, or by its workload.
+-- How a run ends by its trace, by its workload, or by its answer.
+use Rattle.std.specs.Prelude.{Bool, true, false}
 use Rattle.vsw_run.specs.declared.ending.Ending.{Ending}
 use Rattle.vsw_run.specs.declared.ending.Ending.TheVariants as ending
 use Rattle.vsw_replay.specs.declared.ending.TraceEnd.{TraceEnd}
@@ -20,3 +21,8 @@ abbrev pub drawn_ending : WorkloadEnd → Ending
 drawn_ending drawn.Done = ending.Done
 drawn_ending drawn.WriteFault = ending.WriteFault
 drawn_ending drawn.Memory = ending.Memory
+
+-- or by its answer: whether the report is legal
+abbrev pub answered : Bool → Ending
+answered true = ending.Done
+answered false = ending.Illegal

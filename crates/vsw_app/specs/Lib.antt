@@ -1,4 +1,5 @@
 pub mod Ending
+pub mod Answers
 pub mod Exit
 pub mod Speaks
 pub mod Stages

@@ -3,7 +3,7 @@
 ghost use Rattle.std.specs.Prelude.{◌≡◌, ◌++◌, codes, decimal};
 ghost use Rattle.vsw_config.specs.Path.{step_text, steps_text, path_text};
 ghost use Rattle.vsw_pcap.specs.Fault.{trace_name};
-ghost use Rattle.vsw_run.specs.Complaint.{byte_text, fault_text, policy_text, commands_text, complaint};
+ghost use Rattle.vsw_run.specs.Complaint.{byte_text, fault_text, policy_text, commands_text, report_text, complaint};
 ghost use Rattle.vsw_app.specs.Speaks.{name_text, Speaks};
 
 use itoa::Buffer;
@@ -11,7 +11,7 @@ use vsw_commandfile::CommandsFault;
 use vsw_config::{ConfigFault, Kind, Step};
 use vsw_host::{Failed, Host};
 use vsw_pcap::BadTrace;
-use vsw_run::Ending;
+use vsw_run::{Ending, ReportFault};
 
 /// Complains a piece of the words.
 fn say<H: Host>(host: &mut H, words: &[u8]) -> Result<(), Failed>
@@ -209,6 +209,34 @@ fn say_commands<H: Host>(host: &mut H, why: &CommandsFault) -> Result<(), Failed
     }
 }
 
+fn say_number_end<H: Host>(host: &mut H, number: u32) -> Result<(), Failed>
+    ensures { Speaks (H.outside host.old) (H.outside host.new) (decimal number ++ codes "\n") result }
+{
+    match say_number(host, u64::from(number)) {
+        Ok(()) => say(host, b"\n"),
+        Err(failed) => Err(failed),
+    }
+}
+
+fn say_bad_report<H: Host>(host: &mut H, number: u32) -> Result<(), Failed>
+    ensures { Speaks (H.outside host.old) (H.outside host.new) (codes "vsw: refused report " ++ (decimal number ++ codes "\n")) result }
+{
+    match say(host, b"vsw: refused report ") {
+        Ok(()) => say_number_end(host, number),
+        Err(failed) => Err(failed),
+    }
+}
+
+/// Complains what is wrong with a report.
+fn say_report<H: Host>(host: &mut H, why: &ReportFault) -> Result<(), Failed>
+    ensures { Speaks (H.outside host.old) (H.outside host.new) (report_text why.now) result }
+{
+    match why {
+        ReportFault::Line { number } => say_bad_report(host, *number),
+        ReportFault::ReportLimit => say(host, b"vsw: limit report\n"),
+    }
+}
+
 /// Complains the words of an ending, if it has any.
 pub fn say_ending<H: Host>(host: &mut H, end: &Ending) -> Result<(), Failed>
     ensures { Speaks (H.outside host.old) (H.outside host.new) (complaint end.now) result }
@@ -222,6 +250,8 @@ pub fn say_ending<H: Host>(host: &mut H, end: &Ending) -> Result<(), Failed>
         Ending::Commands(why) => say_commands(host, why),
         Ending::Trace(bad) => say_bad_trace(host, *bad),
         Ending::Records => say(host, b"vsw: limit records\n"),
+        Ending::Report(why) => say_report(host, why),
+        Ending::Illegal => say(host, b""),
         Ending::Memory => say(host, b"vsw: memory\n"),
     }
 }

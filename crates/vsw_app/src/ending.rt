@@ -2,8 +2,8 @@
 
 ghost use Rattle.std.specs.Prelude.{◌≡◌};
 ghost use Rattle.vsw_host.specs.Outside.{SameInputs};
-ghost use Rattle.vsw_run.specs.Complaint.{policy_status, commands_status, status_of, complaint, Complains};
-ghost use Rattle.vsw_app.specs.Ending.{drawn_ending, ending_of};
+ghost use Rattle.vsw_run.specs.Complaint.{policy_status, commands_status, report_status, status_of, complaint, Complains};
+ghost use Rattle.vsw_app.specs.Ending.{answered, drawn_ending, ending_of};
 ghost use Rattle.vsw_app.specs.Speaks.{KeepsPut};
 
 use crate::complaint::say_ending;
@@ -11,7 +11,7 @@ use vsw_commandfile::CommandsFault;
 use vsw_config::ConfigFault;
 use vsw_host::Host;
 use vsw_replay::{TraceEnd, WorkloadEnd};
-use vsw_run::{Ending, Status};
+use vsw_run::{Ending, ReportFault, Status};
 
 /// The ending of a run by how its trace ended.
 pub fn ending_of(end: TraceEnd) -> Ending
@@ -38,6 +38,17 @@ pub fn drawn_ending(end: WorkloadEnd) -> Ending
     }
 }
 
+/// The ending of a check by its answer.
+pub fn answered(answer: bool) -> Ending
+    ensures { result ≡ answered answer }
+{
+    if answer {
+        Ending::Done
+    } else {
+        Ending::Illegal
+    }
+}
+
 fn policy_status(why: &ConfigFault) -> Status
     ensures { result ≡ policy_status why.now }
 {
@@ -61,6 +72,15 @@ fn commands_status(why: &CommandsFault) -> Status
     }
 }
 
+fn report_status(why: &ReportFault) -> Status
+    ensures { result ≡ report_status why.now }
+{
+    match why {
+        ReportFault::Line { .. } => Status::Refused,
+        ReportFault::ReportLimit => Status::Limit,
+    }
+}
+
 /// The exit status of an ending.
 fn status_of(end: &Ending) -> Status
     ensures { result ≡ status_of end.now }
@@ -74,6 +94,8 @@ fn status_of(end: &Ending) -> Status
         Ending::Commands(why) => commands_status(why),
         Ending::Trace(_) => Status::Refused,
         Ending::Records => Status::Limit,
+        Ending::Report(why) => report_status(why),
+        Ending::Illegal => Status::Illegal,
         Ending::Memory => Status::Memory,
     }
 }

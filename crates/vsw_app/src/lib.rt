@@ -1,9 +1,9 @@
 //! The program: its words, its run, how that ends, and what the process ends with.
 #![tactic(auto)]
 
+mod check;
 mod complaint;
 mod ending;
-mod files;
 mod open;
 mod process;
 mod run;

@@ -36,6 +36,7 @@ pub fn exit_code(status: Status) -> u8
         Status::WriteFault => 4,
         Status::Refused => 5,
         Status::Limit => 6,
+        Status::Illegal => 8,
         Status::Memory => 9,
     }
 }

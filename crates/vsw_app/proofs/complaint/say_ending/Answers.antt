@@ -21,6 +21,12 @@ returns-in-WriteFault g c = speaks_of Ending complaint _ _ c.args.end.now varian
 pub returns-in-Records : goal.returns-in-Records
 returns-in-Records g c = speaks_of Ending complaint _ _ c.args.end.now variant.Records _ c.in-Records.is c.say-in-Records.ensures
 
+pub returns-in-Illegal : goal.returns-in-Illegal
+returns-in-Illegal g c = speaks_of Ending complaint _ _ c.args.end.now variant.Illegal _ c.in-Illegal.is c.say-in-Illegal.ensures
+
+pub returns-in-Report : goal.returns-in-Report
+returns-in-Report g c = speaks_of Ending complaint _ _ c.args.end.now (variant.Report c.in-Report.why) _ c.in-Report.is c.say_report.ensures
+
 pub returns-in-Memory : goal.returns-in-Memory
 returns-in-Memory g c = speaks_of Ending complaint _ _ c.args.end.now variant.Memory _ c.in-Memory.is c.say-in-Memory.ensures
 

@@ -2,18 +2,19 @@ use Rattle.std.proofs.Common.{refl}
 use Rattle.vsw_commandfile.proofs.LinesRead as lines
 use Rattle.vsw_config.proofs.Policies as policies
 use Rattle.vsw_run.specs.Seen.{request_seen}
-use Rattle.vsw_app.specs.Stages.{HasPolicy, HasCommands}
-use Rattle.vsw_app.proofs.Running.{traced_as}
+use Rattle.vsw_files.specs.Early.{HasPolicy, HasCommands}
+use Rattle.vsw_app.proofs.Running.{ended_early, traced_as}
 use Rattle.vsw_app.proofs.run.forward.Goals as goal
 
 pub returns-in-Err : goal.returns-in-Err
 returns-in-Err g c =
-    c.in-Err.ensures (request_seen c.args.request.now) refl
+    let q = request_seen c.args.request.now in
+    ended_early q (g.H.Host.outside c.args.host.now) (g.H.Host.outside c.open_policy.new.host) c.in-Err.end (c.in-Err.ensures q refl)
 
 pub returns-in-Err-open_commands : goal.returns-in-Err-open_commands
 returns-in-Err-open_commands g c =
     let q = request_seen c.args.request.now in
-    c.in-Err-open_commands.ensures q (g.H.Host.outside c.args.host.now) refl (c.in-Ok.ensures q refl)
+    ended_early q (g.H.Host.outside c.args.host.now) (g.H.Host.outside c.open_commands.new.host) c.in-Err-open_commands.end (c.in-Err-open_commands.ensures q (g.H.Host.outside c.args.host.now) refl (c.in-Ok.ensures q refl))
 
 pub run_through-requires-clause-good : goal.run_through-requires-clause-good
 run_through-requires-clause-good g c κs within =

@@ -1,4 +1,5 @@
 use Rattle.vsw_app.proofs.Completing.{complete_alone, complete_is}
+use Rattle.vsw_app.proofs.Answered.{answered_is}
 use Rattle.vsw_app.proofs.Finishing.{usage_is, read_fault_is, write_fault_is}
 use Rattle.vsw_app.proofs.run.run_words.Goals as goal
 
@@ -16,3 +17,6 @@ returns-clause-complete g c = complete_is c.args.words.now (g.H.Host.outside c.a
 
 pub returns-clause-alone : goal.returns-clause-alone
 returns-clause-alone g c = complete_alone c.args.words.now (g.H.Host.outside c.args.host.now) (g.H.Host.outside c.run.new.host) c.run.result c.run.ensures
+
+pub returns-clause-answered : goal.returns-clause-answered
+returns-clause-answered g c = answered_is c.args.words.now (g.H.Host.outside c.args.host.now) (g.H.Host.outside c.run.new.host) c.run.result c.run.ensures

@@ -1,5 +1,5 @@
-use Rattle.vsw_app.proofs.Opening.{policy_read, policy_fault, policy_too_long, policy_memory}
-use Rattle.vsw_app.proofs.files.open_policy.Goals as goal
+use Rattle.vsw_files.proofs.Opening.{policy_read, policy_fault, policy_too_long, policy_memory}
+use Rattle.vsw_files.proofs.early.open_policy.Goals as goal
 
 pub returns-in-Whole : goal.returns-in-Whole
 returns-in-Whole g c = λ q named. policy_read q (g.H.Host.outside c.args.host.now) (g.H.Host.outside c.read_file.new.host) c.args.name.now c.read_file.new.got.items c.deref.result.now c.judged_policy.result named c.in-Whole.ensures.reads c.deref.ensures.value c.judged_policy.ensures

@@ -3,21 +3,10 @@ use Rattle.std.proofs.Common.{◌≡◌, ◌<◌, ◌≤◌, ◌⊎◌, ◌+◌,
 use Rattle.std.proofs.lemmas.List.{length-take}
 use Rattle.vsw_host.specs.Outside.{Opened, Inputs, Outside}
 use Rattle.vsw_host.specs.Reading.{piece, ReadsFile, TellsFile}
-use Rattle.vsw_host.specs.Told.{TellsHeld, TellsSince, ReadsFront, ReadsNothing}
-use Rattle.vsw_host.specs.declared.reading.ReadEnd.{ReadEnd}
+use Rattle.vsw_host.specs.Told.{ReadsFront, ReadsNothing}
 use Rattle.vsw_host.specs.declared.reading.ReadEnd.TheVariants.{Whole, Fault, Long, Memory}
+use Rattle.vsw_files.specs.Opened.{OpensFew, OpensOne}
 use Rattle.vsw_host.proofs.CallerLemmas.{all-ReadsFile, front-ReadsFile}
-
--- this file alone was opened since
-pub record OpensOne (old new : Option Inputs) (file_name : List ℕ) (f : Opened) : Type 0 where
-  pub named : f.name ≡ file_name
-  pub since : TellsSince old new (f ∷ [])
-  pub held : TellsHeld old f.name f.bytes
-  pub within : f.read ≤ length f.bytes
-
--- no file was opened since, or this one of which no more was read than that
-abbrev pub OpensFew : Option Inputs → Option Inputs → List ℕ → (Opened → Type 0) → Type 0
-OpensFew old new name P = TellsSince old new [] ⊎ ((f : Opened) × OpensOne old new name f × P f)
 
 -- a file of which these bytes were got
 abbrev pub got_of : List ℕ → List ℕ → Opened
@@ -29,7 +18,7 @@ whole_read limit old new name got r =
     record { named = refl; since = all.since; held = all.held; within = omega arith }
 
 -- the file of a front that was read
-front_file : (a b : Option Inputs) (name got : List ℕ) → (r : ReadsFront a b name got) → OpensOne a b name (record { name = name; bytes = r.bytes; read = length got })
+pub front_file : (a b : Option Inputs) (name got : List ℕ) → (r : ReadsFront a b name got) → OpensOne a b name (record { name = name; bytes = r.bytes; read = length got })
 front_file a b name got r = record {
   named = refl;
   since = r.since;

@@ -3,7 +3,7 @@
 ghost use Rattle.std.specs.Prelude.{◌≡◌};
 ghost use Rattle.vsw_host.specs.Outside.{Outside};
 ghost use Rattle.vsw_run.specs.Words.{Request};
-ghost use Rattle.vsw_app.specs.Stages.{JudgesPolicy, JudgesCommands, HasPolicy, ReadsPolicy, ReadsCommands};
+ghost use Rattle.vsw_files.specs.Early.{JudgesPolicy, JudgesCommands, HasPolicy, ReadsPolicy, ReadsCommands};
 
 use std::alloc::Global;
 use vsw_base::Items;

@@ -1,29 +1,28 @@
 -- The files of a run, one after another, and how a run ends before its trace.
-use Rattle.std.proofs.Common.{◌≡◌, ◌<◌, ◌≤◌, ◌⊎◌, ◌+◌, ℕ, inl, inr, List, [], ◌∷◌, ◌++◌, Result, Ok, Err, length, refl, sym, ◌∙◌, ap, subst, arith, append-nil}
+use Rattle.std.proofs.Common.{◌≡◌, ◌≤◌, ◌⊎◌, ◌+◌, ℕ, inl, inr, List, [], ◌∷◌, ◌++◌, Result, Ok, Err, length, refl, sym, ◌∙◌, subst, arith, append-nil}
 use Rattle.vsw_commandfile.specs.Commands.{commands_file_of}
 use Rattle.vsw_commandfile.specs.declared.fault.CommandsFault.{CommandsFault}
 use Rattle.vsw_commandfile.specs.declared.fault.CommandsFault.TheVariants as commands
 use Rattle.vsw_commandfile.specs.declared.line.Line.{Line}
-use Rattle.vsw_host.specs.Outside.{Opened, Inputs, Outside, SameOutputs, Rose}
-use Rattle.vsw_host.specs.Reading.{piece, ReadsFile}
+use Rattle.vsw_host.specs.Outside.{Opened, Outside, SameOutputs, Rose}
+use Rattle.vsw_host.specs.Reading.{ReadsFile}
 use Rattle.vsw_host.specs.Told.{TellsHeld, TellsSince}
 use Rattle.vsw_host.specs.declared.reading.ReadEnd.TheVariants.{Whole, Fault, Long, Memory}
 use Rattle.vsw_host.proofs.CallerLemmas.{TellsSince-refl, TellsSince-trans, TellsHeld-before, SameOutputs-refl, SameOutputs-trans}
 use Rattle.vsw_port.proofs.Calls.{each_append}
-use Rattle.vsw_policy.specs.Sound.{Each}
 use Rattle.vsw_config.specs.Policy.{policy_file_of}
 use Rattle.vsw_config.specs.declared.file.ConfigFault.{ConfigFault}
 use Rattle.vsw_config.specs.declared.file.ConfigFault.TheVariants as policy
 use Rattle.vsw_config.specs.declared.file.PolicyFile.{PolicyFile}
-use Rattle.vsw_run.specs.Files.{InTurn, IsPolicy, IsWhole, Opens, ShowsPolicy, ShowsCommands, most_policy, most_commands}
-use Rattle.vsw_run.specs.IsRun.{Ends, Runs}
+use Rattle.vsw_run.specs.Files.{InTurn, Opens, ShowsPolicy, ShowsCommands}
 use Rattle.vsw_run.specs.declared.ending.Ending.{Ending}
 use Rattle.vsw_run.specs.declared.ending.Ending.TheVariants as ending
 use Rattle.vsw_run.specs.Words.{Request}
-use Rattle.vsw_app.specs.Stages.{JudgesPolicy, JudgesCommands, HasRead, HasPolicy, HasCommands, HasEnded, ReadsPolicy, ReadsCommands}
-use Rattle.vsw_app.proofs.Growing.{grows_same, rose_from}
-use Rattle.vsw_app.proofs.Limits.{policy_over, policy_long, commands_over, commands_long}
-use Rattle.vsw_app.proofs.Reading.{OpensOne, OpensFew, IsLong, got_of, whole_read, long_read, fault_read, memory_read}
+use Rattle.vsw_files.specs.Early.{EndsEarly, HasCommands, HasPolicy, IsEarly, JudgesCommands, JudgesPolicy, ReadsCommands, ReadsPolicy}
+use Rattle.vsw_files.specs.Opened.{OpensFew, OpensOne}
+use Rattle.vsw_files.proofs.Growing.{rose_from}
+use Rattle.vsw_files.proofs.Limits.{policy_over, policy_long, commands_over, commands_long}
+use Rattle.vsw_files.proofs.Reading.{IsLong, got_of, whole_read, long_read, fault_read, memory_read}
 
 -- ---- files one after another
 
@@ -51,8 +50,8 @@ opens_same q old now new xs p none = record {
 -- ---- the ends of a run before its trace
 
 -- nothing was put, and nothing complained
-pub ended : (q : Request) (old new : Outside) (end : Ending) (files : List Opened) → SameOutputs old new → Opens old new q files → Ends q old new files end → HasEnded q old new end
-ended q old new end files same opens ends = record { runs = record { files = files; opens = opens; ends = ends }; complained = same.complained; complain_faults = same.complain_faults }
+ended : (q : Request) (old new : Outside) (end : Ending) (files : List Opened) → SameOutputs old new → Opens old new q files → IsEarly old new files end → EndsEarly q old new end
+ended q old new end files same opens why = record { files = files; opens = opens; outputs = same; why = why }
 
 -- the files before the one that ended the run, and what this one did
 record IsStage (q : Request) (old now : Outside) (files : List Opened) : Type 0 where
@@ -67,13 +66,13 @@ stage_policy : (q : Request) (old now : Outside) (p : PolicyFile) (h : HasPolicy
 stage_policy q old now p h = record { opens = h.read.opens; outputs = h.read.outputs; later = h.read.later }
 
 -- memory was wanting for a file, or for what it says
-memory_end : (q : Request) (old now new : Outside) (files : List Opened) (name : List ℕ) → IsStage q old now files → SameOutputs now new → ((f : Opened) → f.name ≡ name → InTurn q (files ++ f ∷ [])) → OpensFew now.inputs new.inputs name (λ f. Unit {0}) → HasEnded q old new ending.Memory
+memory_end : (q : Request) (old now new : Outside) (files : List Opened) (name : List ℕ) → IsStage q old now files → SameOutputs now new → ((f : Opened) → f.name ≡ name → InTurn q (files ++ f ∷ [])) → OpensFew now.inputs new.inputs name (λ f. Unit {0}) → EndsEarly q old new ending.Memory
 memory_end q old now new files name s same turn (inl none) =
     let outputs = SameOutputs-trans old now new s.outputs same in
-    ended q old new ending.Memory files outputs (opens_same q old now new files s.opens none) (inl (grows_same old.put new.put outputs.put))
+    ended q old new ending.Memory files outputs (opens_same q old now new files s.opens none) tt
 memory_end q old now new files name s same turn (inr (f, one, u)) =
     let outputs = SameOutputs-trans old now new s.outputs same in
-    ended q old new ending.Memory (files ++ f ∷ []) outputs (opens_more q old now new files name f s.opens one (turn f one.named)) (inl (grows_same old.put new.put outputs.put))
+    ended q old new ending.Memory (files ++ f ∷ []) outputs (opens_more q old now new files name f s.opens one (turn f one.named)) tt
 
 -- ---- the policy
 
@@ -103,8 +102,8 @@ policy_read q old new name got bytes r named reads same j =
       read = record { opens = opens; short = omega (arith, reads.sized); outputs = reads.outputs; later = reads.later };
       is = record { named = sym named; whole = refl; good = e };
     }
-    by (Err (ending.Policy why)) e = ended q old new (ending.Policy why) (file ∷ []) reads.outputs opens (record { policy = file; only = refl; shown = shown why e; bad = e }, grows_same old.put new.put reads.outputs.put)
-    by (Err ending.Memory) e = ended q old new ending.Memory (file ∷ []) reads.outputs opens (inl (grows_same old.put new.put reads.outputs.put))
+    by (Err (ending.Policy why)) e = ended q old new (ending.Policy why) (file ∷ []) reads.outputs opens (record { policy = file; only = refl; shown = shown why e; bad = e })
+    by (Err ending.Memory) e = ended q old new ending.Memory (file ∷ []) reads.outputs opens tt
     by (Err ending.Done) e = absurd e
     by (Err ending.Usage) e = absurd e
     by (Err ending.ReadFault) e = absurd e
@@ -112,21 +111,23 @@ policy_read q old new name got bytes r named reads same j =
     by (Err (ending.Commands why)) e = absurd e
     by (Err (ending.Trace bad)) e = absurd e
     by (Err ending.Records) e = absurd e
+    by (Err (ending.Report why)) e = absurd e
+    by (Err ending.Illegal) e = absurd e
 
-pub policy_fault : (q : Request) (old new : Outside) (name got : List ℕ) → q.policy ≡ name → ReadsFile 4194304 old new name got Fault → HasEnded q old new ending.ReadFault
+pub policy_fault : (q : Request) (old new : Outside) (name got : List ℕ) → q.policy ≡ name → ReadsFile 4194304 old new name got Fault → EndsEarly q old new ending.ReadFault
 policy_fault q old new name got named reads = by (fault_read 4194304 old new name got reads)
   where
-    by : OpensFew old.inputs new.inputs name (λ f. f.read ≤ 4194304) → HasEnded q old new ending.ReadFault
-    by (inl none) = ended q old new ending.ReadFault [] reads.outputs (opens_same q old old new [] (opens_none q old) none) (reads.fault refl, inl (record { few = omega arith; cut_short = tt }, grows_same old.put new.put reads.outputs.put))
-    by (inr (f, one, few)) = ended q old new ending.ReadFault (f ∷ []) reads.outputs (opens_more q old old new [] name f (opens_none q old) one (one.named ∙ sym named)) (reads.fault refl, inl (record { few = omega arith; cut_short = omega (arith, few) }, grows_same old.put new.put reads.outputs.put))
+    by : OpensFew old.inputs new.inputs name (λ f. f.read ≤ 4194304) → EndsEarly q old new ending.ReadFault
+    by (inl none) = ended q old new ending.ReadFault [] reads.outputs (opens_same q old old new [] (opens_none q old) none) (reads.fault refl, record { few = omega arith; cut_short = tt })
+    by (inr (f, one, few)) = ended q old new ending.ReadFault (f ∷ []) reads.outputs (opens_more q old old new [] name f (opens_none q old) one (one.named ∙ sym named)) (reads.fault refl, record { few = omega arith; cut_short = omega (arith, few) })
 
-pub policy_too_long : (q : Request) (old new : Outside) (name got : List ℕ) → q.policy ≡ name → ReadsFile 4194304 old new name got Long → HasEnded q old new (ending.Policy policy.PolicyLimit)
+pub policy_too_long : (q : Request) (old new : Outside) (name got : List ℕ) → q.policy ≡ name → ReadsFile 4194304 old new name got Long → EndsEarly q old new (ending.Policy policy.PolicyLimit)
 policy_too_long q old new name got named reads =
     let l : IsLong 4194304 old.inputs new.inputs name = long_read 4194304 old new name got reads in
     ended q old new (ending.Policy policy.PolicyLimit) (l.file ∷ []) reads.outputs (opens_more q old old new [] name l.file (opens_none q old) l.opens (l.opens.named ∙ sym named))
-    (record { policy = l.file; only = refl; shown = (l.over, l.short); bad = policy_long l.file.bytes (omega (arith, l.over, l.opens.within)) }, grows_same old.put new.put reads.outputs.put)
+    (record { policy = l.file; only = refl; shown = (l.over, l.short); bad = policy_long l.file.bytes (omega (arith, l.over, l.opens.within)) })
 
-pub policy_memory : (q : Request) (old new : Outside) (name got : List ℕ) → q.policy ≡ name → ReadsFile 4194304 old new name got Memory → HasEnded q old new ending.Memory
+pub policy_memory : (q : Request) (old new : Outside) (name got : List ℕ) → q.policy ≡ name → ReadsFile 4194304 old new name got Memory → EndsEarly q old new ending.Memory
 policy_memory q old new name got named reads = memory_end q old old new [] name (stage_none q old) reads.outputs (λ f e. e ∙ sym named) (memory_read 4194304 old new name got reads)
 
 -- ---- the commands
@@ -162,8 +163,8 @@ commands_read q old now new p name got bytes r named h reads same j =
       policy_is = h.is;
       are = record { named = sym named; whole = refl; good = e };
     }
-    by (Err (ending.Commands why)) e = ended q old new (ending.Commands why) (h.file ∷ file ∷ []) outputs opens (record { policy = h.file; commands = file; only = refl; shown = shown why e; given = p; good = h.is.good; bad = e }, grows_same old.put new.put outputs.put)
-    by (Err ending.Memory) e = ended q old new ending.Memory (h.file ∷ file ∷ []) outputs opens (inl (grows_same old.put new.put outputs.put))
+    by (Err (ending.Commands why)) e = ended q old new (ending.Commands why) (h.file ∷ file ∷ []) outputs opens (record { policy = h.file; commands = file; only = refl; shown = shown why e; given = p; good = h.is.good; bad = e })
+    by (Err ending.Memory) e = ended q old new ending.Memory (h.file ∷ file ∷ []) outputs opens tt
     by (Err ending.Done) e = absurd e
     by (Err ending.Usage) e = absurd e
     by (Err ending.ReadFault) e = absurd e
@@ -171,8 +172,10 @@ commands_read q old now new p name got bytes r named h reads same j =
     by (Err (ending.Policy why)) e = absurd e
     by (Err (ending.Trace bad)) e = absurd e
     by (Err ending.Records) e = absurd e
+    by (Err (ending.Report why)) e = absurd e
+    by (Err ending.Illegal) e = absurd e
 
-pub commands_fault : (q : Request) (old now new : Outside) (p : PolicyFile) (name got : List ℕ) → q.commands ≡ name → HasPolicy q old now p → ReadsFile 16777216 now new name got Fault → HasEnded q old new ending.ReadFault
+pub commands_fault : (q : Request) (old now new : Outside) (p : PolicyFile) (name got : List ℕ) → q.commands ≡ name → HasPolicy q old now p → ReadsFile 16777216 now new name got Fault → EndsEarly q old new ending.ReadFault
 commands_fault q old now new p name got named h reads = by (fault_read 16777216 now new name got reads)
   where
     outputs : SameOutputs old new
@@ -181,16 +184,16 @@ commands_fault q old now new p name got named h reads = by (fault_read 16777216 
     rises : Rose old.input_faults new.input_faults
     rises = rose_from old.input_faults now.input_faults new.input_faults h.read.later (reads.fault refl)
 
-    by : OpensFew now.inputs new.inputs name (λ f. f.read ≤ 16777216) → HasEnded q old new ending.ReadFault
-    by (inl none) = ended q old new ending.ReadFault (h.file ∷ []) outputs (opens_same q old now new (h.file ∷ []) h.read.opens none) (rises, inl (record { few = omega arith; cut_short = h.read.short }, grows_same old.put new.put outputs.put))
-    by (inr (f, one, few)) = ended q old new ending.ReadFault (h.file ∷ f ∷ []) outputs (opens_more q old now new (h.file ∷ []) name f h.read.opens one (behind q old now p h name f named one.named)) (rises, inl (record { few = omega arith; cut_short = (h.read.short, omega (arith, few)) }, grows_same old.put new.put outputs.put))
+    by : OpensFew now.inputs new.inputs name (λ f. f.read ≤ 16777216) → EndsEarly q old new ending.ReadFault
+    by (inl none) = ended q old new ending.ReadFault (h.file ∷ []) outputs (opens_same q old now new (h.file ∷ []) h.read.opens none) (rises, record { few = omega arith; cut_short = h.read.short })
+    by (inr (f, one, few)) = ended q old new ending.ReadFault (h.file ∷ f ∷ []) outputs (opens_more q old now new (h.file ∷ []) name f h.read.opens one (behind q old now p h name f named one.named)) (rises, record { few = omega arith; cut_short = (h.read.short, omega (arith, few)) })
 
-pub commands_too_long : (q : Request) (old now new : Outside) (p : PolicyFile) (name got : List ℕ) → q.commands ≡ name → HasPolicy q old now p → ReadsFile 16777216 now new name got Long → HasEnded q old new (ending.Commands commands.CommandsLimit)
+pub commands_too_long : (q : Request) (old now new : Outside) (p : PolicyFile) (name got : List ℕ) → q.commands ≡ name → HasPolicy q old now p → ReadsFile 16777216 now new name got Long → EndsEarly q old new (ending.Commands commands.CommandsLimit)
 commands_too_long q old now new p name got named h reads =
     let l : IsLong 16777216 now.inputs new.inputs name = long_read 16777216 now new name got reads in
     let outputs = SameOutputs-trans old now new h.read.outputs reads.outputs in
     ended q old new (ending.Commands commands.CommandsLimit) (h.file ∷ l.file ∷ []) outputs (opens_more q old now new (h.file ∷ []) name l.file h.read.opens l.opens (behind q old now p h name l.file named l.opens.named))
-    (record { policy = h.file; commands = l.file; only = refl; shown = (l.over, l.short); given = p; good = h.is.good; bad = commands_long p l.file.bytes (omega (arith, l.over, l.opens.within)) }, grows_same old.put new.put outputs.put)
+    (record { policy = h.file; commands = l.file; only = refl; shown = (l.over, l.short); given = p; good = h.is.good; bad = commands_long p l.file.bytes (omega (arith, l.over, l.opens.within)) })
 
-pub commands_memory : (q : Request) (old now new : Outside) (p : PolicyFile) (name got : List ℕ) → q.commands ≡ name → HasPolicy q old now p → ReadsFile 16777216 now new name got Memory → HasEnded q old new ending.Memory
+pub commands_memory : (q : Request) (old now new : Outside) (p : PolicyFile) (name got : List ℕ) → q.commands ≡ name → HasPolicy q old now p → ReadsFile 16777216 now new name got Memory → EndsEarly q old new ending.Memory
 commands_memory q old now new p name got named h reads = memory_end q old now new (h.file ∷ []) name (stage_policy q old now p h) reads.outputs (λ f e. behind q old now p h name f named e) (memory_read 16777216 now new name got reads)

@@ -1,0 +1,4 @@
+pub mod Opened
+pub mod Early
+pub mod Claimed
+pub mod Private

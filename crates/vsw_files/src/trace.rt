@@ -1,0 +1,89 @@
+//! Reading a trace as a whole, of a run that checks.
+
+ghost use Rattle.std.specs.Prelude.{◌≡◌, ◌≤◌, List, ℕ, [], Ok};
+ghost use Rattle.vsw_commandfile.specs.declared.line.Line.{Line};
+ghost use Rattle.vsw_config.specs.declared.file.PolicyFile.{PolicyFile};
+ghost use Rattle.vsw_files.specs.Claimed.{ReadsTrace};
+ghost use Rattle.vsw_files.specs.Early.{HasCommands};
+ghost use Rattle.vsw_files.specs.Private.Whole.{EndsSo, OpensTrace, ReadsWhole};
+ghost use Rattle.vsw_host.specs.Outside.{Outside, SameOutputs};
+ghost use Rattle.vsw_reading.specs.Reads.{IsOpen, IsRead, StopsSo};
+ghost use Rattle.vsw_run.specs.Trace.{most_records};
+ghost use Rattle.vsw_run.specs.Words.{Claim};
+
+use std::alloc::Global;
+use vsw_base::NoMemory;
+use vsw_host::{Host, Source, Unopened};
+use vsw_reading::{Reading, Stop, begin_reading, fill, peek};
+use vsw_run::Ending;
+
+/// The most records of a trace.
+const RECORDS_MOST: u32 = 1_048_576;
+
+/// Looks at what follows, where as many records were read as a trace may have. `Full` is answered where a byte does.
+fn look_past<H: Host>(host: &mut H, reading: &mut Reading, stop: Stop) -> Stop
+    requires near { IsOpen (H.outside host.old) reading.old }
+    ensures ends { (start : Outside) (name : List ℕ) → StopsSo start (H.outside host.old) name reading.old [] most_records stop → EndsSo start (H.outside host.new) name reading.new.batch (Ok result) }
+    ensures later { (start : Outside) (name : List ℕ) → StopsSo start (H.outside host.old) name reading.old [] most_records stop → start.input_faults ≤ (H.outside host.new).input_faults }
+    ensures outputs { SameOutputs (H.outside host.old) (H.outside host.new) }
+{
+    match stop {
+        Stop::Full => peek(host, reading),
+        _ => stop,
+    }
+}
+
+/// Reads all records into the batch, as many as a trace may have. `Full` is answered where a byte follows these.
+fn read_records<H: Host>(host: &mut H, reading: &mut Reading) -> Result<Stop, NoMemory>
+    requires near { IsOpen (H.outside host.old) reading.old }
+    requires empty { reading.old.batch ≡ [] }
+    ensures ends { (start : Outside) (name : List ℕ) → IsRead start (H.outside host.old) name reading.old [] [] → EndsSo start (H.outside host.new) name reading.new.batch result }
+    ensures later { (start : Outside) (name : List ℕ) → IsRead start (H.outside host.old) name reading.old [] [] → start.input_faults ≤ (H.outside host.new).input_faults }
+    ensures outputs { SameOutputs (H.outside host.old) (H.outside host.new) }
+{
+    match fill(host, reading, RECORDS_MOST) {
+        Ok(stop) => Ok(look_past(host, reading, stop)),
+        Err(_) => Err(NoMemory),
+    }
+}
+
+/// Reads a trace of which nothing was read to its end.
+fn read_whole<H: Host>(host: &mut H, reading: &mut Reading) -> Result<(), Ending>
+    requires near { IsOpen (H.outside host.old) reading.old }
+    requires empty { reading.old.batch ≡ [] }
+    ensures whole { (start : Outside) (name : List ℕ) → IsRead start (H.outside host.old) name reading.old [] [] → ReadsWhole start (H.outside host.new) name reading.new.batch result }
+    ensures later { (start : Outside) (name : List ℕ) → IsRead start (H.outside host.old) name reading.old [] [] → start.input_faults ≤ (H.outside host.new).input_faults }
+    ensures outputs { SameOutputs (H.outside host.old) (H.outside host.new) }
+{
+    match read_records(host, reading) {
+        Ok(Stop::End) => Ok(()),
+        Ok(Stop::Full) => Err(Ending::Records),
+        Ok(Stop::Fault) => Err(Ending::ReadFault),
+        Ok(Stop::Bad(bad)) => Err(Ending::Trace(bad)),
+        Err(_) => Err(Ending::Memory),
+    }
+}
+
+/// Opens the trace of this name, and reads it to its end.
+fn read_trace<H: Host>(alloc: Global, host: &mut H, name: &str) -> Result<Reading, Ending>
+    ensures { OpensTrace (H.outside host.old) (H.outside host.new) name.now result }
+{
+    match Source::open(alloc, host, name) {
+        Ok(source) => {
+            let mut reading = begin_reading(alloc, source);
+            match read_whole(host, &mut reading) {
+                Ok(()) => Ok(reading),
+                Err(end) => Err(end),
+            }
+        }
+        Err(Unopened::Fault) => Err(Ending::ReadFault),
+        Err(Unopened::Memory) => Err(Ending::Memory),
+    }
+}
+
+/// Reads the whole trace of this name, after the commands. Its records are in the batch.
+pub fn open_trace<H: Host>(alloc: Global, host: &mut H, name: &str) -> Result<Reading, Ending>
+    ensures { (c : Claim) (start : Outside) (policy : PolicyFile) (lines : List Line) → c.run.trace ≡ name.now → HasCommands c.run start (H.outside host.old) policy lines → ReadsTrace c start (H.outside host.new) policy lines result }
+{
+    read_trace(alloc, host, name)
+}

@@ -1,5 +1,6 @@
 //! Tests of the program's words, files and endings.
 
+mod check_tests;
 mod ending_tests;
 mod policy_tests;
 mod report_tests;

@@ -1,5 +1,6 @@
 //! Runs with many workers: what a gate and a watch see of them, and whether their reports are legal.
 
+mod check_tests;
 mod counts;
 mod files;
 mod flows;

@@ -20,6 +20,10 @@ fn told(alloc: Global, asked: &Option<Asked<'_>>) -> Result<String, AllocError> 
             "{} workers, {} {} {}",
             r.workers, r.policy, r.commands, r.trace
         ),
+        Some(Asked::Check(c)) => format!(in alloc;
+            "{} of {} workers, {} {} {}",
+            c.report, c.run.workers, c.run.policy, c.run.commands, c.run.trace
+        ),
         Some(Asked::Generate { start, packets }) => format!(in alloc;
             "{} packets from {}",
             packets, start
@@ -80,6 +84,41 @@ const GOOD: [(&str, &str); 19] = [
 #[test]
 fn lines_of_the_grammar_are_read(rt: HostRuntime) -> Result<(), Fail> {
     let wrong = first_wrong(rt.alloc(), &GOOD)?;
+    assert!(rt; wrong.is_none(), "{wrong:?}");
+    Ok(())
+}
+
+/// Lines that ask for a check.
+const CHECKS: [(&str, &str); 18] = [
+    ("vsw check P C T R", "R of 1 workers, P C T"),
+    ("vsw check - - - -", "- of 1 workers, - - -"),
+    ("vsw check --workers 4 P C T R", "R of 4 workers, P C T"),
+    ("vsw check P C T --workers=16 R", "R of 16 workers, P C T"),
+    ("vsw check P C T R --workers 2", "R of 2 workers, P C T"),
+    (
+        "vsw check P C --workers 2 -- -T R",
+        "R of 2 workers, P C -T",
+    ),
+    (
+        "vsw check P C T -- --workers",
+        "--workers of 1 workers, P C T",
+    ),
+    ("vsw check check C T R", "R of 1 workers, check C T"),
+    ("vsw check", "refused"),
+    ("vsw check P C T", "refused"),
+    ("vsw check P C T R S", "refused"),
+    ("vsw check P C T ", "refused"),
+    ("vsw check  C T R", "refused"),
+    ("vsw check P C T -r", "refused"),
+    ("vsw check --workers 0 P C T R", "refused"),
+    ("vsw check --workers=17 P C T R", "refused"),
+    ("vsw check --workers P C T R", "refused"),
+    ("vsw Check P C T R", "refused"),
+];
+
+#[test]
+fn lines_of_a_check_name_four_files(rt: HostRuntime) -> Result<(), Fail> {
+    let wrong = first_wrong(rt.alloc(), &CHECKS)?;
     assert!(rt; wrong.is_none(), "{wrong:?}");
     Ok(())
 }

@@ -88,6 +88,30 @@ pub fn host_of(
     }
 }
 
+/// The files of a check: those of a run, and a report.
+fn held_claim(
+    alloc: Global,
+    files: &Files<'_>,
+    report: &[&[u8]],
+) -> Result<Vec<MemoryFile>, AllocError> {
+    let mut held = held(alloc, files)?;
+    held.push(file(alloc, "report", joined(alloc, report)?)?)?;
+    Ok(held)
+}
+
+/// A host of these files and of this report, of whose calls these fail.
+pub fn host_of_claim(
+    alloc: Global,
+    files: &Files<'_>,
+    report: &[&[u8]],
+    failing: &[u64],
+) -> Result<MemoryHost, Wrong> {
+    match held_claim(alloc, files, report) {
+        Ok(held) => holding(alloc, held, ROOM, failing),
+        Err(_) => Err(Wrong::Start),
+    }
+}
+
 fn held_policy(alloc: Global, policy: &[&[u8]]) -> Result<Vec<MemoryFile>, AllocError> {
     let mut held = Vec::new(alloc);
     held.push(file(alloc, "policy", joined(alloc, policy)?)?)?;

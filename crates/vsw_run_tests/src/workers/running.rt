@@ -36,7 +36,7 @@ pub fn files(
 }
 
 /// A host of these files, with room for so many bytes that are put.
-fn host_of(
+pub fn host_of(
     rt: &impl Abort,
     alloc: Global,
     held: Vec<MemoryFile>,
@@ -96,7 +96,7 @@ pub fn report_of<R: Abort + Threads + Wait + Sync, G: Gate + Watch + Sync>(
 }
 
 /// A capture of four packets of each flow.
-fn flows(alloc: Global) -> Result<Vec<u8>, Fail> {
+pub fn flows(alloc: Global) -> Result<Vec<u8>, Fail> {
     let mut trace = empty_trace(alloc)?;
     for packet in 0..PACKETS {
         add(&mut trace, packet, &sent(alloc, flow_of(packet))?)?;

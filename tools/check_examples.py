@@ -4,7 +4,7 @@
     tools/check_examples.py [--copy] [--unproved]
 
 Makes each capture anew and compares it; works each report out by the rules once more (tools/plain_switch.py); runs `./vsw`
-over each example and compares what it puts, complains and ends with; judges what it puts with four workers; runs each command that the guide shows behind
+over each example and compares what it puts, complains and ends with; judges what it puts with four workers, by the rules and by `./vsw check`; runs each command that the guide shows behind
 `$`, in its order, and compares what it prints; compares the files that the crates `vsw` and `vsw_examples` run in the gate. `--copy` writes these files first. With
 `--unproved` all of it is by the program without a proof.
 """
@@ -145,13 +145,32 @@ def check_runs():
         yield compare(f"run of {folder}/{policy} with {commands}", is_well)
 
 
+def ends_legal(names, workers, report):
+    """Whether `./vsw check` finds that a report is legal."""
+    with tempfile.NamedTemporaryFile() as file:
+        file.write(report)
+        file.flush()
+        ran = subprocess.run([*PROGRAM, "check", f"--workers={workers}", *names, file.name], capture_output=True)
+    return (ran.stdout, ran.stderr, ran.returncode) == (b"legal\n", b"", 0)
+
+
+def check_checks():
+    """The reports of the examples are legal by `./vsw check`, too; with a line less none of them is."""
+    for folder in ["flows", *FOLDERS]:
+        names = [os.path.join(EXAMPLES, folder, name) for name in ("policy.json", "commands.jsonl", "trace.pcap")]
+        report = read(folder, "report.txt")
+        lines = report.splitlines(keepends=True)
+        less = b"".join(line for place, line in enumerate(lines) if place != 3)
+        yield compare(f"check of {folder}", ends_legal(names, 1, report) and not ends_legal(names, 1, less))
+
+
 def check_workers():
     """With four workers the order of calls is free: the report is legal (tools/legal.py)."""
     for folder in ["flows", *FOLDERS]:
         names = [os.path.join(EXAMPLES, folder, name) for name in ("policy.json", "commands.jsonl", "trace.pcap")]
         ran = subprocess.run([*PROGRAM, "forward", "--workers=4", *names], capture_output=True)
         why = legal.fault(*(read(folder, os.path.basename(name)) for name in names), 4, ran.stdout.decode())
-        yield compare(f"run of {folder} with four workers", ran.returncode == 0 and why is None)
+        yield compare(f"run of {folder} with four workers", ran.returncode == 0 and why is None and ends_legal(names, 4, ran.stdout))
     files = [read("7-commands", name) for name in ("policy.json", "commands.jsonl", "trace.pcap")]
     yield compare("the run of two workers that the guide shows", legal.fault(*files, 2, read("7-commands", "two-workers.txt").decode()) is None)
 
@@ -161,7 +180,7 @@ def main():
         sys.exit(__doc__)
     if "--copy" in sys.argv:
         copy()
-    results = [*check_copies(), *check_captures(), *check_reports(), *check_guide(), *check_runs(), *check_workers(), *check_commands()]
+    results = [*check_copies(), *check_captures(), *check_reports(), *check_guide(), *check_runs(), *check_checks(), *check_workers(), *check_commands()]
     print(f"{sum(results)} of {len(results)} as they should be")
     sys.exit(0 if all(results) else 1)
 

@@ -13,7 +13,9 @@ TOP = os.path.dirname(os.path.dirname(os.path.abspath(__file__)))
 FRONT = [os.path.join(TOP, "vsw"), *sys.argv[1:]]
 EXAMPLE = os.path.join(TOP, "examples", "first")
 POLICY, COMMANDS, TRACE = (os.path.join(EXAMPLE, name) for name in ("policy.json", "commands.jsonl", "trace.pcap"))
+REPORT = os.path.join(EXAMPLE, "report.txt")
 RECORDS = 1_048_576
+MOST_REPORT = 268_435_456
 
 
 def port(number):
@@ -71,6 +73,36 @@ def bad_commands():
     yield "large commands", b" " * 16_777_217, 6, b"vsw: limit commands\n"
 
 
+def reports():
+    """Of each: what it is, a report for the example's run, the status of its check and what is complained."""
+    with open(REPORT, "rb") as source:
+        report = source.read()
+    lines = report.splitlines(keepends=True)
+    yield "a report", report, 0, b""
+    yield "a report with another digit", report.replace(b"6869\n", b"6868\n", 1), 8, b""
+    yield "a report without its last line", b"".join(lines[:-1]), 8, b""
+    yield "a report without the line loose", report.replace(b"loose\n", b"", 1), 5, b"vsw: refused report %d\n" % (lines.index(b"loose\n") + 1)
+    yield "a report without its last line feed", report[:-1], 5, b"vsw: refused report %d\n" % len(lines)
+    yield "no report", b"", 5, b"vsw: refused report 1\n"
+
+
+def check_cases(file, folder):
+    """The same as `cases`, of checks."""
+    for what, data, status, complaint in reports():
+        yield what, ["check", POLICY, COMMANDS, TRACE, file("report", data)], status, complaint
+    yield "a report of four workers", ["check", "--workers=4", POLICY, COMMANDS, TRACE, file("none", b"")], 5, b"vsw: refused report 1\n"
+    large = file("large report", b"")
+    os.truncate(large, MOST_REPORT + 1)
+    yield "a large report", ["check", POLICY, COMMANDS, TRACE, large], 6, b"vsw: limit report\n"
+    yield "a missing report", ["check", POLICY, COMMANDS, TRACE, os.path.join(folder, "missing")], 3, b"vsw: read fault\n"
+    cut = file("cut trace", head() + record(9, 9))
+    yield "a check of a trace that is cut", ["check", POLICY, COMMANDS, cut, REPORT], 5, b"vsw: refused trace Cut 24\n"
+    many = file("many", head() + record(0, 1) * (RECORDS + 1))
+    yield "a check of many records", ["check", POLICY, COMMANDS, many, REPORT], 6, b"vsw: limit records\n"
+    for words in [POLICY, COMMANDS, TRACE], [POLICY, COMMANDS, TRACE, REPORT, REPORT], ["--workers=0", POLICY, COMMANDS, TRACE, REPORT]:
+        yield f"check {words}", ["check", *words], 2, b"vsw: usage\n"
+
+
 def cases(folder):
     """Of each: what it is, the words, the status and what is complained."""
     def file(name, data):
@@ -110,6 +142,7 @@ def cases(folder):
     yield "many records", of_trace("records", head() + record(0, 1) * (RECORDS + 1)), 6, b"vsw: limit records\n"
     for name, data, status, complaint in bad_commands():
         yield name, ["forward", POLICY, file(name, data), TRACE], status, complaint
+    yield from check_cases(file, folder)
 
 
 def main():
@@ -137,6 +170,7 @@ def main():
         look("little memory", run(program, large, limit=4_096), 9, b"vsw: memory\n")
     with open("/dev/full", "wb") as full:
         look("a full disk for a summary", run(FRONT, ["generate", "1", "2"], full), 4, b"vsw: write fault\n")
+        look("a full disk for an answer", run(FRONT, ["check", POLICY, COMMANDS, TRACE, REPORT], full), 4, b"vsw: write fault\n")
         look("a full disk", run(FRONT, ["forward", POLICY, COMMANDS, TRACE], full), 4, b"vsw: write fault\n")
     sys.exit(1 if wrong else print("each status came, with its words") or 0)
 

@@ -7,8 +7,8 @@ The plain program is tools/plain_switch.py, written from docs/MODEL.md apart fro
 up to four layers of three controllers on each of two ports. Packets are ARP, UDP, TCP and ICMP over IPv4 and, a third of them, over
 IPv6, among few addresses and ports; some are fragments, have extension headers, slack or a trailer, stand in VXLAN or are malformed;
 and there are replies to what passed. Commands come before and beside them, and past the last. Every run is made with 1 to 8 workers.
-The report of one worker is the plain program's; that of more is legal in the order that it tells (tools/legal.py). PROGRAM is
-./vsw if it isn't given. Prints how often each fate and reply came, what the runs had, and the seed of a run whose report is wrong.
+The report of one worker is the plain program's; that of more is legal in the order that it tells (tools/legal.py). Each is legal by the program's
+own `check`, too. PROGRAM is ./vsw if it isn't given. Prints how often each fate and reply came, what the runs had, and the seed of a run whose report is wrong.
 """
 import collections
 import ipaddress
@@ -271,13 +271,31 @@ def drawn(seed):
     return (text.encode(), lines, trace, workers), plain_switch.report(text, trace, lines, workers)
 
 
-def run(program, folder, text, lines, trace, workers):
+def keep(folder, text, lines, trace):
+    """Writes a policy, commands and a capture, and gives the files' names."""
     names = [os.path.join(folder, name) for name in ("policy.json", "commands.jsonl", "trace.pcap")]
     for name, data in zip(names, (text, lines, trace)):
         with open(name, "wb") as file:
             file.write(data)
-    words = [program, "forward", *([f"--workers={workers}"] if workers > 1 else []), *names]
+    return names
+
+
+def words_of(program, command, workers, names):
+    return [program, command, *([f"--workers={workers}"] if workers > 1 else []), *names]
+
+
+def run(program, folder, text, lines, trace, workers):
+    words = words_of(program, "forward", workers, keep(folder, text, lines, trace))
     return subprocess.run(words, capture_output=True, check=True).stdout.decode()
+
+
+def check(program, folder, text, lines, trace, workers, report):
+    """What the program's `check` says of a report: its status, and what it puts and complains."""
+    name = os.path.join(folder, "report.txt")
+    with open(name, "wb") as file:
+        file.write(report.encode())
+    ran = subprocess.run([*words_of(program, "check", workers, keep(folder, text, lines, trace)), name], capture_output=True)
+    return ran.returncode, ran.stdout, ran.stderr
 
 
 def fault(files, got, wanted):
@@ -327,6 +345,9 @@ def main():
             files, wanted = drawn(seed)
             got = run(program, folder, *files)
             why = fault(files, got, wanted)
+            said = check(program, folder, *files, got)
+            if why is None and said != (0, b"legal\n", b""):
+                why = f"check says {said}"
             if why is not None:
                 wrong.append(seed)
                 print(f"seed {seed}, {files[3]} workers: {why}")
@@ -338,4 +359,5 @@ def main():
     sys.exit(1 if wrong else 0)
 
 
-main()
+if __name__ == "__main__":
+    main()

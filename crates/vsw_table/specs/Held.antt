@@ -41,7 +41,7 @@ module _ {O E : Type 0} where
   abbrev pub has_stamps : View O E → Bool
   has_stamps t = nat_lt t.given 18446744073709551615
 
-  -- a row gets a fresh stamp, unless none is left
+  -- a row gets a fresh stamp, unless none is left: then it says nothing, which is harmless
   abbrev pub renewed : View O E → ℕ → View O E
   renewed t r = if has_stamps t then restamped t r else t
 
@@ -67,7 +67,7 @@ abbrev pub HasChanged : ℕ → Option ℕ → Type 0
 HasChanged stamp None = ⊥
 HasChanged stamp (Some again) = again ≢ stamp
 
--- a row that was tried and has no answer: its stamp was 0, or its key is another, or its stamp was another afterwards
+-- a row that was tried and has no answer: its stamp was 0, or its key is another, or its stamp was another afterwards. To miss a good row is harmless: a packet is walked once more
 abbrev pub IsMissed : List ℕ → ℕ → Tried → Type 0
 IsMissed key row x = (x.row ≡ row) × ((x.stamp ≡ 0) ⊎ (Differs x.words key ⊎ HasChanged x.stamp x.again))
 

@@ -82,20 +82,21 @@ module _ {O E : Type 0} where
   abbrev pub place_of : View O E → ℕ → ℕ
   place_of t i = i - 1 - length t.stamps
 
+  -- a word of a row is stored, while its stamp is 0
   abbrev pub with_word : View O E → ℕ → ℕ → ℕ → View O E
   with_word t r k n = record t { rows = slice_set t.rows r (slice_set (row_at t.rows r) k n) }
 
   abbrev pub PutsWord : Step E → Me E (View O E) → ℕ → Me E (View O E) → Type 0
   PutsWord s v n w = w ≡ (with_word v.0 (place_of v.0 s.word / 73) (place_of v.0 s.word % 73) n, v.1)
 
-  -- a stamp is taken away
+  -- a stamp is taken away. That is right at any time: where the row was good it costs one walk
   abbrev pub shaken : View O E → ℕ → View O E
   shaken t r = record t { stamps = slice_set t.stamps r 0 }
 
   abbrev pub Shakes : Step E → Me E (View O E) → ℕ → Me E (View O E) → Type 0
   Shakes s v n w = w ≡ (shaken v.0 (s.word - 1), v.1)
 
-  -- a stamp is given that no row had before
+  -- a stamp is given that no row had before. One that was given twice would pass words of two rows as one row's
   abbrev pub restamped : View O E → ℕ → View O E
   restamped t r = record t { given = t.given + 1; stamps = slice_set t.stamps r (t.given + 1) }
 
@@ -122,5 +123,6 @@ module _ {O E : Type 0} where
   abbrev pub Grants : (O → E → ℕ) → Step E → Me E (View O E) → ℕ → Me E (View O E) → Type 0
   Grants who s v n w = (w ≡ (granted v.0 s.first, v.1)) × (n ≡ 4294967296 + length v.0.history) × ((o : O) → v.0.opening ≡ Some o → Tells who w.0 o) × IsHeld v.0
 
+  -- an entry comes. Each row that keeps its stamp stays good: one stamp that is left on a bad row would answer by what was before
   abbrev pub Adds : Step E → Me E (View O E) → ℕ → Me E (View O E) → Type 0
   Adds s v n w = (e : E) → s.said ≡ some e → w ≡ (advanced v.0 e, v.1)

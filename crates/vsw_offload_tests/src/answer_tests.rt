@@ -20,6 +20,11 @@ fn to_port(last: u8) -> [u8; 44] {
     bytes
 }
 
+/// Whether bytes begin with others.
+fn begins(bytes: &[u8], with: &[u8]) -> bool {
+    with.len() <= bytes.len() && &bytes[..with.len()] == with
+}
+
 /// What a file's rows answer a frame at a moment: where it passes, it leaves as it came.
 fn answered(alloc: Global, file: &[u8], frame: &[u8], dir: Dir, moment: u64) -> Option<Fate> {
     let rows = Rows::read(alloc, file).ok()?;
@@ -27,7 +32,7 @@ fn answered(alloc: Global, file: &[u8], frame: &[u8], dir: Dir, moment: u64) -> 
     let read = read_frame(frame, &mut room).ok()?;
     let mut out = [0; 65_700];
     let fate = rows.answer(Place { port: 0, dir }, &read, Moment::of(moment), &mut out)?;
-    if &out[..44] == frame {
+    if begins(&out, frame) {
         Some(fate)
     } else {
         None

@@ -1,5 +1,6 @@
 -- The rows of a port, as its writer sees them: which are current, what they say, and which fall.
-use Rattle.std.specs.Prelude.{◌≡◌, ◌≢◌, ◌⊎◌, ℕ, List, Bool, true, false, slice_set}
+use Rattle.std.specs.Prelude.{◌≡◌, ◌≢◌, ◌⊎◌, ℕ, List, Bool, true, false, slice_set, Some}
+use Rattle.atomic_table.specs.Seated.{TableId}
 use Rattle.vsw_port.specs.declared.event.Event.{Event}
 use Rattle.vsw_policy.specs.declared.command.Command.{Command}
 use Rattle.vsw_policy.specs.Layer.{LayerSeen}
@@ -17,6 +18,15 @@ use Rattle.vsw_table.specs.Rules.{row_at, stamp_at}
 -- the right to write rows: its table, the history, and the stamps and words of the rows
 abbrev pub Writing : Type 0
 Writing = Held PolicySeen Event
+
+-- a lookup as contracts see it: its table, the policy that its port began with, and how many rows it has
+abbrev pub Looking : Type 0
+Looking = TableId × PolicySeen × ℕ
+
+-- a writer or a pass of this lookup
+pub record IsOf (l : Looking) (v : Writing) : Type 0 where
+  pub table : v.table ≡ l.0
+  pub opens : v.view.opening ≡ Some l.1
 
 -- a row is current where its stamp isn't 0
 abbrev pub IsCurrent : Writing → ℕ → Type 0

@@ -6,14 +6,8 @@ pub mod Ways
 pub mod Quiet
 pub mod Answered
 pub mod Late
-pub mod Joined
-pub mod Numbers
-pub mod Spots
 pub mod Leans
 pub mod Leaves
 pub mod Alike
 pub mod Answers
-pub mod Few
-pub mod Counts
 pub mod Keeps
-pub mod Searched

@@ -1,5 +1,5 @@
 -- Rows of a port: when one is good, on what it leans, and which packets it may answer.
-use Rattle.std.specs.Prelude.{◌≡◌, ◌≤◌, ℕ, List, [], ◌∷◌, ◌++◌, Bool, true, false}
+use Rattle.std.specs.Prelude.{◌≡◌, ◌≤◌, ℕ, List, Bool, true, false}
 use Rattle.vsw_base.specs.declared.fate.Verdict.{Verdict}
 use Rattle.vsw_base.specs.declared.fate.Verdict.TheVariants.{Pass}
 use Rattle.vsw_base.specs.declared.flow.Crossing.{Crossing}
@@ -48,11 +48,6 @@ pub record IsGoodLeaning (ls : List LayerSeen) (k : LeaningRow) : Type 0 where
 -- changes shake a row where one of them shakes a look on which it leans
 abbrev pub shaken : List LayerSeen → List Wanted → LeaningRow → Bool
 shaken ls ws k = shake ls ws k.looks
-
--- all looks on which rows lean
-abbrev pub all_looks : List LeaningRow → List Looked
-all_looks [] = []
-all_looks (k ∷ ks) = k.looks ++ all_looks ks
 
 -- this is the row of a packet's walk. The packet has no control, and wants no pair made if it passes
 pub record IsRowOf (ls : List LayerSeen) (x : Crossing) (r : Row) : Type 0 where

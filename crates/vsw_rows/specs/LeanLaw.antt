@@ -1,22 +1,19 @@
 -- What holds of ways, of looks and of rows.
-use Rattle.std.specs.Prelude.{◌≡◌, ◌<◌, ◌≤◌, ◌||◌, ℕ, List, [], ◌++◌, Bool, true, false, nat_le, option_map, Option, Some, None, if◌then◌else◌, Ok}
+use Rattle.std.specs.Prelude.{◌≡◌, ◌<◌, ◌≤◌, List, [], Bool, true, false, nat_le, Option, Some, None, if◌then◌else◌, Ok}
 use Rattle.vsw_port.specs.declared.stop.Stop.{Stop}
 use Rattle.vsw_port.specs.declared.stop.Stop.TheVariants.{Long}
 use Rattle.vsw_port.specs.Admit.{on_pass}
 use Rattle.vsw_port.specs.Long.{is_long}
 use Rattle.vsw_base.specs.declared.fate.Verdict.TheVariants.{Pass}
 use Rattle.vsw_base.specs.declared.flow.Crossing.{Crossing}
-use Rattle.vsw_base.specs.declared.flow.Track.{Track}
 use Rattle.vsw_base.specs.declared.flow.Ufid.{Ufid}
 use Rattle.vsw_base.specs.declared.packet.Control.TheVariants as control
 use Rattle.vsw_port.specs.Cross.{Crossed, Passing, all_done, cross_of, fate_after, made_by, makes}
-use Rattle.vsw_walk.specs.declared.scratch.Looked.{Looked}
 use Rattle.vsw_walk.specs.declared.scratch.Wanted.{Wanted}
 use Rattle.vsw_walk.specs.Walk.{Walk, greatest, until_of, walk_of}
 use Rattle.vsw_policy.specs.Layer.{LayerSeen}
-use Rattle.vsw_layerflow.specs.Pairs.{AllApart, number_of, numbered, pair_of}
-use Rattle.vsw_rows.specs.Good.{Good, IsGoodLeaning, IsRowOf, LeaningRow, MayAnswer, Row, all_looks, shaken}
-use Rattle.vsw_rows.specs.Shaken.{IsRight, is_found, moves_found, moves_in, shake}
+use Rattle.vsw_rows.specs.Good.{Good, IsGoodLeaning, IsRowOf, LeaningRow, MayAnswer, Row, shaken}
+use Rattle.vsw_rows.specs.Shaken.{IsRight, shake}
 use Rattle.vsw_rows.specs.Way.{Way, looks, way_of}
 use Rattle.vsw_policy.specs.Sound.{Each}
 use Rattle.vsw_transpose.specs.Apply.{apply}
@@ -49,19 +46,6 @@ RowsStay = (ls : List LayerSeen) (ws : List Wanted) (ks : List LeaningRow) → E
 -- so does a crossing that shakes no row
 abbrev pub CrossingStays : Type 0
 CrossingStays = (ls : List LayerSeen) (x : Crossing) (ks : List LeaningRow) → Each (λ k. shaken ls (made_by ls x) k ≡ false) ks → Each (IsGoodLeaning ls) ks → Each (IsGoodLeaning (cross_of ls x).layers) ks
-
--- looks are shaken together exactly where one part of them is
-abbrev pub LooksJoin : Type 0
-LooksJoin = (ls : List LayerSeen) (ws : List Wanted) (qs rs : List Looked) → shake ls ws (qs ++ rs) ≡ (shake ls ws qs || shake ls ws rs)
-
--- so one list of looks serves all rows: where it isn't shaken, no row is
-abbrev pub OneListServes : Type 0
-OneListServes = (ls : List LayerSeen) (ws : List Wanted) (ks : List LeaningRow) → shake ls ws (all_looks ks) ≡ false → Each (λ k. shaken ls ws k ≡ false) ks
-
--- a touch moves the pair that a look found exactly where it moves the pair of its number, in a layer that holds no probe and no number twice
-abbrev pub ByNumber : Type 0
-ByNumber = (l : LayerSeen) (number : ℕ) (state : Track) (last : ℕ) (q : Looked) → AllApart l.pairs → q.found ≡ option_map number_of (pair_of q.dir q.key l.pairs) → is_found number q.found ≡ true
-    → moves_in (Some l) state last q ≡ moves_found l.spec state last (numbered number l.pairs)
 
 -- the row of a walk is good, and leans on what the walk looked for
 abbrev pub WalkMakes : Type 0

@@ -2,15 +2,10 @@ pub mod LeanLaw
 pub mod Good
 pub mod Way
 pub mod Shaken
-pub mod Leant
-pub mod Spots
 pub mod GrowingLaw
-pub mod Hashed
 pub mod Entries
 pub mod WordsLaw
 pub mod GoodRows
 pub mod Zeros
 pub mod Law
 pub mod Rows
-pub mod Places
-pub mod Standing

@@ -1,6 +1,6 @@
 //! What holds of ways, of looks and of rows.
 
-ghost use Rattle.vsw_rows.specs.LeanLaw.{ByNumber, CrossingStays, LateShakes, LooksJoin, LooksRight, MomentUnseen, OneListServes, QuietUntil, RowAnswers, RowsStay, WalkMakes, WayStays};
+ghost use Rattle.vsw_rows.specs.LeanLaw.{CrossingStays, LateShakes, LooksRight, MomentUnseen, QuietUntil, RowAnswers, RowsStay, WalkMakes, WayStays};
 
 /// Packets of one identity that have no control go one way, at whatever moment they come. Changes that shake
 /// none of their looks leave this way. So a crossing that shakes no row leaves every good row good. The row
@@ -12,9 +12,6 @@ pub fn lean_laws()
     ensures way { WayStays }
     ensures rows { RowsStay }
     ensures crossing { CrossingStays }
-    ensures join { LooksJoin }
-    ensures serves { OneListServes }
-    ensures number { ByNumber }
     ensures makes { WalkMakes }
     ensures late { LateShakes }
     ensures answers { RowAnswers }

@@ -23,7 +23,7 @@ fn is_found(number: u32, found: Option<u32>) -> bool
 }
 
 /// Whether the pair gets another last use, or another life.
-pub fn moves(times: &LayerSpec, state: Track, last: Moment, pair: &Pair) -> bool
+fn moves(times: &LayerSpec, state: Track, last: Moment, pair: &Pair) -> bool
     ensures { result ≡ spec.moves times.now state last pair.now }
 {
     last.micros() != pair.last_use.micros()

@@ -1,7 +1,5 @@
 use Rattle.vsw_rows.proofs.Answered.{quiet_until, row_answers}
-use Rattle.vsw_rows.proofs.Joined.{looks_join, one_list_serves}
 use Rattle.vsw_rows.proofs.Late.{late_shakes}
-use Rattle.vsw_rows.proofs.Numbers.{by_number}
 use Rattle.vsw_rows.proofs.Ways.{crossing_stays, moment_unseen, right_looks, rows_stay, walk_makes, way_stays}
 use Rattle.vsw_rows.proofs.lean_law.lean_laws.Goals as goal
 
@@ -29,14 +27,5 @@ returns-clause-answers c = row_answers
 pub returns-clause-quiet : goal.returns-clause-quiet
 returns-clause-quiet c = quiet_until
 
-pub returns-clause-join : goal.returns-clause-join
-returns-clause-join c = looks_join
-
-pub returns-clause-number : goal.returns-clause-number
-returns-clause-number c = by_number
-
 pub returns-clause-right : goal.returns-clause-right
 returns-clause-right c = right_looks
-
-pub returns-clause-serves : goal.returns-clause-serves
-returns-clause-serves c = one_list_serves

@@ -1,2 +1,0 @@
-pub mod MachineWhole
-pub mod Whole

@@ -1,5 +1,5 @@
 -- What the calls of the rows owe and leave, over the writer that they see.
-use Rattle.std.proofs.Common.{◌≡◌, ◌≢◌, ◌+◌, ◌<◌, ◌-◌, ◌%◌, ◌==◌, not, ℕ, Bool, true, false, List, [], ◌∷◌, ◌++◌, length, slice_set, refl, sym, ap, subst, ◌∙◌, arith, true≢false}
+use Rattle.std.proofs.Common.{◌≡◌, ◌+◌, ◌<◌, ◌-◌, ℕ, true, List, [], ◌∷◌, ◌++◌, length, refl, sym, subst}
 use Rattle.std.specs.Prelude.{Some}
 use Rattle.vsw_policy.specs.declared.command.Command.{Command}
 use Rattle.vsw_policy.specs.Layer.{LayerSeen}
@@ -11,18 +11,18 @@ use Rattle.vsw_rows.specs.Rows.{IsFormed, IsFresh, layers_after}
 use Rattle.vsw_spares.specs.Spared.{spares}
 use Rattle.vsw_spares.proofs.Entries.{entry_spares}
 use Rattle.vsw_table.specs.Held.{put_in}
-use Rattle.vsw_table.specs.Rules.{row_at, stamp_at}
+use Rattle.vsw_table.specs.Rules.{row_at}
 use Rattle.vsw_walk.specs.declared.scratch.Looked.{Looked}
 use Rattle.vsw_walk.specs.declared.scratch.Wanted.{Wanted}
 use Rattle.vsw_flows.specs.declared.places.Found.{Found}
 use Rattle.vsw_flows.specs.declared.places.Found.TheVariants.{Own}
 use Rattle.vsw_flows.specs.Finding.{IsFound}
-use Rattle.vsw_flows.specs.Flows.{AllSpared, Any, Falls, IsCurrent, NoneShaken, OthersStay, Puts, Spares, Writing}
+use Rattle.vsw_flows.specs.Flows.{AllSpared, Any, IsCurrent, NoneShaken, OthersStay, Spares, Writing}
 use Rattle.vsw_flows.specs.Leant.{Leant, kept_at}
 use Rattle.vsw_flows.specs.Shaking.{IsShaken, NoneLeft}
 use Rattle.vsw_flows.specs.Standing.{AreStanding, Settles, Stand, StandsAll, Thins}
-use Rattle.vsw_flows.proofs.Placed.{fresh_good, put_stand, puts, puts_nothing}
-use Rattle.vsw_flows.proofs.Standings.{all_spared, current_good, enters, fallen, none_shaken, others_stay, stays_good, thinned}
+use Rattle.vsw_flows.proofs.Placed.{fresh_good, put_stand}
+use Rattle.vsw_flows.proofs.Standings.{all_spared, current_good, enters, fallen, none_shaken, others_stay, stays_good}
 
 -- an entry that may be added
 pub record Grows (p : PolicySeen) (e : Event) (v : Writing) : Type 0 where

@@ -1,7 +1,6 @@
 -- Of the rows that stand at one spot: who joins and who leaves, the others stay.
-use Rattle.std.proofs.Common.{◌≡◌, ◌≢◌, ◌+◌, ℕ, ◌==◌, Bool, true, false, ◌&&◌, ◌||◌, if◌then◌else◌, refl, sym, ap, ◌∙◌, arith, true≢false}
+use Rattle.std.proofs.Common.{◌≡◌, ◌≢◌, ◌+◌, ℕ, ◌==◌, Bool, true, false, ◌&&◌, ◌||◌, if◌then◌else◌, refl, sym, ◌∙◌, arith, true≢false}
 use Rattle.vsw_flows.specs.declared.leaners.Leaners.{Leaners}
-use Rattle.vsw_flows.specs.declared.leaners.Joined.{Joined}
 use Rattle.vsw_flows.specs.Leaners.{has, is_empty, joined, kept, none, pushed, three, without, without_fourth, without_second, without_third}
 
 number_is : (a b : ℕ) → (a == b) ≡ true → a ≡ b

@@ -1,13 +1,13 @@
 -- Rows that a command doesn't spare fall.
 use Rattle.std.proofs.Common.{◌≡◌, ◌≢◌, ◌+◌, ◌<◌, ◌≤◌, ◌==◌, ℕ, zero, suc, Bool, true, false, not, ◌&&◌, ◌||◌, List, [], ◌∷◌, length, map, get_or, refl, sym, ap, subst, ◌∙◌, arith, true≢false}
-use Rattle.std.specs.List.{list_all, slice_get}
+use Rattle.std.specs.List.{list_all}
 use Rattle.vsw_policy.specs.declared.command.Command.{Command}
 use Rattle.vsw_policy.specs.declared.command.Command.TheVariants.{PutMany, PutRules}
 use Rattle.vsw_policy.specs.declared.command.Part.{Part}
 use Rattle.vsw_policy.specs.Layer.{LayerSeen}
 use Rattle.vsw_rule.specs.declared.rule.Rule.{Rule}
 use Rattle.vsw_walk.specs.declared.scratch.Looked.{Looked}
-use Rattle.vsw_spares.specs.Spared.{as_put, is_within, leaves_in, singles, spares, spares_one}
+use Rattle.vsw_spares.specs.Spared.{as_put, is_within, singles, spares, spares_one}
 use Rattle.vsw_table.specs.Rules.{stamp_at}
 use Rattle.vsw_flows.specs.Flows.{Any, Falls, IsCurrent, Writing}
 use Rattle.vsw_flows.specs.Leant.{Leant, kept_at}

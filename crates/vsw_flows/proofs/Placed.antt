@@ -1,11 +1,10 @@
 -- A row that is put: it has the words and a stamp, and stands where it leans; the others stand as they did.
-use Rattle.std.proofs.Common.{◌≡◌, ◌≢◌, ◌⊎◌, ◌+◌, ◌<◌, ℕ, Bool, true, false, List, [], ◌∷◌, length, get_or, set, slice_set, get_or-set_same, get_or-set_other, length-set, inl, inr, refl, sym, ap, subst, ◌∙◌, arith, true≢false}
+use Rattle.std.proofs.Common.{◌≡◌, ◌≢◌, ◌+◌, ◌<◌, ℕ, Bool, true, false, List, [], length, get_or, set, slice_set, get_or-set_same, get_or-set_other, length-set, inl, inr, refl, sym, ap, subst, ◌∙◌, arith, true≢false}
 use Rattle.std.specs.Prelude.{Some, None, if◌then◌else◌}
 use native.Mathlib.Decide.{ℕ_discrete}
 use mathlib.Core.Logic.{dite}
-use Rattle.vsw_policy.specs.Layer.{LayerSeen}
 use Rattle.vsw_policy.specs.Layers.{PolicySeen}
-use Rattle.vsw_rows.specs.Good.{IsGoodLeaning, Row}
+use Rattle.vsw_rows.specs.Good.{IsGoodLeaning}
 use Rattle.vsw_rows.specs.GoodRows.{IsGoodRow, opening_of}
 use Rattle.vsw_rows.specs.Rows.{IsFormed, IsFresh, Says, layers_after}
 use Rattle.vsw_table.specs.Held.{has_stamps, put_in}
@@ -16,7 +15,6 @@ use Rattle.vsw_flows.specs.Flows.{Any, Falls, IsCurrent, OrFell, Puts, Writing}
 use Rattle.vsw_flows.specs.Leant.{Leant, kept_at}
 use Rattle.vsw_flows.specs.Standing.{AreFormed, AreStanding, Settles, Stand, StandsAll, StandsAt}
 use Rattle.vsw_flows.proofs.Standings.{fallen}
-use Rattle.vsw_flows.proofs.Thinned.{stays_at}
 
 -- a fresh row is good
 pub fresh_good : (p : PolicySeen) (v x : Writing) (words : List ℕ) (qs : List Looked) → Falls Any v x → IsFresh (layers_after p v.view.history) words qs → IsGoodRow (opening_of p) x.view.history words

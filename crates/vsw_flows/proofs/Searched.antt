@@ -1,15 +1,15 @@
 -- What a search finds among the places at which a row may stand.
-use Rattle.std.proofs.Common.{◌≡◌, ◌≢◌, ◌⊎◌, ◌≤◌, ◌<◌, ◌+◌, ◌%◌, ℕ, List, get_or, take, length, inl, inr, refl, sym, ap, subst, ◌∙◌, arith}
+use Rattle.std.proofs.Common.{◌≡◌, ◌⊎◌, ◌≤◌, ◌<◌, ◌+◌, ◌%◌, ℕ, List, get_or, take, inl, inr, refl, sym, ap, subst, ◌∙◌, arith}
 use Rattle.std.proofs.lemmas.List.{get_or-take}
 use native.Mathlib.Decide.{ℕ_discrete}
 use mathlib.Core.Logic.{dite}
 use Rattle.vsw_rows.specs.Rows.{IsProbed}
-use Rattle.vsw_table.specs.Rules.{row_at, stamp_at}
+use Rattle.vsw_table.specs.Rules.{stamp_at}
 use Rattle.vsw_words.specs.Slot.{slot}
 use Rattle.vsw_flows.specs.declared.places.Found.TheVariants as free
 use Rattle.vsw_flows.specs.declared.places.Sought.{Sought}
 use Rattle.vsw_flows.specs.declared.places.Sought.TheVariants.{Own, Unused, Used}
-use Rattle.vsw_flows.specs.Finding.{Adds, Hit, Other, First, Later, HasKey, IsFound, IsSought, NoneHasKey}
+use Rattle.vsw_flows.specs.Finding.{Adds, Hit, Other, First, Later, HasKey, IsFound, IsSought}
 use Rattle.vsw_flows.specs.Flows.{IsCurrent, Writing}
 
 -- the place is one of the first n

@@ -1,16 +1,15 @@
 -- A row comes to stand: who gives way falls, and the others stand as they did.
-use Rattle.std.proofs.Common.{◌≡◌, ◌≢◌, ◌+◌, ◌==◌, ℕ, Bool, true, false, not, List, [], ◌∷◌, refl, sym, ap, subst, ◌∙◌, arith, true≢false}
+use Rattle.std.proofs.Common.{◌≡◌, ◌≢◌, ◌+◌, ℕ, Bool, true, List, [], ◌∷◌, refl, sym, ap, subst, ◌∙◌}
 use native.Mathlib.Decide.{ℕ_discrete}
 use mathlib.Core.Logic.{dite}
 use Rattle.vsw_policy.specs.Layer.{LayerSeen}
-use Rattle.vsw_policy.specs.Sound.{Each}
 use Rattle.vsw_walk.specs.declared.scratch.Looked.{Looked}
 use Rattle.vsw_flows.specs.declared.spot.Spot.{Spot}
-use Rattle.vsw_flows.specs.Flows.{Any, Falls, IsCurrent, Writing}
+use Rattle.vsw_flows.specs.Flows.{Any, IsCurrent, Writing}
 use Rattle.vsw_flows.specs.Leant.{Leant, kept_at}
 use Rattle.vsw_flows.specs.Spots.{spot_of, stands}
-use Rattle.vsw_flows.specs.Standing.{Enters, Fell, Settles, Stand, StandBut, StandsAll, StandsAt, Thins}
-use Rattle.vsw_flows.proofs.Thinned.{falls_then, falls_weaker, fell_but, fell_thins, map_each, stays_at, thins_none, thins_then, thins_weaker, was_current}
+use Rattle.vsw_flows.specs.Standing.{Enters, Fell, Settles, Stand, StandBut, StandsAll}
+use Rattle.vsw_flows.proofs.Thinned.{falls_then, falls_weaker, fell_but, fell_thins, stays_at, thins_none, thins_then, was_current}
 
 -- a row stands at one spot more: all but the one that gives way stand as they did, and then that one falls
 entered_but : (v : Writing) (l m : Leant) (way : ℕ) → m.kept ≡ l.kept → ((s : Spot) (r : ℕ) → stands l.spots s r ≡ true → r + 1 ≢ way → stands m.spots s r ≡ true) → (ls : List LayerSeen) → Stand ls v l → StandBut way ls v m

@@ -14,14 +14,14 @@ use Rattle.vsw_walk.specs.declared.scratch.Wanted.TheVariants.{Make, Touch, Leav
 use Rattle.vsw_flows.specs.declared.leaners.Leaners.{Leaners}
 use Rattle.vsw_flows.specs.declared.spot.Spot.{Spot}
 use Rattle.vsw_flows.specs.declared.spot.Spot.TheVariants.{Missed, Found}
-use Rattle.vsw_flows.specs.Flows.{Falls, IsCurrent, Writing}
+use Rattle.vsw_flows.specs.Flows.{Falls, Writing}
 use Rattle.vsw_flows.specs.Leaners.{has}
 use Rattle.vsw_flows.specs.Leant.{Leant, kept_at}
 use Rattle.vsw_flows.specs.Shaking.{IsShaken, IsShakenBy, NoneLeft, NoneLeftBy, Past, Tested}
 use Rattle.vsw_flows.specs.Spots.{leaners_in, same_spot, spot_by, spot_of, stands}
 use Rattle.vsw_flows.specs.Standing.{Fell, Stand, Thins}
 use Rattle.vsw_flows.proofs.Spots.{spot_is}
-use Rattle.vsw_flows.proofs.Thinned.{falls_none, fell_thins, map_each, thins_none, thins_then, thins_weaker, was_current}
+use Rattle.vsw_flows.proofs.Thinned.{fell_thins, map_each, thins_none, thins_then, thins_weaker, was_current}
 
 number_is : (a b : ℕ) → (a == b) ≡ true → a ≡ b
 number_is a b e = grind arith

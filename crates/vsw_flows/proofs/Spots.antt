@@ -1,8 +1,6 @@
 -- Of the spots on which rows lean: who comes to stand at one and who leaves it.
-use Rattle.std.proofs.Common.{◌≡◌, ◌≢◌, ◌+◌, ℕ, ◌==◌, Bool, true, false, ◌&&◌, if◌then◌else◌, cond, List, Option, Some, None, refl, sym, ap, subst, ◌∙◌, arith, true≢false}
+use Rattle.std.proofs.Common.{◌≡◌, ◌≢◌, ◌+◌, ℕ, ◌==◌, Bool, true, false, ◌&&◌, if◌then◌else◌, cond, List, Option, Some, None, refl, sym, ap, ◌∙◌, arith, true≢false}
 use Rattle.std.specs.Prelude.{Result, Ok, Err, OnOk, OnErr, is_ok}
-use Rattle.std.specs.Map.{lookup}
-use Rattle.vsw_layerflow.specs.declared.pair.Probe.{Probe}
 use Rattle.vsw_layerflow.specs.Pairs.{same_probe}
 use Rattle.vsw_layerflow.proofs.Lists.{eq_self, same_is, same_self}
 use Rattle.vsw_flows.specs.declared.leaners.Joined.{Joined}
@@ -11,7 +9,7 @@ use Rattle.vsw_flows.specs.declared.spot.Spot.{Spot}
 use Rattle.vsw_flows.specs.declared.spot.Spot.TheVariants.{Missed, Found}
 use Rattle.vsw_flows.specs.Leaners.{has, is_empty, joined, none, without}
 use Rattle.vsw_flows.specs.Spots.{leaners_in, or_none, same_spot, stands}
-use Rattle.vsw_flows.proofs.Marks.{empty_has, joined_others, joined_there, joined_way, none_has, without_others}
+use Rattle.vsw_flows.proofs.Marks.{empty_has, joined_others, joined_there, joined_way, without_others}
 
 -- spots that are the same are equal
 both_are : (a b : Bool) → (a && b) ≡ true → (a ≡ true) × (b ≡ true)

@@ -1,33 +1,26 @@
 -- What each call keeps of the rows: those that are current are good, and stand where they lean.
-use Rattle.std.proofs.Common.{◌≡◌, ◌≢◌, ◌⊎◌, ◌+◌, ◌<◌, ℕ, zero, suc, Bool, true, false, List, [], ◌∷◌, ◌++◌, length, get_or, set, slice_set, get_or-set_same, get_or-set_other, length-set, inl, inr, refl, sym, ap, subst, ◌∙◌, arith, true≢false}
+use Rattle.std.proofs.Common.{◌≡◌, ◌≢◌, ◌+◌, ℕ, true, false, List, [], ◌∷◌, ◌++◌, inl, inr, refl, sym, ap, subst, ◌∙◌, true≢false}
 use Rattle.std.specs.Prelude.{Some, None}
-use native.Mathlib.Decide.{ℕ_discrete}
-use mathlib.Core.Logic.{dite}
 use Rattle.vsw_policy.specs.declared.command.Command.{Command}
 use Rattle.vsw_policy.specs.Layer.{LayerSeen}
 use Rattle.vsw_policy.specs.Layers.{PolicySeen}
-use Rattle.vsw_policy.specs.Sound.{Each}
 use Rattle.vsw_port.specs.declared.event.Event.{Event}
 use Rattle.vsw_port.specs.History as history
-use Rattle.vsw_port.specs.History.{after}
 use Rattle.vsw_rows.specs.Good.{IsGoodLeaning, LeaningRow, Row}
 use Rattle.vsw_rows.specs.GoodRows.{IsGoodRow, opening_of}
-use Rattle.vsw_rows.specs.Rows.{IsFormed, IsFresh, Says, layers_after, layers_then}
+use Rattle.vsw_rows.specs.Rows.{IsFormed, Says, layers_after}
 use Rattle.vsw_rows.specs.Shaken.{shake}
 use Rattle.vsw_rows.specs.Way.{looks}
 use Rattle.vsw_rows.proofs.Keeps.{one_id, then}
 use Rattle.vsw_spares.specs.Entry.{EntrySpares, entry_shakes}
 use Rattle.vsw_spares.specs.Spared.{spares}
-use Rattle.vsw_table.specs.Held.{after_entry, has_stamps, put_in}
 use Rattle.vsw_table.specs.Rules.{row_at, stamp_at}
-use Rattle.vsw_table.specs.Steps.{restamped}
-use Rattle.vsw_walk.specs.declared.scratch.Looked.{Looked}
 use Rattle.vsw_walk.specs.declared.scratch.Wanted.{Wanted}
-use Rattle.vsw_flows.specs.Flows.{AllSpared, Any, Falls, IsCurrent, IsOne, NoneShaken, OrFell, OthersStay, Puts, Spares, Writing}
+use Rattle.vsw_flows.specs.Flows.{AllSpared, Any, Falls, IsCurrent, NoneShaken, OrFell, OthersStay, Spares, Writing}
 use Rattle.vsw_flows.specs.Leant.{Leant, kept_at}
 use Rattle.vsw_flows.specs.Shaking.{IsShaken, NoneLeft}
-use Rattle.vsw_flows.specs.Standing.{AreFormed, AreStanding, Settles, Stand, StandsAll, StandsAt, Thins}
-use Rattle.vsw_flows.proofs.Thinned.{stays_at, was_current}
+use Rattle.vsw_flows.specs.Standing.{AreFormed, AreStanding, Stand, StandsAt, Thins}
+use Rattle.vsw_flows.proofs.Thinned.{stays_at}
 
 -- rows that fell leave what stands
 pub fallen : (P : ℕ → Type 0) (v w : Writing) (l m : Leant) → Falls P v w → ((ls : List LayerSeen) → Stand ls v l → Stand ls w m) → AreStanding v l → AreStanding w m

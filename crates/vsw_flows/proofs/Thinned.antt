@@ -1,5 +1,5 @@
 -- What falls leave: those that don't fall stand as they did.
-use Rattle.std.proofs.Common.{◌≡◌, ◌≢◌, ◌⊎◌, ◌+◌, ◌-◌, ◌<◌, ℕ, zero, suc, Bool, true, false, List, [], ◌∷◌, set, get_or, get_or-set_other, slice_set, inl, inr, refl, sym, ap, subst, ◌∙◌, arith}
+use Rattle.std.proofs.Common.{◌≡◌, ◌≢◌, ◌+◌, ◌-◌, ◌<◌, ℕ, zero, suc, true, List, [], ◌∷◌, set, get_or, get_or-set_other, inl, inr, refl, sym, ap, subst, ◌∙◌, arith}
 use native.Mathlib.Decide.{ℕ_discrete}
 use mathlib.Core.Logic.{dite}
 use Rattle.vsw_policy.specs.Layer.{LayerSeen}
@@ -8,7 +8,6 @@ use Rattle.vsw_rows.specs.Good.{IsGoodLeaning}
 use Rattle.vsw_rows.specs.Rows.{Says}
 use Rattle.vsw_table.specs.Rules.{row_at, stamp_at}
 use Rattle.vsw_table.specs.Steps.{shaken}
-use Rattle.vsw_walk.specs.declared.scratch.Looked.{Looked}
 use Rattle.vsw_flows.specs.declared.spot.Spot.{Spot}
 use Rattle.vsw_flows.specs.Flows.{Falls, IsCurrent, OrFell, Writing}
 use Rattle.vsw_flows.specs.Leant.{Leant, kept_at}

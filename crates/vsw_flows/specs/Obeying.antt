@@ -1,5 +1,5 @@
 -- What is left when the rows fell that a command doesn't spare.
-use Rattle.std.specs.Prelude.{◌≡◌, ℕ, List, Bool, true, map, Some}
+use Rattle.std.specs.Prelude.{◌≡◌, ℕ, List, Bool, true, Some}
 use Rattle.std.specs.List.{list_all, slice_get}
 use Rattle.vsw_policy.specs.declared.command.Command.{Command}
 use Rattle.vsw_policy.specs.Groups.{rules_in}

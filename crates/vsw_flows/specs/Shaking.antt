@@ -1,5 +1,5 @@
 -- What a test of rows leaves: of those that lean on a spot, none that the change shakes.
-use Rattle.std.specs.Prelude.{◌≡◌, ◌+◌, ℕ, List, Bool, true, false}
+use Rattle.std.specs.Prelude.{◌≡◌, ◌+◌, ℕ, List, true, false}
 use Rattle.std.specs.List.{list_any}
 use Rattle.vsw_policy.specs.Layer.{LayerSeen}
 use Rattle.vsw_rows.specs.Shaken.{shake, shakes_one}

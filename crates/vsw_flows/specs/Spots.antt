@@ -1,5 +1,5 @@
 -- On which spots rows lean, and which rows stand at one.
-use Rattle.std.specs.Prelude.{◌≡◌, ℕ, ◌==◌, ◌&&◌, List, Bool, false, Option, Some, None}
+use Rattle.std.specs.Prelude.{ℕ, ◌==◌, ◌&&◌, List, Bool, false, Option, Some, None}
 use Rattle.std.specs.Map.{lookup}
 use Rattle.vsw_walk.specs.declared.scratch.Looked.{Looked}
 use Rattle.vsw_layerflow.specs.declared.pair.Probe.{Probe}

@@ -6,7 +6,6 @@ ghost use Rattle.vsw_policy.specs.Groups.{rules_in};
 ghost use Rattle.vsw_policy.specs.Layer.{LayerSeen, seen};
 ghost use Rattle.vsw_policy.specs.Layers as layers_of;
 ghost use Rattle.vsw_policy.specs.declared.command.Command.TheVariants.{PutRules};
-ghost use Rattle.vsw_spares.specs.Between.{AreBetween};
 ghost use Rattle.vsw_spares.specs.Spared as spec;
 ghost use Rattle.vsw_flows.specs.Flows.{Any, IsCurrent};
 ghost use Rattle.vsw_flows.specs.Leant.{kept_at};

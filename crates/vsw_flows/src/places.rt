@@ -1,9 +1,8 @@
 //! What the writer finds of a row, and the search among the eight places at which a row may stand.
 
-ghost use Rattle.std.specs.Prelude.{◌≡◌, ◌≤◌, ◌<◌, ℕ, MatchBool, length, true, false};
-ghost use Rattle.vsw_table.specs.Rules.{row_at, stamp_at};
+ghost use Rattle.std.specs.Prelude.{◌≡◌, ◌<◌, MatchBool, true, false};
+ghost use Rattle.vsw_table.specs.Rules.{row_at};
 ghost use Rattle.vsw_flows.specs.Finding.{Adds, HasKey, IsFound, IsSought};
-ghost use Rattle.vsw_flows.specs.Flows.{IsCurrent};
 
 use crate::falling::{is_current, rows_of};
 use crate::story::PortStory;

@@ -1,7 +1,6 @@
 //! A row comes to stand at the spots of its looks.
 
-ghost use Rattle.std.specs.Prelude.{◌≡◌, ◌<◌, ◌≢◌, ℕ, true};
-ghost use Rattle.vsw_flows.specs.Flows.{Any, IsCurrent};
+ghost use Rattle.std.specs.Prelude.{◌≡◌, ◌<◌, true};
 ghost use Rattle.vsw_flows.specs.Leant.{kept_at};
 ghost use Rattle.vsw_flows.specs.Spots.{spot_of, stands};
 ghost use Rattle.vsw_flows.specs.Standing.{Enters, Settles, StandsAll};

@@ -1,6 +1,6 @@
 //! The rows of a port.
 
-ghost use Rattle.std.specs.Prelude.{◌≡◌, ◌≤◌, ◌<◌, ◌+◌, ◌==◌, not, ℕ, Some, true, false, length, map, slice_set, slice_index_or, IfOk};
+ghost use Rattle.std.specs.Prelude.{◌≡◌, ◌≤◌, ◌<◌, ◌+◌, ◌==◌, not, ℕ, Some, true, false, length, map, slice_set, IfOk};
 ghost use mathlib.Core.List.{IsPrefix};
 ghost use Rattle.vsw_port.specs.Calls.{named};
 ghost use Rattle.vsw_port.specs.History.{IsRight};

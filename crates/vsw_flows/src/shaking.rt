@@ -1,10 +1,9 @@
 //! Rows that a crossing shakes fall.
 
-ghost use Rattle.std.specs.Prelude.{◌≡◌, ℕ, List, map, true, false};
+ghost use Rattle.std.specs.Prelude.{◌≡◌, List, map, false};
 ghost use Rattle.vsw_policy.specs.Layer.{LayerSeen, seen};
 ghost use Rattle.vsw_rows.specs.Shaken as spec;
 ghost use Rattle.vsw_walk.specs.declared.scratch.Looked.{Looked};
-ghost use Rattle.vsw_flows.specs.Leant.{kept_at};
 ghost use Rattle.vsw_flows.specs.Shaking.{IsShaken, IsShakenBy, NoneLeft, NoneLeftBy, Past, Tested};
 ghost use Rattle.vsw_flows.specs.Standing.{Stand, Thins};
 

@@ -1,7 +1,5 @@
 //! The story of a port.
 
-ghost use Rattle.std.specs.Prelude.{◌≡◌, ◌≤◌};
-
 use vsw_policy::Policy;
 use vsw_port::Event;
 use vsw_stamps::Story;

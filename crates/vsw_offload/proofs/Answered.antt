@@ -1,7 +1,6 @@
 -- What good rows answer is what the layers answer.
 use Rattle.std.proofs.Common.{◌≡◌, ℕ, List, [], ◌∷◌, ◌++◌, length, Bool, true, false, nat_lt, if◌then◌else◌, refl, ap, sym, ◌∙◌, subst}
-use Rattle.std.specs.Prelude.{Option, Some, None, Result, Ok, Err}
-use Rattle.vsw_base.specs.declared.fate.Cause.{Cause}
+use Rattle.std.specs.Prelude.{Option, Some, None, Ok}
 use Rattle.vsw_base.specs.declared.fate.Cause.TheVariants as cause
 use Rattle.vsw_base.specs.declared.fate.Fate.{Fate}
 use Rattle.vsw_base.specs.declared.fate.Fate.TheVariants.{Pass, Drop}
@@ -14,24 +13,23 @@ use Rattle.vsw_base.specs.Shape.{is_stack}
 use Rattle.vsw_frame.specs.Bytes as bytes
 use Rattle.vsw_policy.specs.Layer.{LayerSeen}
 use Rattle.vsw_policy.specs.Sound.{Each}
-use Rattle.vsw_port.specs.declared.event.Event.{Event}
 use Rattle.vsw_port.specs.declared.stop.Stop.{Stop}
 use Rattle.vsw_port.specs.declared.stop.Stop.TheVariants.{Long}
 use Rattle.vsw_port.specs.Admit.{on_pass}
 use Rattle.vsw_port.specs.Calls.{Carried, Reads, Shows, ShowsAt}
-use Rattle.vsw_port.specs.Cross.{Crossed, Passing, cross_of, fate_after}
+use Rattle.vsw_port.specs.Cross.{Passing, cross_of, fate_after}
 use Rattle.vsw_port.specs.Fate as port
-use Rattle.vsw_port.specs.History.{Opening, replay}
-use Rattle.vsw_port.specs.Long.{is_long, outer_total, outgoing_size}
+use Rattle.vsw_port.specs.History.{replay}
+use Rattle.vsw_port.specs.Long.{is_long, outgoing_size}
 use Rattle.vsw_port.specs.Walk.{walk_of}
 use Rattle.vsw_port.proofs.Alike.{long_alike, sized}
 use Rattle.vsw_rows.proofs.Answered.{row_answers}
-use Rattle.vsw_rows.specs.Good.{Good, MayAnswer, Row}
+use Rattle.vsw_rows.specs.Good.{Good, Row}
 use Rattle.vsw_rows.specs.GoodRows.{IsGoodRow}
 use Rattle.vsw_rows.specs.LeanLaw.{answer_by}
 use Rattle.vsw_transpose.specs.Apply.{apply}
 use Rattle.vsw_transpose.specs.Fits.{kept}
-use Rattle.vsw_offload.specs.Answered.{IsAnswered, One, RowsAnswerAsLayers, SaysOne, WordsSayOne, bytes_by, fate_by}
+use Rattle.vsw_offload.specs.Answered.{One, RowsAnswerAsLayers, SaysOne, WordsSayOne, bytes_by, fate_by}
 
 -- one of them
 one_of : (P : List ℕ → Type 0) (front : List (List ℕ)) (words : List ℕ) (back : List (List ℕ)) → Each P (front ++ words ∷ back) → P words

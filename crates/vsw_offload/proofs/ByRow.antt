@@ -1,26 +1,20 @@
 -- A frame is answered by the row of its key.
-use Rattle.std.proofs.Common.{◌≡◌, ◌≤◌, ◌<◌, ◌+◌, ℕ, zero, suc, List, [], ◌∷◌, ◌++◌, Bool, true, false, true≢false, length, take, drop, nat_lt, if◌then◌else◌, inl, inr, refl, ap, sym, ◌∙◌, subst, arith, length-append, length-drop}
-use Rattle.std.specs.Prelude.{◌≢◌, Err, IfNone, IfSome, None, Ok, Option, Result, Some}
-use Rattle.std.proofs.Math.Seq.{take-append_seam}
+use Rattle.std.proofs.Common.{◌≡◌, ◌≤◌, ◌<◌, ◌+◌, ℕ, zero, suc, List, [], ◌∷◌, ◌++◌, true, false, true≢false, length, inl, inr, ap, sym, ◌∙◌, subst}
+use Rattle.std.specs.Prelude.{◌≢◌, IfNone, IfSome, None, Option, Some}
 use Rattle.vsw_base.specs.declared.fate.Fate.{Fate}
 use Rattle.vsw_base.specs.declared.fate.Fate.TheVariants as fate
 use Rattle.vsw_base.specs.declared.fate.Verdict.TheVariants.{Pass}
-use Rattle.vsw_base.specs.declared.fault.Long.{Long}
 use Rattle.vsw_base.specs.declared.flow.Crossing.{Crossing}
-use Rattle.vsw_base.specs.declared.flow.Place.{Place}
 use Rattle.vsw_base.specs.declared.flow.Ufid.{Ufid}
 use Rattle.vsw_base.specs.declared.packet.Control.TheVariants as control
-use Rattle.vsw_base.specs.declared.header.Header.{Header}
 use Rattle.vsw_base.specs.Frame.{Parts}
-use Rattle.vsw_frame.specs.Bytes.{answer, outer_total, outgoing, over}
 use Rattle.vsw_offload.proofs.Judged.{key_part}
-use Rattle.vsw_offload.specs.Answered.{Answered, IsAnswered, IsPacketOf, IsUnanswered, One, SaysOne, bytes_by, bytes_left, fate_by, rows_at}
+use Rattle.vsw_offload.specs.Answered.{Answered, IsUnanswered, One, SaysOne, bytes_by, bytes_left, fate_by, rows_at}
 use Rattle.vsw_offload.specs.Private.Finding.{HasNone, HasOne}
 use Rattle.vsw_offload.specs.Rows.{AreRows, IsPortRows, IsRow, Rise, key_of}
 use Rattle.vsw_offload.specs.declared.port_rows.PortRows.{PortRows}
 use Rattle.vsw_policy.specs.Sound.{Each}
-use Rattle.vsw_rows.specs.Good.{MayAnswer, Row}
-use Rattle.vsw_rows.specs.Rows.{Says}
+use Rattle.vsw_rows.specs.Good.{Row}
 use Rattle.vsw_transpose.specs.Fits as fit
 use Rattle.vsw_words.proofs.Decoded.{apart}
 use Rattle.vsw_words.specs.Key.{key_words}

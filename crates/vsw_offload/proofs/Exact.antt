@@ -1,18 +1,16 @@
 -- Nothing is at fault with a rows file.
-use Rattle.std.proofs.Common.{◌≡◌, ◌≤◌, ◌<◌, ◌+◌, ◌*◌, ◌^◌, ◌==◌, ◌&&◌, ◌||◌, ◌⊎◌, not, ℕ, zero, suc, List, [], ◌∷◌, ◌++◌, Bool, true, false, true≢false, length, map, take, drop, inl, inr, refl, ap, sym, ◌∙◌, subst, arith, length-append, length-drop}
-use Rattle.std.proofs.Math.Seq.{drop-append_seam, take-append_seam}
+use Rattle.std.proofs.Common.{◌≡◌, ◌≤◌, ◌<◌, ◌+◌, ◌*◌, ◌^◌, ◌==◌, ◌&&◌, ◌||◌, not, ℕ, List, [], ◌∷◌, ◌++◌, Bool, true, false, true≢false, length, map, take, drop, inl, inr, refl, ap, sym, ◌∙◌, subst, arith, length-append, length-drop}
+use Rattle.std.proofs.Math.Seq.{take-append_seam}
 use Rattle.std.proofs.lemmas.List.{append-nil, append_assoc, length-take-le, map-append, take-append-drop}
 use Rattle.std.specs.List.{flat_map}
 use Rattle.byteorder.specs.Endian.{big_bytes, big_number, little_bytes, little_number}
 use Rattle.byteorder.specs.Numbers.{big_number-reads_back, little_number-reads_back}
 use Rattle.vsw_offload.proofs.Cut.{NextPort, NextRow, four, next_port, next_row, ports_one, six}
-use Rattle.vsw_offload.specs.Bad.{Address, Begins, Done, Entries, Falls, HasBadRow, HasExtra, HasManyRows, AddressTwice, NumberTwice, Head, IsBadRows, IsCut, IsNew, Number, Ports, Reaches, Rows, Stands, entries_text, next_size, ports_text, row_at, text_of, words_in}
+use Rattle.vsw_offload.specs.Bad.{Address, Begins, Done, Entries, Falls, HasBadRow, HasExtra, HasManyRows, AddressTwice, NumberTwice, Head, IsCut, Number, Ports, Reaches, Rows, Stands, entries_text, next_size, ports_text, row_at, text_of, words_in}
 use Rattle.vsw_offload.specs.Exact.{FilesAreRight, FilesTell}
-use Rattle.vsw_offload.specs.Rows.{AreRows, AreWords, IsPortRows, IsRow, Rise, all_rows_bytes, are_distinct, head, is_among, is_before, macs_of, numbers_of, port_bytes, row_bytes, rows_bytes}
-use Rattle.vsw_offload.specs.declared.fault.BadRows.{BadRows}
+use Rattle.vsw_offload.specs.Rows.{AreRows, AreWords, IsRow, Rise, all_rows_bytes, are_distinct, head, is_among, macs_of, numbers_of, port_bytes, row_bytes, rows_bytes}
 use Rattle.vsw_offload.specs.declared.fault.BadRows.TheVariants.{NotRows, Cut, ManyPorts, PortTwice, ManyRows, BadRow, Order, Extra, Memory}
 use Rattle.vsw_offload.specs.declared.port_rows.PortRows.{PortRows}
-use Rattle.vsw_policy.specs.Sound.{Each}
 
 below_four : (n : ℕ) → n ≤ 16384 → n < 2 ^ 32
 below_four n h = omega (arith, h)

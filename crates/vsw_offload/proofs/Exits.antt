@@ -1,5 +1,5 @@
 -- How the steps of reading end: with a fault, or with more that was read.
-use Rattle.std.proofs.Common.{◌≡◌, ◌≤◌, ◌<◌, ◌+◌, ◌^◌, ℕ, List, [], ◌∷◌, ◌++◌, Bool, true, false, true≢false, length, take, drop, refl, ap, sym, ◌∙◌, subst, arith, length-append}
+use Rattle.std.proofs.Common.{◌≡◌, ◌≤◌, ◌<◌, ◌+◌, ℕ, List, [], ◌∷◌, ◌++◌, true, false, true≢false, length, take, drop, refl, ap, sym, ◌∙◌, subst, arith, length-append}
 use Rattle.std.specs.Prelude.{IfErr, IsErrAnd, OnOk, Ok, Err, Result}
 use Rattle.std.proofs.lemmas.List.{append-nil, take_all}
 use Rattle.byteorder.specs.Endian.{little_bytes}
@@ -7,7 +7,7 @@ use Rattle.vsw_offload.proofs.Rising.{next_not, rise_more}
 use Rattle.vsw_offload.proofs.Steps.{begins_more, begins_row, begins_rows, each_more, ports_more, whole_port}
 use Rattle.vsw_offload.specs.Bad.{Begins, Entries, Falls, HasBadRow, IsBadRows, Reaches, Rows, ports_text, row_at, text_of}
 use Rattle.vsw_offload.specs.Private.Reading.{HasRows, is_next, port_of}
-use Rattle.vsw_offload.specs.Rows.{AreRows, IsPortRows, IsRow, Rise, head, row_bytes, rows_bytes}
+use Rattle.vsw_offload.specs.Rows.{AreRows, IsRow, Rise, head, row_bytes, rows_bytes}
 use Rattle.vsw_offload.specs.declared.fault.BadRows.{BadRows}
 use Rattle.vsw_offload.specs.declared.fault.BadRows.TheVariants.{Memory}
 use Rattle.vsw_offload.specs.declared.port_rows.PortRows.{PortRows}

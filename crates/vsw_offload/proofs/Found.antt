@@ -1,5 +1,5 @@
 -- A row is looked for from the middle.
-use Rattle.std.proofs.Common.{◌≡◌, ◌<◌, ℕ, List, [], ◌∷◌, ◌++◌, Bool, true, false, true≢false, refl, ap, sym, ◌∙◌, subst}
+use Rattle.std.proofs.Common.{◌≡◌, ℕ, List, [], ◌∷◌, ◌++◌, true, false, true≢false, ap, sym, ◌∙◌, subst}
 use Rattle.std.specs.Prelude.{IfNone, IfSome, None, Option, Some}
 use Rattle.std.proofs.lemmas.List.{append_assoc}
 use Rattle.vsw_offload.proofs.Sorted.{less_not_self, less_trans, rise_behind, rise_split, rise_tail}

@@ -1,5 +1,5 @@
 -- Rows whose keys rise.
-use Rattle.std.proofs.Common.{◌≡◌, ℕ, List, [], ◌∷◌, ◌++◌, Bool, true, false, true≢false, refl, sym, ◌∙◌}
+use Rattle.std.proofs.Common.{◌≡◌, ℕ, List, [], ◌∷◌, ◌++◌, true, false, true≢false, refl, sym, ◌∙◌}
 use Rattle.vsw_offload.specs.Private.Reading.{is_next}
 use Rattle.vsw_offload.specs.Rows.{Rise, is_before}
 

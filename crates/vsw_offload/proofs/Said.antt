@@ -1,18 +1,16 @@
 -- Words say one row.
-use Rattle.std.proofs.Common.{◌≡◌, ◌≤◌, ◌<◌, ◌^◌, ◌*◌, ℕ, List, [], ◌∷◌, ◌++◌, length, take, drop, ◌==◌, true, false, true≢false, eq-eqb, refl, ap, sym, ◌∙◌, subst, arith}
-use Rattle.std.proofs.Math.Seq.{take-append_seam, drop-append_seam}
+use Rattle.std.proofs.Common.{◌≡◌, ◌<◌, ◌^◌, ℕ, List, [], ◌∷◌, ◌++◌, length, drop, ◌==◌, true, false, true≢false, eq-eqb, refl, ap, sym, ◌∙◌, arith}
+use Rattle.std.proofs.Math.Seq.{drop-append_seam}
 use Rattle.std.specs.Prelude.{Some}
 use Rattle.vsw_base.specs.declared.fate.Verdict.{Verdict}
 use Rattle.vsw_base.specs.declared.fate.Verdict.TheVariants.{Pass, Rule, Default}
 use Rattle.vsw_base.specs.declared.packet.Dir.TheVariants.{Out, In}
-use Rattle.vsw_rows.specs.Good.{Row}
 use Rattle.vsw_rows.specs.GoodRows.{words_of}
-use Rattle.vsw_rows.specs.Rows.{Says}
 use Rattle.vsw_rows.proofs.Answers.{fronts, key_length, words_are}
 use Rattle.vsw_transpose.specs.declared.act.Act.{Act}
 use Rattle.vsw_words.specs.Key.{joined, key_words}
 use Rattle.vsw_words.specs.Reading.{IsBody, joined_acts, read_acts}
-use Rattle.vsw_words.specs.Row.{acts_words, all_halves, body_words, dropper_word, filled, four_bounds, last_words, verdict_word}
+use Rattle.vsw_words.specs.Row.{acts_words, all_halves, body_words, filled, four_bounds}
 use Rattle.vsw_words.proofs.Acts.{acts_back, form_good}
 use Rattle.vsw_words.proofs.Decoded.{apart}
 use Rattle.vsw_words.proofs.Fields.{split_joined}

@@ -1,12 +1,11 @@
 -- A file is read part by part: what was read so far, and one part more.
-use Rattle.std.proofs.Common.{◌≡◌, ◌≤◌, ◌<◌, ◌+◌, ◌^◌, ◌==◌, ◌&&◌, ◌||◌, not, ℕ, zero, suc, List, [], ◌∷◌, ◌++◌, Bool, true, false, length, map, take, drop, refl, ap, sym, ◌∙◌, subst, arith, length-append}
+use Rattle.std.proofs.Common.{◌≡◌, ◌≤◌, ◌<◌, ◌+◌, ◌^◌, ◌==◌, ◌&&◌, ◌||◌, not, ℕ, List, [], ◌∷◌, ◌++◌, Bool, true, false, length, map, take, drop, refl, ap, sym, ◌∙◌, subst, arith, length-append}
 use Rattle.std.proofs.Math.Seq.{take-add}
 use Rattle.std.proofs.lemmas.List.{append-nil, append_assoc, flat_map_more, map-append}
-use Rattle.std.specs.List.{flat_map}
 use Rattle.byteorder.specs.Endian.{big_bytes, little_bytes}
-use Rattle.vsw_offload.specs.Bad.{Address, Begins, Done, Entries, Head, IsNew, IsNewAt, IsOpen, Number, Ports, Reaches, Rows, entries_text, ports_text, text_of}
+use Rattle.vsw_offload.specs.Bad.{Address, Begins, Entries, IsNewAt, Number, Ports, Reaches, Rows, entries_text, ports_text, text_of}
 use Rattle.vsw_policy.specs.Sound.{Each}
-use Rattle.vsw_offload.specs.Rows.{AreRows, IsPortRows, IsRow, Rise, all_rows_bytes, are_distinct, head, is_among, macs_of, numbers_of, port_bytes, row_bytes}
+use Rattle.vsw_offload.specs.Rows.{AreRows, IsPortRows, all_rows_bytes, are_distinct, head, is_among, macs_of, numbers_of, port_bytes, row_bytes}
 use Rattle.vsw_offload.specs.declared.port_rows.PortRows.{PortRows}
 
 -- the bytes before a place, and a part behind it

@@ -1,5 +1,5 @@
 -- Why bytes are no rows file: the first part, as they are read, that is at fault.
-use Rattle.std.specs.Prelude.{◌≡◌, ◌≢◌, ◌⊎◌, ◌<◌, ◌≤◌, ◌+◌, ◌^◌, ℕ, zero, suc, List, [], ◌∷◌, ◌++◌, Bool, true, false, length, take, drop}
+use Rattle.std.specs.Prelude.{◌≡◌, ◌≢◌, ◌⊎◌, ◌<◌, ◌≤◌, ◌+◌, ◌^◌, ℕ, zero, suc, List, [], ◌∷◌, ◌++◌, true, false, length, take, drop}
 use Rattle.std.specs.List.{flat_map}
 use Rattle.byteorder.specs.Endian.{big_bytes, big_number, little_bytes, little_number}
 use Rattle.vsw_offload.specs.Rows.{AreRows, IsPortRows, IsRow, Rise, all_rows_bytes, head, is_among, macs_of, numbers_of, port_bytes}

@@ -1,6 +1,6 @@
 //! Whether words say a row.
 
-ghost use Rattle.std.specs.Prelude.{◌≡◌, ◌++◌, List, ℕ, drop, take, true, false};
+ghost use Rattle.std.specs.Prelude.{◌≡◌, List, ℕ, drop, take, true, false};
 ghost use Rattle.vsw_base.specs.declared.fate.Verdict.{Verdict};
 ghost use Rattle.vsw_base.specs.declared.fate.Verdict.TheVariants.{Pass};
 ghost use Rattle.vsw_base.specs.declared.flow.Ufid.{Ufid};
@@ -10,7 +10,7 @@ ghost use Rattle.vsw_transpose.specs.Fits as fit;
 ghost use Rattle.vsw_words.specs.Key.{key_words};
 ghost use Rattle.vsw_words.specs.Law.{IsId};
 ghost use Rattle.vsw_words.specs.Reading.{IsBody, IsTold};
-ghost use Rattle.vsw_words.specs.Row.{body_words, row_words};
+ghost use Rattle.vsw_words.specs.Row.{body_words};
 
 use vsw_base::{Dir, Stack, Ufid, Verdict};
 use vsw_words::{Body, body_to, identity_to, row_of};

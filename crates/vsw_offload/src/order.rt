@@ -1,9 +1,8 @@
 //! The order of rows by their keys.
 
-ghost use Rattle.std.specs.Prelude.{◌≡◌, ◌++◌, ◌∷◌, [], true, false};
+ghost use Rattle.std.specs.Prelude.{◌≡◌, true, false};
 ghost use Rattle.vsw_offload.specs.Private.Reading.{is_next};
 ghost use Rattle.vsw_offload.specs.Rows as spec;
-ghost use Rattle.vsw_offload.specs.Rows.{Rise};
 
 /// Whether words come before others: the first that differ decide.
 pub(crate) fn is_less(left: &[u64], right: &[u64]) -> bool

@@ -1,8 +1,7 @@
 //! A rows file, read part by part. Each part is either whole and right, or the first that is at fault.
 
-ghost use Rattle.std.specs.Prelude.{◌≡◌, ◌≢◌, ◌≤◌, ◌<◌, ◌+◌, ◌*◌, ◌^◌, ◌++◌, ◌∷◌, [], ℕ, List, IfOk, IfErr, OnOk, OnErr, length, drop, take, true, false};
-ghost use Rattle.vsw_offload.specs.Bad as spec;
-ghost use Rattle.vsw_offload.specs.Bad.{Address, Begins, Done, Entries, Head, IsBadRows, Number, Ports, Reaches, next_size, ports_text, text_of};
+ghost use Rattle.std.specs.Prelude.{◌≡◌, ◌≤◌, ◌<◌, ◌+◌, ◌*◌, ◌++◌, ◌∷◌, [], ℕ, List, IfOk, IfErr, OnOk, length, take, true, false};
+ghost use Rattle.vsw_offload.specs.Bad.{Address, Begins, Done, Entries, IsBadRows, Number, Ports, Reaches, next_size, ports_text};
 ghost use Rattle.vsw_offload.specs.Private.Reading.{HasRows, port_of};
 ghost use Rattle.vsw_offload.specs.Rows.{AreRows, head, is_among, macs_of, numbers_of, rows_bytes};
 ghost use Rattle.vsw_offload.specs.declared.fault.BadRows.TheVariants.{Memory};

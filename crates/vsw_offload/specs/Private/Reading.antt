@@ -1,5 +1,5 @@
 -- The steps of reading a rows file.
-use Rattle.std.specs.Prelude.{◌≡◌, ◌≤◌, ℕ, List, [], ◌∷◌, Bool, true, false, length}
+use Rattle.std.specs.Prelude.{◌≤◌, ℕ, List, [], ◌∷◌, Bool, true}
 use Rattle.vsw_offload.specs.Bad.{Begins, IsNewAt, Rows, text_of}
 use Rattle.vsw_offload.specs.Rows.{IsPortRows, is_before}
 use Rattle.vsw_offload.specs.declared.port_rows.PortRows.{PortRows}

@@ -1,6 +1,5 @@
 use Rattle.std.proofs.Common.{◌∙◌, ap, sym, Bool, None, cond}
 use Rattle.std.specs.Map.{lookup}
-use Rattle.vsw_flows.specs.declared.leaners.Leaners.{Leaners}
 use Rattle.vsw_flows.specs.declared.spot.Spot.{Spot}
 use Rattle.vsw_flows.specs.Spots.{or_none, same_spot}
 use Rattle.vsw_flows.proofs.Spots.{gone_is, one_test}

@@ -1,4 +1,4 @@
-use Rattle.vsw_flows.proofs.Spots.{enter_others, enter_there, enter_way, nobody}
+use Rattle.vsw_flows.proofs.Spots.{enter_others}
 use Rattle.vsw_flows.proofs.spot.enter_at.Goals as goal
 
 pub returns-then-put_leaners-clause-others : goal.returns-then-put_leaners-clause-others

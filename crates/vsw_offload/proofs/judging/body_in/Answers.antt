@@ -1,4 +1,4 @@
-use Rattle.std.proofs.Common.{◌≡◌, ◌-◌, ℕ, drop, length, ap, ◌∙◌, arith}
+use Rattle.std.proofs.Common.{◌≡◌, ◌-◌, drop, length, ap, ◌∙◌, arith}
 use Rattle.vsw_offload.proofs.judging.body_in.Goals as goal
 
 pub returns-in-Some-clause-back : goal.returns-in-Some-clause-back

@@ -1,6 +1,6 @@
-use Rattle.std.proofs.Common.{◌≡◌, ◌+◌, ◌∷◌, ◌++◌, [], subst, sym}
-use Rattle.vsw_offload.specs.Bad.{Address, Begins, Entries, Number, Ports, Reaches, ports_text}
-use Rattle.vsw_offload.specs.Private.Reading.{HasRows, port_of}
+use Rattle.std.proofs.Common.{◌+◌, subst, sym}
+use Rattle.vsw_offload.specs.Bad.{Address, Begins, Number, Ports, Reaches, ports_text}
+use Rattle.vsw_offload.specs.Private.Reading.{port_of}
 use Rattle.vsw_offload.specs.Rows.{AreRows}
 use Rattle.vsw_offload.proofs.Exits.{exit, port_done}
 use Rattle.vsw_offload.proofs.reading.read_port.Goals as goal

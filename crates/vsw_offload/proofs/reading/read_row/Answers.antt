@@ -1,4 +1,4 @@
-use Rattle.std.proofs.Common.{◌≡◌, ◌∙◌, ◌+◌, ap, refl, sym}
+use Rattle.std.proofs.Common.{◌∙◌, ◌+◌, ap, refl, sym}
 use Rattle.vsw_offload.specs.Bad.{Rows}
 use Rattle.vsw_offload.specs.Private.Reading.{HasRows, is_next, port_of}
 use Rattle.vsw_offload.proofs.Exits.{appended, bad_row, exit, falls, has_more, memory, reaches_row}

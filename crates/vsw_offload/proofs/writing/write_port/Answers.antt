@@ -1,7 +1,7 @@
-use Rattle.std.proofs.Common.{◌≡◌, ◌≤◌, ◌++◌, ◌∙◌, length, ap, sym, subst, arith}
+use Rattle.std.proofs.Common.{◌≡◌, ◌≤◌, ◌++◌, ◌∙◌, length, ap, subst, arith}
 use Rattle.std.specs.Prelude.{OnOk}
 use Rattle.vsw_offload.specs.Private.Writing.{placed}
-use Rattle.vsw_offload.specs.Rows.{all_rows_bytes, in_key_order}
+use Rattle.vsw_offload.specs.Rows.{all_rows_bytes}
 use Rattle.vsw_offload.proofs.Written.{places_few, port_written}
 use Rattle.vsw_offload.proofs.writing.write_port.Goals as goal
 

@@ -1,5 +1,4 @@
-use Rattle.std.proofs.Common.{◌≡◌, ◌<◌, Bool, true, arith, length, subst, sym}
-use Rattle.vsw_flows.specs.Flows.{Writing}
+use Rattle.std.proofs.Common.{◌≡◌, ◌<◌, true, arith, length, subst, sym}
 use Rattle.vsw_flows.proofs.Calls.{Fresh, put_stands, settled_good, settled_stand}
 use Rattle.vsw_flows.proofs.rows.Rows.put.Goals as goal
 

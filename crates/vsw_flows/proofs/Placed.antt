@@ -164,10 +164,11 @@ put_same v x w row words e is =
     let made = put_is w x row words is in
     made ∙ (with_rows_of (has_stamps x.view) x row words ∙ (ap (with_rows x) (sym made) ∙ with_rows_fell v x w e))
 
-pub puts : (row : ℕ) (words : List ℕ) (v x w : Writing) (done : Bool) → done ≡ true → row < length x.view.stamps → Falls Any v x → w ≡ record x { view = put_in x.view row words } → Puts v w row words done
-puts row words v x w done d lt f is = record {
+pub puts : (row : ℕ) (words : List ℕ) (v x w : Writing) (done : Bool) → done ≡ true → row < length x.view.stamps → row < length x.view.rows → Falls Any v x → w ≡ record x { view = put_in x.view row words } → Puts v w row words done
+puts row words v x w done d lt wide f is = record {
   same = put_same v x w row words f.same is;
   put = λ e. (put_rows w x row words is ∙ ap (λ (u : Writing). slice_set u.view.rows row words) f.same, current);
+  reads = λ e. ap (λ rs. row_at rs row) (put_rows w x row words is) ∙ get_or-set_same x.view.rows row words [] wide;
   left = λ e. absurd (true≢false (sym d ∙ e));
   others = fell_others v x w row f (put_stamp w x row words is);
 }
@@ -181,6 +182,7 @@ pub puts_nothing : (row : ℕ) (words : List ℕ) (v x : Writing) (l k : Leant) 
 puts_nothing row words v x l k done d s = record {
   same = s.falls.same ∙ (λ j. record v { view = record v.view { given = sym (ap (λ (u : Writing). u.view.given) s.falls.same) j; stamps = x.view.stamps; rows = sym (ap (λ (u : Writing). u.view.rows) s.falls.same) j } });
   put = λ e. absurd (true≢false (sym e ∙ d));
+  reads = λ e. absurd (true≢false (sym e ∙ d));
   left = λ e. (ap (λ (u : Writing). u.view.rows) s.falls.same, s.gone);
   others = λ place ne. s.falls.each place;
 }

@@ -54,6 +54,7 @@ Any place = Unit {0}
 pub record Puts (v w : Writing) (row : ℕ) (words : List ℕ) (done : Bool) : Type 0 where
   pub same : w ≡ record v { view = record v.view { given = w.view.given; stamps = w.view.stamps; rows = w.view.rows } }
   pub put : done ≡ true → (w.view.rows ≡ slice_set v.view.rows row words) × (has_stamps v.view ≡ true → IsCurrent w row)
+  pub reads : done ≡ true → row_at w.view.rows row ≡ words
   pub left : done ≡ false → (w.view.rows ≡ v.view.rows) × (IsCurrent w row → ⊥)
   pub others : (place : ℕ) → place ≢ row → OrFell Any v w place
 

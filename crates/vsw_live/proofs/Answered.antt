@@ -12,8 +12,8 @@ use Rattle.vsw_live.specs.Private.Locked.{CrossesSo, IsFateAt, layers_met}
 use Rattle.vsw_live.specs.Seen.{AnswerSeen, UnitSeen}
 use Rattle.vsw_port.specs.declared.crossing.Outcome.{Outcome}
 use Rattle.vsw_port.specs.Crossed.{EditsPass, IsOwn}
-use Rattle.vsw_rows.specs.Rows.{Writing}
-use Rattle.vsw_sole.specs.Transit.{bytes_in}
+use Rattle.vsw_flows.specs.Flows.{Writing}
+use Rattle.vsw_answer.specs.Transit.{bytes_in}
 
 pub met_fate : (ls : List LayerSeen) (x y : Crossing) (fate : Fate) → x ≡ y → IsFateAt ls x fate → IsFateAt ls y fate
 met_fate ls x y fate same at = subst (λ z. IsFateAt ls z fate) same at

@@ -1,17 +1,17 @@
 -- Calls at the end of a history.
 use Rattle.std.proofs.Common.{◌≡◌, ◌<◌, ◌+◌, ◌-◌, ℕ, List, [], ◌∷◌, ◌++◌, Bool, true, false, length, take, refl, sym, ◌∙◌, ap, subst, arith, length-append}
 use mathlib.Core.List.{IsPrefix}
-use Rattle.vsw_sole.specs.Calls.{called}
+use Rattle.vsw_core.specs.Calls.{called}
 use Rattle.vsw_port.specs.declared.event.Event.{Event}
 use Rattle.vsw_port.specs.Calls.{Call, Deed, HasBytes, IsCall, ShowsAt, entries_of, event_of, next_count}
 use Rattle.vsw_port.specs.History.{AllRight, Opening, replay}
 use Rattle.vsw_port.specs.Next.{IsDone, IsNext}
 use Rattle.vsw_port.proofs.Fronts.{prefix_length, prefix_trans}
 use Rattle.vsw_port.proofs.Next.{goes_none, goes_on, take_front}
-use Rattle.vsw_live.specs.Calls.{Crosses}
-use Rattle.vsw_lookup.specs.Rules.{one_if}
+use Rattle.vsw_live.specs.Calls.{Crosses, one_if}
+use Rattle.vsw_table.specs.Rules.{counted_record}
 use Rattle.vsw_port.specs.Core.{entered}
-use Rattle.vsw_rows.specs.Rows.{Writing}
+use Rattle.vsw_flows.specs.Flows.{Writing}
 
 entered_is : (d : Deed) (entry : Bool) (count : ℕ) → entries_of (record { deed = d; entry = entry; count = count } ∷ []) ≡ entered entry (event_of d)
 entered_is d true count = refl
@@ -62,7 +62,7 @@ crosses_at o h k p q d e entry count right seen many named done some_left grown 
     subst (λ w. Crosses o p w c) (sym q_is) (crosses_end o h p d entry count right seen many done some_left here)
 
 -- the same where the pass has met the journal first
-pub crosses_met : (o : Opening) (h g k : List Event) (p m q : Writing) (d : Deed) (e : Event) (entry : Bool) (count : ℕ) → AllRight o h → IsPrefix p.view.front h → count ≡ length h → g ≡ h → m ≡ record p { view = record p.view { front = h } }
+pub crosses_met : (o : Opening) (h g k : List Event) (p m q : Writing) (d : Deed) (e : Event) (entry : Bool) (count : ℕ) → AllRight o h → IsPrefix p.view.front h → count ≡ length h → g ≡ h → m ≡ record p { view = record p.view { front = h; shown = counted_record h } }
     → event_of d ≡ e → IsDone o g d entry → 0 < p.view.permits → k ≡ g ++ entered entry e → q ≡ record m { view = called m.view k (entered entry e) }
     → HasBytes o q.view.front (record { deed = d; entry = entry; count = count }) → Crosses o p q (record { deed = d; entry = entry; count = count })
 crosses_met o h g k p m q d e entry count right seen many same met named done some_left grown is shows =

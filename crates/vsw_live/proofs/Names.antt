@@ -2,7 +2,7 @@
 use Rattle.std.proofs.Common.{◌≡◌, ℕ, zero, suc, ◌+◌, List, [], ◌∷◌, ◌++◌, drop, Some, Vec, refl, sym, ◌∙◌, ap, arith, append_assoc}
 use Rattle.std.specs.List.{slice_get}
 use Rattle.vsw_live.specs.Ports.{OpenSeen, PortSeen, items_of, passes_of, ports_of}
-use Rattle.vsw_rows.specs.Rows.{Writing}
+use Rattle.vsw_flows.specs.Flows.{Writing}
 
 first_of_drop : (ps : List PortSeen) (n : ℕ) (p : PortSeen) (rest : List PortSeen) → drop n ps ≡ p ∷ rest → (slice_get ps n ≡ Some p) × (drop (suc n) ps ≡ rest)
 first_of_drop [] zero p rest e = absurd (cc e)

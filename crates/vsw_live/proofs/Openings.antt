@@ -2,11 +2,11 @@
 use Rattle.std.proofs.Common.{◌≡◌, ◌+◌, ℕ, zero, suc, List, [], ◌∷◌, ◌++◌, length, refl, sym, ◌∙◌, ap, subst, arith, length-append}
 use Rattle.std.specs.Prelude.{OnOk, Ok, Err, Result, replicate, slice_index_or}
 use Rattle.vsw_base.specs.declared.fault.NoMemory.{NoMemory}
-use Rattle.vsw_sole.specs.Core.{Begins, Looking, total}
+use Rattle.vsw_core.specs.Core.{Begins, total}
 use Rattle.vsw_live.specs.Ports.{AreNewPasses, IsNewPass}
 use Rattle.vsw_live.specs.Private.Opening.{HasPasses}
-use Rattle.vsw_lookup.specs.Rules.{newcomer, one_more}
-use Rattle.vsw_rows.specs.Rows.{Writing}
+use Rattle.vsw_table.specs.Rules.{newcomer, one_more}
+use Rattle.vsw_flows.specs.Flows.{Looking, Writing}
 
 total_end : (ns : List ℕ) → total (ns ++ 0 ∷ []) ≡ total ns
 total_end [] = refl
@@ -31,7 +31,6 @@ has_more (Ok u) l n w v p ps qs has made new pushed =
       of = record { table = ap (λ (h : Writing). h.table) made ∙ has.of.table; opens = ap (λ (h : Writing). h.view.opening) made ∙ has.of.opens };
       passes = ap (λ (h : Writing). h.view.passes) made ∙ ap (λ k. k + 1) has.passes;
       history = ap (λ (h : Writing). h.view.history) made ∙ has.history;
-      generation = ap (λ (h : Writing). h.view.generation) made ∙ has.generation;
       stamps = ap (λ (h : Writing). h.view.stamps) made ∙ has.stamps;
       rows = ap (λ (h : Writing). h.view.rows) made ∙ has.rows;
       permits = ap (λ (h : Writing). total h.view.kept) made ∙ (total_end w.view.kept ∙ has.permits);
@@ -53,7 +52,6 @@ pub begins_of : (l : Looking) (n : ℕ) (w : Writing) (ps : List Writing) → Ha
 begins_of l n w ps has = record {
   opens = has.of.opens;
   history = has.history;
-  generation = has.generation;
   stamps = λ place. ap (λ (ns : List ℕ). slice_index_or ns place 0) has.stamps ∙ same_at 0 l.2 place;
   rows = λ place. ap (λ (rs : List (List ℕ)). slice_index_or (slice_index_or rs place []) 0 0) has.rows ∙ row_same 0 l.2 place;
   permits = has.permits;

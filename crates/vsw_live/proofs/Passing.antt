@@ -11,8 +11,8 @@ use Rattle.vsw_port.specs.Calls.{Shows}
 use Rattle.vsw_policy.specs.Layer.{LayerSeen}
 use Rattle.vsw_live.specs.Private.Locked.{IsFateAt}
 use Rattle.vsw_port.specs.Crossed.{Crossed, EditsPass, crossed, is_short}
-use Rattle.vsw_sole.specs.Transit.{CanLeave, IsOfFrame, Leaves, bytes_in, len_of}
-use Rattle.vsw_sole.proofs.Passes.{can_leave, short_enough, shows}
+use Rattle.vsw_answer.specs.Transit.{CanLeave, IsOfFrame, Leaves, bytes_in, len_of}
+use Rattle.vsw_answer.proofs.Passes.{can_leave, short_enough, shows}
 
 memory_of : (fate : Fate) → is_short fate ≡ true → fate ≡ Drop Memory
 memory_of (Drop Memory) t = refl

@@ -14,11 +14,11 @@ use Rattle.vsw_live.specs.contracts.live.LivePort.TheInside as live
 use Rattle.vsw_live.specs.contracts.locked.Locked as Locked
 use Rattle.vsw_live.specs.contracts.locked.Locked.TheInside as locked
 use Rattle.vsw_live.specs.declared.naming.Naming as Naming
-use Rattle.vsw_lookup.proofs.lookup.Lookup.TheSendSync as lookup
+use Rattle.vsw_table.proofs.lookup.Lookup.TheSendSync as lookup
 use Rattle.vsw_policy.proofs.Sharing.{policy_send}
 use Rattle.vsw_port.specs.contracts.ledger.Ledger as Ledger
 use Rattle.vsw_port.specs.contracts.ledger.Ledger.TheInside as ledger
-use Rattle.vsw_rows.proofs.rows.Rows.TheSendSync as rows
+use Rattle.vsw_flows.proofs.rows.Rows.TheSendSync as rows
 use Rattle.vsw_walk.proofs.scratch.Scratch.TheSendSync as scratch
 
 ledger_send : IsSend Ledger.the_row
@@ -39,5 +39,5 @@ module _ (J : RattleType) (n : Naming.Ghosts J.Denot) (s : IsSend J) where
 
   pub port_sync : IsSync (LivePort.the_row J n)
   port_sync =
-      let fields : FieldsHave IsSync ((live.the_type J n).parts) = (search sendable, (search sendable, (search (event.the_send, lookup.the_sync), (search (crosses, locked_send), tt)))) in
+      let fields : FieldsHave IsSync ((live.the_type J n).parts) = (search sendable, (search sendable, (search (event.the_send, lookup.the_sync), (search sendable, (search (crosses, locked_send), tt))))) in
       view_sync _ _ _ _ _ (declared_sync (live.the_type J n) fields)

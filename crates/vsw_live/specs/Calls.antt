@@ -1,12 +1,12 @@
 -- What a caller's call on a shared port gives it.
-use Rattle.std.specs.Prelude.{◌≡◌, ◌≢◌, ◌≤◌, ◌+◌, ◌++◌, ℕ, List, [], ◌∷◌, false, length, Option, Some, None}
+use Rattle.std.specs.Prelude.{◌≡◌, ◌≢◌, ◌≤◌, ◌+◌, ◌++◌, ℕ, List, [], ◌∷◌, Bool, false, if◌then◌else◌, length, Option, Some, None}
 use mathlib.Core.List.{IsPrefix}
-use Rattle.vsw_sole.specs.Answers.{HitsInTime, HitsLate, Misses, Pass}
+use Rattle.vsw_answer.specs.Answers.{HitsInTime, HitsLate, Misses, Pass}
 use Rattle.vsw_base.specs.declared.fate.Fate.{Fate}
 use Rattle.vsw_base.specs.declared.flow.Crossing.{Crossing}
 use Rattle.vsw_base.specs.declared.packet.Control.TheVariants as control
 use Rattle.vsw_commandfile.specs.declared.line.Line.{Line}
-use Rattle.vsw_sole.specs.Core.{Looking}
+use Rattle.vsw_flows.specs.Flows.{Looking, Writing}
 use Rattle.vsw_port.specs.declared.event.Event.{Event}
 use Rattle.vsw_port.specs.Calls.{Asked, Call, Carried, HasBytes, IsCall, IsRead, entries_of, next_count}
 use Rattle.vsw_port.specs.History.{Opening}
@@ -16,11 +16,9 @@ use Rattle.vsw_live.specs.declared.answer.Told.{Told}
 use Rattle.vsw_live.specs.declared.why.Why.{Why}
 use Rattle.vsw_live.specs.declared.why.Why.TheVariants.{Control, Miss, Late}
 use Rattle.vsw_live.specs.Seen.{AnswerSeen, UnitSeen}
-use Rattle.vsw_lookup.specs.Rules as lookup
-use Rattle.vsw_lookup.specs.Rules.{one_if}
-use Rattle.vsw_rows.specs.Rows.{Writing}
+use Rattle.vsw_table.specs.Held as held
 use Rattle.vsw_rows.specs.GoodRows.{opening_of}
-use Rattle.vsw_sole.specs.Transit.{bytes_in, len_of}
+use Rattle.vsw_answer.specs.Transit.{bytes_in, len_of}
 
 -- the call of a packet that was answered so, with the bytes of its frame, or those at the front of a room
 abbrev pub call_of : UnitSeen → AnswerSeen → List ℕ → Call
@@ -29,6 +27,10 @@ call_of u a out = record { deed = Carried u.crossing u.parts a.fate (bytes_in a.
 -- the call of a line that was told so
 abbrev pub asked : Line → Told → Call
 asked l t = record { deed = Asked l t.reply; entry = t.entry; count = t.count }
+
+-- how many entries a call makes
+abbrev pub one_if : Bool → ℕ
+one_if entry = if entry then 1 else 0
 
 -- a pass made a call: it is one of the history that the pass then has seen, with its bytes there, at a count that isn't below what the pass
 -- had seen. The pass has seen the call and nothing after it. Its receipts grow by the call's entry, which takes a permit, and nothing else does
@@ -47,12 +49,12 @@ pub record Crosses (o : Opening) (p q : Writing) (c : Call) : Type 0 where
 -- a pass has looked, and has seen no less
 pub record Looks (p q : Writing) : Type 0 where
   pub table : q.table ≡ p.table
-  pub reads : lookup.IsRead p.view q.view
+  pub reads : held.IsRead p.view q.view
 
 -- why no row answers a packet, whose look had then seen this history: it has a control, and isn't looked for; or this call's look missed; or the row
 -- that this look hit has an until below the packet's moment
 abbrev pub Causes : Looking → Crossing → Pass → Pass → List Event → Why → Type 0
-Causes l x p q h Control = (x.control ≢ control.None) × (q.closed ≡ p.closed)
+Causes l x p q h Control = (x.control ≢ control.None) × (q.looks ≡ p.looks)
 Causes l x p q h Miss = Misses l x p q
 Causes l x p q h Late = HitsLate l x p q h
 
@@ -73,11 +75,10 @@ abbrev pub TellsWhy : Looking → Crossing → Pass → Pass → AnswerSeen → 
 TellsWhy l x p q a None = IsByRow l x p q a
 TellsWhy l x p q a (Some why) = HasCause l x p q why
 
--- what the pass's last look saw stays
+-- the pass has looked no further, and what its last look saw stays
 pub record KeepsLook (p q : Pass) : Type 0 where
-  pub closed : q.closed ≡ p.closed
+  pub looks : q.looks ≡ p.looks
   pub last : q.last ≡ p.last
-  pub generation : q.last_generation ≡ p.last_generation
 
 -- a row answered the packet, as a read of the history that the pass then has seen; or none did, for this cause, and the pass has only looked
 abbrev pub IsFast : Looking → UnitSeen → Writing → Writing → List ℕ → Fast → Type 0

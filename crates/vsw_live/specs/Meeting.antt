@@ -1,13 +1,12 @@
 -- What a pass knows that meets its port.
 use Rattle.std.specs.Prelude.{◌≡◌, ◌<◌, ◌+◌, ℕ, List, [], ◌∷◌}
 use mathlib.Core.List.{IsPrefix}
-use Rattle.vsw_sole.specs.Core.{IsOf, Looking}
+use Rattle.vsw_flows.specs.Flows.{IsOf, Looking, Writing}
 use Rattle.vsw_port.specs.declared.event.Event.{Event}
 use Rattle.vsw_port.specs.Calls.{entries_naming, named}
 use Rattle.vsw_port.specs.History.{AllRight}
 use Rattle.vsw_live.specs.Ports.{PortSeen}
 use Rattle.vsw_policy.specs.Sound.{Each}
-use Rattle.vsw_rows.specs.Rows.{Writing}
 use Rattle.vsw_rows.specs.GoodRows.{opening_of}
 
 -- a port and its whole history, each entry of which is right

@@ -1,8 +1,7 @@
 -- The ports of a run, and what each is when it is opened.
 use Rattle.std.specs.Prelude.{◌≡◌, ◌+◌, ℕ, List, [], ◌∷◌, Some, Vec}
 use Rattle.std.specs.List.{slice_get}
-use Rattle.vsw_sole.specs.Core.{IsOf, Looking}
-use Rattle.vsw_rows.specs.Rows.{Writing}
+use Rattle.vsw_flows.specs.Flows.{IsOf, Looking, Writing}
 
 -- a port as contracts see it: its lookup, and how many passes it has
 pub record PortSeen : Type 0 where

@@ -1,7 +1,7 @@
 //! A port whose lock is held.
 
 ghost use Rattle.std.specs.Prelude.{◌≡◌, ◌≤◌, ◌+◌, length, IsOk, OnErr, OnOk};
-ghost use Rattle.vsw_sole.specs.Core.{IsOf};
+ghost use Rattle.vsw_flows.specs.Flows.{IsOf};
 ghost use Rattle.vsw_live.specs.Meeting.{AllMeet, AreOf, IsRightAt, Meets};
 ghost use Rattle.vsw_live.specs.Calls.{KeepsLook};
 
@@ -10,9 +10,9 @@ use crate::naming::Naming;
 use std::marker::Model;
 use std::sync::MutexGuard;
 use vsw_base::NoMemory;
-use vsw_lookup::{Lookup, Pass};
+use vsw_flows::PortStory;
 use vsw_port::Event;
-use vsw_rows::PortStory;
+use vsw_table::{Lookup, Pass};
 
 /// A port whose lock is held. Its history stands still while this is kept: packets that rows answer go on, and all other callers
 /// wait.
@@ -65,6 +65,19 @@ impl<'a, J: Naming> Held<'a, J> {
     {
         pass.bound();
         let _ = self.grant(pass, 0);
+    }
+
+    /// Compares this row and the 31 behind it with the layers of now, and makes those current that can be. No entry is made.
+    pub fn reconcile(&mut self, row: u32)
+        requires { row < self.old.port.looking.2 }
+        ensures same { self.new ≡ self.old }
+    {
+        self.core.reconcile(self.lookup, row);
+    }
+
+    /// How many rows are left to be compared since a command was done.
+    pub(crate) fn stale(&self) -> u32 {
+        self.core.stale()
     }
 
     /// All these passes do.

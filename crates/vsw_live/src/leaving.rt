@@ -6,12 +6,12 @@ ghost use Rattle.vsw_policy.specs.Layer.{LayerSeen};
 ghost use Rattle.vsw_live.specs.Calls.{FitsRoom};
 ghost use Rattle.vsw_live.specs.Private.Locked.{IsFateAt};
 ghost use Rattle.vsw_port.specs.Crossed.{EditsPass, IsOwn};
-ghost use Rattle.vsw_sole.specs.Transit.{bytes_in};
+ghost use Rattle.vsw_answer.specs.Transit.{bytes_in};
 
 use crate::unit::Unit;
+use vsw_answer::Room;
 use vsw_base::Stack;
 use vsw_port::Outcome;
-use vsw_sole::Room;
 
 /// Writes the bytes with which the packet's frame leaves, if it passes, to the front of the room, unless they are its own.
 pub(crate) fn leave(unit: &Unit<'_>, edited: &Stack, outcome: Outcome, room: &mut Room)
@@ -22,5 +22,5 @@ pub(crate) fn leave(unit: &Unit<'_>, edited: &Stack, outcome: Outcome, room: &mu
 {
     // It tells the proof that the packet's headers are those of a stack.
     let _ = unit.crossing().id.stack.headers();
-    vsw_sole::leave(unit.frame(), edited, outcome, room);
+    vsw_answer::leave(unit.frame(), edited, outcome, room);
 }

@@ -17,6 +17,4 @@ pub use live::LivePort;
 pub use naming::Naming;
 pub use opening::{OpenPort, name_all};
 pub use unit::Unit;
-pub use vsw_rows::PortStory;
-pub use vsw_sole::{Desk, Room, bytes_of};
 pub use why::Why;

@@ -3,7 +3,7 @@
 ghost use Rattle.std.specs.Prelude.{◌≡◌, ◌<◌, ◌≤◌, ◌+◌, ℕ, List, length, Some, true, OnErr, OnOk};
 ghost use mathlib.Core.List.{IsPrefix};
 ghost use Rattle.vsw_commandfile.specs.declared.line.Line.{Line};
-ghost use Rattle.vsw_sole.specs.Core.{IsOf};
+ghost use Rattle.vsw_flows.specs.Flows.{IsOf};
 ghost use Rattle.vsw_port.specs.declared.event.Event.{Event};
 ghost use Rattle.vsw_port.specs.Calls.{controller_at};
 ghost use Rattle.vsw_live.specs.Calls.{Crosses, DoneFits, FitsRoom, IsFast, KeepsLook, Looks, TellsWhy, asked, call_of};
@@ -23,22 +23,26 @@ use crate::naming::Naming;
 use crate::unit::Unit;
 use crate::why::Why;
 use std::marker::Model;
+use std::sync::atomic::{AtomicU32, Ordering};
 use std::sync::{Mutex, MutexGuard, Wait};
+use vsw_answer::{Desk, Room, RowAnswer, answer_by_row};
 use vsw_base::{Crossing, NoMemory};
-use vsw_lookup::{Lookup, Note, Pass};
+use vsw_flows::PortStory;
 use vsw_policy::Command;
 use vsw_port::Outcome;
-use vsw_rows::PortStory;
-use vsw_sole::{Desk, Room, RowAnswer, answer_by_row};
+use vsw_table::{Lookup, Note, Pass};
 
-/// A port that threads share, each with passes of its own. Any thread may call it. A row that is current answers a packet without
-/// the lock, at the load of the generation word that ends the look; all else is done under the lock, and is seen by rows' readers
-/// from its store of the generation word on.
+/// A port that threads share, each with passes of its own. Any thread may call it. A row that has a stamp answers a packet without
+/// the lock, as the layers do at the look's load of the word that counts the entries; all else is done under the lock. Of an entry
+/// rows' readers see first that the rows which it shakes lost their stamps, and then, by its store of that word, the entry.
 #[derive(Drop)]
 pub struct LivePort<J: Naming> {
     place: usize,
     passes: u32,
     lookup: Lookup<PortStory>,
+    /// How many rows were left to be compared when the lock was let go last. It is a hint, so that who finds nothing to do needn't
+    /// take the lock: where it is too low, rows are compared later, which costs walks.
+    stale: AtomicU32,
     core: Mutex<Locked<J>>,
 }
 
@@ -80,6 +84,7 @@ impl<J: Naming> LivePort<J> {
             place,
             passes,
             lookup,
+            stale: AtomicU32::new(0),
             core: Mutex::new(core),
         }
     }
@@ -212,19 +217,24 @@ impl<J: Naming> LivePort<J> {
         requires good { Each IsGoodRule (rules_given command.now) }
         ensures crosses { (l : Line) → l.number ≡ line → l.controller ≡ controller → l.command ≡ command.now → Crosses (opening_of self.now.looking.1) pass.old pass.new (asked l result) }
     {
-        self.lock(rt)
-            .command(&self.lookup, pass, line, controller, command)
+        let mut core = self.lock(rt);
+        let told = core.command(&self.lookup, pass, line, controller, command);
+        self.stale.store(core.stale(), Ordering::SeqCst);
+        told
     }
 
-    /// Compares a row with the layers of now, and makes it current where that can be. Rows are compared 32 under one lock,
-    /// with the first of them, and only until all were since the layers changed last: call it for rows in turn.
+    /// Compares a row with the layers of now, and makes it current where that can be (`Held::reconcile`, which tells that nothing else
+    /// changes). Rows are compared 32 under one lock, with the first of them, and only until all were since a command was done: call it
+    /// for rows in turn. Where nothing is left to compare, the lock isn't taken.
     pub fn reconcile<R: Wait>(&self, rt: &R, row: u32)
         requires { row < self.now.looking.2 }
     {
-        if row % ROWS_AT_ONCE != 0 {
+        if row % ROWS_AT_ONCE != 0 || self.stale.load(Ordering::SeqCst) == 0 {
             return;
         }
-        self.lock(rt).reconcile(&self.lookup, row);
+        let mut held = self.hold(rt);
+        held.reconcile(row);
+        self.stale.store(held.stale(), Ordering::SeqCst);
     }
 
     /// What the pass has seen, to be handed to another.

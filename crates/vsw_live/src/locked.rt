@@ -3,13 +3,14 @@
 ghost use Rattle.std.specs.Prelude.{◌≡◌, ◌<◌, ◌≤◌, ◌+◌, ℕ, List, length, not, true, IsOk, OnErr, OnOk};
 ghost use mathlib.Core.List.{IsPrefix};
 ghost use Rattle.vsw_commandfile.specs.declared.line.Line.{Line};
-ghost use Rattle.vsw_sole.specs.Core.{IsOf};
+ghost use Rattle.vsw_flows.specs.Flows.{IsOf};
 ghost use Rattle.vsw_port.specs.Calls.{controller_at};
 ghost use Rattle.vsw_port.specs.History.{AllRight};
 ghost use Rattle.vsw_live.specs.Calls.{Crosses, KeepsLook, asked};
 ghost use Rattle.vsw_live.specs.Meeting.{Meets};
 ghost use Rattle.vsw_live.specs.Ports.{StandsAt};
-ghost use Rattle.vsw_live.specs.Private.Locked.{CrossesSo, HasLookup, IsFateAt, IsLocked, Stays, layers_met};
+ghost use Rattle.vsw_live.specs.Private.Locked.{CrossesSo, HasLookup, IsFateAt, IsLocked, Rewrites, Stays, layers_met};
+ghost use Rattle.vsw_table.specs.Rules.{counted_record};
 ghost use Rattle.vsw_policy.specs.Obey.{is_memory, rules_given};
 ghost use Rattle.vsw_policy.specs.Refusals.{reply_of};
 ghost use Rattle.vsw_policy.specs.Sound.{Each, IsGoodRule, is_listed};
@@ -19,12 +20,13 @@ ghost use Rattle.vsw_rows.specs.GoodRows.{opening_of};
 use crate::answer::Told;
 use crate::naming::Naming;
 use std::marker::{Model, PhantomData};
+use vsw_answer::Desk;
 use vsw_base::{Crossing, NoMemory};
-use vsw_lookup::{Lookup, Pass};
+use vsw_core::Core;
+use vsw_flows::PortStory;
 use vsw_policy::{Command, Refusal, Reply};
 use vsw_port::{Event, Outcome};
-use vsw_rows::PortStory;
-use vsw_sole::{Core, Desk};
+use vsw_table::{Lookup, Pass};
 
 /// How many rows are compared under one lock.
 pub(crate) const ROWS_AT_ONCE: u32 = 32;
@@ -34,7 +36,7 @@ pub(crate) const ROWS_AT_ONCE: u32 = 32;
 #[derive(Drop)]
 pub(crate) struct Locked<J: Naming> {
     place: usize,
-    /// How many rows weren't compared with the layers since these changed last, where they are compared in turn.
+    /// How many rows weren't compared with the layers since a command was done, where they are compared in turn.
     stale: u32,
     core: Core,
     of: PhantomData<J>,
@@ -42,7 +44,7 @@ pub(crate) struct Locked<J: Naming> {
 
 impl<J: Naming> Model for Locked<J> {
     ghost use Rattle.std.specs.Prelude.{ℕ};
-    ghost use Rattle.vsw_sole.specs.Core.{CoreSeen};
+    ghost use Rattle.vsw_core.specs.Core.{CoreSeen};
     ghost use Rattle.vsw_live.specs.Private.Locked.{IsLocked};
 
     ghost Value = { ℕ × CoreSeen };
@@ -100,6 +102,7 @@ impl<J: Naming> Locked<J> {
     {
         self.core.grant(lookup, pass, more)
     }
+
     /// A packet crosses the layers, as the next call of the port's history. Where it passes, the desk has its headers.
     pub(crate) fn cross(
         &mut self,
@@ -119,9 +122,7 @@ impl<J: Naming> Locked<J> {
         ensures own { result.0.own ≡ true → IsOwn crossing.now desk.new result.0.kept }
         ensures look { KeepsLook pass.old.view pass.new.view }
     {
-        let answered = cross(&mut self.core, lookup, pass, crossing, desk);
-        self.stale = stale_after(self.stale, answered.0.entry, lookup.rows());
-        answered
+        cross(&mut self.core, lookup, pass, crossing, desk)
     }
 
     /// Does what a controller asks, or refuses it, as the next call of the port's history.
@@ -143,16 +144,25 @@ impl<J: Naming> Locked<J> {
         ensures crosses { (l : Line) → l.number ≡ line → l.controller ≡ controller → l.command ≡ command.now → Crosses (opening_of lookup.now.1) pass.old pass.new (asked l result) }
     {
         let told = ask(&mut self.core, lookup, pass, line, controller, command);
-        self.stale = stale_after(self.stale, told.entry, lookup.rows());
+        self.stale = stale_after(self.stale, told.reply, lookup.rows());
         told
     }
 
+    /// How many rows are left to be compared with the layers.
+    pub(crate) fn stale(&self) -> u32 {
+        self.stale
+    }
+
     /// Compares this row and the next ones, so many as are compared at once, with the layers of now, and makes those current
-    /// that can be. Where all were compared in turn since the layers changed last, nothing is left to do.
+    /// that can be. Where all were compared in turn since a command was done, nothing is left to do: a row that a packet shook is
+    /// put anew by the next packet of its flow.
     pub(crate) fn reconcile(&mut self, lookup: &Lookup<PortStory>, row: u32)
         requires port { HasLookup J.ports self.old.0 lookup.now }
         requires row { row < lookup.now.2 }
         ensures place { self.new.0 ≡ self.old.0 }
+        ensures rows { Rewrites self.old.1.writer self.new.1.writer }
+        ensures edited { self.new.1.edited ≡ self.old.1.edited }
+        ensures history { self.new.1.writer.view.history ≡ self.old.1.writer.view.history }
     {
         if self.stale == 0 {
             return;
@@ -163,17 +173,20 @@ impl<J: Naming> Locked<J> {
     }
 }
 
-/// How many rows are to be compared after a call: all where it is an entry.
-fn stale_after(stale: u32, entry: bool, rows: u32) -> u32 {
-    if entry { rows } else { stale }
+/// How many rows are to be compared after a command: all where it was done.
+fn stale_after(stale: u32, reply: Reply, rows: u32) -> u32 {
+    match reply {
+        Reply::Ok => rows,
+        Reply::Refused(_) => stale,
+    }
 }
 
 /// Compares these rows with the layers of now.
 fn reconcile_all(core: &mut Core, lookup: &Lookup<PortStory>, first: u32, end: u32)
     requires core { IsOf lookup.now core.old.writer }
     requires end { end ≤ lookup.now.2 }
-    ensures stays { Stays core.old.writer core.new.writer }
-    ensures history { core.new.writer.view.history ≡ core.old.writer.view.history }
+    ensures rows { Rewrites core.old.writer core.new.writer }
+    ensures edited { core.new.edited ≡ core.old.edited }
 {
     for row in first..end {
         core.reconcile(lookup, row);
@@ -187,7 +200,7 @@ fn count(core: &mut Core, lookup: &Lookup<PortStory>, pass: &mut Pass<PortStory>
     ensures count { result ≡ length core.old.writer.view.history }
     ensures history { core.new.writer.view.history ≡ core.old.writer.view.history }
     ensures stays { Stays core.old.writer core.new.writer }
-    ensures met { pass.new ≡ record pass.old { view = record pass.old.view { front = core.old.writer.view.history } } }
+    ensures met { pass.new ≡ record pass.old { view = record pass.old.view { front = core.old.writer.view.history; shown = counted_record core.old.writer.view.history } } }
     ensures seen { IsPrefix pass.old.view.front core.old.writer.view.history }
 {
     pass.bound();

@@ -3,7 +3,7 @@
 ghost use Rattle.std.specs.Prelude.{◌≡◌, ◌≤◌, ◌<◌, ◌+◌, ◌++◌, ◌∷◌, [], length, vec_len, IfOk, OnOk};
 ghost use Rattle.vsw_live.specs.Ports.{AreNewPasses, StandsAt, items_of, passes_of, ports_of};
 ghost use Rattle.vsw_live.specs.Private.Opening.{HasPasses};
-ghost use Rattle.vsw_lookup.specs.Rules.{first_view};
+ghost use Rattle.vsw_table.specs.Rules.{first_view};
 ghost use Rattle.vsw_port.specs.Core.{AreAtMost};
 
 use crate::live::LivePort;
@@ -12,10 +12,10 @@ use crate::naming::Naming;
 use std::alloc::Global;
 use std::marker::Model;
 use vsw_base::NoMemory;
-use vsw_lookup::{Lookup, Opened, Pass, Writer};
+use vsw_core::Core;
+use vsw_flows::PortStory;
 use vsw_policy::Policy;
-use vsw_rows::PortStory;
-use vsw_sole::Core;
+use vsw_table::{Lookup, Opened, Pass, Writer};
 
 /// A port without a name, which no thread shares yet.
 #[derive(Drop)]

@@ -2,7 +2,7 @@
 
 ghost use Rattle.std.specs.Prelude.{◌≡◌};
 ghost use Rattle.vsw_frame.specs.Frame.{parts};
-ghost use Rattle.vsw_sole.specs.Transit.{IsOfFrame};
+ghost use Rattle.vsw_answer.specs.Transit.{IsOfFrame};
 
 use std::marker::Model;
 use vsw_base::Crossing;
@@ -18,7 +18,7 @@ pub struct Unit<'a> {
 impl<'a> Model for Unit<'a> {
     ghost use Rattle.vsw_frame.specs.Frame.{parts};
     ghost use Rattle.vsw_live.specs.Seen.{UnitSeen};
-    ghost use Rattle.vsw_sole.specs.Transit.{IsOfFrame};
+    ghost use Rattle.vsw_answer.specs.Transit.{IsOfFrame};
 
     ghost Value = { UnitSeen };
 

@@ -1,20 +1,19 @@
 -- What lies under a port's lock, and what its calls tell.
 use Rattle.std.specs.Prelude.{◌≡◌, ◌⊎◌, ℕ, List, take}
-use Rattle.vsw_sole.specs.Answers.{Pass}
+use Rattle.vsw_answer.specs.Answers.{Pass}
 use Rattle.vsw_base.specs.declared.fate.Cause.TheVariants.{Memory}
 use Rattle.vsw_base.specs.declared.fate.Fate.{Fate}
 use Rattle.vsw_base.specs.declared.fate.Fate.TheVariants.{Drop}
 use Rattle.vsw_base.specs.declared.flow.Crossing.{Crossing}
 use Rattle.vsw_base.specs.Frame.{Parts}
 use Rattle.vsw_port.specs.Fate.{fate_at}
-use Rattle.vsw_sole.specs.Core.{IsOf, Looking}
+use Rattle.vsw_flows.specs.Flows.{IsOf, Looking, Writing}
 use Rattle.vsw_port.specs.Calls.{Call, Carried, HasBytes}
 use Rattle.vsw_port.specs.History.{AllRight, Opening, replay}
 use Rattle.vsw_policy.specs.Layer.{LayerSeen}
 use Rattle.vsw_live.specs.Calls.{Crosses}
 use Rattle.vsw_live.specs.Ports.{PortSeen, StandsAt}
 use Rattle.vsw_port.specs.declared.crossing.Outcome.{Outcome}
-use Rattle.vsw_rows.specs.Rows.{Writing}
 use Rattle.vsw_rows.specs.GoodRows.{opening_of}
 
 -- the writer is that of the port at this place, counts its passes, and has a right history
@@ -30,6 +29,10 @@ pub record Stays (v w : Writing) : Type 0 where
   pub table : w.table ≡ v.table
   pub opens : w.view.opening ≡ v.view.opening
   pub passes : w.view.passes ≡ v.view.passes
+
+-- the rows alone change: words, stamps, and how many stamps were given. History, passes, permits and opening stay, and so the layers do
+abbrev pub Rewrites : Writing → Writing → Type 0
+Rewrites v w = w ≡ record v { view = record v.view { given = w.view.given; stamps = w.view.stamps; rows = w.view.rows } }
 
 -- the port at this place has this lookup
 abbrev pub HasLookup : List PortSeen → ℕ → Looking → Type 0

@@ -1,8 +1,8 @@
 use Rattle.std.proofs.Common.{◌≡◌, ap, refl, sym, ◌∙◌, subst, true}
 use Rattle.vsw_base.specs.Shape.{is_stack}
 use Rattle.vsw_base.specs.declared.flow.Crossing.{Crossing}
-use Rattle.vsw_sole.specs.Transit.{CanLeave, IsUnedited, Leaves}
-use Rattle.vsw_sole.proofs.Passes.{unedited}
+use Rattle.vsw_answer.specs.Transit.{CanLeave, IsUnedited, Leaves}
+use Rattle.vsw_answer.proofs.Passes.{unedited}
 use Rattle.vsw_live.proofs.Passing.{leave_can, leave_fits, leave_shows}
 use Rattle.vsw_live.proofs.leaving.leave.Goals as goal
 

@@ -5,7 +5,7 @@ use Rattle.vsw_live.specs.Calls.{Crosses, asked}
 use Rattle.vsw_live.proofs.Ends.{crosses_met}
 use Rattle.vsw_policy.specs.Obey.{is_memory}
 use Rattle.vsw_policy.specs.Refusals.{reply_of}
-use Rattle.vsw_rows.specs.Rows.{Writing}
+use Rattle.vsw_flows.specs.Flows.{Writing}
 use Rattle.vsw_rows.specs.GoodRows.{opening_of}
 use Rattle.vsw_live.proofs.locked.ask.Goals as goal
 

@@ -8,7 +8,7 @@ use Rattle.vsw_live.specs.Private.Locked.{IsFateAt}
 use Rattle.vsw_live.proofs.Ends.{crosses_met, met_front}
 use Rattle.vsw_live.proofs.Under.{fate_is}
 use Rattle.vsw_port.specs.Core.{entered}
-use Rattle.vsw_rows.specs.Rows.{Writing}
+use Rattle.vsw_flows.specs.Flows.{Writing}
 use Rattle.vsw_rows.specs.GoodRows.{opening_of}
 use Rattle.vsw_live.proofs.locked.cross.Goals as goal
 

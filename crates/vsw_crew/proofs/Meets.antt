@@ -16,7 +16,7 @@ use Rattle.vsw_harbour.proofs.Standing.{works_none}
 use Rattle.vsw_harbour.proofs.Together.{did}
 use Rattle.vsw_port.specs.Calls.{Call, calls_of, entries_naming}
 use Rattle.vsw_port.specs.declared.event.Event.{Event}
-use Rattle.vsw_harbour.specs.Core.{IsOf}
+use Rattle.vsw_flows.specs.Flows.{IsOf}
 use Rattle.vsw_harbour.specs.LiveMeeting.{HeldSeen}
 use Rattle.vsw_harbour.specs.Ports as live
 use Rattle.vsw_harbour.specs.Passes.{AtRest, Meets}

@@ -1,11 +1,10 @@
 -- Ports of a policy, opened and docked.
 use Rattle.std.proofs.Common.{◌≡◌, ◌+◌, ◌∷◌, [], ◌++◌, ℕ, zero, suc, List, length, map, refl, ap, subst, arith}
-use Rattle.vsw_live.specs.Core.{Looking}
+use Rattle.vsw_flows.specs.Flows.{Looking, Writing}
 use Rattle.vsw_live.specs.Ports.{AreNewPasses, OpenSeen, passes_of, ports_of}
 use Rattle.vsw_policy.specs.Sound.{Each}
 use Rattle.vsw_promise.specs.declared.port.Port.{Port}
 use Rattle.vsw_promise.specs.Ports.{port_seen}
-use Rattle.vsw_live.specs.Rows.{Writing}
 use Rattle.vsw_dock.specs.Docks.{port_in}
 use Rattle.vsw_dock.specs.Laws.{AreDocked}
 use Rattle.vsw_dock.specs.Opening.{AreIdle, AreNewRows, AreOpened, IsIdle, IsNewRow, IsOpened, docks_of, first_lanes, later_passes, rows_from}

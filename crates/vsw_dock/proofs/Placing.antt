@@ -3,7 +3,7 @@ use Rattle.std.proofs.Common.{◌≡◌, ◌<◌, ◌+◌, ℕ, zero, suc, List,
 use Rattle.std.specs.Prelude.{OnOk, Result, Ok, Err}
 use Rattle.vsw_actors.specs.declared.lane.Lane.{Lane}
 use Rattle.vsw_base.specs.declared.fault.NoMemory.{NoMemory}
-use Rattle.vsw_live.specs.Core.{IsOf}
+use Rattle.vsw_flows.specs.Flows.{IsOf}
 use Rattle.vsw_live.specs.Meeting.{HeldSeen}
 use Rattle.vsw_dock.specs.Meeting.{AreLanes, LaneMeets, RowMeets}
 use Rattle.vsw_dock.specs.Private.Met.{MetAt, MetTo}

@@ -8,7 +8,7 @@ use Rattle.vsw_live.specs.Meeting.{HeldSeen}
 use Rattle.vsw_live.specs.Ports as live
 use Rattle.vsw_actors.specs.Passes.{AtRest, Meets}
 use Rattle.vsw_promise.specs.Rounds.{opening_of}
-use Rattle.vsw_live.specs.Core.{IsOf}
+use Rattle.vsw_flows.specs.Flows.{IsOf}
 use Rattle.vsw_dock.specs.Docks.{is_of, pass_in, permits, port_in}
 use Rattle.vsw_dock.specs.Laws.{MayMeet, NewRests, RowRests}
 use Rattle.vsw_dock.specs.Meeting.{AreHeld, AreOfCaller, RowMeets, StationMeets}

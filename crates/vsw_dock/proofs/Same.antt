@@ -3,7 +3,7 @@ use Rattle.std.proofs.Common.{◌≡◌, ◌++◌, ℕ, suc, List, [], ◌∷◌
 use Rattle.std.specs.Prelude.{Vec}
 use Rattle.vsw_actors.specs.declared.lane.Lane.{Lane}
 use Rattle.vsw_live.specs.Meeting.{HeldSeen}
-use Rattle.vsw_live.specs.Rows.{Writing}
+use Rattle.vsw_flows.specs.Flows.{Writing}
 use Rattle.vsw_dock.specs.Meeting.{AreHeld}
 use Rattle.vsw_dock.specs.Opening.{first_lanes, later_passes, rows_from, rows_in}
 use Rattle.vsw_dock.specs.Seen.{DockSeen, StationSeen}

@@ -2,23 +2,21 @@
 use Rattle.std.proofs.Common.{◌≡◌, ◌≤◌, ◌+◌, ◌++◌, ◌∷◌, [], ℕ, List, Bool, true, false, length, refl, sym, ap, ◌∙◌, arith}
 use Rattle.std.proofs.lemmas.List.{length-append, map-append}
 use Rattle.vsw_commandfile.specs.declared.line.Line.{Line}
-use Rattle.vsw_live.specs.Core.{IsOf, Looking}
+use Rattle.vsw_flows.specs.Flows.{IsOf, Looking, Writing}
 use Rattle.vsw_actors.specs.declared.work.Work.{Work}
 use Rattle.vsw_actors.specs.Work.{job_in}
 use Rattle.vsw_port.specs.Calls.{Ask, Call, Deed, entries_of}
 use Rattle.vsw_port.specs.History.{Opening}
 use Rattle.vsw_live.specs.Calls as live
-use Rattle.vsw_live.specs.Calls.{asked, call_of}
+use Rattle.vsw_live.specs.Calls.{asked, call_of, one_if}
 use Rattle.vsw_live.specs.declared.answer.Told.{Told}
-use Rattle.vsw_lookup.specs.Rules.{one_if}
 use Rattle.vsw_actors.specs.Passes.{Crosses}
 use Rattle.vsw_report.specs.Line.{TextLine, text_of}
 use Rattle.vsw_promise.specs.Rounds as promise
 use Rattle.vsw_promise.specs.Told.{line_of}
 use Rattle.vsw_report.specs.declared.told.By.TheVariants as by
 use Rattle.vsw_report.specs.declared.told.What.TheVariants as what
-use Rattle.vsw_live.specs.Rows.{Writing}
-use Rattle.vsw_live.specs.StoryRows as story
+use Rattle.vsw_rows.specs.GoodRows as story
 use Rattle.vsw_dock.specs.Docks.{pass_in, port_in, tells}
 use Rattle.vsw_dock.specs.Private.Does.{Does, IsCounted, Tells}
 use Rattle.vsw_dock.specs.Seen.{DockSeen, StationSeen}

@@ -1,6 +1,6 @@
 -- Docks and stations as actors take them.
 use Rattle.std.specs.Prelude.{◌≡◌, ℕ, List, true, map}
-use Rattle.vsw_live.specs.Core.{IsOf}
+use Rattle.vsw_flows.specs.Flows.{IsOf, Writing}
 use Rattle.vsw_actors.specs.declared.work.Work.{Work}
 use Rattle.vsw_actors.specs.Work.{MayDo}
 use Rattle.vsw_port.specs.Calls.{Call}
@@ -8,7 +8,6 @@ use Rattle.vsw_actors.specs.Passes.{PassNow}
 use Rattle.vsw_report.specs.Line.{text_of}
 use Rattle.vsw_promise.specs.Ports.{PortSeen}
 use Rattle.vsw_promise.specs.Told.{line_of}
-use Rattle.vsw_live.specs.Rows.{Writing}
 use Rattle.vsw_dock.specs.Seen.{DockSeen, StationSeen}
 
 -- the port of the policy that a dock is: what it began with

@@ -4,7 +4,6 @@ pub mod Meeting
 pub mod Opening
 pub mod Seen
 pub mod Private
-pub use Rattle.vsw_live.specs.Core
 pub use Rattle.vsw_live.specs.Meeting as LiveMeeting
 pub use Rattle.vsw_live.specs.Ports
 pub use Rattle.vsw_actors.specs.Work

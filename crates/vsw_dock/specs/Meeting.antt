@@ -1,12 +1,12 @@
 -- What stations know that meet their ports.
 use Rattle.std.specs.Prelude.{◌≡◌, ◌≤◌, ◌<◌, ℕ, List, [], ◌∷◌, length}
-use Rattle.vsw_live.specs.Core.{IsOf}
+use Rattle.vsw_flows.specs.Flows.{IsOf}
 use Rattle.vsw_port.specs.declared.event.Event.{Event}
 use Rattle.vsw_port.specs.Calls.{named}
 use Rattle.vsw_live.specs.Meeting.{HeldSeen, IsRightAt}
 use Rattle.vsw_actors.specs.Passes.{Meets, PassNow}
 use Rattle.vsw_policy.specs.Sound.{Each}
-use Rattle.vsw_live.specs.StoryRows.{opening_of}
+use Rattle.vsw_rows.specs.GoodRows.{opening_of}
 use Rattle.vsw_actors.specs.declared.lane.Lane.{Lane}
 use Rattle.vsw_dock.specs.Docks.{pass_in}
 use Rattle.vsw_dock.specs.Seen.{DockSeen, StationSeen}

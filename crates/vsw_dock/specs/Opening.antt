@@ -6,7 +6,7 @@ use Rattle.vsw_live.specs.Ports as live
 use Rattle.vsw_policy.specs.Sound.{Each}
 use Rattle.vsw_port.specs.Core.{AreAtMost}
 use Rattle.vsw_promise.specs.declared.port.Port.{Port}
-use Rattle.vsw_live.specs.Rows.{Writing}
+use Rattle.vsw_flows.specs.Flows.{Writing}
 use Rattle.vsw_dock.specs.Seen.{DockSeen, StationSeen}
 
 -- a port of the policy can be opened: none of its layers has made a pair, and its rows are as many as a policy may give

@@ -2,7 +2,7 @@
 use Rattle.std.specs.Prelude.{ℕ, Bool, List}
 use Rattle.vsw_live.specs.Ports.{PortSeen}
 use Rattle.vsw_report.specs.Line.{TextLine}
-use Rattle.vsw_live.specs.Rows.{Writing}
+use Rattle.vsw_flows.specs.Flows.{Writing}
 
 -- a port at which actors work: its number and address in the policy, and what threads share of it
 pub record DockSeen : Type 0 where

@@ -2,11 +2,11 @@
 
 ghost use Rattle.std.specs.Prelude.{◌≡◌, ◌<◌, Ok};
 ghost use Rattle.vsw_base.specs.Frame.{Parts, frame_of};
-ghost use Rattle.vsw_live.specs.Core.{IsOf};
+ghost use Rattle.vsw_flows.specs.Flows.{IsOf};
 ghost use Rattle.vsw_actors.specs.Work.{job_in};
 ghost use Rattle.vsw_actors.specs.declared.work.Work.TheVariants as work;
 ghost use Rattle.vsw_dock.specs.Private.Does.{Does};
-ghost use Rattle.vsw_live.specs.StoryRows.{opening_of};
+ghost use Rattle.vsw_rows.specs.GoodRows.{opening_of};
 
 use crate::station::Station;
 use crate::watch::Watch;

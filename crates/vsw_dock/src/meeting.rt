@@ -1,7 +1,7 @@
 //! All stations meet the ports between rounds.
 
 ghost use Rattle.std.specs.Prelude.{◌≡◌, ◌≤◌, ◌<◌, ◌++◌, ◌∷◌, [], length, map, IfOk, OnErr, OnOk};
-ghost use Rattle.vsw_live.specs.Core.{IsOf};
+ghost use Rattle.vsw_flows.specs.Flows.{IsOf};
 ghost use Rattle.vsw_dock.specs.Meeting.{AreHeld, AreLanes, LaneMeets, RowMeets};
 ghost use Rattle.vsw_dock.specs.Private.Met.{MetAt};
 

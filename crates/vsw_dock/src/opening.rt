@@ -11,9 +11,10 @@ use crate::station::Station;
 use std::alloc::Global;
 use vsw_actors::Lane;
 use vsw_base::{Items, Mac, NoMemory};
-use vsw_live::{LivePort, Naming, OpenPort, PortStory};
-use vsw_lookup::Pass;
+use vsw_flows::PortStory;
+use vsw_live::{LivePort, Naming, OpenPort};
 use vsw_promise::{Port, macs};
+use vsw_table::Pass;
 
 /// The ports of a policy, opened and still without names, with their numbers and addresses.
 #[derive(Drop)]

@@ -1,33 +1,34 @@
 //! Where a caller stands at a port.
 
 ghost use Rattle.std.specs.Prelude.{◌≡◌, ◌≤◌, ◌<◌, ◌+◌, nat_lt, [], true, length, IfOk, IsOk, OnErr, OnOk};
-ghost use Rattle.vsw_live.specs.Core.{IsOf};
+ghost use Rattle.vsw_flows.specs.Flows.{IsOf};
 ghost use Rattle.vsw_dock.specs.Meeting.{StationMeets};
 ghost use Rattle.vsw_dock.specs.Private.Does.{Does, Tells};
 ghost use Rattle.vsw_frame.specs.Frame.{parts};
 ghost use Rattle.vsw_port.specs.Calls.{Ask, Carry, controller_at};
-ghost use Rattle.vsw_live.specs.Calls.{Crosses, FitsRoom, call_of};
-ghost use Rattle.vsw_lookup.specs.Rules.{one_if};
+ghost use Rattle.vsw_live.specs.Calls.{Crosses, FitsRoom, call_of, one_if};
 ghost use Rattle.vsw_report.specs.Line.{text_of};
 ghost use Rattle.vsw_policy.specs.Obey.{rules_given};
 ghost use Rattle.vsw_policy.specs.Sound.{Each, IsGoodRule, is_listed};
 ghost use Rattle.vsw_promise.specs.Jobs.{crossing_by};
 ghost use Rattle.vsw_report.specs.declared.told.By.TheVariants as by;
 ghost use Rattle.vsw_report.specs.declared.told.What.TheVariants as what;
-ghost use Rattle.vsw_live.specs.StoryRows.{opening_of};
-ghost use Rattle.vsw_live.specs.Transit.{IsOfFrame, bytes_in};
+ghost use Rattle.vsw_rows.specs.GoodRows.{opening_of};
+ghost use Rattle.vsw_answer.specs.Transit.{IsOfFrame, bytes_in};
 
 use std::alloc::Global;
 use std::marker::Model;
 use std::mem::replace;
 use std::sync::Wait;
 use vsw_actors::Packet;
+use vsw_answer::{Desk, Room, bytes_of};
 use vsw_base::{Control, Crossing, Dir, Moment, NoMemory, Sizes, Stack, Ufid};
 use vsw_commandfile::Line;
+use vsw_flows::PortStory;
 use vsw_frame::Frame;
-use vsw_live::{Answer, Desk, Held, LivePort, Naming, PortStory, Room, Told, Unit, bytes_of};
-use vsw_lookup::Pass;
+use vsw_live::{Answer, Held, LivePort, Naming, Told, Unit};
 use vsw_report::Caller;
+use vsw_table::Pass;
 
 /// The most permits that a pass is ever given.
 const GRANTED_MAX: u32 = 134_217_728;

@@ -4,7 +4,7 @@ use Rattle.vsw_dock.specs.Lane.{Lane}
 use Rattle.vsw_dock.specs.Meeting.{AreHeld, AreLanes, RowMeets}
 use Rattle.vsw_dock.specs.Opening.{rows_in}
 use Rattle.vsw_dock.specs.Seen.{DockSeen, StationSeen}
-use Rattle.vsw_dock.specs.Core.{IsOf}
+use Rattle.vsw_flows.specs.Flows.{IsOf}
 use Rattle.vsw_dock.specs.LiveMeeting.{HeldSeen}
 use Rattle.vsw_dock.specs.Ports as live
 use Rattle.vsw_policy.specs.Sound.{Each}

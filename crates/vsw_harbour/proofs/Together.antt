@@ -2,7 +2,7 @@
 use Rattle.std.proofs.Common.{◌≡◌, ◌<◌, ℕ, suc, List, [], ◌∷◌, ◌++◌, length, Some, slice_get, ◌+◌, ◌==◌, subst, refl, ap, sym, ◌∙◌, arith, append_assoc}
 use mathlib.Core.List.{IsPrefix}
 use Rattle.vsw_dock.specs.Lane.{Lane}
-use Rattle.vsw_dock.specs.Core.{IsOf}
+use Rattle.vsw_flows.specs.Flows.{IsOf}
 use Rattle.vsw_dock.specs.Docks.{pass_in, port_in, tells}
 use Rattle.vsw_dock.specs.Meeting.{AreHeld, RowMeets, histories_of, passes_in}
 use Rattle.vsw_dock.specs.Seen.{DockSeen, StationSeen}

@@ -13,7 +13,6 @@ pub use Rattle.vsw_dock.specs.Ports
 pub use Rattle.vsw_dock.specs.Lane
 pub use Rattle.vsw_dock.specs.Rounds
 pub use Rattle.vsw_dock.specs.Meeting as DockMeeting
-pub use Rattle.vsw_dock.specs.Core
 pub use Rattle.vsw_dock.specs.LiveMeeting
 pub use Rattle.vsw_dock.specs.Deal
 pub use Rattle.vsw_dock.specs.Work

@@ -1,7 +1,7 @@
 -- All callers meet the ports.
 use Rattle.std.specs.Prelude.{ℕ, List, [], ◌∷◌}
 use Rattle.vsw_dock.specs.Lane.{Lane}
-use Rattle.vsw_dock.specs.Core.{IsOf}
+use Rattle.vsw_flows.specs.Flows.{IsOf}
 use Rattle.vsw_dock.specs.Meeting.{AreHeld, RowMeets}
 use Rattle.vsw_dock.specs.Seen.{DockSeen, StationSeen}
 use Rattle.vsw_dock.specs.LiveMeeting.{HeldSeen}

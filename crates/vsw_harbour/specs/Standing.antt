@@ -1,7 +1,7 @@
 -- The callers of a round when all have met the ports: what each has seen, and what it tells of the round so far.
 use Rattle.std.specs.Prelude.{◌≡◌, ◌≤◌, ℕ, suc, List, [], ◌∷◌, length, map, true}
 use Rattle.vsw_dock.specs.Lane.{Lane}
-use Rattle.vsw_dock.specs.Core.{IsOf}
+use Rattle.vsw_flows.specs.Flows.{IsOf}
 use Rattle.vsw_dock.specs.Docks.{pass_in, port_in, tells}
 use Rattle.vsw_dock.specs.Seen.{DockSeen, StationSeen}
 use Rattle.vsw_port.specs.Calls.{Call, calls_of}

@@ -5,7 +5,7 @@ use Rattle.vsw_port.specs.History.{Opening}
 use Rattle.vsw_live.specs.Calls.{Crosses}
 use Rattle.vsw_report.specs.Line.{TextLine, text_of}
 use Rattle.vsw_promise.specs.Told.{line_of}
-use Rattle.vsw_live.specs.Rows.{Writing}
+use Rattle.vsw_flows.specs.Flows.{Writing}
 use Rattle.vsw_dock.specs.Seen.{StationSeen}
 
 -- a station counts the permits of its pass, and those that it was ever given

@@ -1,6 +1,6 @@
 -- Lists that are changed element by element.
 use Rattle.std.specs.Prelude.{◌≡◌, List, [], ◌∷◌, drop}
-use Rattle.vsw_live.specs.Rows.{Writing}
+use Rattle.vsw_flows.specs.Flows.{Writing}
 
 -- passes of which the first was taken at each port
 abbrev pub AreLater : List (List Writing) → List (List Writing) → Type 0

@@ -1,7 +1,7 @@
 use Rattle.std.proofs.Common.{refl, subst}
 use Rattle.vsw_port.specs.Calls.{Ask}
 use Rattle.vsw_live.specs.Calls.{asked}
-use Rattle.vsw_live.specs.StoryRows.{opening_of}
+use Rattle.vsw_rows.specs.GoodRows.{opening_of}
 use Rattle.vsw_dock.proofs.Working.{asked_so, counted_on}
 use Rattle.vsw_dock.specs.Private.Does.{Does}
 use Rattle.vsw_dock.specs.Seen.{StationSeen}

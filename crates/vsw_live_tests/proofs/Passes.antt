@@ -1,14 +1,12 @@
 -- Passes that are new, and that make calls.
 use Rattle.std.proofs.Common.{◌≡◌, ◌<◌, ◌≤◌, ◌+◌, ◌∙◌, ℕ, zero, suc, List, [], ◌∷◌, ◌++◌, length, take, drop, slice_index_or, true, false, Bool, ap, subst, arith}
-use Rattle.vsw_live.specs.Core.{Looking}
+use Rattle.vsw_flows.specs.Flows.{Looking, Writing}
 use Rattle.vsw_port.specs.Calls.{Call}
 use Rattle.vsw_port.specs.History.{Opening}
-use Rattle.vsw_live.specs.Calls.{Crosses}
+use Rattle.vsw_live.specs.Calls.{Crosses, one_if}
 use Rattle.vsw_live.specs.Meeting.{HeldSeen, Meets}
 use Rattle.vsw_live.specs.Ports.{AreNewPasses, IsNewPass}
 use Rattle.vsw_live_tests.specs.Trials.{Calls, Holds}
-use Rattle.vsw_lookup.specs.Rules.{one_if}
-use Rattle.vsw_rows.specs.Rows.{Writing}
 
 -- the pass at a place has that number
 new_at : (l : Looking) (n : ℕ) (ps : List Writing) (i : ℕ) (d : Writing) → AreNewPasses l n ps → i < length ps → IsNewPass l (n + i) (slice_index_or ps i d)

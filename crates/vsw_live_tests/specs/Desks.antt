@@ -1,9 +1,9 @@
 -- A core over rows, with the passes of worker 0 and of the first controller.
 use Rattle.std.specs.Prelude.{◌≡◌, ◌≤◌, ℕ, List, true}
-use Rattle.vsw_core.specs.Core.{CoreSeen, IsOf, Looking}
+use Rattle.vsw_core.specs.Core.{CoreSeen}
+use Rattle.vsw_flows.specs.Flows.{IsOf, Looking, Writing}
 use Rattle.vsw_policy.specs.Sound.{is_listed}
 use Rattle.vsw_port.specs.Calls.{controller_at}
-use Rattle.vsw_rows.specs.Rows.{Writing}
 
 -- controller 1 stands first: its pass comes behind those of sixteen workers
 pub record IsFirst (cs : List ℕ) : Type 0 where

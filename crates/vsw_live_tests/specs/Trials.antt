@@ -1,9 +1,8 @@
 -- What is tried: a port, and passes of it.
 use Rattle.std.specs.Prelude.{◌≡◌, ◌≤◌, ◌+◌, ℕ, Bool, [], ◌∷◌}
-use Rattle.vsw_live.specs.Core.{IsOf, Looking}
+use Rattle.vsw_flows.specs.Flows.{IsOf, Looking, Writing}
+use Rattle.vsw_live.specs.Calls.{one_if}
 use Rattle.vsw_live.specs.Ports.{AreNewPasses, OpenSeen}
-use Rattle.vsw_lookup.specs.Rules.{one_if}
-use Rattle.vsw_rows.specs.Rows.{Writing}
 
 -- a port of 64 rows, that began with a policy of controllers 1 and 2
 pub record IsTried (l : Looking) : Type 0 where

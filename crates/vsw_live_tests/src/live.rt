@@ -10,6 +10,7 @@ mod opening;
 mod packets;
 mod replay;
 mod row_tests;
+mod stages;
 mod thread_tests;
 mod trial;
 mod worker;

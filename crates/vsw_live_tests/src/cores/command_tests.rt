@@ -26,7 +26,7 @@ const ASKED: [Step; 3] = [
     },
 ];
 
-/// Each is an entry, and the generation rises from 1 by those that are obeyed.
+/// Each is an entry, also the one that was refused.
 const ENTERED: [Step; 5] = [
     Step::IsEntry {
         number: 0,
@@ -44,16 +44,13 @@ const ENTERED: [Step; 5] = [
         number: 3,
         line: None,
     },
-    Step::Counts {
-        generation: 3,
-        count: 3,
-    },
+    Step::Counts { count: 3 },
 ];
 
 const WAYS: [Way; 1] = [(Dir::Out, OWN, FAR)];
 
 #[test]
-fn commands_are_entries_and_obeyed_ones_raise_the_generation(rt: HostRuntime) {
+fn commands_are_entries(rt: HostRuntime) {
     let made = Made::BareOfTwo;
     assert!(&rt; tried(rt.alloc(), made, 8, 3, &WAYS, &ASKED, &ENTERED) == RIGHT);
 }

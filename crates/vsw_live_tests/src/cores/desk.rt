@@ -1,7 +1,8 @@
 //! A core over rows, with the passes of worker 0 and of the first controller, which has number 1.
 
 ghost use Rattle.std.specs.Prelude.{◌≡◌, ◌≤◌, ◌<◌, ◌+◌, [], IfSome, IsTrue, map};
-ghost use Rattle.vsw_core.specs.Core.{Begins, IsOf};
+ghost use Rattle.vsw_core.specs.Core.{Begins};
+ghost use Rattle.vsw_flows.specs.Flows.{IsOf};
 ghost use Rattle.vsw_live_tests.specs.Desks.{IsFirst, Sits};
 ghost use Rattle.vsw_policy.specs.Layer.{seen};
 ghost use Rattle.vsw_port.specs.Core.{AreAtMost};
@@ -11,10 +12,10 @@ use std::alloc::Global;
 use std::marker::Model;
 use vsw_base::{Crossing, Fate, Header, Stack, Ufid, Verdict};
 use vsw_core::{Core, Reconciled};
-use vsw_lookup::{Look, Lookup, Opened, Pass, Writer};
+use vsw_flows::PortStory;
 use vsw_policy::{Command, Layer, Policy, Reply};
 use vsw_port::Event;
-use vsw_rows::PortStory;
+use vsw_table::{Look, Lookup, Opened, Pass, Writer};
 use vsw_transpose::Transposition;
 use vsw_words::{body_of, key_words, slot_of};
 
@@ -46,8 +47,8 @@ impl Model for Desk {
     ghost invariant = { λ d. Sits d.lookup d.seats.core d.seats.worker d.seats.sends d.seats.controller d.seats.asks };
 }
 
-/// What a look tells: what a row says, with the source port of its packets once they passed; or the generation. And
-/// how many entries there are.
+/// What a look tells: what a row says, with the source port of its packets once they passed; or that none says it. And how many
+/// entries there are.
 #[derive(Clone, Copy, PartialEq, Eq)]
 pub enum Seen {
     Row {
@@ -57,7 +58,6 @@ pub enum Seen {
         count: u32,
     },
     None {
-        generation: u32,
         count: u32,
     },
 }
@@ -250,12 +250,17 @@ impl Desk {
             .look(&mut self.seats.worker, slot, &key, &mut body)
         {
             Look::Hit { count } => said(&body, id, count),
-            Look::Miss { generation, count } => Some(Seen::None { generation, count }),
+            Look::Miss { count } => Some(Seen::None { count }),
         }
     }
 
-    /// The generation, and how many entries there are, as a controller that looks for no packet's row finds them.
-    pub fn looked(&mut self) -> Option<(u32, u32)> {
+    /// How many rows are current.
+    pub fn current(&mut self) -> u32 {
+        self.seats.core.current(&self.lookup)
+    }
+
+    /// How many entries there are, as a controller that looks for no packet's row finds them.
+    pub fn looked(&mut self) -> Option<u32> {
         // It tells the proof that there are rows.
         let _ = self.lookup.rows();
         let mut body = [0; 57];
@@ -264,7 +269,7 @@ impl Desk {
             .look(&mut self.seats.controller, 0, &[0; 16], &mut body)
         {
             Look::Hit { .. } => None,
-            Look::Miss { generation, count } => Some((generation, count)),
+            Look::Miss { count } => Some(count),
         }
     }
 

@@ -44,10 +44,7 @@ const KEPT: [Step; 10] = [
     ALLOW,
     Step::Sees {
         who: 0,
-        seen: Seen::None {
-            generation: 4,
-            count: 3,
-        },
+        seen: Seen::None { count: 3 },
     },
     Step::Passes {
         who: 0,
@@ -63,16 +60,14 @@ const KEPT: [Step; 10] = [
             count: 3,
         },
     },
-    Step::Obeys(Asked::AddGroup {
-        group: 2,
-        dir: Dir::In,
+    Step::Obeys(Asked::PutRule {
+        number: 7,
+        action: Action::Allow,
+        stateful: false,
     }),
     Step::Sees {
         who: 0,
-        seen: Seen::None {
-            generation: 5,
-            count: 4,
-        },
+        seen: Seen::None { count: 4 },
     },
     Step::Compares {
         who: 0,
@@ -107,6 +102,39 @@ const KEPT: [Step; 10] = [
 #[test]
 fn row_that_a_command_leaves_as_it_is_is_kept(rt: HostRuntime) {
     assert!(&rt; reconciled(rt.alloc(), &WAYS, &KEPT) == RIGHT);
+}
+
+/// A group for packets into the port comes.
+const SPARED: [Step; 5] = [
+    ALLOW,
+    Step::Passes {
+        who: 0,
+        moment: 0,
+        entry: false,
+    },
+    Step::Obeys(Asked::AddGroup {
+        group: 2,
+        dir: Dir::In,
+    }),
+    Step::Sees {
+        who: 0,
+        seen: Seen::Row {
+            verdict: Verdict::Pass,
+            port: Some(1234),
+            until: ALWAYS,
+            count: 4,
+        },
+    },
+    Step::Compares {
+        who: 0,
+        behind: 0,
+        found: Reconciled::Fresh,
+    },
+];
+
+#[test]
+fn row_that_a_command_spares_stays(rt: HostRuntime) {
+    assert!(&rt; reconciled(rt.alloc(), &WAYS, &SPARED) == RIGHT);
 }
 
 const EDITED: [Step; 7] = [
@@ -213,10 +241,7 @@ const CLEARED: [Step; 8] = [
     },
     Step::Sees {
         who: 0,
-        seen: Seen::None {
-            generation: 5,
-            count: 4,
-        },
+        seen: Seen::None { count: 4 },
     },
     Step::Passes {
         who: 0,
@@ -265,10 +290,7 @@ const LATER: [Step; 7] = [
     },
     Step::Sees {
         who: 0,
-        seen: Seen::None {
-            generation: 5,
-            count: 5,
-        },
+        seen: Seen::None { count: 5 },
     },
     Step::Compares {
         who: 0,

@@ -16,10 +16,7 @@ const OTHERS: [Way; 1] = [(Dir::Out, OTHER, FAR)];
 const PUBLISHED: [Step; 8] = [
     Step::Sees {
         who: 0,
-        seen: Seen::None {
-            generation: 1,
-            count: 0,
-        },
+        seen: Seen::None { count: 0 },
     },
     Step::Passes {
         who: 0,
@@ -42,10 +39,7 @@ const PUBLISHED: [Step; 8] = [
     },
     Step::Sees {
         who: 0,
-        seen: Seen::None {
-            generation: 2,
-            count: 1,
-        },
+        seen: Seen::None { count: 1 },
     },
     Step::Sees {
         who: 1,
@@ -73,7 +67,7 @@ const PUBLISHED: [Step; 8] = [
 ];
 
 #[test]
-fn pair_that_a_row_missed_raises_the_generation(rt: HostRuntime) {
+fn pair_that_a_row_missed_takes_its_stamp(rt: HostRuntime) {
     assert!(&rt;
         tried(
             rt.alloc(),
@@ -189,6 +183,60 @@ fn late_packet_leaves_its_row_anew(rt: HostRuntime) {
     );
 }
 
+/// The row of the flow that is renewed falls, and is put anew; that of the other stays.
+const ONE_RENEWED: [Step; 7] = [
+    Step::Passes {
+        who: 0,
+        moment: 0,
+        entry: true,
+    },
+    Step::Passes {
+        who: 1,
+        moment: 1_000,
+        entry: true,
+    },
+    Step::Stand { rows: 2 },
+    Step::Passes {
+        who: 0,
+        moment: 60_000_001,
+        entry: true,
+    },
+    Step::Stand { rows: 2 },
+    Step::Sees {
+        who: 1,
+        seen: Seen::Row {
+            verdict: Verdict::Pass,
+            port: Some(1234),
+            until: 60_001_000,
+            count: 3,
+        },
+    },
+    Step::Sees {
+        who: 0,
+        seen: Seen::Row {
+            verdict: Verdict::Pass,
+            port: Some(1234),
+            until: 120_000_001,
+            count: 3,
+        },
+    },
+];
+
+#[test]
+fn renewed_pair_leaves_the_rows_of_other_flows(rt: HostRuntime) {
+    assert!(&rt;
+        tried(
+            rt.alloc(),
+            Made::Tracked { pairs: 100 },
+            64,
+            100,
+            &WAYS,
+            &[],
+            &ONE_RENEWED
+        ) == RIGHT
+    );
+}
+
 const FULL: Fate = Fate::Drop(Cause::Full {
     controller: 1,
     layer: 10,
@@ -208,10 +256,7 @@ const REFUSED: [Step; 4] = [
     },
     Step::Sees {
         who: 1,
-        seen: Seen::None {
-            generation: 1,
-            count: 1,
-        },
+        seen: Seen::None { count: 1 },
     },
     Step::Sees {
         who: 0,
@@ -248,10 +293,7 @@ const CONTROLLED: [Step; 4] = [
     },
     Step::Sees {
         who: 0,
-        seen: Seen::None {
-            generation: 1,
-            count: 0,
-        },
+        seen: Seen::None { count: 0 },
     },
     Step::Passes {
         who: 0,
@@ -286,8 +328,9 @@ const EIGHT: [Step; 8] = [
     Step::Leaves { who: 7, port: 7 },
 ];
 
-/// The first of the eight, and a ninth.
-const NINTH: [Step; 3] = [
+/// A ninth, to whose row one of the eight gives way.
+const NINTH: [Step; 4] = [
+    Step::Stand { rows: 8 },
     Step::Passes {
         who: 8,
         moment: 0,
@@ -295,20 +338,14 @@ const NINTH: [Step; 3] = [
     },
     Step::Sees {
         who: 8,
-        seen: Seen::None {
-            generation: 1,
-            count: 0,
-        },
-    },
-    Step::Sees {
-        who: 0,
         seen: Seen::Row {
             verdict: Verdict::Pass,
-            port: Some(0),
+            port: Some(8),
             until: u64::MAX,
             count: 0,
         },
     },
+    Step::Stand { rows: 8 },
 ];
 
 /// From nine ports of the own address.
@@ -325,6 +362,6 @@ const NINE: [Way; 9] = [
 ];
 
 #[test]
-fn ninth_flow_of_one_slot_leaves_the_eight_rows(rt: HostRuntime) {
+fn ninth_flow_of_one_slot_takes_the_place_of_one_row(rt: HostRuntime) {
     assert!(&rt; tried(rt.alloc(), Made::Plain, 8, 100, &NINE, &EIGHT, &NINTH) == RIGHT);
 }

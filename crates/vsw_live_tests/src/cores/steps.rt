@@ -57,8 +57,11 @@ pub enum Step {
     },
     /// What a controller sees that looks for no packet's row.
     Counts {
-        generation: u32,
         count: u32,
+    },
+    /// So many rows are current.
+    Stand {
+        rows: u32,
     },
     /// The row is compared that stands so many places behind where the search begins.
     Compares {
@@ -118,7 +121,8 @@ fn comes_out(alloc: Global, desk: &mut Desk, id: &Ufid, step: &Step) -> bool {
         Step::Obeys(asked) => replies(alloc, desk, 1, asked, Reply::Ok),
         Step::Replies { line, asked, reply } => replies(alloc, desk, line, asked, reply),
         Step::IsEntry { number, line } => desk.line(number) == line,
-        Step::Counts { generation, count } => desk.looked() == Some((generation, count)),
+        Step::Counts { count } => desk.looked() == Some(count),
+        Step::Stand { rows } => desk.current() == rows,
         Step::Compares { behind, found, .. } => {
             behind < 8 && desk.reconcile(id, behind) == found
         }

@@ -1,5 +1,6 @@
-//! The commands that are given, all for layer 10.
+//! The commands that are given, for layer 10 and for one behind it.
 
+use crate::live::stages::Stages;
 use std::alloc::{AllocError, Global};
 use vsw_base::{Dir, Items};
 use vsw_policy::{Command, LayerSpec};
@@ -30,8 +31,38 @@ pub fn add_group(alloc: Global, group: u16, dir: Dir) -> Command {
     }
 }
 
-/// Puts rule 5, for all packets, into group 1.
-pub fn put_rule(alloc: Global, action: Action, stateful: bool) -> Result<Command, AllocError> {
+/// A layer behind it that lets all pass.
+pub fn add_behind() -> Command {
+    Command::AddLayer {
+        spec: LayerSpec {
+            layer: 20,
+            order: 20,
+            allow_out: true,
+            allow_in: true,
+            pairs: 100,
+            idle: 60,
+            linger: 10,
+        },
+    }
+}
+
+/// Its group of packets into the port.
+pub fn add_group_behind(alloc: Global) -> Command {
+    Command::AddGroup {
+        layer: 20,
+        group: 3,
+        dir: Dir::In,
+        when: Items::new(alloc),
+    }
+}
+
+/// It goes.
+pub fn remove_behind() -> Command {
+    Command::RemoveLayer { layer: 20 }
+}
+
+/// Rule 5, which matches all packets.
+fn rule_for_all(alloc: Global, action: Action, stateful: bool) -> Result<Items<Rule>, AllocError> {
     let rule = Rule {
         number: 5,
         priority: 10,
@@ -40,11 +71,24 @@ pub fn put_rule(alloc: Global, action: Action, stateful: bool) -> Result<Command
         stateful,
         last: false,
     };
-    let rules = Vec::from_array(alloc, [rule])?;
+    Ok(Items::of(Vec::from_array(alloc, [rule])?))
+}
+
+/// Puts rule 5, for all packets, into group 1.
+pub fn put_rule(alloc: Global, action: Action, stateful: bool) -> Result<Command, AllocError> {
     Ok(Command::PutRules {
         layer: 10,
         group: 1,
-        rules: Items::of(rules),
+        rules: rule_for_all(alloc, action, stateful)?,
+    })
+}
+
+/// Puts a rule that allows into the group of the layer behind.
+pub fn put_behind(alloc: Global) -> Result<Command, AllocError> {
+    Ok(Command::PutRules {
+        layer: 20,
+        group: 3,
+        rules: rule_for_all(alloc, Action::Allow, false)?,
     })
 }
 
@@ -127,10 +171,11 @@ fn rule_order(alloc: Global, turn: u32) -> Result<Command, AllocError> {
     }
 }
 
-/// The commands of eight turns.
+/// The commands of eight turns, and how far threads have come that wait for each other.
 #[derive(Drop)]
 pub struct Orders {
     orders: Vec<Command>,
+    pub stages: Stages,
 }
 
 impl Orders {
@@ -160,6 +205,7 @@ impl Orders {
     pub fn new(alloc: Global, many: bool) -> Option<Orders> {
         let mut orders = Orders {
             orders: Vec::new(alloc),
+            stages: Stages::new(),
         };
         if orders.fill(alloc, many) {
             Some(orders)

@@ -1,24 +1,27 @@
 //! A controller, which remembers what it was told.
 
 ghost use Rattle.std.specs.Prelude.{◌≡◌, ◌<◌, IfSome};
-ghost use Rattle.vsw_live.specs.Core.{IsOf};
+ghost use Rattle.vsw_flows.specs.Flows.{IsOf};
 ghost use Rattle.vsw_live.specs.Ports.{AreNewPasses};
 ghost use Rattle.vsw_live_tests.specs.Trials.{Calls, IsTried};
 ghost use Rattle.vsw_policy.specs.Obey.{rules_given};
 ghost use Rattle.vsw_policy.specs.Sound.{Each, IsGoodRule};
 
 use crate::given::is_good;
-use crate::live::commands::{add_group, add_layer, put_rule};
+use crate::live::commands::{
+    add_behind, add_group, add_group_behind, add_layer, put_behind, put_rule, remove_behind,
+};
 use crate::live::opening::{PERMITS, pass_of};
+use crate::live::stages::{ASKED, HELD, LEFT, Stages};
 use std::alloc::Global;
 use std::marker::Model;
 use std::sync::Wait;
 use vsw_base::Dir;
+use vsw_flows::PortStory;
 use vsw_live::{LivePort, Naming, Told};
-use vsw_lookup::Pass;
 use vsw_policy::Command;
-use vsw_rows::PortStory;
 use vsw_rule::Action;
+use vsw_table::Pass;
 
 /// Controller 1 with its pass. Contracts see how many entries it may make.
 #[derive(Drop)]
@@ -121,6 +124,32 @@ impl<'a, J: Naming> Controller<'a, J> {
     pub fn set_up<R: Wait>(&mut self, rt: &R, alloc: Global, idle: u32, linger: u32) -> bool {
         self.give(rt, add_layer(idle, linger)).is_some()
             && self.group(rt, alloc, 1, Dir::Out).is_some()
+    }
+
+    /// Adds a layer behind that lets all pass, with a group for packets into the port. Whether it was told of both.
+    pub fn add_behind<R: Wait>(&mut self, rt: &R, alloc: Global) -> bool {
+        self.give(rt, add_behind()).is_some() && self.give(rt, add_group_behind(alloc)).is_some()
+    }
+
+    /// Puts a rule into that group.
+    pub fn put_behind<R: Wait>(&mut self, rt: &R, alloc: Global) -> Option<Told> {
+        match put_behind(alloc) {
+            Ok(rule) => self.give(rt, rule),
+            Err(_) => None,
+        }
+    }
+
+    /// Removes that layer.
+    pub fn remove_behind<R: Wait>(&mut self, rt: &R) -> Option<Told> {
+        self.give(rt, remove_behind())
+    }
+
+    /// Holds the port's lock from when a row was left until a packet has asked the rows.
+    pub fn hold<R: Wait>(&self, rt: &R, stages: &Stages) {
+        stages.wait_for(rt, LEFT);
+        let _held = self.port.hold(rt);
+        stages.reach(HELD);
+        stages.wait_for(rt, ASKED);
     }
 
     /// Reconciles all 64 rows of the port.

@@ -3,7 +3,7 @@
 use crate::live::crew::Actor;
 use crate::live::worker::Answered;
 use vsw_base::Fate;
-use vsw_live::{Naming, Told};
+use vsw_live::{Naming, Told, Why};
 
 /// How many packets a worker sends.
 pub const PACKETS: usize = 500;
@@ -49,6 +49,15 @@ fn have_rows(notes: &[Answered]) -> bool {
         }
     }
     false
+}
+
+/// Whether worker 0 was told of both queries, and a row answered the second one.
+pub fn is_held<J: Naming>(actor: &Actor<'_, J>) -> bool {
+    match actor.worker.notes() {
+        [first, second] => first.why == Some(Why::Miss) && second.why.is_none() && is_right(second),
+        [] => actor.worker.number() != 0,
+        _ => false,
+    }
 }
 
 /// Whether the worker or the controller beside it was told what counts tell, and a row answered worker 0.

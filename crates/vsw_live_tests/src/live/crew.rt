@@ -10,10 +10,10 @@ use std::alloc::Global;
 use std::sync::Wait;
 use std::thread;
 use std::thread::Threads;
+use vsw_flows::PortStory;
 use vsw_live::{LivePort, Naming};
-use vsw_lookup::Pass;
-use vsw_rows::PortStory;
 use vsw_rule::Action;
+use vsw_table::Pass;
 
 /// What the five do. In each turn a worker sends its packets, and then the controller beside it gives a command.
 pub struct Plan {
@@ -29,6 +29,8 @@ pub struct Plan {
     /// Whether packets are of eight flows, rules come and go, and all rows are reconciled after each command. Otherwise all
     /// packets are the query, which a rule allows at first.
     pub flows: bool,
+    /// Whether worker 0 alone sends two queries, the second while the controller's thread holds the port's lock.
+    pub holds: bool,
 }
 
 /// What one thread does.
@@ -74,8 +76,21 @@ fn take_turn<J: Naming, R: Wait>(
     }
 }
 
+/// The controller's thread holds the port's lock until worker 0 has asked the rows.
+fn hold_or_ask<J: Naming, R: Wait>(rt: &R, actor: &mut Actor<'_, J>, orders: &Orders) {
+    if let Some(controller) = &actor.controller {
+        controller.hold(rt, &orders.stages);
+    } else if actor.worker.number() == 0 {
+        actor.worker.ask_while_held(rt, &orders.stages);
+    }
+}
+
 /// All turns of one thread.
 fn act<J: Naming, R: Wait>(rt: &R, actor: &mut Actor<'_, J>, plan: &Plan, orders: &Orders) {
+    if plan.holds {
+        hold_or_ask(rt, actor, orders);
+        return;
+    }
     for turn in 0..plan.turns {
         take_turn(rt, actor, turn, plan, orders);
     }

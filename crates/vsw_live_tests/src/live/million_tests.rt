@@ -12,6 +12,7 @@ const PLAN: Plan = Plan {
     idle: 2,
     linger: 1,
     flows: true,
+    holds: false,
 };
 
 #[test]

@@ -6,10 +6,10 @@ ghost use Rattle.vsw_live_tests.specs.Trials.{Holds, IsOpened};
 
 use std::alloc::Global;
 use std::sync::Wait;
+use vsw_flows::PortStory;
 use vsw_live::{LivePort, Naming, OpenPort};
-use vsw_lookup::Pass;
 use vsw_policy::Policy;
-use vsw_rows::PortStory;
+use vsw_table::Pass;
 
 /// How many entries each pass may make.
 pub const PERMITS: u32 = 10_000;

@@ -2,7 +2,7 @@
 
 ghost use Rattle.std.specs.Prelude.{◌≡◌, IfSome};
 ghost use Rattle.vsw_frame.specs.Frame.{parts};
-ghost use Rattle.vsw_live.specs.Transit.{IsOfFrame};
+ghost use Rattle.vsw_answer.specs.Transit.{IsOfFrame};
 
 use vsw_base::{Control, Crossing, Dir, Moment, Ufid};
 use vsw_frame::{Frame, FrameRoom, read_frame};
@@ -39,6 +39,14 @@ pub fn query(dir: Dir, control: Control, moment: u64) -> Packet {
         dir,
         control,
         moment,
+    }
+}
+
+/// A query of another flow, of port 1235.
+pub fn beside(moment: u64) -> Packet {
+    Packet {
+        bytes: bytes_of(Dir::Out, 0xd3),
+        ..query(Dir::Out, Control::None, moment)
     }
 }
 

@@ -5,16 +5,16 @@ ghost use Rattle.vsw_live_tests.specs.Trials.{IsOpened, IsTried};
 
 use crate::live::controller::Controller;
 use crate::live::opening::open;
-use crate::live::packets::{Packet, query};
+use crate::live::packets::{Packet, beside, query};
 use crate::live::worker::{Answered, By, Worker};
 use std::alloc::Global;
 use std::marker::Brand;
 use std::sync::Wait;
 use vsw_base::{Cause, Control, Dir, Fate};
+use vsw_flows::PortStory;
 use vsw_live::{LivePort, Naming, OpenPort, Why};
-use vsw_lookup::Pass;
-use vsw_rows::PortStory;
 use vsw_rule::Action;
+use vsw_table::Pass;
 
 const PASS: Fate = Fate::Pass { len: 44 };
 
@@ -42,7 +42,13 @@ enum Step {
     },
     /// Rule 5 becomes one that drops.
     Drops,
-    /// A further group for packets into the port is added, and all rows are reconciled.
+    /// Layer 20, which lets all pass, is added behind, with group 3 for packets into the port: two entries.
+    AddsBehind,
+    /// Group 3 of layer 20 gets a rule that allows.
+    PutsBehind,
+    /// Layer 20 goes.
+    RemovesBehind,
+    /// All rows are reconciled.
     Reconciles,
     /// A row answers a packet without a control.
     Row {
@@ -66,6 +72,13 @@ enum Step {
         count: u32,
         entry: bool,
         why: Why,
+    },
+    /// A packet of another flow out of the port passes: answered by a row, or for this reason by the layers.
+    Beside {
+        moment: u64,
+        count: u32,
+        entry: bool,
+        why: Option<Why>,
     },
     /// A row answers a packet out of the port, or the layers do after a miss, as a read.
     Either {
@@ -107,12 +120,13 @@ fn packet(step: &Step) -> Option<Packet> {
         } => Some(query(dir, control, moment)),
         Step::RowWhileHeld { moment, .. } => Some(query(Dir::Out, Control::None, moment)),
         Step::Either { moment, .. } => Some(query(Dir::Out, Control::None, moment)),
+        Step::Beside { moment, .. } => Some(beside(moment)),
         _ => None,
     }
 }
 
 /// Whom the packet of a step asks.
-fn by_of(step: &Step) -> By {
+fn by_of(step: &Step) -> By<'static> {
     match step {
         Step::RowWhileHeld { .. } => By::Held,
         _ => By::Two,
@@ -131,6 +145,12 @@ fn is_told(answered: &Option<Answered>, step: &Step) -> bool {
             why,
             ..
         } => is_answered(answered, fate, count, entry, Some(why)),
+        Step::Beside {
+            count,
+            entry,
+            why,
+            ..
+        } => is_answered(answered, PASS, count, entry, why),
         Step::Either { count, .. } => {
             is_answered(answered, PASS, count, false, None)
                 || is_answered(answered, PASS, count, false, Some(Why::Miss))
@@ -163,15 +183,10 @@ fn is_set_up<J: Naming, R: Wait>(
     }
 }
 
-/// Whether the controller was told of a further group; all rows are reconciled then.
-fn is_reconciled<J: Naming, R: Wait>(
-    rt: &R,
-    alloc: Global,
-    controller: &mut Controller<'_, J>,
-) -> bool {
-    let told = controller.group(rt, alloc, 2, Dir::In);
+/// All rows are reconciled.
+fn is_reconciled<J: Naming, R: Wait>(rt: &R, controller: &Controller<'_, J>) -> bool {
     controller.reconcile(rt);
-    told.is_some()
+    true
 }
 
 /// Whether what the controller does comes out as a step says.
@@ -184,7 +199,10 @@ fn is_obeyed<J: Naming, R: Wait>(
     match *step {
         Step::SetUp { stateful } => is_set_up(rt, alloc, controller, stateful),
         Step::Drops => controller.put(rt, alloc, Action::Drop, false).is_some(),
-        Step::Reconciles => is_reconciled(rt, alloc, controller),
+        Step::AddsBehind => controller.add_behind(rt, alloc),
+        Step::PutsBehind => controller.put_behind(rt, alloc).is_some(),
+        Step::RemovesBehind => controller.remove_behind(rt).is_some(),
+        Step::Reconciles => is_reconciled(rt, controller),
         _ => false,
     }
 }
@@ -194,6 +212,9 @@ fn is_order(step: &Step) -> bool {
     match step {
         Step::SetUp { .. } => true,
         Step::Drops => true,
+        Step::AddsBehind => true,
+        Step::PutsBehind => true,
+        Step::RemovesBehind => true,
         Step::Reconciles => true,
         _ => false,
     }
@@ -390,7 +411,99 @@ fn a_packet_by_a_pair_is_late_after_its_last_use(rt: HostRuntime) {
     assert!(&rt; tried(&rt, rt.alloc(), &LATE) == Some(None));
 }
 
-const KEPT: [Step; 7] = [
+/// The last use of one flow's pair is renewed.
+const RENEWED: [Step; 6] = [
+    Step::SetUp { stateful: true },
+    Step::Layers {
+        dir: Dir::Out,
+        control: Control::None,
+        moment: 0,
+        fate: PASS,
+        count: 3,
+        entry: true,
+        why: Why::Miss,
+    },
+    Step::Beside {
+        moment: 0,
+        count: 4,
+        entry: true,
+        why: Some(Why::Miss),
+    },
+    Step::Beside {
+        moment: 1,
+        count: 5,
+        entry: false,
+        why: None,
+    },
+    Step::Layers {
+        dir: Dir::Out,
+        control: Control::None,
+        moment: 60_000_001,
+        fate: PASS,
+        count: 5,
+        entry: true,
+        why: Why::Late,
+    },
+    Step::Beside {
+        moment: 2,
+        count: 6,
+        entry: false,
+        why: None,
+    },
+];
+
+#[test]
+fn a_renewed_pair_leaves_the_rows_of_other_flows(rt: HostRuntime) {
+    assert!(&rt; tried(&rt, rt.alloc(), &RENEWED) == Some(None));
+}
+
+/// A rule comes in layer 20, for packets into the port.
+const SPARED: [Step; 7] = [
+    Step::SetUp { stateful: false },
+    Step::AddsBehind,
+    Step::Layers {
+        dir: Dir::Out,
+        control: Control::None,
+        moment: 0,
+        fate: PASS,
+        count: 5,
+        entry: false,
+        why: Why::Miss,
+    },
+    Step::Layers {
+        dir: Dir::In,
+        control: Control::None,
+        moment: 0,
+        fate: BY_DEFAULT,
+        count: 5,
+        entry: false,
+        why: Why::Miss,
+    },
+    Step::PutsBehind,
+    Step::Row {
+        dir: Dir::Out,
+        moment: 0,
+        fate: PASS,
+        count: 6,
+    },
+    Step::Layers {
+        dir: Dir::In,
+        control: Control::None,
+        moment: 0,
+        fate: BY_DEFAULT,
+        count: 6,
+        entry: false,
+        why: Why::Miss,
+    },
+];
+
+#[test]
+fn a_command_leaves_the_rows_that_it_spares(rt: HostRuntime) {
+    assert!(&rt; tried(&rt, rt.alloc(), &SPARED) == Some(None));
+}
+
+/// A layer takes the stamps of all rows when it comes, and when it goes.
+const KEPT: [Step; 9] = [
     Step::SetUp { stateful: false },
     Step::Layers {
         dir: Dir::In,
@@ -401,12 +514,6 @@ const KEPT: [Step; 7] = [
         entry: false,
         why: Why::Miss,
     },
-    Step::Row {
-        dir: Dir::In,
-        moment: 0,
-        fate: BY_DEFAULT,
-        count: 3,
-    },
     Step::Layers {
         dir: Dir::Out,
         control: Control::None,
@@ -416,22 +523,33 @@ const KEPT: [Step; 7] = [
         entry: false,
         why: Why::Miss,
     },
+    Step::AddsBehind,
+    Step::Layers {
+        dir: Dir::Out,
+        control: Control::None,
+        moment: 0,
+        fate: PASS,
+        count: 5,
+        entry: false,
+        why: Why::Miss,
+    },
+    Step::RemovesBehind,
     Step::Reconciles,
     Step::Row {
         dir: Dir::Out,
         moment: 0,
         fate: PASS,
-        count: 4,
+        count: 6,
     },
     Step::Row {
         dir: Dir::In,
         moment: 0,
         fate: BY_DEFAULT,
-        count: 4,
+        count: 6,
     },
 ];
 
 #[test]
-fn a_default_drop_has_a_row_and_reconciling_keeps_rows(rt: HostRuntime) {
+fn all_rows_that_fell_are_compared_again_and_answer(rt: HostRuntime) {
     assert!(&rt; tried(&rt, rt.alloc(), &KEPT) == Some(None));
 }

@@ -13,9 +13,21 @@ const PLAN: Plan = Plan {
     idle: 60,
     linger: 10,
     flows: false,
+    holds: false,
+};
+
+/// Two queries of worker 0, the second while the lock is held.
+const HELD: Plan = Plan {
+    holds: true,
+    ..PLAN
 };
 
 #[test]
 fn each_answer_is_that_of_its_count(rt: HostRuntime) {
     assert!(&rt; tried(&rt, rt.alloc(), &PLAN) == Some(None));
+}
+
+#[test]
+fn a_row_answers_while_another_thread_holds_the_lock(rt: HostRuntime) {
+    assert!(&rt; tried(&rt, rt.alloc(), &HELD) == Some(None));
 }

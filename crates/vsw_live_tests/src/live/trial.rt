@@ -4,7 +4,7 @@ ghost use Rattle.vsw_live.specs.Ports.{AreNewPasses, StandsAt};
 ghost use Rattle.vsw_live_tests.specs.Trials.{IsOpened, IsTried};
 
 use crate::live::commands::Orders;
-use crate::live::counting::is_counted;
+use crate::live::counting::{is_counted, is_held};
 use crate::live::crew::{Actor, Plan, enlist_all, run};
 use crate::live::judging::is_judged;
 use crate::live::opening::open;
@@ -12,10 +12,10 @@ use std::alloc::Global;
 use std::marker::Brand;
 use std::sync::Wait;
 use std::thread::Threads;
+use vsw_flows::PortStory;
 use vsw_live::{LivePort, Naming, OpenPort};
-use vsw_lookup::Pass;
 use vsw_port::Event;
-use vsw_rows::PortStory;
+use vsw_table::Pass;
 
 /// The first worker that was told something wrong, or whose controller was.
 fn first_wrong<J: Naming>(
@@ -25,7 +25,9 @@ fn first_wrong<J: Naming>(
     plan: &Plan,
 ) -> Option<u32> {
     for actor in actors {
-        let is_right = if plan.flows {
+        let is_right = if plan.holds {
+            is_held(actor)
+        } else if plan.flows {
             is_judged(alloc, journal, actor, plan.answers)
         } else {
             is_counted(actor)

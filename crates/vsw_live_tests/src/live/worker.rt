@@ -1,20 +1,22 @@
 //! A worker, which remembers what it was answered.
 
 ghost use Rattle.std.specs.Prelude.{◌≡◌, ◌<◌, IfSome};
-ghost use Rattle.vsw_live.specs.Core.{IsOf};
+ghost use Rattle.vsw_flows.specs.Flows.{IsOf};
 ghost use Rattle.vsw_live.specs.Ports.{AreNewPasses};
 ghost use Rattle.vsw_live_tests.specs.Trials.{Calls};
 
 use crate::live::opening::{PERMITS, pass_of};
 use crate::live::packets::{Packet, crossing, packet_of, query};
+use crate::live::stages::{ASKED, HELD, LEFT, Stages};
 use std::alloc::Global;
 use std::marker::Model;
 use std::sync::Wait;
+use vsw_answer::{Desk, Room, bytes_of};
 use vsw_base::{Control, Dir, Fate};
+use vsw_flows::PortStory;
 use vsw_frame::{Frame, FrameRoom, read_frame};
-use vsw_live::{Answer, Desk, Fast, LivePort, Naming, Room, Unit, Why, bytes_of};
-use vsw_lookup::Pass;
-use vsw_rows::PortStory;
+use vsw_live::{Answer, Fast, LivePort, Naming, Unit, Why};
+use vsw_table::Pass;
 
 /// What a packet was told: its fate, its count, whether it is an entry, why no row answered, and whether its frame leaves
 /// with its own bytes.
@@ -39,12 +41,13 @@ fn told_of(answer: &Answer) -> Answered
     }
 }
 
-/// Whom a packet asks: `fast`, and `slow` where that didn't answer; the same, and the port's lock is held until `fast` has answered; or
-/// both by `forward`.
+/// Whom a packet asks: `fast`, and `slow` where that didn't answer; the same, and the port's lock is held until `fast` has answered, by
+/// this thread or by another that waits for it; or both by `forward`.
 #[derive(Clone, Copy)]
-pub enum By {
+pub enum By<'s> {
     Two,
     Held,
+    Stages(&'s Stages),
     One,
 }
 
@@ -92,6 +95,30 @@ fn by_held<J: Naming, R: Wait>(
     }
 }
 
+/// The same, and another thread holds the port's lock until `fast` has answered.
+fn by_stages<J: Naming, R: Wait>(
+    rt: &R,
+    port: &LivePort<J>,
+    pass: &mut Pass<PortStory>,
+    unit: &Unit<'_>,
+    desk: &mut Desk,
+    room: &mut Room,
+    stages: &Stages,
+) -> Answer
+    requires pass { IsOf port.now.looking pass.old }
+    requires caller { unit.now.crossing.caller ≡ pass.old.view.number }
+    requires permit { 0 < pass.old.view.permits }
+    ensures calls { Calls result.entry pass.old pass.new }
+{
+    stages.wait_for(rt, HELD);
+    let fast = port.fast(pass, unit, desk, room);
+    stages.reach(ASKED);
+    match fast {
+        Fast::Done(answer) => answer,
+        Fast::Slow(ticket) => port.slow(rt, pass, ticket, desk, room),
+    }
+}
+
 /// A packet crosses the port.
 fn cross<J: Naming, R: Wait>(
     rt: &R,
@@ -100,7 +127,7 @@ fn cross<J: Naming, R: Wait>(
     unit: &Unit<'_>,
     desk: &mut Desk,
     room: &mut Room,
-    by: By,
+    by: By<'_>,
 ) -> Answered
     requires pass { IsOf port.now.looking pass.old }
     requires caller { unit.now.crossing.caller ≡ pass.old.view.number }
@@ -110,6 +137,7 @@ fn cross<J: Naming, R: Wait>(
     match by {
         By::Two => told_of(&by_two(rt, port, pass, unit, desk, room)),
         By::Held => told_of(&by_held(rt, port, pass, unit, desk, room)),
+        By::Stages(stages) => told_of(&by_stages(rt, port, pass, unit, desk, room, stages)),
         By::One => told_of(&port.forward(rt, pass, unit, desk, room)),
     }
 }
@@ -191,7 +219,7 @@ impl<'a, J: Naming> Worker<'a, J> {
     }
 
     /// Sends a packet, where it has a permit.
-    pub fn send<R: Wait>(&mut self, rt: &R, by: By, packet: &Packet) -> Option<Answered> {
+    pub fn send<R: Wait>(&mut self, rt: &R, by: By<'_>, packet: &Packet) -> Option<Answered> {
         if self.left == 0 {
             return None;
         }
@@ -228,12 +256,25 @@ impl<'a, J: Naming> Worker<'a, J> {
 
     /// Sends its next packet, and remembers the answer. Whether it did.
     pub fn go<R: Wait>(&mut self, rt: &R, flows: bool) -> bool {
+        self.go_by(rt, By::One, flows)
+    }
+
+    /// The same, asking so.
+    fn go_by<R: Wait>(&mut self, rt: &R, by: By<'_>, flows: bool) -> bool {
         let packet = self.next(flows);
-        let Some(answered) = self.send(rt, By::One, &packet) else {
+        let Some(answered) = self.send(rt, by, &packet) else {
             return false;
         };
         self.sent = self.sent.wrapping_add(1);
         self.notes.push(answered).is_ok()
+    }
+
+    /// Leaves a row for the query, and asks the rows once more while another thread holds the lock. Remembers both answers.
+    pub fn ask_while_held<R: Wait>(&mut self, rt: &R, stages: &Stages) {
+        self.go(rt, false);
+        stages.reach(LEFT);
+        self.go_by(rt, By::Stages(stages), false);
+        stages.reach(ASKED);
     }
 
     pub fn number(&self) -> u32 {

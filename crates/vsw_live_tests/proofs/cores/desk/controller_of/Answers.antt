@@ -1,6 +1,6 @@
 use Rattle.std.proofs.Common.{◌+◌, ◌∙◌, ap, ℕ}
 use Rattle.vsw_core.proofs.Begins.{pass_begins}
-use Rattle.vsw_rows.specs.Rows.{Writing}
+use Rattle.vsw_flows.specs.Flows.{Writing}
 use Rattle.vsw_live_tests.proofs.cores.desk.controller_of.Goals as goal
 
 pub loop-number-preserved : goal.loop-number-preserved

@@ -1,6 +1,6 @@
 use Rattle.std.proofs.Common.{◌+◌, ◌∙◌, ap, ℕ}
 use Rattle.vsw_core.proofs.Begins.{pass_begins}
-use Rattle.vsw_rows.specs.Rows.{Writing}
+use Rattle.vsw_flows.specs.Flows.{Writing}
 use Rattle.vsw_live_tests.proofs.cores.desk.seated.Goals as goal
 
 pub controller_of-controller-requires-clause-begins : goal.controller_of-controller-requires-clause-begins

@@ -5,12 +5,12 @@ use denote.RattleType.{RattleType}
 use denote.Ref.{NamedLft}
 use Rattle.std.proofs.Crossing.{crosses}
 use Rattle.std.proofs.option.Option.TheSendSync as option
-use Rattle.vsw_sole.proofs.desk.Desk.TheSendSync as desk
+use Rattle.vsw_answer.proofs.desk.Desk.TheSendSync as desk
 use Rattle.vsw_port.proofs.event.Event.TheSendSync as event
 use Rattle.vsw_live.specs.declared.naming.Naming as Naming
-use Rattle.vsw_lookup.proofs.lookup.Pass.TheSendSync as pass
+use Rattle.vsw_table.proofs.lookup.Pass.TheSendSync as pass
 use Rattle.vsw_live.proofs.Sharing.{port_sync}
-use Rattle.vsw_sole.proofs.room.Room.TheSendSync as room
+use Rattle.vsw_answer.proofs.room.Room.TheSendSync as room
 use Rattle.vsw_live_tests.specs.contracts.live.controller.Controller as Controller
 use Rattle.vsw_live_tests.specs.contracts.live.controller.Controller.TheInside as controller
 use Rattle.vsw_live_tests.specs.contracts.live.crew.Actor as Actor

@@ -1,4 +1,4 @@
-//! Rows of some identities, and all that they lean on.
+//! Rows of some identities, and what they lean on.
 
 ghost use Rattle.std.specs.Prelude.{◌<◌, ◌^◌};
 
@@ -6,8 +6,6 @@ use crate::lean::packets::packet;
 use crate::lean::trial::{Row, Trial};
 use std::alloc::Global;
 use vsw_base::{Control, Ufid};
-use vsw_policy::HashSeed;
-use vsw_rows::Leaning;
 use vsw_walk::Looked;
 
 /// Rows that are all current.
@@ -16,7 +14,6 @@ pub struct Rows {
     ids: Vec<Ufid>,
     rows: Vec<Row>,
     pub looks: Vec<Looked>,
-    pub leaning: Leaning,
 }
 
 /// Appends a row and what was looked for. Whether memory sufficed.
@@ -42,7 +39,6 @@ impl Rows {
             ids: Vec::new(alloc),
             rows: Vec::new(alloc),
             looks: Vec::new(alloc),
-            leaning: Leaning::new(alloc, &HashSeed::known()),
         }
     }
 
@@ -55,15 +51,7 @@ impl Rows {
     pub fn renew(&mut self, trial: &mut Trial) -> bool {
         self.rows.clear();
         self.looks.clear();
-        if !walk_all(&self.ids, &mut self.rows, &mut self.looks, trial) {
-            return false;
-        }
-        if self.leaning.reserve(self.looks.len()).is_err() {
-            return false;
-        }
-        self.leaning.clear();
-        self.leaning.enter(&self.looks);
-        true
+        walk_all(&self.ids, &mut self.rows, &mut self.looks, trial)
     }
 
     /// Whether each row is what a walk gives.

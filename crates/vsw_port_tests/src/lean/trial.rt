@@ -80,17 +80,13 @@ impl Trial {
 
 impl Trial {
     /// The packet is walked, and its walk carried out. Whether it changed the layers, and whether its changes
-    /// shake a row. None where the rows' looks tell it, and what they lean on doesn't, or the other way round.
+    /// shake a row.
     pub fn cross(&mut self, crossing: &Crossing, rows: &Rows) -> Option<(bool, bool)> {
         if !have_numbers(self.policy.layers()) {
             return None;
         }
         let walked = walk(&self.policy, crossing, &mut self.scratch);
-        let changes = self.scratch.changes();
-        let shaken = shake(self.policy.layers(), changes, &rows.looks);
-        if rows.leaning.is_shaken(self.policy.layers(), changes) != shaken {
-            return None;
-        }
+        let shaken = shake(self.policy.layers(), self.scratch.changes(), &rows.looks);
         match commit(&mut self.policy, crossing, &walked, &self.scratch) {
             Ok(changed) => Some((changed, shaken)),
             Err(_) => Some((false, false)),

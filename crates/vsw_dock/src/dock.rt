@@ -9,11 +9,11 @@ ghost use Rattle.vsw_dock.specs.Private.Does.{Does};
 ghost use Rattle.vsw_rows.specs.GoodRows.{opening_of};
 
 use crate::station::Station;
-use crate::watch::Watch;
 use std::alloc::Global;
 use std::marker::Model;
 use std::sync::Wait;
 use vsw_actors::{Packet, Port, RowPort, Work};
+use vsw_answer::Watch;
 use vsw_base::Mac;
 use vsw_frame::{FrameRoom, read_frame};
 use vsw_live::{LivePort, Naming};

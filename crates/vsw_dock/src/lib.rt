@@ -6,7 +6,6 @@ mod law;
 mod meeting;
 mod opening;
 mod station;
-mod watch;
 
 pub use dock::Dock;
 pub use law::laws;
@@ -14,5 +13,5 @@ pub use meeting::{count_of, hold_all, meet_row};
 pub use opening::{OpenDocks, dock_all, open_ports, rows_of};
 pub use station::Station;
 pub use vsw_actors::{Lane, Lineup, Placed, Work, deal, run_rows, step_at};
-pub use vsw_live::{Answer, Held, Naming, OpenPort, Why, name_all};
-pub use watch::Watch;
+pub use vsw_answer::{Answer, Watch, Why};
+pub use vsw_live::{Held, Naming, OpenPort, name_all};

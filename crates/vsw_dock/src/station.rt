@@ -21,12 +21,12 @@ use std::marker::Model;
 use std::mem::replace;
 use std::sync::Wait;
 use vsw_actors::Packet;
-use vsw_answer::{Desk, Room, bytes_of};
+use vsw_answer::{Answer, Desk, Room, bytes_of};
 use vsw_base::{Control, Crossing, Dir, Moment, NoMemory, Sizes, Stack, Ufid};
 use vsw_commandfile::Line;
 use vsw_flows::PortStory;
 use vsw_frame::Frame;
-use vsw_live::{Answer, Held, LivePort, Naming, Told, Unit};
+use vsw_live::{Held, LivePort, Naming, Told, Unit};
 use vsw_report::Caller;
 use vsw_table::Pass;
 

@@ -6,10 +6,11 @@ use Rattle.vsw_base.specs.declared.header.Header.{Header}
 use Rattle.vsw_port.specs.Calls.{Shows}
 use Rattle.vsw_port.specs.History.{Opening}
 use Rattle.vsw_policy.specs.Layer.{LayerSeen}
-use Rattle.vsw_live.specs.declared.why.Why.{Why}
+use Rattle.vsw_answer.specs.declared.told.Why.{Why}
 use Rattle.vsw_live.specs.Calls.{Crosses, call_of}
 use Rattle.vsw_live.specs.Private.Locked.{CrossesSo, IsFateAt, layers_met}
-use Rattle.vsw_live.specs.Seen.{AnswerSeen, UnitSeen}
+use Rattle.vsw_answer.specs.Seen.{AnswerSeen}
+use Rattle.vsw_live.specs.Seen.{UnitSeen}
 use Rattle.vsw_port.specs.declared.crossing.Outcome.{Outcome}
 use Rattle.vsw_port.specs.Crossed.{EditsPass, IsOwn}
 use Rattle.vsw_flows.specs.Flows.{Writing}

@@ -12,11 +12,12 @@ use Rattle.vsw_port.specs.Calls.IsCall.{Read}
 use Rattle.vsw_port.specs.History.{Opening, replay}
 use Rattle.vsw_port.proofs.Fronts.{append_end, prefix_length, prefix_trans}
 use Rattle.vsw_live.specs.declared.answer.Fast.TheVariants.{Done}
-use Rattle.vsw_live.specs.declared.why.Why.{Why}
-use Rattle.vsw_live.specs.declared.why.Why.TheVariants.{Control, Miss, Late}
+use Rattle.vsw_answer.specs.declared.told.Why.{Why}
+use Rattle.vsw_answer.specs.declared.told.Why.TheVariants.{Control, Miss, Late, Light}
 use Rattle.vsw_live.specs.Calls.{Causes, Crosses, HasCause, IsFast, KeepsLook, Looks}
 use Rattle.vsw_live.specs.Private.Locked.{IsFateAt}
-use Rattle.vsw_live.specs.Seen.{AnswerSeen, UnitSeen}
+use Rattle.vsw_answer.specs.Seen.{AnswerSeen}
+use Rattle.vsw_live.specs.Seen.{UnitSeen}
 use Rattle.vsw_table.specs.Held as held
 use Rattle.vsw_port.specs.declared.crossing.Outcome.{Outcome}
 use Rattle.vsw_rows.specs.GoodRows.{opening_of}
@@ -87,6 +88,7 @@ look_first o p m q c k x =
 
 causes_on : (l : Looking) (x : Crossing) (p m q : Writing) (h : List Event) (why : Why) → Causes l x p.view m.view h why → KeepsLook m.view q.view → Causes l x p.view q.view h why
 causes_on l x p m q h Control c k = (c.0, k.looks ∙ c.1)
+causes_on l x p m q h Light c k = absurd c
 causes_on l x p m q h Miss c k = record { control = c.control; begun = omega (arith, c.begun, k.looks); missed = rw k.last c.missed }
 causes_on l x p m q h Late c k = record { control = c.control; begun = omega (arith, c.begun, k.looks); row = c.row; hit = rw k.last c.hit; id = c.id; good = c.good; late = c.late }
 

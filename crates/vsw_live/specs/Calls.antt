@@ -13,9 +13,10 @@ use Rattle.vsw_port.specs.History.{Opening}
 use Rattle.vsw_live.specs.declared.answer.Fast.{Fast}
 use Rattle.vsw_live.specs.declared.answer.Fast.TheVariants.{Done, Slow}
 use Rattle.vsw_live.specs.declared.answer.Told.{Told}
-use Rattle.vsw_live.specs.declared.why.Why.{Why}
-use Rattle.vsw_live.specs.declared.why.Why.TheVariants.{Control, Miss, Late}
-use Rattle.vsw_live.specs.Seen.{AnswerSeen, UnitSeen}
+use Rattle.vsw_answer.specs.declared.told.Why.{Why}
+use Rattle.vsw_answer.specs.declared.told.Why.TheVariants.{Control, Miss, Late, Light}
+use Rattle.vsw_answer.specs.Seen.{AnswerSeen}
+use Rattle.vsw_live.specs.Seen.{UnitSeen}
 use Rattle.vsw_table.specs.Held as held
 use Rattle.vsw_rows.specs.GoodRows.{opening_of}
 use Rattle.vsw_answer.specs.Transit.{bytes_in, len_of}
@@ -52,11 +53,12 @@ pub record Looks (p q : Writing) : Type 0 where
   pub reads : held.IsRead p.view q.view
 
 -- why no row answers a packet, whose look had then seen this history: it has a control, and isn't looked for; or this call's look missed; or the row
--- that this look hit has an until below the packet's moment
+-- that this look hit has an until below the packet's moment. A row is always looked for, also where a walk is light
 abbrev pub Causes : Looking → Crossing → Pass → Pass → List Event → Why → Type 0
 Causes l x p q h Control = (x.control ≢ control.None) × (q.looks ≡ p.looks)
 Causes l x p q h Miss = Misses l x p q
 Causes l x p q h Late = HitsLate l x p q h
+Causes l x p q h Light = ⊥
 
 -- a row answered the packet: it has no control, this call's look hit, and the until of the row that it hit isn't below the packet's moment
 pub record IsByRow (l : Looking) (x : Crossing) (p q : Pass) (a : AnswerSeen) : Type 0 where

@@ -9,12 +9,10 @@ mod locked;
 mod naming;
 mod opening;
 mod unit;
-mod why;
 
-pub use answer::{Answer, Fast, Ticket, Told};
+pub use answer::{Fast, Ticket, Told};
 pub use held::Held;
 pub use live::LivePort;
 pub use naming::Naming;
 pub use opening::{OpenPort, name_all};
 pub use unit::Unit;
-pub use why::Why;

@@ -2,8 +2,9 @@
 
 use crate::live::crew::Actor;
 use crate::live::worker::Answered;
+use vsw_answer::Why;
 use vsw_base::Fate;
-use vsw_live::{Naming, Told, Why};
+use vsw_live::{Naming, Told};
 
 /// How many packets a worker sends.
 pub const PACKETS: usize = 500;

@@ -10,9 +10,10 @@ use crate::live::worker::{Answered, By, Worker};
 use std::alloc::Global;
 use std::marker::Brand;
 use std::sync::Wait;
+use vsw_answer::Why;
 use vsw_base::{Cause, Control, Dir, Fate};
 use vsw_flows::PortStory;
-use vsw_live::{LivePort, Naming, OpenPort, Why};
+use vsw_live::{LivePort, Naming, OpenPort};
 use vsw_rule::Action;
 use vsw_table::Pass;
 

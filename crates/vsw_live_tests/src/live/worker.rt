@@ -11,11 +11,11 @@ use crate::live::stages::{ASKED, HELD, LEFT, Stages};
 use std::alloc::Global;
 use std::marker::Model;
 use std::sync::Wait;
-use vsw_answer::{Desk, Room, bytes_of};
+use vsw_answer::{Answer, Desk, Room, Why, bytes_of};
 use vsw_base::{Control, Dir, Fate};
 use vsw_flows::PortStory;
 use vsw_frame::{Frame, FrameRoom, read_frame};
-use vsw_live::{Answer, Fast, LivePort, Naming, Unit, Why};
+use vsw_live::{Fast, LivePort, Naming, Unit};
 use vsw_table::Pass;
 
 /// What a packet was told: its fate, its count, whether it is an entry, why no row answered, and whether its frame leaves

@@ -39,5 +39,5 @@ module _ (J : RattleType) (n : Naming.Ghosts J.Denot) (s : IsSend J) where
 
   pub port_sync : IsSync (LivePort.the_row J n)
   port_sync =
-      let fields : FieldsHave IsSync ((live.the_type J n).parts) = (search sendable, (search sendable, (search (event.the_send, lookup.the_sync), (search sendable, (search (crosses, locked_send), tt))))) in
+      let fields : FieldsHave IsSync ((live.the_type J n).parts) = (search sendable, (search sendable, (search (event.the_send, lookup.the_sync), (search crosses, (search (crosses, locked_send), tt))))) in
       view_sync _ _ _ _ _ (declared_sync (live.the_type J n) fields)

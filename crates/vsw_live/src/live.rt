@@ -22,7 +22,7 @@ use crate::locked::{Locked, ROWS_AT_ONCE};
 use crate::naming::Naming;
 use crate::unit::Unit;
 use std::marker::Model;
-use std::sync::atomic::{AtomicU32, Ordering};
+use std::sync::atomic::{AtomicU64, Ordering};
 use std::sync::{Mutex, MutexGuard, Wait};
 use vsw_answer::{Answer, Desk, Room, RowAnswer, Why, answer_by_row};
 use vsw_base::{Crossing, NoMemory};
@@ -41,7 +41,7 @@ pub struct LivePort<J: Naming> {
     lookup: Lookup<PortStory>,
     /// How many rows were left to be compared when the lock was let go last. It is a hint, so that who finds nothing to do needn't
     /// take the lock: where it is too low, rows are compared later, which costs walks.
-    stale: AtomicU32,
+    stale: AtomicU64,
     core: Mutex<Locked<J>>,
 }
 
@@ -83,7 +83,7 @@ impl<J: Naming> LivePort<J> {
             place,
             passes,
             lookup,
-            stale: AtomicU32::new(0),
+            stale: AtomicU64::new(0),
             core: Mutex::new(core),
         }
     }
@@ -218,7 +218,7 @@ impl<J: Naming> LivePort<J> {
     {
         let mut core = self.lock(rt);
         let told = core.command(&self.lookup, pass, line, controller, command);
-        self.stale.store(core.stale(), Ordering::SeqCst);
+        self.stale.store(u64::from(core.stale()), Ordering::SeqCst);
         told
     }
 
@@ -233,7 +233,7 @@ impl<J: Naming> LivePort<J> {
         }
         let mut held = self.hold(rt);
         held.reconcile(row);
-        self.stale.store(held.stale(), Ordering::SeqCst);
+        self.stale.store(u64::from(held.stale()), Ordering::SeqCst);
     }
 
     /// What the pass has seen, to be handed to another.

@@ -1,4 +1,4 @@
-use Rattle.std.proofs.Common.{◌≡◌, ◌∙◌, Some, ap, arith, map, sym}
+use Rattle.std.proofs.Common.{◌≡◌, ◌∙◌, ap, arith, map, sym}
 use Rattle.std.specs.List.{slice_get}
 use Rattle.vsw_policy.specs.declared.command.Command.TheVariants.{PutRules}
 use Rattle.vsw_policy.specs.Layer.{seen}

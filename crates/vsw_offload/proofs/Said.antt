@@ -1,5 +1,5 @@
 -- Words say one row.
-use Rattle.std.proofs.Common.{◌≡◌, ◌<◌, ◌^◌, ℕ, List, [], ◌∷◌, ◌++◌, length, drop, ◌==◌, true, false, true≢false, eq-eqb, refl, ap, sym, ◌∙◌, arith}
+use Rattle.std.proofs.Common.{◌≡◌, ◌<◌, ◌^◌, ℕ, List, [], ◌∷◌, ◌++◌, length, drop, ◌==◌, false, true≢false, eq-eqb, refl, ap, sym, ◌∙◌, arith}
 use Rattle.std.proofs.Math.Seq.{drop-append_seam}
 use Rattle.std.specs.Prelude.{Some}
 use Rattle.vsw_base.specs.declared.fate.Verdict.{Verdict}

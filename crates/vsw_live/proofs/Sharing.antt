@@ -28,7 +28,7 @@ ledger_send =
 
 core_send : IsSend Core.the_row
 core_send =
-    let fields : FieldsHave IsSend ((core.the_type).parts) = (ledger_send, (rows.the_send, (scratch.the_send, (scratch.the_send, (rooms.the_send, (former.the_send, (search sendable, tt))))))) in
+    let fields : FieldsHave IsSend ((core.the_type).parts) = (ledger_send, (rows.the_send, (scratch.the_send, (scratch.the_send, (rooms.the_send, (former.the_send, (search sendable, (search sendable, tt)))))))) in
     view_send _ _ _ _ _ (declared_send core.the_type fields)
 
 module _ (J : RattleType) (n : Naming.Ghosts J.Denot) (s : IsSend J) where

@@ -1,6 +1,6 @@
 //! A port whose lock is held.
 
-ghost use Rattle.std.specs.Prelude.{◌≡◌, ◌≤◌, ◌+◌, length, IsOk, OnErr, OnOk};
+ghost use Rattle.std.specs.Prelude.{◌≡◌, ◌≤◌, ◌<◌, ◌+◌, length, IsOk, OnErr, OnOk};
 ghost use Rattle.vsw_flows.specs.Flows.{IsOf};
 ghost use Rattle.vsw_live.specs.Meeting.{AllMeet, AreOf, IsRightAt, Meets};
 ghost use Rattle.vsw_live.specs.Calls.{KeepsLook};

@@ -1,19 +1,21 @@
--- A port under its lock: what contracts see of it, how it begins, and what a call leaves.
-use Rattle.std.specs.Prelude.{◌≡◌, ◌≤◌, ◌+◌, ℕ, List, [], ◌∷◌, Some}
-use Rattle.atomic_table.specs.Seated.{TableId}
+-- A port under its lock: what contracts see of it, how it begins, and what it keeps.
+use Rattle.std.specs.Prelude.{◌≡◌, ◌≤◌, ◌+◌, ◌==◌, ℕ, zero, suc, List, [], ◌∷◌, Bool, Some, if◌then◌else◌}
 use Rattle.vsw_base.specs.declared.header.Header.{Header}
 use Rattle.vsw_port.specs.declared.event.Event.{Event}
 use Rattle.vsw_policy.specs.Layer.{LayerSeen}
-use Rattle.vsw_lookup.specs.Rules.{row_at, stamp_at}
 use Rattle.vsw_policy.specs.Layers.{PolicySeen}
 use Rattle.vsw_port.specs.Ledger.{LedgerSeen}
-use Rattle.vsw_rows.specs.Rows.{IsEmpty, Writing, layers_after}
 use Rattle.vsw_rows.specs.GoodRows.{opening_of}
+use Rattle.vsw_rows.specs.Rows.{IsEmpty, layers_after}
+use Rattle.vsw_table.specs.Rules.{row_at, stamp_at}
+use Rattle.vsw_flows.specs.Flows.{Writing}
 
--- the right to write rows, whose history is the port's, and the headers with which the walk of the last packet ended
+-- the right to write rows, whose history is the port's, the headers with which the walk of the last packet ended, and whether the last packet that
+-- was to leave a row has one that stands
 pub record CoreSeen : Type 0 where
   pub writer : Writing
   pub edited : List Header
+  pub left : Bool
 
 -- the entries of the port, oldest first
 abbrev pub history_of : CoreSeen → List Event
@@ -23,25 +25,20 @@ history_of c = c.writer.view.history
 abbrev pub layers_of : PolicySeen → CoreSeen → List LayerSeen
 layers_of p c = layers_after p (history_of c)
 
--- a lookup as contracts see it: its table, the policy that its port began with, and how many rows it has
-abbrev pub Looking : Type 0
-Looking = TableId × PolicySeen × ℕ
-
--- a writer or a pass of this lookup
-pub record IsOf (l : Looking) (v : Writing) : Type 0 where
-  pub table : v.table ≡ l.0
-  pub opens : v.view.opening ≡ Some l.1
-
 -- the sum of permits
 abbrev pub total : List ℕ → ℕ
 total [] = 0
 total (n ∷ ns) = n + total ns
 
--- a writer at the beginning: there is no entry and no permit, and all rows are empty
+-- how many of the first rows are current
+abbrev pub current_among : ℕ → Writing → ℕ
+current_among zero v = 0
+current_among (suc n) v = current_among n v + (if stamp_at v.view.stamps n == 0 then 0 else 1)
+
+-- a writer at the beginning: there is no entry and no permit, and all rows are empty and say nothing
 pub record Begins (p : PolicySeen) (v : Writing) : Type 0 where
   pub opens : v.view.opening ≡ Some p
   pub history : v.view.history ≡ []
-  pub generation : v.view.generation ≡ 1
   pub stamps : (place : ℕ) → stamp_at v.view.stamps place ≡ 0
   pub rows : (place : ℕ) → IsEmpty (row_at v.view.rows place)
   pub permits : total v.view.kept ≡ 0

@@ -1,5 +1,5 @@
 -- The row that a packet leaves for those of its identity that follow.
-use Rattle.std.specs.Prelude.{◌≡◌, ◌<◌, ◌≤◌, ◌+◌, ◌%◌, ℕ, List, false, slice_set}
+use Rattle.std.specs.Prelude.{◌≡◌, ◌≤◌, ℕ, List, Bool, false}
 use Rattle.vsw_base.specs.declared.fate.Cause.TheVariants as cause
 use Rattle.vsw_base.specs.declared.fate.Fate.{Fate}
 use Rattle.vsw_base.specs.declared.fate.Fate.TheVariants.{Pass, Drop}
@@ -9,10 +9,15 @@ use Rattle.vsw_base.specs.declared.packet.Control.TheVariants as control
 use Rattle.vsw_port.specs.Cross.{cross_of}
 use Rattle.vsw_port.specs.Fate.{fate_at}
 use Rattle.vsw_policy.specs.Layer.{LayerSeen}
+use Rattle.vsw_port.specs.declared.event.Event.TheVariants as event
 use Rattle.vsw_rows.specs.Good.{Good, Row}
-use Rattle.vsw_lookup.specs.Rules.{row_at, stamp_at}
-use Rattle.vsw_rows.specs.Rows.{IsCurrent, IsProbed, Says, Writing}
+use Rattle.vsw_rows.specs.Rows.{IsProbed, Says}
+use Rattle.vsw_table.specs.Rules.{row_at}
 use Rattle.vsw_words.specs.Key.{key_words}
+use Rattle.vsw_flows.specs.declared.places.Found.TheVariants.{Free}
+use Rattle.vsw_flows.specs.Finding.{IsFound}
+use Rattle.vsw_flows.specs.Flows.{IsCurrent, Puts, Writing}
+use Rattle.vsw_core.specs.Calls.{FallsBy}
 
 -- the place is one of the eight, of so many rows, at which a row of this identity may stand
 abbrev pub IsPlaceOf : ℕ → Ufid → ℕ → Type 0
@@ -33,10 +38,9 @@ pub record StandsUntil (rows : ℕ) (ls : List LayerSeen) (v : Writing) (id : Uf
   pub good : Good ls row
   pub lasts : moment ≤ row.until
 
--- there is a place for a row: one of the eight isn't current, or has the identity's own row, which is late
-pub data HasPlace (rows : ℕ) (v : Writing) (id : Ufid) (moment : ℕ) : Type 0 where
-  Stale : (place : ℕ) → IsPlaceOf rows id place → stamp_at v.view.stamps place < v.view.generation → HasPlace rows v id moment
-  Late : (place : ℕ) (row : Row) → Stands rows v id place row → row.until < moment → HasPlace rows v id moment
+-- none does
+abbrev pub NoneStands : ℕ → Writing → Ufid → Type 0
+NoneStands rows v id = (place : ℕ) (row : Row) → Stands rows v id place row → ⊥
 
 -- the fate is that of a walk: a pass, or a drop by a rule or a default
 abbrev pub IsByWalk : Fate → Type 0
@@ -50,17 +54,23 @@ pub record IsSettled (ls : List LayerSeen) (x : Crossing) : Type 0 where
   pub still : (cross_of ls x).changed ≡ false
   pub fate : IsByWalk (fate_at ls x)
 
--- a row that a packet may write: it is of the packet's identity, at one of its places, and good at these layers. The packet has no control
-pub record MayWrite (rows : ℕ) (ls : List LayerSeen) (x : Crossing) (place : ℕ) (words : List ℕ) : Type 0 where
+-- a row that a packet may put: it is of the packet's identity, and good at these layers. The packet has no control, and the place is one where no
+-- current row of the identity stands, and any current one only where all eight are current
+pub record MayWrite (rows : ℕ) (ls : List LayerSeen) (x : Crossing) (v : Writing) (place : ℕ) (words : List ℕ) : Type 0 where
   pub plain : x.control ≡ control.None
-  pub probed : IsPlaceOf rows x.id place
+  pub free : IsFound rows (key_words x.id.dir x.id.stack) v (Free place)
   pub row : Row
   pub same : row.id ≡ x.id
   pub says : Says words row
   pub good : Good ls row
 
--- at most one row was written, such a one, where none was current
+-- at most one row was put, such a one. Others may have given way to it
 pub data WritesOne (rows : ℕ) (ls : List LayerSeen) (x : Crossing) (v w : Writing) : Type 0 where
-  None : w.view.stamps ≡ v.view.stamps → w.view.rows ≡ v.view.rows → WritesOne rows ls x v w
-  One : (place : ℕ) (words : List ℕ) → MayWrite rows ls x place words → stamp_at v.view.stamps place < w.view.generation
-      → w.view.stamps ≡ slice_set v.view.stamps place w.view.generation → w.view.rows ≡ slice_set v.view.rows place words → WritesOne rows ls x v w
+  None : w ≡ v → WritesOne rows ls x v w
+  One : (place : ℕ) (words : List ℕ) (done : Bool) → MayWrite rows ls x v place words → Puts v w place words done → WritesOne rows ls x v w
+
+-- what a packet leaves of the rows: those fell that its entry shakes at the layers before, and then it put one row at most, which is good at those after
+pub record Leaves (rows : ℕ) (ls ms : List LayerSeen) (x : Crossing) (fate : Fate) (v w : Writing) : Type 0 where
+  pub between : Writing
+  pub falls : FallsBy ls (event.Crossing x fate) v between
+  pub writes : WritesOne rows ms x between w

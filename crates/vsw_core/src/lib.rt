@@ -2,6 +2,7 @@
 #![tactic(auto)]
 
 mod commanding;
+mod counting;
 mod crossing;
 mod granting;
 mod light;
@@ -11,4 +12,3 @@ mod rooms;
 mod writing;
 
 pub use owner::{Core, Reconciled};
-pub use vsw_rows::PortStory;

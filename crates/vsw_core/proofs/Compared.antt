@@ -1,5 +1,5 @@
 -- A row that was compared with the walk of its packets.
-use Rattle.std.proofs.Common.{◌≡◌, ◌≤◌, ◌<◌, ◌-◌, ◌++◌, ◌⊎◌, ℕ, List, [], ◌∷◌, Bool, true, false, true≢false, refl, sym, ap, subst, ◌∙◌, arith, inl, inr, length, take, drop, slice_set, get_or-set_same}
+use Rattle.std.proofs.Common.{◌≡◌, ◌≤◌, ◌<◌, ◌-◌, ◌++◌, ◌⊎◌, ℕ, zero, suc, List, [], ◌∷◌, Bool, true, false, true≢false, refl, sym, ap, subst, ◌∙◌, arith, inl, inr, length, take, drop}
 use Rattle.std.specs.Prelude.{not, nat_le}
 use Rattle.std.proofs.Math.Seq.{drop-append_seam}
 use Rattle.vsw_base.specs.declared.fate.Verdict.{Verdict}
@@ -10,9 +10,9 @@ use Rattle.vsw_base.specs.declared.packet.Control.TheVariants as control
 use Rattle.vsw_port.specs.Cross.{makes}
 use Rattle.vsw_core.specs.Private.Comparing.{IsCompared, IsRead, IsSame, row_by}
 use Rattle.vsw_core.specs.Private.Steps.{wants_change}
-use Rattle.vsw_core.specs.Reconciling.{Agrees, IsChanged, IsCleared, IsKept, IsOld, WantsPair}
+use Rattle.vsw_core.specs.Reconciling.{Agrees, IsChanged, IsCleared, IsKept, IsOld, IsShort, OthersStay, WantsPair}
 use Rattle.vsw_core.specs.Walks.{IsWholeWalk, SaysRowOf}
-use Rattle.vsw_core.proofs.Published.{key_of}
+use Rattle.vsw_core.proofs.Published.{key_of, words_stay}
 use Rattle.vsw_core.proofs.Walked.{ActsOf, fresh_row, row_said}
 use Rattle.vsw_policy.specs.Layer.{LayerSeen}
 use Rattle.vsw_rows.specs.Good.{Row}
@@ -20,8 +20,9 @@ use Rattle.vsw_rows.specs.LeanLaw.{wants_none}
 use Rattle.vsw_rows.specs.Way.{plain, way_of}
 use Rattle.vsw_rows.proofs.Answered.{quiet_until}
 use Rattle.vsw_rows.proofs.Ways.{walk_makes}
-use Rattle.vsw_lookup.specs.Rules.{row_at, stamp_at}
-use Rattle.vsw_rows.specs.Rows.{IsEmpty, IsFormed, IsFresh, Says, Writing}
+use Rattle.vsw_table.specs.Rules.{row_at, stamp_at}
+use Rattle.vsw_rows.specs.Rows.{IsEmpty, IsFormed, IsFresh, Says}
+use Rattle.vsw_flows.specs.Flows.{Puts, Writing}
 use Rattle.vsw_rows.proofs.Answers.{key_length, words_are}
 use Rattle.vsw_walk.specs.declared.scratch.Wanted.{Wanted}
 use Rattle.vsw_walk.specs.declared.walking.Walked.{Walked}
@@ -149,14 +150,11 @@ kept_fresh ls words x b w t new c s are =
     (same_acts x b w t s c.read.says.body.bare) (are ∙ ap (λ v. row_words x.id v b.by w.until) s.verdict) ls c.walk in
     fresh_row ls x w t new c.walk said
 
--- the writer once a row was put
-abbrev pub putting : Writing → ℕ → List ℕ → Writing
-putting v place new = record v { view = record v.view { rows = slice_set v.view.rows place new; stamps = slice_set v.view.stamps place v.view.generation } }
-
-kept_at : (ls : List LayerSeen) (v : Writing) (place : ℕ) (x : Crossing) (b : Body) (w : Walked) (t : Told) (new : List ℕ) → IsOld v place → IsCompared ls (row_at v.view.rows place) x b w t → IsSame x.id.stack b w t
-    → Says new (record (row_by x b) { until = w.until }) → (place < length v.view.stamps) × (place < length v.view.rows) → IsKept ls v (putting v place new) place
+-- what a put makes of it
+pub kept_is : (ls : List LayerSeen) (v u : Writing) (place : ℕ) (x : Crossing) (b : Body) (w : Walked) (t : Told) (new : List ℕ) (done : Bool) → done ≡ true → Puts v u place new done → IsOld v place → IsCompared ls (row_at v.view.rows place) x b w t → IsSame x.id.stack b w t
+    → Says new (record (row_by x b) { until = w.until }) → IsKept ls v u place
 unfolding way_of
-kept_at ls v place x b w t new old c s says there =
+kept_is ls v u place x b w t new done d puts old c s says =
     let h : IsWholeWalk ls (plain x.id) w t = plain_walk ls x w t c.read.packet c.walk in
     let until : w.until ≡ (way_of ls x.id).until = h.until in
     record {
@@ -165,17 +163,13 @@ kept_at ls v place x b w t new old c s says there =
       says = c.read.says;
       agrees = agrees_is ls x b w t h s;
       wants = no_pair ls x b w t h c.quiet;
-      current = get_or-set_same v.view.stamps place v.view.generation 0 there.0;
-      written = subst (λ row. Says row (record (row_by x b) { until = (way_of ls x.id).until })) (sym (get_or-set_same v.view.rows place new [] there.1)) (subst (λ n. Says new (record (row_by x b) { until = n })) until says);
+      current = (puts.put d).1;
+      written = subst (λ row. Says row (record (row_by x b) { until = (way_of ls x.id).until })) (sym (puts.reads d)) (subst (λ n. Says new (record (row_by x b) { until = n })) until says);
     }
 
-pub kept_is : (ls : List LayerSeen) (v u : Writing) (place : ℕ) (x : Crossing) (b : Body) (w : Walked) (t : Told) (new : List ℕ) → u ≡ putting v place new → IsOld v place → IsCompared ls (row_at v.view.rows place) x b w t → IsSame x.id.stack b w t
-    → Says new (record (row_by x b) { until = w.until }) → (place < length v.view.stamps) × (place < length v.view.rows) → IsKept ls v u place
-kept_is ls v u place x b w t new e old c s says there = subst (λ y. IsKept ls v y place) (sym e) (kept_at ls v place x b w t new old c s says there)
-
-changed_at : (ls : List LayerSeen) (v : Writing) (place : ℕ) (x : Crossing) (b : Body) (w : Walked) (t : Told) (new : List ℕ) → IsOld v place → IsCompared ls (row_at v.view.rows place) x b w t → (IsSame x.id.stack b w t → ⊥)
-    → SaysRowOf ls x new → (place < length v.view.stamps) × (place < length v.view.rows) → IsChanged ls v (putting v place new) place
-changed_at ls v place x b w t new old c differs said there =
+pub changed_is : (ls : List LayerSeen) (v u : Writing) (place : ℕ) (x : Crossing) (b : Body) (w : Walked) (t : Told) (new : List ℕ) (done : Bool) → done ≡ true → Puts v u place new done → IsOld v place → IsCompared ls (row_at v.view.rows place) x b w t → (IsSame x.id.stack b w t → ⊥)
+    → SaysRowOf ls x new → IsChanged ls v u place
+changed_is ls v u place x b w t new done d puts old c differs said =
     let h : IsWholeWalk ls (plain x.id) w t = plain_walk ls x w t c.read.packet c.walk in
     record {
       row = row_by x b;
@@ -184,12 +178,30 @@ changed_at ls v place x b w t new old c differs said there =
       says = c.read.says;
       differs = λ a. differs (agrees_same ls x b w t h a);
       wants = no_pair ls x b w t h c.quiet;
-      current = get_or-set_same v.view.stamps place v.view.generation 0 there.0;
+      current = (puts.put d).1;
       id = said.walked.id;
-      written = subst (λ row. Says row said.row) (sym (get_or-set_same v.view.rows place new [] there.1)) said.says;
+      written = subst (λ row. Says row said.row) (sym (puts.reads d)) said.says;
       good = (walk_makes ls x said.row said.walked).good;
     }
 
-pub changed_is : (ls : List LayerSeen) (v u : Writing) (place : ℕ) (x : Crossing) (b : Body) (w : Walked) (t : Told) (new : List ℕ) → u ≡ putting v place new → IsOld v place → IsCompared ls (row_at v.view.rows place) x b w t → (IsSame x.id.stack b w t → ⊥)
-    → SaysRowOf ls x new → (place < length v.view.stamps) × (place < length v.view.rows) → IsChanged ls v u place
-changed_is ls v u place x b w t new e old c differs said there = subst (λ y. IsChanged ls v y place) (sym e) (changed_at ls v place x b w t new old c differs said there)
+zero_unless : (n : ℕ) → ((n ≡ 0 → ⊥) → ⊥) → n ≡ 0
+zero_unless zero h = refl
+zero_unless (suc n) h = absurd (h (λ e. absurd (grind (arith, e))))
+
+-- there was no memory for it
+pub short_is : (ls : List LayerSeen) (v u : Writing) (place : ℕ) (x : Crossing) (b : Body) (w : Walked) (t : Told) (new : List ℕ) (done : Bool) → done ≡ false → Puts v u place new done → IsOld v place → IsCompared ls (row_at v.view.rows place) x b w t → IsShort ls v u place
+short_is ls v u place x b w t new done d puts old c = record {
+  row = row_by x b;
+  old = old;
+  says = c.read.says;
+  wants = no_pair ls x b w t (plain_walk ls x w t c.read.packet c.walk) c.quiet;
+  still = zero_unless (stamp_at u.view.stamps place) (puts.left d).1;
+  words = (puts.left d).0;
+}
+
+-- the others
+pub others_stay : (v w : Writing) (place : ℕ) (words : List ℕ) (done : Bool) → Puts v w place words done → OthersStay v w place
+others_stay v w place words done puts = record { stamps = puts.others; rows = words_stay v w place words done puts }
+
+pub same_stay : (v : Writing) (place : ℕ) → OthersStay v v place
+same_stay v place = record { stamps = λ k ne. inl refl; rows = λ k ne. refl }

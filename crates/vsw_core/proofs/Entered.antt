@@ -1,5 +1,5 @@
--- A packet's entry follows the history.
-use Rattle.std.proofs.Common.{◌≡◌, ◌≢◌, ◌≤◌, ◌<◌, ◌+◌, ◌-◌, ◌==◌, not, ℕ, zero, suc, Bool, true, false, true≢false, List, [], ◌∷◌, ◌++◌, length, set, slice_set, length-set, get_or, get_or-set_same, append-nil, length-append, inl, refl, sym, ap, subst, ◌∙◌, arith, Option, Some, None}
+-- A packet's entry follows the history, and the rows fell before that it shakes.
+use Rattle.std.proofs.Common.{◌≡◌, ◌≤◌, ◌<◌, ◌+◌, ◌-◌, not, ℕ, Bool, true, false, true≢false, List, [], ◌∷◌, ◌++◌, length, slice_set, append-nil, length-append, inl, inr, refl, sym, ap, subst, ◌∙◌, arith, Option, Some, None}
 use Rattle.std.proofs.lemmas.List.{set-set}
 use mathlib.Core.List.{IsPrefix}
 use Rattle.vsw_port.specs.declared.stop.Stop.{Stop}
@@ -7,28 +7,29 @@ use Rattle.vsw_base.specs.declared.fate.Fate.{Fate}
 use Rattle.vsw_base.specs.declared.fate.Verdict.{Verdict}
 use Rattle.vsw_base.specs.declared.fate.Verdict.TheVariants.{Pass, Rule, Default}
 use Rattle.vsw_base.specs.declared.flow.Crossing.{Crossing}
-use Rattle.vsw_port.specs.Cross.{all_done, cross_of, made_after, made_by}
+use Rattle.vsw_port.specs.Cross.{made_after, made_by}
 use Rattle.vsw_port.specs.Admit.{stop_of}
-use Rattle.vsw_core.specs.Calls.{OneShakes, Raises, ShakesCurrent, called, grown}
-use Rattle.vsw_core.specs.Private.Steps.{Steps, advanced, passing}
+use Rattle.vsw_core.specs.Calls.{FallsBy, RowsFell, called, grown}
+use Rattle.vsw_core.specs.Private.Steps.{Shakes, Steps, advanced, passing, wants_change}
+use Rattle.vsw_core.specs.Walks.{IsWholeWalk}
 use Rattle.vsw_port.specs.declared.event.Event.{Event}
 use Rattle.vsw_port.specs.declared.event.Event.TheVariants as event
 use Rattle.vsw_port.specs.History.{AllRight, AreRight, IsRight, Opening, after, after_all, replay}
 use Rattle.vsw_policy.specs.Layer.{LayerSeen}
+use Rattle.vsw_policy.specs.Layers.{PolicySeen}
 use Rattle.vsw_rows.specs.Good.{Row}
+use Rattle.vsw_rows.specs.GoodRows.{opening_of}
+use Rattle.vsw_rows.specs.Rows.{Says, layers_after}
 use Rattle.vsw_rows.specs.Shaken.{shake}
 use Rattle.vsw_rows.specs.Way.{looks}
-use Rattle.vsw_rows.proofs.Stays.{length_all}
-use Rattle.vsw_rows.specs.Entries.{entry_shakes}
-use Rattle.vsw_lookup.specs.Rules.{after_entry, one_if, passed, row_at}
-use Rattle.vsw_policy.specs.Layers.{PolicySeen}
 use Rattle.vsw_port.specs.Core.{entered}
-use Rattle.vsw_port.specs.Crossed.{Crossed, crossed, is_short}
 use Rattle.vsw_port.specs.Ledger.{LedgerSeen, layers_in}
-use Rattle.vsw_rows.specs.Rows.{HasRoom, IsCurrent, IsShaking, Says, ShakesOne, Spares, Writing, layers_after, layers_then, leaning}
-use Rattle.vsw_rows.specs.GoodRows.{opening_of}
+use Rattle.vsw_table.specs.Rules.{counted_record, row_at, stamp_at}
 use Rattle.vsw_walk.specs.declared.scratch.Wanted.{Wanted}
-use Rattle.vsw_walk.specs.Walk.{walk_of}
+use Rattle.vsw_walk.specs.declared.walking.Walked.{Walked}
+use Rattle.vsw_walk.specs.Walk.{Told, walk_of}
+use Rattle.vsw_flows.specs.Flows.{Any, Falls, IsOne, NoneShaken, OrFell, OthersStay, Spares, Writing}
+use Rattle.vsw_flows.proofs.Owed.{crossing_owed}
 
 -- the last entry of a right history is right where the others leave the layers
 last_of : (cs : List ℕ) (ls : List LayerSeen) (h : List Event) (e : Event) → AreRight cs ls (h ++ e ∷ []) → IsRight cs (after_all cs ls h) e
@@ -38,49 +39,101 @@ last_of cs ls (d ∷ h) e r = last_of cs (after cs ls d) h e r.1
 pub last_right : (o : Opening) (h : List Event) (e : Event) → AllRight o (h ++ e ∷ []) → IsRight o.controllers (replay o h) e
 last_right o h e r = last_of o.controllers o.layers h e r
 
--- a crossing keeps the number of layers
-pub crossing_room : (p : PolicySeen) (ls : List LayerSeen) (x : Crossing) (fate : Fate) (raised : Bool) (rows room : ℕ) → HasRoom ls (layers_then p ls (event.Crossing x fate)) raised rows room
-crossing_room p ls x fate raised rows room = inl (length_all (made_by ls x) ls)
+-- ---- what a walk's changes shake
 
--- a packet is an entry only where it changes something
-pub entry_changes : (ls ms : List LayerSeen) (x : Crossing) (fate : Fate) (entry : Bool) → record { fate = fate; layers = ms; entry = entry } ≡ crossed (is_short fate) ls x → entry ≡ true → (cross_of ls x).changed ≡ true
-entry_changes ls ms x fate entry e is = by (is_short fate) e
+-- a packet that wants nothing changed changes nothing
+nothing_wanted : (ls : List LayerSeen) (x : Crossing) → wants_change (walk_of ls x).verdict (walk_of ls x).changes ≡ false → made_by ls x ≡ []
+nothing_wanted ls x h = by (walk_of ls x).verdict (stop_of ls x (walk_of ls x)) (walk_of ls x).changes h
   where
-    by : (b : Bool) → record { fate = fate; layers = ms; entry = entry } ≡ crossed b ls x → (cross_of ls x).changed ≡ true
-    by true f = absurd (true≢false (sym is ∙ ap (λ (c : Crossed). c.entry) f))
-    by false f = sym (ap (λ (c : Crossed). c.entry) f) ∙ is
+    by : (v : Verdict) (stop : Option Stop) (ws : List Wanted) → wants_change v ws ≡ false → made_after v stop ws ≡ []
+    by Pass None [] e = refl
+    by Pass None (w ∷ ws) e = absurd (true≢false e)
+    by Pass (Some s) ws e = refl
+    by (Rule controller layer group rule) stop ws e = refl
+    by (Default controller layer dir) stop ws e = refl
 
--- one that changes something has all changed that it wants
-pub all_made : (ls : List LayerSeen) (x : Crossing) → (cross_of ls x).changed ≡ true → made_by ls x ≡ (walk_of ls x).changes
-all_made ls x h = by (walk_of ls x).verdict (stop_of ls x (walk_of ls x)) (walk_of ls x).changes h
+-- neither does one that is stopped
+nothing_stopped : (ls : List LayerSeen) (x : Crossing) (s : Stop) → stop_of ls x (walk_of ls x) ≡ Some s → made_by ls x ≡ []
+nothing_stopped ls x s h = ap (λ stop. made_after (walk_of ls x).verdict stop (walk_of ls x).changes) h ∙ by (walk_of ls x).verdict (walk_of ls x).changes
   where
-    by : (v : Verdict) (stop : Option Stop) (ws : List Wanted) → not (length (made_after v stop ws) == 0) ≡ true → made_after v stop ws ≡ ws
-    by Pass None ws h = refl
-    by Pass (Some s) ws h = absurd (true≢false (sym h))
-    by (Rule controller layer group rule) stop ws h = absurd (true≢false (sym h))
-    by (Default controller layer dir) stop ws h = absurd (true≢false (sym h))
+    by : (v : Verdict) (ws : List Wanted) → made_after v (Some s) ws ≡ []
+    by Pass ws = refl
+    by (Rule controller layer group rule) ws = refl
+    by (Default controller layer dir) ws = refl
 
--- so what its changes shake is what its entry shakes
-shakes_as : (ls : List LayerSeen) (x : Crossing) (fate : Fate) (ws : List Wanted) (row : Row) → made_by ls x ≡ ws → entry_shakes ls (event.Crossing x fate) (leaning ls row) ≡ shake ls ws (looks ls row.id)
-shakes_as ls x fate ws row e = ap (λ us. shake ls us (looks ls row.id)) e
-
--- a test of the changes that is false tells that the entry spares the current rows
-pub spared : (ls : List LayerSeen) (x : Crossing) (fate : Fate) (ws : List Wanted) (v : Writing) (test : Bool) → made_by ls x ≡ ws → IsShaking ls ws v test → test ≡ false → Spares ls (event.Crossing x fate) v
-spared ls x fate ws v test made shaking is place row current says = by (entry_shakes ls (event.Crossing x fate) (leaning ls row)) refl
+-- any other has all changed that it wants
+all_made : (ls : List LayerSeen) (x : Crossing) → wants_change (walk_of ls x).verdict (walk_of ls x).changes ≡ true → stop_of ls x (walk_of ls x) ≡ None → made_by ls x ≡ (walk_of ls x).changes
+all_made ls x h free = ap (λ stop. made_after (walk_of ls x).verdict stop (walk_of ls x).changes) free ∙ by (walk_of ls x).verdict (walk_of ls x).changes h
   where
-    by : (b : Bool) → entry_shakes ls (event.Crossing x fate) (leaning ls row) ≡ b → entry_shakes ls (event.Crossing x fate) (leaning ls row) ≡ false
-    by true e = absurd (true≢false (sym (shaking.back (record { place = place; row = row; current = current; says = says; shaken = sym (shakes_as ls x fate ws row made) ∙ e })) ∙ is))
-    by false e = e
+    by : (v : Verdict) (ws : List Wanted) → wants_change v ws ≡ true → made_after v None ws ≡ ws
+    by Pass ws e = refl
+    by (Rule controller layer group rule) ws e = absurd (true≢false (sym e))
+    by (Default controller layer dir) ws e = absurd (true≢false (sym e))
 
--- the writer and the pass once they met
+-- no row falls where nothing is changed
+shakes_nothing : (ls : List LayerSeen) (ws : List Wanted) (v : Writing) → ws ≡ [] → Shakes ls ws v v
+shakes_nothing ls ws v e = record {
+  falls = record { same = refl; each = λ place. inl refl };
+  none = λ place r one. ap (λ us. shake ls us (looks ls r.id)) e;
+  others = λ place r one still. refl;
+}
+
+wants_as : (ls : List LayerSeen) (x : Crossing) (w : Walked) (t : Told) → IsWholeWalk ls x w t → wants_change w.verdict t.changes ≡ wants_change (walk_of ls x).verdict (walk_of ls x).changes
+wants_as ls x w t h = (λ i. wants_change (h.verdict i) (h.changes i))
+
+pub unwanted : (ls : List LayerSeen) (x : Crossing) (w : Walked) (t : Told) (v : Writing) → IsWholeWalk ls x w t → wants_change w.verdict t.changes ≡ false → Shakes ls (made_by ls x) v v
+unwanted ls x w t v h e = shakes_nothing ls (made_by ls x) v (nothing_wanted ls x (sym (wants_as ls x w t h) ∙ e))
+
+pub stopped : (ls ms : List LayerSeen) (x : Crossing) (s : Stop) (v : Writing) → ms ≡ ls → stop_of ms x (walk_of ms x) ≡ Some s → Shakes ls (made_by ls x) v v
+stopped ls ms x s v same e = shakes_nothing ls (made_by ls x) v (nothing_stopped ls x s (subst (λ ks. stop_of ks x (walk_of ks x) ≡ Some s) same e))
+
+-- what the rows' call leaves, at the layers as they are shown to it
+pub record Fell (ks ls : List LayerSeen) (ws : List Wanted) (v f : Writing) : Type 0 where
+  pub same : ks ≡ ls
+  pub falls : Falls Any v f
+  pub none : NoneShaken ks ws f
+  pub others : OthersStay ks ws v f
+
+pub shaken : (ls ms ks : List LayerSeen) (x : Crossing) (w : Walked) (t : Told) (v f : Writing) → IsWholeWalk ls x w t → wants_change w.verdict t.changes ≡ true → ms ≡ ls → stop_of ms x (walk_of ms x) ≡ None → Fell ks ls t.changes v f → Shakes ls (made_by ls x) v f
+shaken ls ms ks x w t v f h wants same free fell =
+    let made : made_by ls x ≡ t.changes = all_made ls x (sym (wants_as ls x w t h) ∙ wants) (subst (λ js. stop_of js x (walk_of js x) ≡ None) same free) ∙ sym h.changes in
+    subst (λ us. Shakes ls us v f) (sym made) (record {
+      falls = fell.falls;
+      none = subst (λ js. NoneShaken js t.changes f) fell.same fell.none;
+      others = subst (λ js. OthersStay js t.changes v f) fell.same fell.others;
+    })
+
+-- ---- the entry
+
+-- of the rows those fell that the entry shakes
+falls_by : (ls : List LayerSeen) (x : Crossing) (fate : Fate) (v f : Writing) → Shakes ls (made_by ls x) v f → FallsBy ls (event.Crossing x fate) v f
+falls_by ls x fate v f s = record {
+  fell = record { given = ap (λ (u : Writing). u.view.given) s.falls.same; words = words; each = s.falls.each };
+  falls = λ place r one e. gone place r one e (s.falls.each place);
+  stays = s.others;
+}
+  where
+    words : f.view.rows ≡ v.view.rows
+    words = ap (λ (u : Writing). u.view.rows) s.falls.same
+
+    gone : (place : ℕ) (r : Row) → IsOne v place r → shake ls (made_by ls x) (looks ls r.id) ≡ true → OrFell Any v f place → stamp_at f.view.stamps place ≡ 0
+    gone place r one e (inr down) = down.0
+    gone place r one e (inl same) =
+        let still : IsOne f place r = record { current = λ z. one.current (sym same ∙ z); says = subst (λ rs. Says (row_at rs place) r) (sym words) one.says } in
+        absurd (true≢false (sym e ∙ s.none place r still))
+
+-- the writer and the pass once they met, and after rows fell
 abbrev pub meeting : Writing → Writing → Writing
 meeting v s = record v { view = record v.view { kept = slice_set v.view.kept s.view.number (s.view.permits + 0) } }
 
 abbrev pub met : Writing → Writing → Writing
-met v s = record s { view = record s.view { front = v.view.history; permits = s.view.permits + 0 } }
+met v s = record s { view = record s.view { front = v.view.history; permits = s.view.permits + 0; shown = counted_record v.view.history } }
 
-abbrev pub followed : Writing → Writing → List Event → Bool → Writing
-followed m t es raise = record m { view = advanced m.view t.view es raise }
+abbrev pub fallen : Writing → List ℕ → Writing
+fallen m ns = record m { view = record m.view { stamps = ns } }
+
+abbrev pub followed : Writing → Writing → List Event → Writing
+followed m t es = record m { view = advanced m.view t.view es }
 
 abbrev pub following : Writing → Writing → List Event → Writing
 following t w es = record t { view = passing t.view w.view es }
@@ -91,64 +144,53 @@ zero_more n = omega arith
 one_spent : (n : ℕ) → n + 0 - 1 ≡ n - 1
 one_spent n = omega arith
 
-still : (ls : List LayerSeen) (v s : Writing) → IsPrefix s.view.front v.view.history → Steps ls [] v (meeting v s) s (met v s)
-still ls v s seen = record {
-  writer = λ i. record v { view = record v.view { history = sym (append-nil v.view.history) i; kept = slice_set v.view.kept s.view.number (zero_more s.view.permits i) } };
-  pass = λ i. record s { view = record s.view { front = v.view.history; receipts = sym (append-nil s.view.receipts) i; permits = zero_more s.view.permits i } };
-  raises = record { raised = false; generation = none v.view.generation; told = λ e. absurd (true≢false (sym e)); back = λ h. absurd h };
-  stamps = refl;
-  rows = refl;
+still : (ls : List LayerSeen) (e : Event) (v s : Writing) (ns : List ℕ) → IsPrefix s.view.front v.view.history → FallsBy ls e v (fallen (meeting v s) ns) → Steps ls e [] v (fallen (meeting v s) ns) s (met v s)
+still ls e v s ns seen falls = record {
+  writer = λ i. record v { view = record v.view { history = sym (append-nil v.view.history) i; kept = slice_set v.view.kept s.view.number (zero_more s.view.permits i); stamps = ns } };
+  pass = λ i. record s { view = record s.view { front = v.view.history; receipts = sym (append-nil s.view.receipts) i; permits = zero_more s.view.permits i; shown = counted_record v.view.history } };
+  falls = falls;
   seen = seen;
 }
-  where
-    none : (g : ℕ) → g ≡ g + 0
-    none g = omega arith
 
-one : (ls : List LayerSeen) (e : Event) (v s : Writing) (raise : Bool) → IsPrefix s.view.front v.view.history → (raise ≡ true → ShakesCurrent ls e v) → (ShakesCurrent ls e v → raise ≡ true)
-    → Steps ls (e ∷ []) v (followed (meeting v s) (met v s) (e ∷ []) raise) s (following (met v s) (followed (meeting v s) (met v s) (e ∷ []) raise) (e ∷ []))
-one ls e v s raise seen told back = record {
-  writer = λ i. record v { view = record v.view { history = v.view.history ++ e ∷ []; generation = v.view.generation + one_if raise; kept = kept i } };
-  pass = λ i. record s { view = record s.view { front = v.view.history ++ e ∷ []; receipts = s.view.receipts ++ e ∷ []; permits = one_spent s.view.permits i } };
-  raises = record { raised = raise; generation = refl; told = told; back = back };
-  stamps = refl;
-  rows = refl;
+one : (ls : List LayerSeen) (e : Event) (v s : Writing) (ns : List ℕ) → IsPrefix s.view.front v.view.history → FallsBy ls e v (fallen (meeting v s) ns)
+    → Steps ls e (e ∷ []) v (followed (fallen (meeting v s) ns) (met v s) (e ∷ [])) s (following (met v s) (followed (fallen (meeting v s) ns) (met v s) (e ∷ [])) (e ∷ []))
+one ls e v s ns seen falls = record {
+  writer = λ i. record v { view = record v.view { history = v.view.history ++ e ∷ []; kept = kept i; stamps = ns } };
+  pass = λ i. record s { view = record s.view { front = v.view.history ++ e ∷ []; receipts = s.view.receipts ++ e ∷ []; permits = one_spent s.view.permits i; shown = counted_record (v.view.history ++ e ∷ []) } };
+  falls = record { fell = record { given = falls.fell.given; words = falls.fell.words; each = falls.fell.each }; falls = falls.falls; stays = falls.stays };
   seen = seen;
 }
   where
     kept : slice_set (slice_set v.view.kept s.view.number (s.view.permits + 0)) s.view.number (s.view.permits + 0 - 1) ≡ slice_set v.view.kept s.view.number (s.view.permits - 1)
     kept = set-set v.view.kept s.view.number (s.view.permits + 0) (s.view.permits + 0 - 1) ∙ ap (λ k. slice_set v.view.kept s.view.number k) (one_spent s.view.permits)
 
--- a test of the changes tells whether the entry shakes a current row
-shaking_told : (ls : List LayerSeen) (x : Crossing) (fate : Fate) (ws : List Wanted) (v s : Writing) (test : Bool) → made_by ls x ≡ ws → IsShaking ls ws (meeting v s) test → test ≡ true → ShakesCurrent ls (event.Crossing x fate) v
-shaking_told ls x fate ws v s test made h e = let f = h.told e in record { place = f.place; row = f.row; current = f.current; says = f.says; shaken = shakes_as ls x fate ws f.row made ∙ f.shaken }
-
-shaking_back : (ls : List LayerSeen) (x : Crossing) (fate : Fate) (ws : List Wanted) (v s : Writing) (test : Bool) → made_by ls x ≡ ws → IsShaking ls ws (meeting v s) test → ShakesCurrent ls (event.Crossing x fate) v → test ≡ true
-shaking_back ls x fate ws v s test made h f = h.back (record { place = f.place; row = f.row; current = f.current; says = f.says; shaken = sym (shakes_as ls x fate ws f.row made) ∙ f.shaken })
-
-stepped : (ls : List LayerSeen) (x : Crossing) (fate : Fate) (entry : Bool) (ws : List Wanted) (v s : Writing) (test : Bool) → IsPrefix s.view.front v.view.history → (entry ≡ true → made_by ls x ≡ ws) → IsShaking ls ws (meeting v s) test
-    → Steps ls (entered entry (event.Crossing x fate)) v (followed (meeting v s) (met v s) (entered entry (event.Crossing x fate)) test) s (following (met v s) (followed (meeting v s) (met v s) (entered entry (event.Crossing x fate)) test) (entered entry (event.Crossing x fate)))
-stepped ls x fate true ws v s test seen made h = one ls (event.Crossing x fate) v s test seen (shaking_told ls x fate ws v s test (made refl) h) (shaking_back ls x fate ws v s test (made refl) h)
-stepped ls x fate false ws v s test seen made h = still ls v s seen
+stepped : (ls : List LayerSeen) (x : Crossing) (fate : Fate) (entry : Bool) (v s : Writing) (ns : List ℕ) → IsPrefix s.view.front v.view.history → FallsBy ls (event.Crossing x fate) v (fallen (meeting v s) ns)
+    → Steps ls (event.Crossing x fate) (entered entry (event.Crossing x fate)) v (followed (fallen (meeting v s) ns) (met v s) (entered entry (event.Crossing x fate))) s (following (met v s) (followed (fallen (meeting v s) ns) (met v s) (entered entry (event.Crossing x fate))) (entered entry (event.Crossing x fate)))
+stepped ls x fate true v s ns seen falls = one ls (event.Crossing x fate) v s ns seen falls
+stepped ls x fate false v s ns seen falls = still ls (event.Crossing x fate) v s ns seen falls
 
 -- the steps as they are told
-pub record Called (p : PolicySeen) (x : Crossing) (fate : Fate) (entry test : Bool) (ws : List Wanted) (v m w s t u : Writing) : Type 0 where
+pub record Called (p : PolicySeen) (x : Crossing) (fate : Fate) (entry : Bool) (v m f w s t u : Writing) : Type 0 where
   pub meets : m ≡ meeting v s
   pub pass : t ≡ met v s
-  pub writer : w ≡ followed m t (entered entry (event.Crossing x fate)) test
+  pub shakes : Shakes (layers_after p v.view.history) (made_by (layers_after p v.view.history) x) m f
+  pub writer : w ≡ followed f t (entered entry (event.Crossing x fate))
   pub passes : u ≡ following t w (entered entry (event.Crossing x fate))
   pub seen : IsPrefix s.view.front t.view.front
-  pub made : entry ≡ true → made_by (layers_after p v.view.history) x ≡ ws
-  pub shaking : IsShaking (layers_after p v.view.history) ws m test
 
-pub steps : (p : PolicySeen) (x : Crossing) (fate : Fate) (entry test : Bool) (ws : List Wanted) (v m w s t u : Writing) → Called p x fate entry test ws v m w s t u → Steps (layers_after p v.view.history) (entered entry (event.Crossing x fate)) v w s u
-steps p x fate entry test ws v m w s t u c =
+pub steps : (p : PolicySeen) (x : Crossing) (fate : Fate) (entry : Bool) (v m f w s t u : Writing) → Called p x fate entry v m f w s t u → Steps (layers_after p v.view.history) (event.Crossing x fate) (entered entry (event.Crossing x fate)) v w s u
+steps p x fate entry v m f w s t u c =
     let ls = layers_after p v.view.history in
     let es = entered entry (event.Crossing x fate) in
-    let writer : w ≡ followed (meeting v s) (met v s) es test = c.writer ∙ (λ i. followed (c.meets i) (c.pass i) es test) in
-    let passes : u ≡ following (met v s) (followed (meeting v s) (met v s) es test) es = c.passes ∙ (λ i. following (c.pass i) (writer i) es) in
+    let ns : List ℕ = f.view.stamps in
+    let fell : f ≡ fallen (meeting v s) ns = c.shakes.falls.same ∙ ap (λ (q : Writing). fallen q ns) c.meets in
+    let shakes : Shakes ls (made_by ls x) (meeting v s) (fallen (meeting v s) ns) = subst (λ (q : Writing × Writing). Shakes ls (made_by ls x) q.0 q.1) (λ i. (c.meets i, fell i)) c.shakes in
+    let falls : FallsBy ls (event.Crossing x fate) (meeting v s) (fallen (meeting v s) ns) = falls_by ls x fate (meeting v s) (fallen (meeting v s) ns) shakes in
+    let here : FallsBy ls (event.Crossing x fate) v (fallen (meeting v s) ns) = record { fell = record { given = falls.fell.given; words = falls.fell.words; each = falls.fell.each }; falls = λ place r one. falls.falls place r (record { current = one.current; says = one.says }); stays = λ place r one. falls.stays place r (record { current = one.current; says = one.says }) } in
+    let writer : w ≡ followed (fallen (meeting v s) ns) (met v s) es = c.writer ∙ (λ i. followed (fell i) (c.pass i) es) in
+    let passes : u ≡ following (met v s) (followed (fallen (meeting v s) ns) (met v s) es) es = c.passes ∙ (λ i. following (c.pass i) (writer i) es) in
     let seen : IsPrefix s.view.front v.view.history = subst (λ (q : Writing). IsPrefix s.view.front q.view.front) c.pass c.seen in
-    let h : IsShaking ls ws (meeting v s) test = subst (λ q. IsShaking ls ws q test) c.meets c.shaking in
-    subst (λ (q : Writing × Writing). Steps ls es v q.0 s q.1) (λ i. (sym writer i, sym passes i)) (stepped ls x fate entry ws v s test seen c.made h)
+    subst (λ (q : Writing × Writing). Steps ls (event.Crossing x fate) es v q.0 s q.1) (λ i. (sym writer i, sym passes i)) (stepped ls x fate entry v s ns seen here)
 
 -- ---- permits
 
@@ -156,10 +198,6 @@ steps p x fate entry test ws v m w s t u c =
 pub few_entries : (entry : Bool) (e : Event) (n : ℕ) → 0 < n → length (entered entry e) ≤ n
 few_entries true e n some = some
 few_entries false e n some = omega arith
-
-pub spent_entries : (entry : Bool) (e : Event) (left permits : ℕ) → left + one_if entry ≡ permits → left + length (entered entry e) ≡ permits
-spent_entries true e left permits h = h
-spent_entries false e left permits h = h
 
 -- ---- the entry itself
 
@@ -171,38 +209,27 @@ entry_there items journal h false e same grown is = absurd (true≢false is)
 pub some_there : (items h : List Event) (e : Event) → items ≡ h ++ e ∷ [] → 0 < length items
 some_there items h e is = let n = ap length is in let m = length-append h (e ∷ []) in omega (arith, n, m)
 
-pub is_entry : (b : Bool) → not b ≡ false → b ≡ true
-is_entry true e = refl
-is_entry false e = absurd (true≢false e)
-
 -- and it is right
 pub entry_right : (o q : Opening) (journal h : List Event) (e : Event) → q ≡ o → journal ≡ h ++ e ∷ [] → AllRight q journal → IsRight o.controllers (replay o h) e
 entry_right o q journal h e same grown right = last_right o h e (subst (λ (w : Opening × List Event). AllRight w.0 w.1) (λ i. (same i, grown i)) right)
 
--- what is told of a packet that is settled
-pub record Settled (p : PolicySeen) (x : Crossing) (fate : Fate) (entry test : Bool) (ws : List Wanted) (l k : LedgerSeen) (v m s : Writing) : Type 0 where
+-- what is told of a packet whose rows fell
+pub record Settled (p : PolicySeen) (x : Crossing) (l : LedgerSeen) (v m f s : Writing) : Type 0 where
   pub opening : l.opening ≡ opening_of p
   pub journal : l.journal ≡ v.view.history
   pub opens : v.view.opening ≡ Some p
   pub meets : m ≡ meeting v s
-  pub changes : ws ≡ (walk_of (layers_in l) x).changes
-  pub exact : record { fate = fate; layers = layers_in k; entry = entry } ≡ crossed (is_short fate) (layers_in l) x
-  pub shaking : (q : PolicySeen) → m.view.opening ≡ Some q → layers_in l ≡ layers_after q m.view.history → IsShaking (layers_in l) ws m test
+  pub shakes : (q : PolicySeen) → m.view.opening ≡ Some q → layers_in l ≡ layers_after q m.view.history → Shakes (layers_in l) (made_by (layers_in l) x) m f
 
-there : (p : PolicySeen) (x : Crossing) (fate : Fate) (entry test : Bool) (ws : List Wanted) (l k : LedgerSeen) (v m s : Writing) → Settled p x fate entry test ws l k v m s → layers_in l ≡ layers_after p v.view.history
-there p x fate entry test ws l k v m s t = (λ i. replay (t.opening i) (t.journal i))
+pub settled_shakes : (p : PolicySeen) (x : Crossing) (l : LedgerSeen) (v m f s : Writing) → Settled p x l v m f s → Shakes (layers_after p v.view.history) (made_by (layers_after p v.view.history) x) m f
+settled_shakes p x l v m f s t =
+    let same : layers_in l ≡ layers_after p v.view.history = (λ i. replay (t.opening i) (t.journal i)) in
+    let told = t.shakes p (ap (λ (q : Writing). q.view.opening) t.meets ∙ t.opens) (same ∙ sym (ap (λ (q : Writing). layers_after p q.view.history) t.meets)) in
+    subst (λ ls. Shakes ls (made_by ls x) m f) same told
 
-pub settled_made : (p : PolicySeen) (x : Crossing) (fate : Fate) (entry test : Bool) (ws : List Wanted) (l k : LedgerSeen) (v m s : Writing) → Settled p x fate entry test ws l k v m s → entry ≡ true → made_by (layers_after p v.view.history) x ≡ ws
-settled_made p x fate entry test ws l k v m s t is =
-    subst (λ ls. made_by ls x ≡ ws) (there p x fate entry test ws l k v m s t) (all_made (layers_in l) x (entry_changes (layers_in l) (layers_in k) x fate entry t.exact is) ∙ sym t.changes)
+pub settled_history : (p : PolicySeen) (x : Crossing) (l : LedgerSeen) (v m f s : Writing) → Settled p x l v m f s → f.view.history ≡ v.view.history
+settled_history p x l v m f s t = ap (λ (q : Writing). q.view.history) (settled_shakes p x l v m f s t).falls.same ∙ ap (λ (q : Writing). q.view.history) t.meets
 
-pub settled_shaking : (p : PolicySeen) (x : Crossing) (fate : Fate) (entry test : Bool) (ws : List Wanted) (l k : LedgerSeen) (v m s : Writing) → Settled p x fate entry test ws l k v m s → IsShaking (layers_after p v.view.history) ws m test
-settled_shaking p x fate entry test ws l k v m s t =
-    let same = there p x fate entry test ws l k v m s t in
-    subst (λ ls. IsShaking ls ws m test) same (t.shaking p (ap (λ (q : Writing). q.view.opening) t.meets ∙ t.opens) (same ∙ sym (ap (λ (q : Writing). layers_after p q.view.history) t.meets)))
-
-pub settled_spares : (p : PolicySeen) (x : Crossing) (fate : Fate) (entry test : Bool) (ws : List Wanted) (l k : LedgerSeen) (v m s : Writing) → Settled p x fate entry test ws l k v m s → entry ≡ true → test ≡ false
-    → Spares (layers_after p m.view.history) (event.Crossing x fate) m
-settled_spares p x fate entry test ws l k v m s t is e =
-    subst (λ h. Spares (layers_after p h) (event.Crossing x fate) m) (sym (ap (λ (q : Writing). q.view.history) t.meets))
-    (spared (layers_after p v.view.history) x fate ws m test (settled_made p x fate entry test ws l k v m s t is) (settled_shaking p x fate entry test ws l k v m s t) e)
+pub settled_spares : (p : PolicySeen) (x : Crossing) (fate : Fate) (l : LedgerSeen) (v m f s : Writing) → Settled p x l v m f s → Spares (layers_after p f.view.history) (event.Crossing x fate) f
+settled_spares p x fate l v m f s t =
+    subst (λ h. Spares (layers_after p h) (event.Crossing x fate) f) (sym (settled_history p x l v m f s t)) (crossing_owed (layers_after p v.view.history) x fate f (settled_shakes p x l v m f s t).none)

@@ -5,4 +5,3 @@ pub mod Walked
 pub mod Entered
 pub mod Published
 pub mod Compared
-pub use Rattle.vsw_rows.proofs.Answers

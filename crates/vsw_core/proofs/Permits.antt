@@ -3,9 +3,9 @@ use Rattle.std.proofs.Common.{◌≡◌, ◌≤◌, ◌<◌, ◌+◌, ◌-◌, �
 use Rattle.vsw_core.specs.Calls.{grown}
 use Rattle.vsw_core.specs.Core.{IsOwned, total}
 use Rattle.vsw_port.specs.declared.event.Event.{Event}
-use Rattle.vsw_lookup.specs.Rules.{permits_of}
+use Rattle.vsw_table.specs.Rules.{permits_of}
 use Rattle.vsw_port.specs.Ledger.{LedgerSeen}
-use Rattle.vsw_rows.specs.Rows.{Writing}
+use Rattle.vsw_flows.specs.Flows.{Writing}
 
 pub at_most_total : (ns : List ℕ) (k : ℕ) → get_or ns k 0 ≤ total ns
 at_most_total [] k = omega arith

@@ -1,6 +1,8 @@
 -- What a packet leaves for those of its identity that follow.
-use Rattle.std.proofs.Common.{◌≡◌, ◌≤◌, ◌<◌, ◌+◌, ◌==◌, not, ℕ, suc, Bool, true, false, true≢false, List, [], ◌∷◌, ◌++◌, length, take, slice_set, get_or-set_same, refl, sym, ap, subst, ◌∙◌, arith, Option, Some, None}
+use Rattle.std.proofs.Common.{◌≡◌, ◌≢◌, ◌⊎◌, ◌≤◌, ◌==◌, not, ℕ, suc, Bool, true, false, true≢false, List, [], ◌∷◌, ◌++◌, length, take, slice_set, get_or-set_other, inl, inr, refl, sym, ap, subst, ◌∙◌, arith, Option, Some, None}
 use Rattle.std.specs.Prelude.{nat_le}
+use native.Mathlib.Decide.{ℕ_discrete}
+use mathlib.Core.Logic.{dite}
 use Rattle.std.proofs.Math.Seq.{take-append_seam}
 use Rattle.vsw_port.specs.declared.stop.Stop.{Stop}
 use Rattle.vsw_port.specs.declared.stop.Stop.TheVariants as stop
@@ -14,24 +16,27 @@ use Rattle.vsw_base.specs.declared.header.Header.{Header}
 use Rattle.vsw_base.specs.declared.packet.Control.TheVariants as control
 use Rattle.vsw_port.specs.Cross.{cross_of, fate_after, made_after, makes}
 use Rattle.vsw_port.specs.Fate.{fate_at, fate_by}
-use Rattle.vsw_core.specs.Calls.{Raises, called, grown}
+use Rattle.vsw_core.specs.Calls.{called, grown}
 use Rattle.vsw_core.specs.Core.{IsOwned, total}
 use Rattle.vsw_core.specs.Private.Steps.{Publishes, Steps, wants_change}
-use Rattle.vsw_core.specs.Publishing.{HasPlace, IsByWalk, IsPlaceOf, IsSettled, Late, MayWrite, Stale, Stands, StandsUntil, WritesOne}
+use Rattle.vsw_core.specs.Publishing.{IsByWalk, IsSettled, Leaves, NoneStands, Stands, StandsUntil, WritesOne}
 use Rattle.vsw_core.specs.Publishing as publishing
 use Rattle.vsw_core.specs.Walks.{IsWholeWalk, SaysRowOf}
 use Rattle.vsw_port.specs.declared.event.Event.{Event}
+use Rattle.vsw_port.specs.declared.event.Event.TheVariants as event
 use Rattle.vsw_policy.specs.Layer.{LayerSeen}
 use Rattle.vsw_rows.specs.Good.{Good, Row}
 use Rattle.vsw_rows.specs.LeanLaw.{IsOfWay, wants_none}
 use Rattle.vsw_rows.specs.Way.{way_of}
 use Rattle.vsw_rows.proofs.Answered.{quiet_until}
 use Rattle.vsw_rows.proofs.Ways.{moment_unseen, walk_makes}
-use Rattle.vsw_lookup.specs.Rules.{one_if, row_at, stamp_at}
+use Rattle.vsw_table.specs.Rules.{row_at, stamp_at}
 use Rattle.vsw_policy.specs.Layers.{PolicySeen}
 use Rattle.vsw_port.specs.Ledger.{LedgerSeen}
-use Rattle.vsw_rows.specs.declared.rows.Found.TheVariants as found
-use Rattle.vsw_rows.specs.Rows.{HasKey, IsCurrent, IsFound, IsProbed, NoneHasKey, Says, Writing, layers_after}
+use Rattle.vsw_rows.specs.Rows.{IsProbed, Says, layers_after}
+use Rattle.vsw_flows.specs.declared.places.Found.TheVariants as found
+use Rattle.vsw_flows.specs.Finding.{HasKey, IsFound, NoneHasKey}
+use Rattle.vsw_flows.specs.Flows.{IsCurrent, OrFell, Any, Puts, Writing}
 use Rattle.vsw_rows.specs.GoodRows.{IsGoodRow, opening_of, words_of}
 use Rattle.vsw_rows.proofs.Answers.{key_length, words_are}
 use Rattle.vsw_walk.specs.declared.scratch.Wanted.{Wanted}
@@ -99,9 +104,6 @@ key_of row =
     let bs = body_words row.verdict row.acts row.until in
     ap (take 16) (words_are row) ∙ (ap (λ n. take n (ks ++ bs)) (sym (key_length row.id.dir row.id.stack)) ∙ take-append_seam ks bs)
 
-pub nothing_left : (rows : ℕ) (ls : List LayerSeen) (x : Crossing) (v : Writing) → (x.control ≡ control.None → IsSettled ls x → HasPlace rows v x.id x.moment → StandsUntil rows ls v x.id x.moment) → Publishes rows ls x v v
-nothing_left rows ls x v h = record { same = refl; writes = publishing.None refl refl; stands = h }
-
 -- what is known where a row is looked for
 pub record Looks (p : PolicySeen) (x : Crossing) (key : List ℕ) (v : Writing) : Type 0 where
   pub plain : x.control ≡ control.None
@@ -110,8 +112,9 @@ pub record Looks (p : PolicySeen) (x : Crossing) (key : List ℕ) (v : Writing) 
   pub key_is : key ≡ key_words x.id.dir x.id.stack
   pub still : wants_change (walk_of (layers_after p v.view.history) x).verdict (walk_of (layers_after p v.view.history) x).changes ≡ false
 
-pub own_stands : (p : PolicySeen) (rows : ℕ) (x : Crossing) (key : List ℕ) (place : ℕ) (v : Writing) → Looks p x key v → IsFound rows key v (found.Own place) → IsGoodRow (opening_of p) v.view.history (row_at v.view.rows place) → Publishes rows (layers_after p v.view.history) x v v
-own_stands p rows x key place v l f g = nothing_left rows (layers_after p v.view.history) x v (λ c s h. stands)
+-- a row of the identity that is current already is good, and lasts
+pub own_stands : (p : PolicySeen) (rows : ℕ) (x : Crossing) (key : List ℕ) (place : ℕ) (v : Writing) → Looks p x key v → IsFound rows key v (found.Own place) → IsGoodRow (opening_of p) v.view.history (row_at v.view.rows place) → Publishes rows (layers_after p v.view.history) x v v true
+own_stands p rows x key place v l f g = record { writes = publishing.None refl; stands = λ e. stands; wanting = λ c s e. absurd (true≢false e) }
   where
     row : Row
     row = g.row
@@ -132,115 +135,122 @@ own_stands p rows x key place v l f g = nothing_left rows (layers_after p v.view
 good_of : (ls : List LayerSeen) (x : Crossing) (words : List ℕ) (s : SaysRowOf ls x words) → Good ls s.row
 good_of ls x words s = (walk_makes ls x s.row s.walked).good
 
--- the writer once a row was put
-abbrev pub with_row : Writing → ℕ → List ℕ → Writing
-with_row v place words = record v { view = record v.view { rows = slice_set v.view.rows place words; stamps = slice_set v.view.stamps place v.view.generation } }
+-- such a row is put
+pub one_written : (p : PolicySeen) (rows : ℕ) (x : Crossing) (key : List ℕ) (place : ℕ) (words : List ℕ) (done : Bool) (v w : Writing) → Looks p x key v → IsFound rows key v (found.Free place) → SaysRowOf (layers_after p v.view.history) x words → Puts v w place words done
+    → WritesOne rows (layers_after p v.view.history) x v w
+one_written p rows x key place words done v w l f s puts =
+    publishing.One place words done (record { plain = l.plain; free = subst (λ k. IsFound rows k v (found.Free place)) l.key_is f; row = s.row; same = s.walked.id; says = s.says; good = good_of (layers_after p v.view.history) x words s }) puts
 
-row_put : (p : PolicySeen) (rows : ℕ) (x : Crossing) (key : List ℕ) (place : ℕ) (words : List ℕ) (v : Writing) → Looks p x key v → IsFound rows key v (found.Stale place) → place < length v.view.stamps → place < length v.view.rows → SaysRowOf (layers_after p v.view.history) x words
-    → Publishes rows (layers_after p v.view.history) x v (with_row v place words)
-row_put p rows x key place words v l f there wide s = record {
-  same = refl;
-  writes = publishing.One place words (record { plain = l.plain; probed = subst (λ k. IsProbed rows k place) l.key_is f.0; row = s.row; same = s.walked.id; says = s.says; good = good_of (layers_after p v.view.history) x words s }) f.1 refl refl;
-  stands = λ c settled h. stands;
+-- and stands, where it is current then
+put_stands : (p : PolicySeen) (rows : ℕ) (x : Crossing) (key : List ℕ) (place : ℕ) (words : List ℕ) (v w : Writing) → Looks p x key v → IsFound rows key v (found.Free place) → SaysRowOf (layers_after p v.view.history) x words → Puts v w place words true → IsCurrent w place
+    → StandsUntil rows (layers_after p v.view.history) w x.id x.moment
+put_stands p rows x key place words v w l f s puts current = record {
+  place = place;
+  row = s.row;
+  stands = record {
+    probed = subst (λ k. IsProbed rows k place) l.key_is f.0;
+    current = current;
+    says = subst (λ ws. Says ws s.row) (sym (puts.reads refl)) s.says;
+    same = s.walked.id;
+  };
+  good = good_of (layers_after p v.view.history) x words s;
+  lasts = subst (λ n. x.moment ≤ n) (sym (s.walked.until ∙ (moment_unseen (layers_after p v.view.history) x l.plain).0.until)) (in_time (layers_after p v.view.history) x l.plain l.small l.still);
 }
+
+-- other rows keep their words
+pub words_stay : (v w : Writing) (place : ℕ) (words : List ℕ) (done : Bool) → Puts v w place words done → (k : ℕ) → k ≢ place → row_at w.view.rows k ≡ row_at v.view.rows k
+words_stay v w place words true puts k ne = ap (λ rs. row_at rs k) (puts.put refl).0 ∙ get_or-set_other v.view.rows place k words [] ne
+words_stay v w place words false puts k ne = ap (λ rs. row_at rs k) (puts.left refl).0
+
+-- where it isn't current none of the identity is
+put_wanting : (rows : ℕ) (id : Ufid) (key : List ℕ) (place : ℕ) (words : List ℕ) (done : Bool) (v w : Writing) → key ≡ key_words id.dir id.stack → NoneHasKey rows key v → Puts v w place words done → (IsCurrent w place → ⊥) → NoneStands rows w id
+put_wanting rows id key place words done v w is none puts gone k row st = dite (ℕ_discrete k place)
+    (λ e. gone (subst (λ j. IsCurrent w j) e st.current))
+    (λ ne. other ne (puts.others k ne))
   where
-    stands : StandsUntil rows (layers_after p v.view.history) (with_row v place words) x.id x.moment
-    stands = record {
-      place = place;
-      row = s.row;
-      stands = record {
-        probed = subst (λ k. IsProbed rows k place) l.key_is f.0;
-        current = get_or-set_same v.view.stamps place v.view.generation 0 there;
-        says = subst (λ ws. Says ws s.row) (sym (get_or-set_same v.view.rows place words [] wide)) s.says;
-        same = s.walked.id;
-      };
-      good = good_of (layers_after p v.view.history) x words s;
-      lasts = subst (λ n. x.moment ≤ n) (sym (s.walked.until ∙ (moment_unseen (layers_after p v.view.history) x l.plain).0.until)) (in_time (layers_after p v.view.history) x l.plain l.small l.still);
-    }
+    other : k ≢ place → OrFell Any v w k → ⊥
+    other ne (inr down) = st.current down.0
+    other ne (inl same) =
+        let words_is : row_at v.view.rows k ≡ words_of row = sym (words_stay v w place words done puts k ne) ∙ st.says.words_is in
+        none k (subst (λ ws. IsProbed rows ws k) (sym is) st.probed) (λ z. st.current (same ∙ z)) (ap (take 16) words_is ∙ (key_of row ∙ (ap (λ (i : Ufid). key_words i.dir i.stack) st.same ∙ sym is)))
 
-pub stale_stands : (p : PolicySeen) (rows : ℕ) (x : Crossing) (key : List ℕ) (place : ℕ) (words : List ℕ) (v w : Writing) → Looks p x key v → IsFound rows key v (found.Stale place) → w ≡ with_row v place words → (place < length v.view.stamps) × (place < length v.view.rows)
-    → SaysRowOf (layers_after p v.view.history) x words → Publishes rows (layers_after p v.view.history) x v w
-stale_stands p rows x key place words v w l f e there s = subst (Publishes rows (layers_after p v.view.history) x v) (sym e) (row_put p rows x key place words v l f there.0 there.1 s)
+-- there was no memory for it
+pub short_left : (p : PolicySeen) (rows : ℕ) (x : Crossing) (key : List ℕ) (place : ℕ) (words : List ℕ) (done : Bool) (v w : Writing) → Looks p x key v → IsFound rows key v (found.Free place) → SaysRowOf (layers_after p v.view.history) x words → done ≡ false → Puts v w place words done
+    → Publishes rows (layers_after p v.view.history) x v w false
+short_left p rows x key place words done v w l f s d puts = record {
+  writes = one_written p rows x key place words done v w l f s puts;
+  stands = λ e. absurd (true≢false (sym e));
+  wanting = λ c settled e. put_wanting rows x.id key place words done v w l.key_is f.1 puts (puts.left d).1;
+}
 
--- where eight rows are current with other keys there is no place
-no_place : (rows : ℕ) (id : Ufid) (moment : ℕ) (key : List ℕ) (v : Writing) → key ≡ key_words id.dir id.stack → IsFound rows key v found.Full → HasPlace rows v id moment → ⊥
-no_place rows id moment key v k f (Stale place probed low) = let current = f.0 place (subst (λ w. IsProbed rows w place) (sym k) probed) in omega (arith, low, current)
-no_place rows id moment key v k f (Late place row st late) =
-    f.1 place (subst (λ w. IsProbed rows w place) (sym k) st.probed) st.current (ap (take 16) st.says.words_is ∙ (key_of row ∙ (ap (λ (i : Ufid). key_words i.dir i.stack) st.same ∙ sym k)))
-
-pub full_stands : (p : PolicySeen) (rows : ℕ) (x : Crossing) (key : List ℕ) (v : Writing) → Looks p x key v → IsFound rows key v found.Full → Publishes rows (layers_after p v.view.history) x v v
-full_stands p rows x key v l f = nothing_left rows (layers_after p v.view.history) x v (λ c s h. absurd (no_place rows x.id x.moment key v l.key_is f h))
+-- or there was, and it is current, if a stamp was left
+pub row_left : (p : PolicySeen) (rows : ℕ) (x : Crossing) (key : List ℕ) (place : ℕ) (words : List ℕ) (done current : Bool) (v w : Writing) → Looks p x key v → IsFound rows key v (found.Free place) → SaysRowOf (layers_after p v.view.history) x words → done ≡ true → Puts v w place words done
+    → (current ≡ true → IsCurrent w place) → (current ≡ false → stamp_at w.view.stamps place ≡ 0) → Publishes rows (layers_after p v.view.history) x v w current
+row_left p rows x key place words done current v w l f s d puts told back = record {
+  writes = one_written p rows x key place words done v w l f s puts;
+  stands = λ e. put_stands p rows x key place words v w l f s (subst (λ b. Puts v w place words b) d puts) (told e);
+  wanting = λ c settled e. put_wanting rows x.id key place words done v w l.key_is f.1 puts (λ z. z (back e));
+}
 
 -- a packet that wants something changed leaves nothing
-pub wanting_stands : (rows : ℕ) (ls : List LayerSeen) (x : Crossing) (w : Walked) (t : Told) (v : Writing) → IsWholeWalk ls x w t → wants_change w.verdict t.changes ≡ true → Publishes rows ls x v v
-wanting_stands rows ls x w t v h wants = nothing_left rows ls x v (λ c s place. absurd (true≢false (sym wants ∙ (λ i. wants_change (h.verdict i) (h.changes i)) ∙ settled_still ls x s)))
+pub wanting_stands : (rows : ℕ) (ls : List LayerSeen) (x : Crossing) (w : Walked) (t : Told) (v : Writing) → IsWholeWalk ls x w t → wants_change w.verdict t.changes ≡ true → Publishes rows ls x v v false
+wanting_stands rows ls x w t v h wants = record {
+  writes = publishing.None refl;
+  stands = λ e. absurd (true≢false (sym e));
+  wanting = λ c s e. absurd (true≢false (sym wants ∙ (λ i. wants_change (h.verdict i) (h.changes i)) ∙ settled_still ls x s));
+}
+
+-- neither does one that has a control
+pub control_stands : (rows : ℕ) (ls : List LayerSeen) (x : Crossing) (v : Writing) → (x.control ≡ control.None → ⊥) → Publishes rows ls x v v false
+control_stands rows ls x v other = record { writes = publishing.None refl; stands = λ e. absurd (true≢false (sym e)); wanting = λ c s e. absurd (other c) }
 
 pub wants_as : (ls : List LayerSeen) (x : Crossing) (w : Walked) (t : Told) → IsWholeWalk ls x w t → wants_change w.verdict t.changes ≡ false → wants_change (walk_of ls x).verdict (walk_of ls x).changes ≡ false
 wants_as ls x w t h e = (λ i. wants_change (sym h.verdict i) (sym h.changes i)) ∙ e
 
--- ---- behind the entry
+-- ---- the call as a whole
 
--- a place stays one over an entry: a row that was late is no longer current, or late still
-place_stays : (rows : ℕ) (ls : List LayerSeen) (es : List Event) (id : Ufid) (moment : ℕ) (v w s u : Writing) → Steps ls es v w s u → HasPlace rows v id moment → HasPlace rows w id moment
-place_stays rows ls es id moment v w s u st (Stale place probed low) =
-    let same : stamp_at w.view.stamps place ≡ stamp_at v.view.stamps place = ap (λ ns. stamp_at ns place) st.stamps in
-    let more = st.raises.generation in
-    Stale place probed (omega (arith, same, more, low))
-place_stays rows ls es id moment v w s u st (Late place row old late) = by st.raises.raised st.raises.generation
-  where
-    same : stamp_at w.view.stamps place ≡ stamp_at v.view.stamps place
-    same = ap (λ ns. stamp_at ns place) st.stamps
+pub record Crossed (p : PolicySeen) (rows : ℕ) (x : Crossing) (e : Event) (es : List Event) (v w z s u : Writing) (left : Bool) : Type 0 where
+  pub steps : Steps (layers_after p v.view.history) e es v w s u
+  pub leaves : Publishes rows (layers_after p w.view.history) x w z left
 
-    by : (b : Bool) → w.view.generation ≡ v.view.generation + one_if b → HasPlace rows w id moment
-    by true e = let current = old.current in Stale place old.probed (omega (arith, same, current, e))
-    by false e =
-        let current = old.current in
-        Late place row (record { probed = old.probed; current = omega (arith, same, current, e); says = subst (λ rs. Says (row_at rs place) row) (sym st.rows) old.says; same = old.same }) late
+-- a row that is put changes stamps and rows alone
+same_but : (rows : ℕ) (ls : List LayerSeen) (x : Crossing) (w z : Writing) → WritesOne rows ls x w z → z ≡ record w { view = record w.view { given = z.view.given; stamps = z.view.stamps; rows = z.view.rows } }
+same_but rows ls x w z (publishing.None e) = e ∙ (λ i. record w { view = record w.view { given = (sym e i).view.given; stamps = (sym e i).view.stamps; rows = (sym e i).view.rows } })
+same_but rows ls x w z (publishing.One place words done may puts) = puts.same
 
--- the call as a whole
-pub record Crossed (p : PolicySeen) (rows : ℕ) (x : Crossing) (es : List Event) (v w z s u : Writing) : Type 0 where
-  pub steps : Steps (layers_after p v.view.history) es v w s u
-  pub left : Publishes rows (layers_after p w.view.history) x w z
+crossed_same : (p : PolicySeen) (rows : ℕ) (x : Crossing) (e : Event) (es : List Event) (v w z s u : Writing) (left : Bool) → Crossed p rows x e es v w z s u left → z ≡ record w { view = record w.view { given = z.view.given; stamps = z.view.stamps; rows = z.view.rows } }
+crossed_same p rows x e es v w z s u left c = same_but rows (layers_after p w.view.history) x w z c.leaves.writes
 
-history_same : (p : PolicySeen) (rows : ℕ) (x : Crossing) (es : List Event) (v w z s u : Writing) → Crossed p rows x es v w z s u → w.view.history ≡ z.view.history
-history_same p rows x es v w z s u c = sym (ap (λ (q : Writing). q.view.history) c.left.same)
+history_same : (p : PolicySeen) (rows : ℕ) (x : Crossing) (e : Event) (es : List Event) (v w z s u : Writing) (left : Bool) → Crossed p rows x e es v w z s u left → w.view.history ≡ z.view.history
+history_same p rows x e es v w z s u left c = sym (ap (λ (q : Writing). q.view.history) (crossed_same p rows x e es v w z s u left c))
 
-generation_same : (p : PolicySeen) (rows : ℕ) (x : Crossing) (es : List Event) (v w z s u : Writing) → Crossed p rows x es v w z s u → w.view.generation ≡ z.view.generation
-generation_same p rows x es v w z s u c = sym (ap (λ (q : Writing). q.view.generation) c.left.same)
-
-pub crossed_writer : (p : PolicySeen) (rows : ℕ) (x : Crossing) (es : List Event) (v w z s u : Writing) → Crossed p rows x es v w z s u → z ≡ record v { view = grown v.view s.view es z.view }
-crossed_writer p rows x es v w z s u c =
+pub crossed_writer : (p : PolicySeen) (rows : ℕ) (x : Crossing) (e : Event) (es : List Event) (v w z s u : Writing) (left : Bool) → Crossed p rows x e es v w z s u left → z ≡ record v { view = grown v.view s.view es z.view }
+crossed_writer p rows x e es v w z s u left c =
     let more = c.steps.writer in
-    let gen = generation_same p rows x es v w z s u c in
-    c.left.same ∙ ((λ i. record (more i) { view = record (more i).view { stamps = z.view.stamps; rows = z.view.rows } }) ∙ (λ i. record v { view = grown v.view s.view es (record z.view { generation = gen i }) }))
+    crossed_same p rows x e es v w z s u left c ∙ (λ i. record (more i) { view = record (more i).view { given = z.view.given; stamps = z.view.stamps; rows = z.view.rows } })
 
-pub crossed_pass : (p : PolicySeen) (rows : ℕ) (x : Crossing) (es : List Event) (v w z s u : Writing) → Crossed p rows x es v w z s u → u ≡ record s { view = called s.view z.view.history es }
-crossed_pass p rows x es v w z s u c = let h = history_same p rows x es v w z s u c in c.steps.pass ∙ (λ i. record s { view = called s.view (h i) es })
+pub crossed_pass : (p : PolicySeen) (rows : ℕ) (x : Crossing) (e : Event) (es : List Event) (v w z s u : Writing) (left : Bool) → Crossed p rows x e es v w z s u left → u ≡ record s { view = called s.view z.view.history es }
+crossed_pass p rows x e es v w z s u left c = let h = history_same p rows x e es v w z s u left c in c.steps.pass ∙ (λ i. record s { view = called s.view (h i) es })
 
-pub crossed_raises : (p : PolicySeen) (rows : ℕ) (x : Crossing) (es : List Event) (v w z s u : Writing) → Crossed p rows x es v w z s u → Raises (layers_after p v.view.history) es v z
-crossed_raises p rows x es v w z s u c =
-    let r = c.steps.raises in
-    record { raised = r.raised; generation = sym (generation_same p rows x es v w z s u c) ∙ r.generation; told = r.told; back = r.back }
-
-pub crossed_rows : (p : PolicySeen) (rows : ℕ) (x : Crossing) (es : List Event) (v w z s u : Writing) → Crossed p rows x es v w z s u → WritesOne rows (layers_after p z.view.history) x v z
-crossed_rows p rows x es v w z s u c = subst (λ hs. WritesOne rows (layers_after p hs) x v z) (history_same p rows x es v w z s u c) (by c.left.writes)
-  where
-    st : Steps (layers_after p v.view.history) es v w s u
-    st = c.steps
-
-    by : WritesOne rows (layers_after p w.view.history) x w z → WritesOne rows (layers_after p w.view.history) x v z
-    by (publishing.None a b) = publishing.None (a ∙ st.stamps) (b ∙ st.rows)
-    by (publishing.One place words may low a b) = publishing.One place words may (subst (λ ns. stamp_at ns place < z.view.generation) st.stamps low) (a ∙ ap (λ ns. slice_set ns place z.view.generation) st.stamps) (b ∙ ap (λ rs. slice_set rs place words) st.rows)
-
-pub crossed_stands : (p : PolicySeen) (rows : ℕ) (x : Crossing) (es : List Event) (v w z s u : Writing) → Crossed p rows x es v w z s u
-    → x.control ≡ control.None → IsSettled (layers_after p z.view.history) x → HasPlace rows v x.id x.moment → StandsUntil rows (layers_after p z.view.history) z x.id x.moment
-crossed_stands p rows x es v w z s u c plain settled h = subst (λ hs. StandsUntil rows (layers_after p hs) z x.id x.moment) (history_same p rows x es v w z s u c)
-    (c.left.stands plain (subst (λ hs. IsSettled (layers_after p hs) x) (sym (history_same p rows x es v w z s u c)) settled) (place_stays rows (layers_after p v.view.history) es x.id x.moment v w s u c.steps h))
-
-pub crossed_owned : (p : PolicySeen) (rows : ℕ) (x : Crossing) (es : List Event) (k : LedgerSeen) (permits : ℕ) (v w z s u : Writing) → Crossed p rows x es v w z s u → IsOwned k w permits → IsOwned k z permits
-crossed_owned p rows x es k permits v w z s u c o = record {
-  opening = λ q is. o.opening q (sym (ap (λ (r : Writing). r.view.opening) c.left.same) ∙ is);
-  journal = o.journal ∙ history_same p rows x es v w z s u c;
-  granted = subst (λ ks. total ks ≤ permits) (sym (ap (λ (r : Writing). r.view.kept) c.left.same)) o.granted;
-  room = o.room;
+pub crossed_rows : (p : PolicySeen) (rows : ℕ) (x : Crossing) (fate : Fate) (es : List Event) (v w z s u : Writing) (left : Bool) → Crossed p rows x (event.Crossing x fate) es v w z s u left → Leaves rows (layers_after p v.view.history) (layers_after p z.view.history) x fate v z
+crossed_rows p rows x fate es v w z s u left c = record {
+  between = w;
+  falls = c.steps.falls;
+  writes = subst (λ hs. WritesOne rows (layers_after p hs) x w z) (history_same p rows x (event.Crossing x fate) es v w z s u left c) c.leaves.writes;
 }
+
+pub crossed_stands : (p : PolicySeen) (rows : ℕ) (x : Crossing) (e : Event) (es : List Event) (v w z s u : Writing) (left : Bool) → Crossed p rows x e es v w z s u left → left ≡ true → StandsUntil rows (layers_after p z.view.history) z x.id x.moment
+crossed_stands p rows x e es v w z s u left c told = subst (λ hs. StandsUntil rows (layers_after p hs) z x.id x.moment) (history_same p rows x e es v w z s u left c) (c.leaves.stands told)
+
+pub crossed_wanting : (p : PolicySeen) (rows : ℕ) (x : Crossing) (e : Event) (es : List Event) (v w z s u : Writing) (left : Bool) → Crossed p rows x e es v w z s u left → x.control ≡ control.None → IsSettled (layers_after p z.view.history) x → left ≡ false → NoneStands rows z x.id
+crossed_wanting p rows x e es v w z s u left c plain settled = c.leaves.wanting plain (subst (λ hs. IsSettled (layers_after p hs) x) (sym (history_same p rows x e es v w z s u left c)) settled)
+
+pub crossed_owned : (p : PolicySeen) (rows : ℕ) (x : Crossing) (e : Event) (es : List Event) (k : LedgerSeen) (permits : ℕ) (v w z s u : Writing) (left : Bool) → Crossed p rows x e es v w z s u left → IsOwned k w permits → IsOwned k z permits
+crossed_owned p rows x e es k permits v w z s u left c o =
+    let same = crossed_same p rows x e es v w z s u left c in
+    record {
+      opening = λ q is. o.opening q (sym (ap (λ (r : Writing). r.view.opening) same) ∙ is);
+      journal = o.journal ∙ history_same p rows x e es v w z s u left c;
+      granted = subst (λ ks. total ks ≤ permits) (sym (ap (λ (r : Writing). r.view.kept) same)) o.granted;
+      room = o.room;
+    }

@@ -1,15 +1,15 @@
 //! A row that isn't current, compared with what the layers of now make of its packets.
 
-ghost use Rattle.std.specs.Prelude.{◌≡◌, ◌<◌, ◌+◌, ◌∷◌, length, false, true, drop, take, slice_set};
+ghost use Rattle.std.specs.Prelude.{◌≡◌, ◌<◌, ◌+◌, ◌∷◌, length, false, true, drop, take};
 ghost use Rattle.vsw_base.specs.declared.fate.Verdict.TheVariants.{Pass};
-ghost use Rattle.vsw_core.specs.Core.{IsOf};
+ghost use Rattle.vsw_flows.specs.Flows.{IsOf, Puts};
 ghost use Rattle.vsw_core.specs.Private.Comparing.{IsCompared, IsRead, IsSame, row_by};
 ghost use Rattle.vsw_core.specs.Reconciling.{IsOld, OthersStay, Reconciles};
 ghost use Rattle.vsw_core.specs.Walks.{IsWholeWalk};
 ghost use Rattle.vsw_policy.specs.Layer.{LayerSeen};
 ghost use Rattle.vsw_rows.specs.Good.{Row};
 ghost use Rattle.vsw_rows.specs.Way.{plain};
-ghost use Rattle.vsw_lookup.specs.Rules.{row_at};
+ghost use Rattle.vsw_table.specs.Rules.{row_at};
 ghost use Rattle.vsw_port.specs.Ledger.{layers_in};
 ghost use Rattle.vsw_rows.specs.Rows.{IsEmpty, IsFormed, IsFresh, Says, layers_after};
 ghost use Rattle.vsw_transpose.specs.Apply.{apply};
@@ -17,14 +17,15 @@ ghost use Rattle.vsw_transpose.specs.Fits as fit;
 ghost use Rattle.vsw_words.specs.Law.{IsId};
 ghost use Rattle.vsw_words.specs.Key as key;
 
+use crate::counting::is_current;
 use crate::crossing::{walk_now, wants_change};
 use crate::owner::Reconciled;
 use crate::rooms::{Former, Rooms};
 use crate::writing::write_row;
 use vsw_base::{Control, Crossing, Moment, Sizes, Stack, Verdict};
-use vsw_lookup::Lookup;
+use vsw_flows::{PortStory, Rows};
 use vsw_port::Ledger;
-use vsw_rows::{PortStory, Rows};
+use vsw_table::Lookup;
 use vsw_transpose::Transposition;
 use vsw_walk::{Scratch, Walked};
 use vsw_words::{Body, body_to, identity_to, row_of};
@@ -39,14 +40,14 @@ pub fn reconcile(
     former: &mut Former,
     rooms: &mut Rooms,
 ) -> Reconciled
-    requires core { IsOf lookup.now rows.old.writer }
+    requires core { IsOf lookup.now rows.old }
     requires row { row < lookup.now.2 }
-    requires layers { layers_in ledger.now ≡ layers_after lookup.now.1 rows.old.writer.view.history }
-    ensures reconciles { Reconciles (layers_after lookup.now.1 rows.old.writer.view.history) rows.old.writer rows.new.writer row result }
-    ensures others { OthersStay rows.old.writer rows.new.writer row }
-    ensures writer { rows.new.writer ≡ record rows.old.writer { view = record rows.old.writer.view { stamps = rows.new.writer.view.stamps; rows = rows.new.writer.view.rows } } }
+    requires layers { layers_in ledger.now ≡ layers_after lookup.now.1 rows.old.view.history }
+    ensures reconciles { Reconciles (layers_after lookup.now.1 rows.old.view.history) rows.old rows.new row result }
+    ensures others { OthersStay rows.old rows.new row }
+    ensures writer { rows.new ≡ record rows.old { view = record rows.old.view { given = rows.new.view.given; stamps = rows.new.view.stamps; rows = rows.new.view.rows } } }
 {
-    if rows.is_current(lookup, row) {
+    if is_current(lookup, rows, row) {
         return Reconciled::Fresh;
     }
     if !read_row(lookup, rows, row, &mut rooms.words, former) {
@@ -65,14 +66,14 @@ fn renew(
     former: &mut Former,
     rooms: &mut Rooms,
 ) -> Reconciled
-    requires core { IsOf lookup.now rows.old.writer }
+    requires core { IsOf lookup.now rows.old }
     requires row { row < lookup.now.2 }
-    requires layers { layers_in ledger.now ≡ layers_after lookup.now.1 rows.old.writer.view.history }
-    requires old { IsOld rows.old.writer row }
-    requires read { IsRead (row_at rows.old.writer.view.rows row) former.old.crossing former.old.body }
-    ensures reconciles { Reconciles (layers_after lookup.now.1 rows.old.writer.view.history) rows.old.writer rows.new.writer row result }
-    ensures others { OthersStay rows.old.writer rows.new.writer row }
-    ensures writer { rows.new.writer ≡ record rows.old.writer { view = record rows.old.writer.view { stamps = rows.new.writer.view.stamps; rows = rows.new.writer.view.rows } } }
+    requires layers { layers_in ledger.now ≡ layers_after lookup.now.1 rows.old.view.history }
+    requires old { IsOld rows.old row }
+    requires read { IsRead (row_at rows.old.view.rows row) former.old.crossing former.old.body }
+    ensures reconciles { Reconciles (layers_after lookup.now.1 rows.old.view.history) rows.old rows.new row result }
+    ensures others { OthersStay rows.old rows.new row }
+    ensures writer { rows.new ≡ record rows.old { view = record rows.old.view { given = rows.new.view.given; stamps = rows.new.view.stamps; rows = rows.new.view.rows } } }
 {
     let walked = walk_now(ledger, &former.crossing, again);
     // At moment 0 no last use is renewed, so what a packet wants changed is a pair that is made.
@@ -86,11 +87,15 @@ fn renew(
         again,
         &mut former.stack,
     ) {
-        keep(lookup, rows, row, former, &walked, again, &mut rooms.words);
-        return Reconciled::Kept;
+        if keep(lookup, rows, row, former, &walked, again, &mut rooms.words) {
+            return Reconciled::Kept;
+        }
+        return Reconciled::Short;
     }
-    write_row(lookup, rows, row, &former.crossing, &walked, again, rooms);
-    Reconciled::Changed
+    if write_row(lookup, rows, row, &former.crossing, &walked, again, rooms) {
+        return Reconciled::Changed;
+    }
+    Reconciled::Short
 }
 
 /// Whether the row isn't empty. What it says of which packets is then read.
@@ -101,11 +106,11 @@ fn read_row(
     words: &mut [u64; 73],
     out: &mut Former,
 ) -> bool
-    requires core { IsOf lookup.now rows.old.writer }
+    requires core { IsOf lookup.now rows.old }
     requires row { row < lookup.now.2 }
     ensures same { rows.new ≡ rows.old }
-    ensures empty { result ≡ false → IsEmpty (row_at rows.old.writer.view.rows row) }
-    ensures read { result ≡ true → IsRead (row_at rows.old.writer.view.rows row) out.new.crossing out.new.body }
+    ensures empty { result ≡ false → IsEmpty (row_at rows.old.view.rows row) }
+    ensures read { result ≡ true → IsRead (row_at rows.old.view.rows row) out.new.crossing out.new.body }
 {
     if rows.is_empty(lookup, row) {
         return false;
@@ -183,7 +188,7 @@ fn makes_same(by: &Transposition, first: &Stack, kept: u8, last: &Stack, room: &
     room.is_same(last) && by.kept() == kept
 }
 
-/// Makes a row current that says what is so, until when that holds now.
+/// Puts a row that says what is so, until when that holds now; answers whether there was memory for its looks.
 fn keep(
     lookup: &Lookup<PortStory>,
     rows: &mut Rows,
@@ -192,14 +197,12 @@ fn keep(
     walked: &Walked,
     again: &Scratch,
     words: &mut [u64; 73],
-)
-    requires core { IsOf lookup.now rows.old.writer }
+) -> bool
+    requires core { IsOf lookup.now rows.old }
     requires row { row < lookup.now.2 }
-    requires old { IsOld rows.old.writer row }
-    requires compared { IsCompared (layers_after lookup.now.1 rows.old.writer.view.history) (row_at rows.old.writer.view.rows row) former.now.crossing former.now.body walked.now again.now }
+    requires compared { IsCompared (layers_after lookup.now.1 rows.old.view.history) (row_at rows.old.view.rows row) former.now.crossing former.now.body walked.now again.now }
     requires same { IsSame former.now.crossing.id.stack former.now.body walked.now again.now }
-    ensures writer { rows.new.writer ≡ record rows.old.writer { view = record rows.old.writer.view { rows = slice_set rows.old.writer.view.rows row words.new; stamps = slice_set rows.old.writer.view.stamps row rows.old.writer.view.generation } } }
-    ensures there { (row < length rows.old.writer.view.stamps) × (row < length rows.old.writer.view.rows) }
+    ensures puts { Puts rows.old rows.new row words.new result }
     ensures says { Says words.new (record (row_by former.now.crossing former.now.body) { until = walked.now.until }) }
 {
     row_of(
@@ -209,5 +212,5 @@ fn keep(
         walked.until,
         words,
     );
-    rows.put(lookup, row, words, again.looked());
+    rows.put(lookup, row, words, again.looked())
 }

@@ -1,13 +1,12 @@
 //! The row that is made of a packet's walk.
 
-ghost use Rattle.std.specs.Prelude.{◌≡◌, ◌<◌, List, false, length, slice_set, true};
+ghost use Rattle.std.specs.Prelude.{◌≡◌, ◌<◌, List, false, true};
 ghost use Rattle.vsw_base.specs.declared.fate.Verdict.TheVariants.{Pass};
 ghost use Rattle.vsw_base.specs.declared.packet.Control.TheVariants as control;
 ghost use Rattle.vsw_port.specs.Cross.{makes};
-ghost use Rattle.vsw_core.specs.Core.{IsOf};
+ghost use Rattle.vsw_flows.specs.Flows.{IsOf, Puts};
 ghost use Rattle.vsw_core.specs.Walks.{IsWholeWalk, SaysRowOf};
 ghost use Rattle.vsw_policy.specs.Layer.{LayerSeen};
-ghost use Rattle.vsw_lookup.specs.Rules.{stamp_at};
 ghost use Rattle.vsw_rows.specs.Rows.{layers_after};
 ghost use Rattle.vsw_transpose.specs.Apply.{apply};
 ghost use Rattle.vsw_transpose.specs.Fits as fit;
@@ -16,8 +15,8 @@ ghost use Rattle.vsw_words.specs.Row.{IsBare};
 
 use crate::rooms::Rooms;
 use vsw_base::{Crossing, Verdict};
-use vsw_lookup::Lookup;
-use vsw_rows::{PortStory, Rows};
+use vsw_flows::{PortStory, Rows};
+use vsw_table::Lookup;
 use vsw_transpose::{Acts, Transposition};
 use vsw_walk::{Scratch, Walked};
 use vsw_words::row_of;
@@ -56,8 +55,8 @@ fn words_of(crossing: &Crossing, walked: &Walked, scratch: &Scratch, rooms: &mut
     );
 }
 
-/// Writes the row of a packet's walk over the layers of now, where none is current. The packet has no control, and
-/// makes no pair if it passes.
+/// Puts the row of a packet's walk over the layers of now; answers whether there was memory for its looks. The packet has
+/// no control, and makes no pair if it passes.
 pub fn write_row(
     lookup: &Lookup<PortStory>,
     rows: &mut Rows,
@@ -66,17 +65,15 @@ pub fn write_row(
     walked: &Walked,
     scratch: &Scratch,
     rooms: &mut Rooms,
-)
-    requires core { IsOf lookup.now rows.old.writer }
+) -> bool
+    requires core { IsOf lookup.now rows.old }
     requires row { row < lookup.now.2 }
-    requires old { stamp_at rows.old.writer.view.stamps row < rows.old.writer.view.generation }
     requires control { crossing.now.control ≡ control.None }
     requires pair { walked.now.verdict ≡ Pass → makes scratch.now.changes ≡ false }
-    requires walk { IsWholeWalk (layers_after lookup.now.1 rows.old.writer.view.history) crossing.now walked.now scratch.now }
-    ensures writer { rows.new.writer ≡ record rows.old.writer { view = record rows.old.writer.view { rows = slice_set rows.old.writer.view.rows row rooms.new.words; stamps = slice_set rows.old.writer.view.stamps row rows.old.writer.view.generation } } }
-    ensures there { (row < length rows.old.writer.view.stamps) × (row < length rows.old.writer.view.rows) }
-    ensures row { SaysRowOf (layers_after lookup.now.1 rows.old.writer.view.history) crossing.now rooms.new.words }
+    requires walk { IsWholeWalk (layers_after lookup.now.1 rows.old.view.history) crossing.now walked.now scratch.now }
+    ensures puts { Puts rows.old rows.new row rooms.new.words result }
+    ensures row { SaysRowOf (layers_after lookup.now.1 rows.old.view.history) crossing.now rooms.new.words }
 {
     words_of(crossing, walked, scratch, rooms);
-    rows.put(lookup, row, &rooms.words, scratch.looked());
+    rows.put(lookup, row, &rooms.words, scratch.looked())
 }

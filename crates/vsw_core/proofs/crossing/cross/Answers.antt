@@ -1,4 +1,4 @@
-use Rattle.vsw_core.proofs.Published.{Crossed, crossed_owned, crossed_rows, crossed_stands}
+use Rattle.vsw_core.proofs.Published.{Crossed, crossed_owned, crossed_pass, crossed_rows, crossed_stands, crossed_wanting, crossed_writer}
 use Rattle.vsw_port.specs.declared.event.Event.TheVariants as event
 use Rattle.vsw_port.specs.Core.{entered}
 use Rattle.vsw_core.proofs.crossing.cross.Goals as goal
@@ -8,15 +8,30 @@ enter-entered-requires-clause-opening c = c.requires.owned.opening c.args.lookup
 
 pub returns-clause-owned : goal.returns-clause-owned
 returns-clause-owned c =
-    crossed_owned c.args.lookup.now.1 c.args.lookup.now.2 c.args.crossing.now (entered c.enter-entered.result.outcome.entry (event.Crossing c.args.crossing.now c.enter-entered.result.outcome.fate)) c.enter-entered.new.ledger c.enter-entered.new.permits
-    c.args.rows.now.writer c.enter-entered.new.rows.writer c.publish.new.rows.writer c.args.pass.now c.enter-entered.new.pass (record { steps = c.enter-entered.ensures.steps; left = c.publish.ensures }) c.enter-entered.ensures.owned
+    crossed_owned c.args.lookup.now.1 c.args.lookup.now.2 c.args.crossing.now (event.Crossing c.args.crossing.now c.enter-entered.result.outcome.fate) (entered c.enter-entered.result.outcome.entry (event.Crossing c.args.crossing.now c.enter-entered.result.outcome.fate)) c.enter-entered.new.ledger c.enter-entered.new.permits
+    c.args.rows.now c.enter-entered.new.rows c.publish.new.rows c.args.pass.now c.enter-entered.new.pass c.publish.result (record { steps = c.enter-entered.ensures.steps; leaves = c.publish.ensures }) c.enter-entered.ensures.owned
+
+pub returns-clause-writer : goal.returns-clause-writer
+returns-clause-writer c =
+    crossed_writer c.args.lookup.now.1 c.args.lookup.now.2 c.args.crossing.now (event.Crossing c.args.crossing.now c.enter-entered.result.outcome.fate) (entered c.enter-entered.result.outcome.entry (event.Crossing c.args.crossing.now c.enter-entered.result.outcome.fate))
+    c.args.rows.now c.enter-entered.new.rows c.publish.new.rows c.args.pass.now c.enter-entered.new.pass c.publish.result (record { steps = c.enter-entered.ensures.steps; leaves = c.publish.ensures })
+
+pub returns-clause-pass : goal.returns-clause-pass
+returns-clause-pass c =
+    crossed_pass c.args.lookup.now.1 c.args.lookup.now.2 c.args.crossing.now (event.Crossing c.args.crossing.now c.enter-entered.result.outcome.fate) (entered c.enter-entered.result.outcome.entry (event.Crossing c.args.crossing.now c.enter-entered.result.outcome.fate))
+    c.args.rows.now c.enter-entered.new.rows c.publish.new.rows c.args.pass.now c.enter-entered.new.pass c.publish.result (record { steps = c.enter-entered.ensures.steps; leaves = c.publish.ensures })
 
 pub returns-clause-rows : goal.returns-clause-rows
 returns-clause-rows c =
-    crossed_rows c.args.lookup.now.1 c.args.lookup.now.2 c.args.crossing.now (entered c.enter-entered.result.outcome.entry (event.Crossing c.args.crossing.now c.enter-entered.result.outcome.fate))
-    c.args.rows.now.writer c.enter-entered.new.rows.writer c.publish.new.rows.writer c.args.pass.now c.enter-entered.new.pass (record { steps = c.enter-entered.ensures.steps; left = c.publish.ensures })
+    crossed_rows c.args.lookup.now.1 c.args.lookup.now.2 c.args.crossing.now c.enter-entered.result.outcome.fate (entered c.enter-entered.result.outcome.entry (event.Crossing c.args.crossing.now c.enter-entered.result.outcome.fate))
+    c.args.rows.now c.enter-entered.new.rows c.publish.new.rows c.args.pass.now c.enter-entered.new.pass c.publish.result (record { steps = c.enter-entered.ensures.steps; leaves = c.publish.ensures })
 
 pub returns-clause-stands : goal.returns-clause-stands
 returns-clause-stands c =
-    crossed_stands c.args.lookup.now.1 c.args.lookup.now.2 c.args.crossing.now (entered c.enter-entered.result.outcome.entry (event.Crossing c.args.crossing.now c.enter-entered.result.outcome.fate))
-    c.args.rows.now.writer c.enter-entered.new.rows.writer c.publish.new.rows.writer c.args.pass.now c.enter-entered.new.pass (record { steps = c.enter-entered.ensures.steps; left = c.publish.ensures })
+    crossed_stands c.args.lookup.now.1 c.args.lookup.now.2 c.args.crossing.now (event.Crossing c.args.crossing.now c.enter-entered.result.outcome.fate) (entered c.enter-entered.result.outcome.entry (event.Crossing c.args.crossing.now c.enter-entered.result.outcome.fate))
+    c.args.rows.now c.enter-entered.new.rows c.publish.new.rows c.args.pass.now c.enter-entered.new.pass c.publish.result (record { steps = c.enter-entered.ensures.steps; leaves = c.publish.ensures })
+
+pub returns-clause-wanting : goal.returns-clause-wanting
+returns-clause-wanting c =
+    crossed_wanting c.args.lookup.now.1 c.args.lookup.now.2 c.args.crossing.now (event.Crossing c.args.crossing.now c.enter-entered.result.outcome.fate) (entered c.enter-entered.result.outcome.entry (event.Crossing c.args.crossing.now c.enter-entered.result.outcome.fate))
+    c.args.rows.now c.enter-entered.new.rows c.publish.new.rows c.args.pass.now c.enter-entered.new.pass c.publish.result (record { steps = c.enter-entered.ensures.steps; leaves = c.publish.ensures })

@@ -5,3 +5,4 @@ pub mod Walked
 pub mod Entered
 pub mod Published
 pub mod Compared
+pub mod Counted

@@ -7,6 +7,7 @@ use Rattle.vsw_base.specs.declared.packet.Control.TheVariants as control
 use Rattle.vsw_base.specs.Fits.{AreFit}
 use Rattle.vsw_base.specs.Shape.{is_stack}
 use Rattle.vsw_port.specs.Cross.{makes}
+use Rattle.vsw_port.specs.Walked.{IsWalk}
 use Rattle.vsw_core.specs.Walks.{IsWholeWalk, SaysRowOf}
 use Rattle.vsw_policy.specs.Layer.{LayerSeen}
 use Rattle.vsw_rows.specs.Good.{IsGoodLeaning, Row}
@@ -55,3 +56,7 @@ row_said x w t by words plain pair stack ranges body acts are ls h =
 -- such a row is fresh, with the looks of the walk
 pub fresh_row : (ls : List LayerSeen) (x : Crossing) (w : Walked) (t : Told) (words : List ℕ) → IsWholeWalk ls x w t → SaysRowOf ls x words → IsFresh ls words t.looked
 fresh_row ls x w t words h s = record { row = s.row; says = s.says; good = subst (λ qs. IsGoodLeaning ls (record { row = s.row; looks = qs })) (sym h.looked) (walk_makes ls x s.row s.walked) }
+
+-- as a walk over layers that are the same, and as its callers have it
+pub is_walk : (ls ms : List LayerSeen) (x : Crossing) (w : Walked) (t : Told) → ms ≡ ls → IsWholeWalk ls x w t → IsWalk ms x w t
+is_walk ls ms x w t e h = subst (λ ks. IsWalk ks x w t) (sym e) (record { verdict = h.verdict; changes = h.changes; stack = h.stack; kept = h.kept; leads = h.leads })

@@ -11,6 +11,7 @@ ghost use Rattle.vsw_core.specs.Walks.{IsWholeWalk};
 ghost use Rattle.vsw_port.specs.Calls.{Carried};
 ghost use Rattle.vsw_port.specs.History.{AllRight};
 ghost use Rattle.vsw_port.specs.Next.{IsDone};
+ghost use Rattle.vsw_port.specs.declared.event.Event.{Event};
 ghost use Rattle.vsw_port.specs.declared.event.Event.TheVariants as event;
 ghost use Rattle.vsw_flows.specs.Flows.{IsOf, Spares};
 ghost use Rattle.vsw_table.specs.Rules.{permits_of};

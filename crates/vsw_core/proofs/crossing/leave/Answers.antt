@@ -22,8 +22,8 @@ returns-in-Own c =
     subst (λ (q : Writing). Publishes c.args.lookup.now.2 ls c.args.crossing.now c.args.rows.now q true) (sym c.find.ensures.same)
     (own_stands c.args.lookup.now.1 c.args.lookup.now.2 c.args.crossing.now c.key_words.new.out c.in-Own.row c.args.rows.now l (subst (IsFound c.args.lookup.now.2 c.key_words.new.out c.args.rows.now) c.in-Own.is c.find.ensures.found) (c.find.ensures.good c.in-Own.row c.in-Own.is))
 
-pub returns-in-Free-then-not-write_row : goal.returns-in-Free-then-not-write_row
-returns-in-Free-then-not-write_row c =
+pub returns-then-not-write_row : goal.returns-then-not-write_row
+returns-then-not-write_row c =
     let v = c.args.rows.now in
     let ls = layers_after c.args.lookup.now.1 v.view.history in
     let l : Looks c.args.lookup.now.1 c.args.crossing.now c.key_words.new.out v = record {
@@ -38,8 +38,8 @@ returns-in-Free-then-not-write_row c =
     let puts = subst (λ (q : Writing). Puts q c.write_row.new.rows c.in-Free.row c.write_row.new.rooms.words c.write_row.result) c.find.ensures.same c.write_row.ensures.puts in
     short_left c.args.lookup.now.1 c.args.lookup.now.2 c.args.crossing.now c.key_words.new.out c.in-Free.row c.write_row.new.rooms.words c.write_row.result v c.write_row.new.rows l found said (grind (arith, c.if-not-write_row.true)) puts
 
-pub returns-in-Free : goal.returns-in-Free
-returns-in-Free c =
+pub returns-else-not-write_row : goal.returns-else-not-write_row
+returns-else-not-write_row c =
     let v = c.args.rows.now in
     let ls = layers_after c.args.lookup.now.1 v.view.history in
     let l : Looks c.args.lookup.now.1 c.args.crossing.now c.key_words.new.out v = record {

@@ -5,9 +5,3 @@ returns-clause-done c p bytes = rw (← c.self.view_is) (c.cross.ensures.done p 
 
 pub returns-clause-rows : goal.returns-clause-rows
 returns-clause-rows c = rw (← c.self.view_is) c.cross.ensures.rows
-
-pub returns-clause-stands : goal.returns-clause-stands
-returns-clause-stands c = rw (← c.self.view_is) c.cross.ensures.stands
-
-pub returns-clause-wanting : goal.returns-clause-wanting
-returns-clause-wanting c = rw (← c.self.view_is) c.cross.ensures.wanting

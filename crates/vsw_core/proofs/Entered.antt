@@ -94,13 +94,13 @@ pub record Fell (ks ls : List LayerSeen) (ws : List Wanted) (v f : Writing) : Ty
   pub none : NoneShaken ks ws f
   pub others : OthersStay ks ws v f
 
-pub shaken : (ls ms ks : List LayerSeen) (x : Crossing) (w : Walked) (t : Told) (v f : Writing) → IsWholeWalk ls x w t → wants_change w.verdict t.changes ≡ true → ms ≡ ls → stop_of ms x (walk_of ms x) ≡ None → Fell ks ls t.changes v f → Shakes ls (made_by ls x) v f
-shaken ls ms ks x w t v f h wants same free fell =
-    let made : made_by ls x ≡ t.changes = all_made ls x (sym (wants_as ls x w t h) ∙ wants) (subst (λ js. stop_of js x (walk_of js x) ≡ None) same free) ∙ sym h.changes in
-    subst (λ us. Shakes ls us v f) (sym made) (record {
+pub shaken : (ls ms ks : List LayerSeen) (x : Crossing) (w : Walked) (t : Told) (us : List Wanted) (v f : Writing) → IsWholeWalk ls x w t → wants_change w.verdict t.changes ≡ true → ms ≡ ls → stop_of ms x (walk_of ms x) ≡ None → us ≡ t.changes → Fell ks ls us v f → Shakes ls (made_by ls x) v f
+shaken ls ms ks x w t us v f h wants same free are fell =
+    let made : made_by ls x ≡ us = all_made ls x (sym (wants_as ls x w t h) ∙ wants) (subst (λ js. stop_of js x (walk_of js x) ≡ None) same free) ∙ (sym h.changes ∙ sym are) in
+    subst (λ ws. Shakes ls ws v f) (sym made) (record {
       falls = fell.falls;
-      none = subst (λ js. NoneShaken js t.changes f) fell.same fell.none;
-      others = subst (λ js. OthersStay js t.changes v f) fell.same fell.others;
+      none = subst (λ js. NoneShaken js us f) fell.same fell.none;
+      others = subst (λ js. OthersStay js us v f) fell.same fell.others;
     })
 
 -- ---- the entry

@@ -1,5 +1,5 @@
 -- A command at the end of the history.
-use Rattle.std.proofs.Common.{◌≡◌, ◌+◌, ◌-◌, ◌++◌, ℕ, Bool, true, false, not, true≢false, List, [], ◌∷◌, length, slice_set, append-nil, Some, Result, refl, sym, ap, subst, ◌∙◌, arith}
+use Rattle.std.proofs.Common.{◌≡◌, ◌+◌, ◌-◌, ◌++◌, ℕ, Bool, true, false, not, true≢false, List, [], ◌∷◌, slice_set, append-nil, Some, Result, sym, ap, subst, ◌∙◌, arith}
 use Rattle.std.proofs.lemmas.List.{set-set}
 use Rattle.vsw_commandfile.specs.declared.line.Line.{Line}
 use Rattle.vsw_core.specs.Calls.{FallsOver, called, grown}
@@ -23,7 +23,7 @@ use Rattle.vsw_rows.specs.GoodRows.{opening_of}
 use Rattle.vsw_rows.specs.Rows.{Says, layers_after}
 use Rattle.vsw_table.specs.Held.{after_entry, passed}
 use Rattle.vsw_table.specs.Rules.{counted_record, row_at, stamp_at}
-use Rattle.vsw_flows.specs.Flows.{AllSpared, Any, Falls, IsCurrent, IsOne, OrFell, Spares, Writing}
+use Rattle.vsw_flows.specs.Flows.{AllSpared, Any, Falls, OrFell, Spares, Writing}
 use Rattle.vsw_flows.proofs.Owed.{command_owed}
 use Rattle.vsw_core.proofs.Entered.{fallen, meeting, met}
 

@@ -1,5 +1,5 @@
 -- A row that was compared with the walk of its packets.
-use Rattle.std.proofs.Common.{◌≡◌, ◌≤◌, ◌<◌, ◌-◌, ◌++◌, ◌⊎◌, ℕ, zero, suc, List, [], ◌∷◌, Bool, true, false, true≢false, refl, sym, ap, subst, ◌∙◌, arith, inl, inr, length, take, drop}
+use Rattle.std.proofs.Common.{◌≡◌, ◌-◌, ◌++◌, ℕ, zero, suc, List, [], ◌∷◌, Bool, true, false, true≢false, refl, sym, ap, subst, ◌∙◌, arith, inl, inr, length, take, drop}
 use Rattle.std.specs.Prelude.{not, nat_le}
 use Rattle.std.proofs.Math.Seq.{drop-append_seam}
 use Rattle.vsw_base.specs.declared.fate.Verdict.{Verdict}

@@ -9,7 +9,7 @@ use Rattle.vsw_base.specs.declared.fate.Verdict.TheVariants.{Pass, Rule, Default
 use Rattle.vsw_base.specs.declared.flow.Crossing.{Crossing}
 use Rattle.vsw_port.specs.Cross.{made_after, made_by}
 use Rattle.vsw_port.specs.Admit.{stop_of}
-use Rattle.vsw_core.specs.Calls.{FallsBy, RowsFell, called, grown}
+use Rattle.vsw_core.specs.Calls.{FallsBy, grown}
 use Rattle.vsw_core.specs.Private.Steps.{Shakes, Steps, advanced, passing, wants_change}
 use Rattle.vsw_core.specs.Walks.{IsWholeWalk}
 use Rattle.vsw_port.specs.declared.event.Event.{Event}

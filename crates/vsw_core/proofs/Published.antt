@@ -1,5 +1,5 @@
 -- What a packet leaves for those of its identity that follow.
-use Rattle.std.proofs.Common.{◌≡◌, ◌≢◌, ◌⊎◌, ◌≤◌, ◌==◌, not, ℕ, suc, Bool, true, false, true≢false, List, [], ◌∷◌, ◌++◌, length, take, slice_set, get_or-set_other, inl, inr, refl, sym, ap, subst, ◌∙◌, arith, Option, Some, None}
+use Rattle.std.proofs.Common.{◌≡◌, ◌≢◌, ◌≤◌, ◌==◌, not, ℕ, suc, Bool, true, false, true≢false, List, [], ◌∷◌, ◌++◌, length, take, get_or-set_other, inl, inr, refl, sym, ap, subst, ◌∙◌, arith, Option, Some, None}
 use Rattle.std.specs.Prelude.{nat_le}
 use native.Mathlib.Decide.{ℕ_discrete}
 use mathlib.Core.Logic.{dite}
@@ -14,8 +14,8 @@ use Rattle.vsw_base.specs.declared.flow.Crossing.{Crossing}
 use Rattle.vsw_base.specs.declared.flow.Ufid.{Ufid}
 use Rattle.vsw_base.specs.declared.header.Header.{Header}
 use Rattle.vsw_base.specs.declared.packet.Control.TheVariants as control
-use Rattle.vsw_port.specs.Cross.{cross_of, fate_after, made_after, makes}
-use Rattle.vsw_port.specs.Fate.{fate_at, fate_by}
+use Rattle.vsw_port.specs.Cross.{fate_after, made_after, makes}
+use Rattle.vsw_port.specs.Fate.{fate_by}
 use Rattle.vsw_core.specs.Calls.{called, grown}
 use Rattle.vsw_core.specs.Core.{IsOwned, total}
 use Rattle.vsw_core.specs.Private.Steps.{Publishes, Steps, wants_change}
@@ -35,13 +35,13 @@ use Rattle.vsw_policy.specs.Layers.{PolicySeen}
 use Rattle.vsw_port.specs.Ledger.{LedgerSeen}
 use Rattle.vsw_rows.specs.Rows.{IsProbed, Says, layers_after}
 use Rattle.vsw_flows.specs.declared.places.Found.TheVariants as found
-use Rattle.vsw_flows.specs.Finding.{HasKey, IsFound, NoneHasKey}
+use Rattle.vsw_flows.specs.Finding.{IsFound, NoneHasKey}
 use Rattle.vsw_flows.specs.Flows.{IsCurrent, OrFell, Any, Puts, Writing}
 use Rattle.vsw_rows.specs.GoodRows.{IsGoodRow, opening_of, words_of}
 use Rattle.vsw_rows.proofs.Answers.{key_length, words_are}
 use Rattle.vsw_walk.specs.declared.scratch.Wanted.{Wanted}
 use Rattle.vsw_walk.specs.declared.walking.Walked.{Walked}
-use Rattle.vsw_walk.specs.Walk.{Told, greatest, until_after, until_of, walk_of}
+use Rattle.vsw_walk.specs.Walk.{Told, greatest, until_after, walk_of}
 use Rattle.vsw_words.specs.Key.{key_words}
 use Rattle.vsw_words.specs.Law.{IsId}
 use Rattle.vsw_words.specs.Row.{body_words}

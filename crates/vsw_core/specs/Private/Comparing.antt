@@ -1,5 +1,5 @@
 -- The steps of reconciling a row: its words are read, its packets walk once more, and what it says is compared with that walk.
-use Rattle.std.specs.Prelude.{◌≡◌, ◌≤◌, ◌<◌, ℕ, List, false, true}
+use Rattle.std.specs.Prelude.{◌≡◌, ℕ, List, false, true}
 use Rattle.vsw_base.specs.declared.fate.Verdict.TheVariants.{Pass}
 use Rattle.vsw_base.specs.declared.flow.Crossing.{Crossing}
 use Rattle.vsw_base.specs.declared.header.Header.{Header}

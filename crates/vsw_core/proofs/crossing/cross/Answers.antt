@@ -1,4 +1,4 @@
-use Rattle.vsw_core.proofs.Published.{Crossed, crossed_owned, crossed_pass, crossed_rows, crossed_stands, crossed_wanting, crossed_writer}
+use Rattle.vsw_core.proofs.Published.{crossed_owned, crossed_pass, crossed_rows, crossed_stands, crossed_wanting, crossed_writer}
 use Rattle.vsw_port.specs.declared.event.Event.TheVariants as event
 use Rattle.vsw_port.specs.Core.{entered}
 use Rattle.vsw_core.proofs.crossing.cross.Goals as goal

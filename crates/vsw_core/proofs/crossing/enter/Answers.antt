@@ -1,5 +1,5 @@
-use Rattle.std.proofs.Common.{◌≡◌, subst}
-use Rattle.vsw_core.proofs.Entered.{Called, Settled, few_entries, settled_shakes, settled_spares, steps}
+use Rattle.std.proofs.Common.{subst}
+use Rattle.vsw_core.proofs.Entered.{Settled, few_entries, settled_shakes, settled_spares, steps}
 use Rattle.vsw_core.proofs.Permits.{has_permit, owned_grown}
 use Rattle.vsw_port.specs.declared.event.Event.{Event}
 use Rattle.vsw_port.specs.declared.event.Event.TheVariants as event

@@ -1,4 +1,4 @@
-use Rattle.std.proofs.Common.{◌≡◌, ◌≤◌, ◌∙◌, true, false, arith, subst, sym}
+use Rattle.std.proofs.Common.{◌≡◌, ◌≤◌, ◌∙◌, true, arith, subst, sym}
 use Rattle.vsw_base.specs.Shape.{is_stack}
 use Rattle.vsw_core.proofs.Published.{Looks, own_stands, row_left, short_left, wants_as}
 use Rattle.vsw_core.specs.Private.Steps.{Publishes}

@@ -1,4 +1,4 @@
-use Rattle.std.proofs.Common.{◌≡◌, ◌∙◌, arith, map, sym}
+use Rattle.std.proofs.Common.{◌∙◌, map, sym}
 use Rattle.vsw_core.proofs.Entered.{shaken}
 use Rattle.vsw_port.specs.Ledger.{layers_in}
 use Rattle.vsw_policy.specs.Layer.{seen}

@@ -1,4 +1,4 @@
-use Rattle.std.proofs.Common.{◌≡◌, ◌∙◌, sym, true≢false}
+use Rattle.std.proofs.Common.{◌∙◌, sym, true≢false}
 use Rattle.vsw_core.specs.Private.Comparing.{IsCompared}
 use Rattle.vsw_core.proofs.Compared.{changed_is, kept_is, none_made, others_stay, pair_cleared, short_is}
 use Rattle.vsw_core.proofs.Walked.{whole_at}

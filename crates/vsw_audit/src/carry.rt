@@ -8,7 +8,7 @@ ghost use Rattle.vsw_port.specs.Crossed.{is_short};
 ghost use Rattle.vsw_port.specs.Ledger.{layers_in};
 ghost use Rattle.vsw_port.specs.Walked.{IsWalk};
 ghost use Rattle.vsw_promise.specs.Jobs.{crossing_by};
-ghost use Rattle.vsw_sole.specs.Transit.{IsOfFrame};
+ghost use Rattle.vsw_answer.specs.Transit.{IsOfFrame};
 ghost use Rattle.vsw_audit.specs.Private.Lines.{Judges};
 
 use std::alloc::Global;
@@ -18,7 +18,7 @@ use vsw_base::{
 use vsw_frame::Frame;
 use vsw_policy::Policy;
 use vsw_port::{Ledger, Outcome, judge};
-use vsw_sole::{Room, bytes_of, leave};
+use vsw_answer::{Room, bytes_of, leave};
 use vsw_walk::{Scratch, Walked, Wanted, walk};
 
 /// The rooms in which packet after packet is replayed. Each is written over by the next one.

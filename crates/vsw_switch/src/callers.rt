@@ -9,7 +9,7 @@ ghost use Rattle.vsw_policy.specs.Refusals.{reply_of};
 ghost use Rattle.vsw_report.specs.declared.told.By.TheVariants as by;
 ghost use Rattle.vsw_report.specs.declared.told.What.TheVariants as what;
 ghost use Rattle.vsw_switch.specs.Does.{told_at};
-ghost use Rattle.vsw_sole.specs.Transit.{bytes_in, len_of};
+ghost use Rattle.vsw_answer.specs.Transit.{bytes_in, len_of};
 
 use std::alloc::Global;
 use vsw_base::{Crossing, NoMemory};
@@ -18,7 +18,7 @@ use vsw_frame::Frame;
 use vsw_policy::{Refusal, Reply};
 use vsw_port::Outcome;
 use vsw_report::Caller;
-use vsw_sole::{Room, bytes_of};
+use vsw_answer::{Room, bytes_of};
 
 /// So many callers with no lines.
 pub(crate) fn callers(alloc: Global, count: usize) -> Result<Vec<Caller>, NoMemory>

@@ -10,7 +10,7 @@ ghost use Rattle.vsw_report.specs.Whole.{whole_text};
 ghost use Rattle.vsw_switch.specs.Close.{IsCounted, begun, is_short_now, text_now};
 ghost use Rattle.vsw_switch.specs.Does.{Does};
 ghost use Rattle.vsw_switch.specs.Stay.{CanOpen, port_at_first, standing};
-ghost use Rattle.vsw_sole.specs.Transit.{IsOfFrame};
+ghost use Rattle.vsw_answer.specs.Transit.{IsOfFrame};
 
 use crate::callers::{callers, tell_packet, tell_reply};
 use crate::numbers::place_of;
@@ -23,7 +23,8 @@ use vsw_frame::Frame;
 use vsw_port::ascending;
 use vsw_promise::Port;
 use vsw_report::{Caller, RoundText, merge_text, port_line};
-use vsw_sole::{Room, SolePort, transit};
+use vsw_answer::Room;
+use vsw_sole::{SolePort, transit};
 
 /// The most rows of a port that are reconciled at the end of a round.
 const RECONCILED: u32 = 256;

@@ -9,7 +9,7 @@ use std::alloc::Global;
 use vsw_base::{Control, Crossing, Dir, Moment, NoMemory, Place, Sizes, Stack, Ufid};
 use vsw_frame::Frame;
 use vsw_header::spread;
-use vsw_sole::Room;
+use vsw_answer::Room;
 
 /// A packet on its way, and room for its outgoing bytes. Both are written over by the next packet.
 #[derive(Drop)]

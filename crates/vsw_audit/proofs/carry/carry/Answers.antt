@@ -4,7 +4,7 @@ use Rattle.vsw_frame.specs.Frame.{parts}
 use Rattle.vsw_port.specs.Calls.{Carried, Shows}
 use Rattle.vsw_port.specs.Cross.{made_by, makes}
 use Rattle.vsw_port.specs.Ledger.{layers_in}
-use Rattle.vsw_sole.proofs.Passes.{can_leave, lent, short_enough, shows}
+use Rattle.vsw_answer.proofs.Passes.{can_leave, lent, short_enough, shows}
 use Rattle.vsw_audit.specs.Private.Lines.{Judges}
 use Rattle.vsw_audit.proofs.Carrying.{settled, short_read}
 use Rattle.vsw_audit.proofs.carry.carry.Goals as goal

@@ -1,6 +1,6 @@
 use Rattle.std.proofs.Common.{◌∙◌, ap}
 use Rattle.vsw_frame.specs.Frame.{parts}
-use Rattle.vsw_sole.specs.Transit.{bytes_in}
+use Rattle.vsw_answer.specs.Transit.{bytes_in}
 use Rattle.vsw_switch.specs.Tally.{both}
 use Rattle.vsw_switch.proofs.Answered.{carried}
 use Rattle.vsw_switch.proofs.live.Live.carry.Goals as goal

@@ -1,0 +1,5 @@
+pub mod Answers
+pub mod Answered
+pub mod Transit
+pub mod Fate
+pub mod Private

@@ -2,4 +2,5 @@ pub mod Answers
 pub mod Answered
 pub mod Transit
 pub mod Fate
+pub mod Seen
 pub mod Private

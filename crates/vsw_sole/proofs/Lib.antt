@@ -1,10 +1,4 @@
-pub mod Rows
-pub mod Ignored
-pub mod Looks
-pub mod Answered
 pub mod Callers
 pub mod Crossed
 pub mod Opened
 pub mod Listed
-pub mod Fates
-pub mod Passes

@@ -1,11 +1,13 @@
 -- A port before its first call.
 use Rattle.std.proofs.Common.{◌≡◌, ◌≤◌, ◌+◌, ◌++◌, ℕ, zero, suc, List, [], ◌∷◌, length, replicate, slice_index_or, Some, refl, sym, ap, subst, ◌∙◌, arith}
 use mathlib.Core.List.{IsPrefix}
-use Rattle.vsw_sole.specs.Core.{Begins, Looking, total}
+use Rattle.vsw_flows.specs.Flows.{Looking}
+use Rattle.vsw_core.specs.Core.{Begins, total}
 use Rattle.vsw_port.specs.declared.event.Event.{Event}
-use Rattle.vsw_lookup.specs.Rules.{first_view, newcomer, one_more, row_at, stamp_at}
+use Rattle.vsw_table.specs.Rules.{first_view, newcomer, one_more, row_at, stamp_at}
 use Rattle.vsw_policy.specs.Layers.{PolicySeen}
-use Rattle.vsw_sole.specs.WrittenRows.{IsEmpty, Writing}
+use Rattle.vsw_flows.specs.Flows.{Writing}
+use Rattle.vsw_rows.specs.Rows.{IsEmpty}
 use Rattle.vsw_sole.specs.declared.caller.Caller.{Caller}
 use Rattle.vsw_sole.specs.Callers.{IsCaller, Numbered}
 
@@ -24,7 +26,6 @@ pub first_begins : (p : PolicySeen) (rows : ℕ) (v : Writing) → v.view ≡ fi
 first_begins p rows v e = record {
   opens = ap (λ w. w.opening) e;
   history = ap (λ w. w.history) e;
-  generation = ap (λ w. w.generation) e;
   stamps = λ place. ap (λ w. stamp_at w.stamps place) e ∙ zero_at rows place;
   rows = λ place. ap (λ w. slice_index_or (row_at w.rows place) 0 0) e ∙ empty_at rows place;
   permits = ap (λ w. total w.kept) e;
@@ -36,7 +37,7 @@ total_end (n ∷ ns) = ap (λ m. n + m) (total_end ns)
 
 -- one pass more
 pub more_begins : (p : PolicySeen) (v : Writing) → Begins p v → Begins p (record v { view = one_more v.view })
-more_begins p v b = record { opens = b.opens; history = b.history; generation = b.generation; stamps = b.stamps; rows = b.rows; permits = total_end v.view.kept ∙ b.permits }
+more_begins p v b = record { opens = b.opens; history = b.history; stamps = b.stamps; rows = b.rows; permits = total_end v.view.kept ∙ b.permits }
 
 numbered_end : (P : ℕ → Caller → Type 0) (n : ℕ) (cs : List Caller) (c : Caller) → Numbered P n cs → P (n + length cs) c → Numbered P n (cs ++ c ∷ [])
 numbered_end P n [] c all last = (subst (λ m. P m c) (omega arith) last, tt)

@@ -1,11 +1,12 @@
 -- The callers of a port: what is known of each one's pass, and what a call leaves of it.
-use Rattle.std.specs.Prelude.{◌≡◌, ◌≤◌, ◌+◌, ◌-◌, ℕ, suc, Bool, true, false, List, [], ◌∷◌, length}
+use Rattle.std.specs.Prelude.{◌≡◌, ◌≤◌, ◌+◌, ◌-◌, ℕ, suc, Bool, List, [], ◌∷◌, Option, Some, None, length}
 use mathlib.Core.List.{IsPrefix}
+use Rattle.vsw_answer.specs.declared.told.Why.{Why}
 use Rattle.vsw_base.specs.declared.header.Header.{Header}
-use Rattle.vsw_sole.specs.Core.{IsOf, Looking}
+use Rattle.vsw_flows.specs.Flows.{IsOf, Looking}
 use Rattle.vsw_port.specs.declared.event.Event.{Event}
-use Rattle.vsw_lookup.specs.Rules.{one_if}
-use Rattle.vsw_sole.specs.WrittenRows.{Writing}
+use Rattle.vsw_core.specs.Calls.{one_if}
+use Rattle.vsw_flows.specs.Flows.{Writing}
 use Rattle.vsw_sole.specs.declared.caller.Caller.{Caller}
 
 -- what is kept of a caller's pass is so
@@ -43,9 +44,9 @@ pub record Refills (l : Looking) (h : List Event) (c d : Caller) : Type 0 where
   pub permits : c.permits ≤ d.permits
 
 -- the headers that were edited last: by a row, or by the layers
-abbrev pub edited_by : Bool → List Header → List Header → List Header
-edited_by true row layers = row
-edited_by false row layers = layers
+abbrev pub edited_by : Option Why → List Header → List Header → List Header
+edited_by None row layers = row
+edited_by (Some why) row layers = layers
 
 -- what a port keeps: its core and its passes are those of one lookup, the workers' passes come first, and then the controllers'
 pub record IsSole (l : Looking) (v : Writing) (controllers : List ℕ) (callers : List Caller) (workers room : ℕ) : Type 0 where

@@ -1,11 +1,2 @@
-pub mod Answers
-pub mod Private
 pub mod Sole
-pub mod Answered
 pub mod Callers
-pub mod Transit
-pub mod Fate
-pub use Rattle.vsw_core.specs.Rows
-pub use Rattle.vsw_core.specs.Core
-pub use Rattle.vsw_core.specs.WrittenRows
-pub use Rattle.vsw_core.specs.Calls

@@ -1,30 +1,34 @@
 //! A caller of a port: its pass, and what becomes of it with a call.
 
-ghost use Rattle.std.specs.Prelude.{◌≡◌, ◌≤◌, ◌<◌, ◌+◌, ◌-◌, ◌++◌, ℕ, List, not, false, true, length, IfSome, OnOk, OnErr};
+ghost use Rattle.std.specs.Prelude.{◌≡◌, ◌≤◌, ◌<◌, ◌+◌, ◌-◌, ◌++◌, ℕ, List, not, false, true, length, Some, IfOk, IfErr, OnOk, OnErr};
 ghost use mathlib.Core.List.{IsPrefix};
 ghost use Rattle.vsw_base.specs.Frame.{Parts};
-ghost use Rattle.vsw_base.specs.declared.packet.Control.TheVariants as control;
 ghost use Rattle.vsw_commandfile.specs.declared.line.Line.{Line};
-ghost use Rattle.vsw_sole.specs.Core.{IsOf, layers_of};
+ghost use Rattle.vsw_flows.specs.Flows.{IsOf};
+ghost use Rattle.vsw_core.specs.Core.{layers_of};
 ghost use Rattle.vsw_port.specs.declared.event.Event.TheVariants as event;
 ghost use Rattle.vsw_port.specs.Calls.{Asked, Carried, Reads, controller_at};
 ghost use Rattle.vsw_port.specs.History.{replay};
 ghost use Rattle.vsw_port.specs.Next.{IsDone};
-ghost use Rattle.vsw_lookup.specs.Rules.{IsRead, one_if};
+ghost use Rattle.vsw_table.specs.Held.{IsRead};
+ghost use Rattle.vsw_core.specs.Calls.{one_if};
 ghost use Rattle.vsw_policy.specs.Obey.{is_memory, rules_given};
 ghost use Rattle.vsw_policy.specs.Refusals.{reply_of};
 ghost use Rattle.vsw_policy.specs.Sound.{Each, IsGoodRule, is_listed};
 ghost use Rattle.vsw_port.specs.Core.{entered};
 ghost use Rattle.vsw_port.specs.Crossed.{EditsPass, IsOwn};
-ghost use Rattle.vsw_sole.specs.Answered.{AnsweredAt};
+ghost use Rattle.vsw_answer.specs.Answered.{AnsweredAt};
 ghost use Rattle.vsw_sole.specs.Callers.{HasCalled, IsTold, Refills, edited_by};
-ghost use Rattle.vsw_sole.specs.Rows.{opening_of};
+ghost use Rattle.vsw_sole.specs.Sole.{IsWhy};
+ghost use Rattle.vsw_rows.specs.GoodRows.{opening_of};
 
-use crate::{Core, Desk, PortStory, RowAnswer, answer_by_row};
+use vsw_answer::{Desk, RowAnswer, Why, answer_by_row};
 use vsw_base::{Crossing, NoMemory};
-use vsw_lookup::{Lookup, Pass};
+use vsw_core::Core;
+use vsw_flows::PortStory;
 use vsw_policy::{Command, Refusal};
 use vsw_port::Outcome;
+use vsw_table::{Lookup, Pass};
 
 /// Entries that a pass may make in all.
 const MOST: u32 = 1 << 27;
@@ -103,27 +107,31 @@ pub(crate) fn refill(
     Ok(())
 }
 
-/// A row answers the caller's packet as the layers do after all that the caller had seen, if it does.
+/// A row answers the caller's packet as the layers do after all that the caller had seen, or it is told why none does.
 fn by_row(
     lookup: &Lookup<PortStory>,
     caller: &mut Caller,
     crossing: &Crossing,
     desk: &mut Desk,
-) -> Option<Outcome>
+) -> Result<Outcome, Why>
     requires told { IsTold lookup.now caller.old }
     ensures caller { caller.new ≡ record { pass = caller.new.pass; seen = caller.old.seen; made = caller.old.made; permits = caller.old.permits } }
     ensures same { IsRead caller.old.pass.view caller.new.pass.view × (caller.new.pass.table ≡ caller.old.pass.table) }
-    ensures answered { IfSome result (λ outcome. AnsweredAt lookup.now crossing.now caller.old.pass.view.front desk.new outcome × (caller.new.pass.view.front ≡ caller.old.pass.view.front)) }
+    ensures answered { IfOk result (λ outcome. AnsweredAt lookup.now crossing.now caller.old.pass.view.front desk.new outcome × (caller.new.pass.view.front ≡ caller.old.pass.view.front)) }
+    ensures why { IfErr result (λ why. IsWhy crossing.now false (Some why)) }
 {
     match answer_by_row(lookup, &mut caller.pass, crossing, desk) {
         RowAnswer::Read { outcome, count } => {
             if count as usize == caller.seen {
-                Some(outcome)
+                Ok(outcome)
             } else {
-                None
+                // It has seen more than this port's callers: of one thread's there is no such row.
+                Err(Why::Miss)
             }
         }
-        _ => None,
+        RowAnswer::Control => Err(Why::Control),
+        RowAnswer::Miss => Err(Why::Miss),
+        RowAnswer::Late => Err(Why::Late),
     }
 }
 
@@ -180,7 +188,7 @@ fn by_walk(
 }
 
 /// The caller's packet is answered by a row, or crosses the layers. Where these are light, a walk over them costs less than
-/// a row's answer, and no row is looked for or left. `row` tells whether a row answered, whose headers are then on the
+/// a row's answer, and no row is looked for or left. `why` tells why no row answered. Where one did, its headers are on the
 /// desk.
 pub(crate) fn carry(
     core: &mut Core,
@@ -188,7 +196,7 @@ pub(crate) fn carry(
     caller: &mut Caller,
     crossing: &Crossing,
     desk: &mut Desk,
-    row: &mut bool,
+    why: &mut Option<Why>,
     light: bool,
 ) -> Outcome
     requires core { IsOf lookup.now core.old.writer }
@@ -197,24 +205,28 @@ pub(crate) fn carry(
     requires number { crossing.now.caller ≡ caller.old.pass.view.number }
     requires permit { 0 < caller.old.permits }
     ensures done { (p : Parts) (bytes : List ℕ) → IsDone (opening_of lookup.now.1) core.old.writer.view.history (Carried crossing.now p result.fate bytes) result.entry }
-    ensures edits { EditsPass (layers_of lookup.now.1 core.old) crossing.now (edited_by row.new desk.new core.new.edited) result.kept result.fate }
-    ensures own { result.own ≡ true → IsOwn crossing.now (edited_by row.new desk.new core.new.edited) result.kept }
-    ensures row { row.new ≡ true → (crossing.now.control ≡ control.None) × (result.entry ≡ false) }
+    ensures edits { EditsPass (layers_of lookup.now.1 core.old) crossing.now (edited_by why.new desk.new core.new.edited) result.kept result.fate }
+    ensures own { result.own ≡ true → IsOwn crossing.now (edited_by why.new desk.new core.new.edited) result.kept }
+    ensures why { IsWhy crossing.now result.entry why.new }
     ensures core { IsOf lookup.now core.new.writer }
     ensures history { core.new.writer.view.history ≡ core.old.writer.view.history ++ entered result.entry (event.Crossing crossing.now result.fate) }
     ensures caller { HasCalled lookup.now core.new.writer.view.history result.entry caller.old caller.new }
 {
     if light {
-        *row = false;
+        *why = Some(Why::Light);
         return by_walk(core, lookup, caller, crossing);
     }
     catch_up(core, lookup, caller);
-    if let Some(outcome) = by_row(lookup, caller, crossing, desk) {
-        *row = true;
-        return outcome;
+    match by_row(lookup, caller, crossing, desk) {
+        Ok(outcome) => {
+            *why = None;
+            outcome
+        }
+        Err(cause) => {
+            *why = Some(cause);
+            by_layers(core, lookup, caller, crossing)
+        }
     }
-    *row = false;
-    by_layers(core, lookup, caller, crossing)
 }
 
 /// Whether an answer is an entry of the history.

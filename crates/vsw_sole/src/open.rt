@@ -1,14 +1,14 @@
 //! A port is opened: its passes.
 
 ghost use Rattle.std.specs.Prelude.{◌≡◌, ◌≤◌, ◌++◌, ◌∷◌, [], length, IfOk, OnOk};
-ghost use Rattle.vsw_sole.specs.Core.{Begins};
+ghost use Rattle.vsw_core.specs.Core.{Begins};
 ghost use Rattle.vsw_sole.specs.Callers.{IsCaller, Numbered};
 
-use crate::PortStory;
 use crate::caller::Caller;
 use std::alloc::Global;
 use vsw_base::NoMemory;
-use vsw_lookup::{Lookup, Writer};
+use vsw_flows::PortStory;
+use vsw_table::{Lookup, Writer};
 
 /// The same numbers.
 pub(crate) fn copied(alloc: Global, numbers: &[u16]) -> Result<Vec<u16>, NoMemory>

@@ -1,14 +1,14 @@
 //! A port as one thread has it.
 
-ghost use Rattle.std.specs.Prelude.{◌≡◌, ◌≤◌, ◌<◌, ◌+◌, ◌-◌, ◌^◌, ◌++◌, [], ℕ, List, not, false, true, length, IfOk, OnOk, OnErr};
+ghost use Rattle.std.specs.Prelude.{◌≡◌, ◌≤◌, ◌<◌, ◌+◌, ◌-◌, ◌^◌, ◌++◌, [], ℕ, List, not, false, true, length, Some, IfOk, OnOk, OnErr};
 ghost use Rattle.vsw_base.specs.Frame.{Parts};
-ghost use Rattle.vsw_base.specs.declared.packet.Control.TheVariants as control;
+ghost use Rattle.vsw_answer.specs.declared.told.Why.TheVariants as why;
 ghost use Rattle.vsw_commandfile.specs.declared.line.Line.{Line};
-ghost use Rattle.vsw_sole.specs.Core.{IsOf};
+ghost use Rattle.vsw_flows.specs.Flows.{IsOf};
 ghost use Rattle.vsw_port.specs.declared.event.Event.TheVariants as event;
 ghost use Rattle.vsw_port.specs.Calls.{Asked, Carried};
 ghost use Rattle.vsw_port.specs.Next.{IsDone};
-ghost use Rattle.vsw_lookup.specs.Rules.{one_if};
+ghost use Rattle.vsw_core.specs.Calls.{one_if};
 ghost use Rattle.vsw_policy.specs.Layers as layers;
 ghost use Rattle.vsw_policy.specs.Obey.{is_memory, rules_given};
 ghost use Rattle.vsw_policy.specs.Refusals.{reply_of};
@@ -16,17 +16,19 @@ ghost use Rattle.vsw_policy.specs.Sound.{Each, IsGoodRule, is_listed};
 ghost use Rattle.vsw_port.specs.Core.{AreAtMost, entered, opening_of};
 ghost use Rattle.vsw_port.specs.Crossed.{EditsPass, IsOwn, MayBeShort, crossed, is_short};
 ghost use Rattle.vsw_sole.specs.Callers.{IsCaller, Numbered};
-ghost use Rattle.vsw_sole.specs.Sole.{layers_of};
+ghost use Rattle.vsw_sole.specs.Sole.{IsWhy, layers_of};
 
 use crate::caller::{Caller, ask, carry, refill};
 use crate::open::{callers, copied};
-use crate::{Core, Desk, PortStory};
 use std::alloc::Global;
 use std::marker::Model;
+use vsw_answer::{Desk, Why};
 use vsw_base::{Crossing, NoMemory, Stack};
-use vsw_lookup::{Lookup, Opened};
+use vsw_core::Core;
+use vsw_flows::PortStory;
 use vsw_policy::{Command, Policy, Refusal};
 use vsw_port::{Event, Outcome};
+use vsw_table::{Lookup, Opened};
 
 /// For how many entries each caller gets room at once, at least.
 const BATCH: u32 = 64;
@@ -45,13 +47,13 @@ pub struct SolePort {
     /// How many more entries each caller may make.
     room: u32,
     desk: Desk,
-    /// Whether a row answered the last packet.
-    row: bool,
+    /// Why no row answered the last packet, if none did.
+    why: Option<Why>,
     /// Whether the layers are light, as `Core::is_light` tells: no rows are looked for then.
     light: bool,
     /// The next row to be reconciled.
     next: u32,
-    /// How many rows weren't compared with the layers since these changed last.
+    /// How many rows weren't compared with the layers since a command was done last.
     stale: u32,
 }
 
@@ -62,7 +64,7 @@ impl Model for SolePort {
 
     ghost Value = { SoleSeen };
 
-    ghost view = { λ s. record { opening = opening_of s.lookup.1; journal = s.core.writer.view.history; room = s.room; edited = edited_by s.row s.desk s.core.edited; by_row = s.row; workers = s.workers } };
+    ghost view = { λ s. record { opening = opening_of s.lookup.1; journal = s.core.writer.view.history; room = s.room; edited = edited_by s.why s.desk s.core.edited; why = s.why; workers = s.workers } };
 
     ghost invariant = { λ s. IsSole s.lookup s.core.writer s.controllers.items s.callers.items s.workers s.room };
 }
@@ -82,9 +84,13 @@ fn left(room: u32, entry: bool) -> u32
     if entry { room - 1 } else { room }
 }
 
-/// How many rows are to be compared with the layers after a call: all where it is an entry.
-fn stale_after(stale: u32, entry: bool, rows: u32) -> u32 {
-    if entry { rows } else { stale }
+/// How many rows are to be compared with the layers after a command: all where it was done, since a command may take many rows
+/// away. One that a packet took away is put anew by its flow's next packet.
+fn stale_after(stale: u32, answer: Result<(), Refusal>, rows: u32) -> u32 {
+    match answer {
+        Ok(()) => rows,
+        Err(_) => stale,
+    }
 }
 
 /// Whether the layers are light after a call: asked anew where it is an entry, since it changed them.
@@ -158,7 +164,7 @@ impl SolePort {
         ensures opening { IfOk result (λ port. port.opening ≡ opening_of policy) }
         ensures journal { IfOk result (λ port. port.journal ≡ []) }
         ensures workers { IfOk result (λ port. port.workers ≡ workers) }
-        ensures row { IfOk result (λ port. port.by_row ≡ false) }
+        ensures why { IfOk result (λ port. port.why ≡ Some why.Light) }
     {
         let controllers = copied(alloc, policy.controllers())?;
         let Opened { lookup, mut writer } = Lookup::open(alloc, rows, &policy)?;
@@ -173,7 +179,7 @@ impl SolePort {
             workers,
             room: 0,
             desk: Desk::new(),
-            row: false,
+            why: Some(Why::Light),
             light,
             next: 0,
             stale: 0,
@@ -216,7 +222,7 @@ impl SolePort {
         ensures workers { self.new.workers ≡ self.old.workers }
         ensures room { OnOk result (more ≤ self.new.room) }
         ensures kept { self.old.room ≤ self.new.room }
-        ensures row { self.new.by_row ≡ self.old.by_row }
+        ensures why { self.new.why ≡ self.old.why }
         ensures refused { OnErr result (self.new ≡ self.old) }
     {
         if more <= self.room {
@@ -232,18 +238,17 @@ impl SolePort {
     pub fn edited(&self) -> &Stack
         ensures { result.now ≡ self.now.edited }
     {
-        if self.row {
-            self.desk.edited()
-        } else {
-            self.core.edited()
+        match self.why {
+            None => self.desk.edited(),
+            Some(_) => self.core.edited(),
         }
     }
 
-    /// Whether a row answered the last packet.
-    pub fn by_row(&self) -> bool
-        ensures { result ≡ self.now.by_row }
+    /// Why no row answered the last packet, if none did. Before the first packet it is `Light`.
+    pub fn why(&self) -> Option<Why>
+        ensures { result ≡ self.now.why }
     {
-        self.row
+        self.why
     }
 
     /// A packet crosses the layers, or a row answers it as they do. It is an entry exactly where it changes them. Where
@@ -256,7 +261,7 @@ impl SolePort {
         ensures memory { MayBeShort (is_short result.fate) (layers_of self.old) crossing.now }
         ensures edits { EditsPass (layers_of self.old) crossing.now self.new.edited result.kept result.fate }
         ensures own { result.own ≡ true → IsOwn crossing.now self.new.edited result.kept }
-        ensures row { self.new.by_row ≡ true → (crossing.now.control ≡ control.None) × (result.entry ≡ false) }
+        ensures why { IsWhy crossing.now result.entry self.new.why }
         ensures journal { self.new.journal ≡ self.old.journal ++ entered result.entry (event.Crossing crossing.now result.fate) }
         ensures opening { self.new.opening ≡ self.old.opening }
         ensures workers { self.new.workers ≡ self.old.workers }
@@ -269,12 +274,11 @@ impl SolePort {
             caller,
             crossing,
             &mut self.desk,
-            &mut self.row,
+            &mut self.why,
             self.light,
         );
         self.light = light_after(self.light, outcome.entry, &self.core);
         self.room = left(self.room, outcome.entry);
-        self.stale = stale_after(self.stale, outcome.entry, self.lookup.rows());
         outcome
     }
 
@@ -286,7 +290,7 @@ impl SolePort {
         requires room { 1 ≤ self.old.room }
         ensures done { (l : Line) → l.number ≡ line → l.controller ≡ controller → l.command ≡ command.now → IsDone self.old.opening self.old.journal (Asked l (reply_of result)) (not (is_memory result)) }
         ensures journal { self.new.journal ≡ self.old.journal ++ entered (not (is_memory result)) (event.Command controller line command.now (reply_of result)) }
-        ensures row { self.new.by_row ≡ self.old.by_row }
+        ensures why { self.new.why ≡ self.old.why }
         ensures opening { self.new.opening ≡ self.old.opening }
         ensures workers { self.new.workers ≡ self.old.workers }
         ensures room { self.old.room ≤ self.new.room + 1 }
@@ -304,12 +308,12 @@ impl SolePort {
         let entry = is_entry(answer);
         self.light = light_after(self.light, entry, &self.core);
         self.room = left(self.room, entry);
-        self.stale = stale_after(self.stale, entry, self.lookup.rows());
+        self.stale = stale_after(self.stale, answer, self.lookup.rows());
         answer
     }
 
     /// Compares the next so many rows, in turn, with the layers of now, so that those that still say what is so answer
-    /// packets again. Once all were compared since the layers changed last, nothing is left to do.
+    /// packets again. Once all were compared since a command was done last, nothing is left to do.
     pub fn reconcile(&mut self, rows: u32)
         ensures { self.new ≡ self.old }
     {

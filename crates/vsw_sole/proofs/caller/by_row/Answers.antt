@@ -1,5 +1,5 @@
 use Rattle.std.proofs.Common.{◌∙◌}
-use Rattle.vsw_sole.proofs.Answered.{answered_at}
+use Rattle.vsw_answer.proofs.Answered.{answered_at}
 use Rattle.vsw_sole.proofs.caller.by_row.Goals as goal
 
 pub returns-then-count-caller-clause-answered : goal.returns-then-count-caller-clause-answered

@@ -1,5 +1,5 @@
 use Rattle.std.proofs.Common.{◌≡◌, [], length}
-use Rattle.vsw_sole.specs.Core.{Begins}
+use Rattle.vsw_core.specs.Core.{Begins}
 use Rattle.vsw_sole.specs.Callers.{IsCaller, Numbered}
 use Rattle.vsw_sole.proofs.open.callers.Given as goal
 

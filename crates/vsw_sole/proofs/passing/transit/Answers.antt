@@ -2,7 +2,7 @@ use Rattle.std.proofs.Common.{ap, sym, ◌∙◌, refl}
 use Rattle.vsw_base.specs.Shape.{is_stack}
 use Rattle.vsw_frame.specs.Frame.{parts}
 use Rattle.vsw_sole.specs.Sole.{layers_of}
-use Rattle.vsw_sole.proofs.Passes.{can_leave, lent, passage, short_enough, shows, unedited}
+use Rattle.vsw_answer.proofs.Passes.{can_leave, lent, passage, short_enough, shows, unedited}
 use Rattle.vsw_sole.proofs.passing.transit.Goals as goal
 
 pub leave-requires : goal.leave-requires

@@ -1,5 +1,5 @@
 use Rattle.std.proofs.Common.{◌≡◌}
-use Rattle.vsw_sole.specs.Core.{IsOf}
+use Rattle.vsw_flows.specs.Flows.{IsOf}
 use Rattle.vsw_sole.proofs.port.reconcile_from.Given as goal
 
 abbrev pub invariant-loop : goal.invariant-loop

@@ -1,5 +1,5 @@
 use Rattle.std.proofs.Common.{◌≡◌, ℕ, length}
-use Rattle.vsw_sole.specs.Core.{IsOf}
+use Rattle.vsw_flows.specs.Flows.{IsOf}
 use Rattle.vsw_sole.specs.Callers.{IsCaller, Numbered}
 use Rattle.vsw_sole.proofs.Callers.{Filled}
 use Rattle.vsw_sole.proofs.port.refill_all.Given as goal

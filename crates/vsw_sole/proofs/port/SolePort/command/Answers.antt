@@ -1,7 +1,7 @@
 use Rattle.std.proofs.Common.{◌≡◌, ◌<◌, ◌+◌, ◌-◌, ℕ, List, length, not, sym, ap, subst, ◌∙◌, true, arith}
 use Rattle.vsw_port.specs.declared.event.Event.TheVariants as event
 use Rattle.vsw_port.specs.Calls.{controller_at}
-use Rattle.vsw_lookup.specs.Rules.{one_if}
+use Rattle.vsw_core.specs.Calls.{one_if}
 use Rattle.vsw_policy.specs.Layers.{place_of}
 use Rattle.vsw_policy.specs.Obey.{is_memory}
 use Rattle.vsw_policy.specs.Refusals.{reply_of}

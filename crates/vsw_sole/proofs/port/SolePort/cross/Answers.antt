@@ -1,6 +1,6 @@
 use Rattle.std.proofs.Common.{◌≡◌, ◌<◌, ◌-◌, length, sym, ap, subst, arith}
 use Rattle.vsw_port.specs.declared.event.Event.TheVariants as event
-use Rattle.vsw_lookup.specs.Rules.{one_if}
+use Rattle.vsw_core.specs.Calls.{one_if}
 use Rattle.vsw_port.specs.Core.{entered, opening_of}
 use Rattle.vsw_sole.specs.Callers.{IsCaller, IsSole}
 use Rattle.vsw_sole.specs.Sole.{SoleSeen}

@@ -7,7 +7,6 @@ ghost use Rattle.vsw_harbour.specs.Opening.{IsOpenFor};
 ghost use Rattle.vsw_config.specs.Good.{IsGoodPolicy};
 ghost use Rattle.vsw_replay.specs.Runs.{RunsTrace};
 
-use crate::open::Open;
 use std::alloc::Global;
 use std::marker::Brand;
 use std::sync::Wait;
@@ -22,10 +21,11 @@ use vsw_replay::{Crew, Naming, Runner, Switch, TraceEnd, Watch, run_trace};
 use vsw_workers::Gate;
 
 /// Runs the trace of this name in one thread, which does the work of all workers and waits for nobody.
-fn run_alone<R: Threads + Wait + Sync, H: Host>(
+fn run_alone<R: Threads + Wait + Sync, H: Host, G: Gate + Watch + Sync>(
     rt: &R,
     alloc: Global,
     host: &mut H,
+    gate: &G,
     workers: u32,
     policy: &PolicyFile,
     schedule: &Schedule,
@@ -40,7 +40,7 @@ fn run_alone<R: Threads + Wait + Sync, H: Host>(
     let Ok(switch) = Switch::open(alloc, workers, policy) else {
         return TraceEnd::Memory;
     };
-    let mut runner = Runner::<Brand, Open>::alone(switch);
+    let mut runner = Runner::<Brand, G>::alone(switch, gate);
     run_trace(rt, alloc, host, &mut runner, schedule, trace)
 }
 
@@ -119,7 +119,7 @@ fn run_scheduled<R: Threads + Wait + Sync, H: Host, G: Gate + Watch + Sync>(
     ensures { RunsTrace (record { workers = workers; policy = policy.now; commands = schedule.now; local = false }) (H.outside host.old) (H.outside host.new) trace.now result }
 {
     if workers == 1 || policy.ports.is_empty() {
-        run_alone(rt, alloc, host, workers, policy, schedule, trace)
+        run_alone(rt, alloc, host, gate, workers, policy, schedule, trace)
     } else {
         run_beside(rt, alloc, host, gate, workers, policy, schedule, trace)
     }

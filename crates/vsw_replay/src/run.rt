@@ -16,7 +16,7 @@ ghost use Rattle.vsw_replay.specs.WorkloadRuns.{RunsWorkload};
 
 use crate::draw::draw;
 use crate::summary::five_lines;
-use crate::{Switch, Tally, run_round};
+use crate::{Answer, Switch, Tally, Watch, run_round};
 use std::alloc::Global;
 use vsw_base::{Items, NoMemory};
 use vsw_generate::Workload;
@@ -34,6 +34,13 @@ pub enum WorkloadEnd {
     WriteFault,
     /// There was no memory: for the run itself, or for a packet.
     Memory,
+}
+
+/// A watch that does nothing with what it is told.
+struct Nobody;
+
+impl Watch for Nobody {
+    fn answered(&self, _worker: u32, _packet: u32, _answer: &Answer) {}
 }
 
 /// What a run holds beside its switch.
@@ -65,7 +72,7 @@ fn run_batch(
     ensures served { (lines : List Line) → AreServed switch.old lines → AreServed switch.new lines }
 {
     run.text.clear();
-    let told = run_round(switch, schedule, first, &run.batch, &mut run.text)?;
+    let told = run_round(switch, &Nobody, schedule, first, &run.batch, &mut run.text)?;
     let last = switch.last()?;
     let tally = run.tally.and(last)?;
     run.tally = tally;

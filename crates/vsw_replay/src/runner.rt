@@ -22,8 +22,8 @@ use vsw_workers::Gate;
 /// Who does the work of a round.
 #[derive(Drop)]
 enum Work<'g, J: Naming, G> {
-    /// One thread, which waits for nobody.
-    Alone(Switch),
+    /// One thread, which waits for nobody, and who is told of its packets.
+    Alone(Switch, &'g G),
     /// Each worker and each controller in a thread of its own.
     Beside(Crew<'g, J, G>),
 }
@@ -44,12 +44,12 @@ impl<'g, J: Naming, G> Model for Runner<'g, J, G> {
 }
 
 impl<'g, J: Naming, G> Runner<'g, J, G> {
-    /// One thread does all.
-    pub fn alone(switch: Switch) -> Runner<'g, J, G>
+    /// One thread does all. The watch is told of each packet that isn't loose.
+    pub fn alone(switch: Switch, watch: &'g G) -> Runner<'g, J, G>
         ensures { result ≡ switch }
     {
         Runner {
-            work: Work::Alone(switch),
+            work: Work::Alone(switch, watch),
         }
     }
 
@@ -81,7 +81,7 @@ impl<'g, J: Naming + Send + Sync, G: Gate + Watch + Sync> Runner<'g, J, G> {
         ensures served { (lines : List Line) → AreServed self.old lines → AreServed self.new lines }
     {
         match &mut self.work {
-            Work::Alone(switch) => run_round(switch, schedule, first, packets, out),
+            Work::Alone(switch, watch) => run_round(switch, *watch, schedule, first, packets, out),
             Work::Beside(crew) => crew.run_round(rt, schedule, first, packets, &mut out.end),
         }
     }

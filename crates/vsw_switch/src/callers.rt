@@ -12,13 +12,13 @@ ghost use Rattle.vsw_switch.specs.Does.{told_at};
 ghost use Rattle.vsw_answer.specs.Transit.{bytes_in, len_of};
 
 use std::alloc::Global;
+use vsw_answer::{Answer, Room, Watch, Why, bytes_of};
 use vsw_base::{Crossing, NoMemory};
 use vsw_commandfile::Line;
 use vsw_frame::Frame;
 use vsw_policy::{Refusal, Reply};
 use vsw_port::Outcome;
 use vsw_report::Caller;
-use vsw_answer::{Room, bytes_of};
 
 /// So many callers with no lines.
 pub(crate) fn callers(alloc: Global, count: usize) -> Result<Vec<Caller>, NoMemory>
@@ -57,6 +57,18 @@ pub(crate) fn tell_packet(
         &outcome.fate,
         bytes,
     )
+}
+
+/// The watch is told what became of a packet, and why no row answered it, if none did.
+pub(crate) fn tell_watch<G: Watch>(
+    watch: &G,
+    crossing: &Crossing,
+    count: u32,
+    outcome: Outcome,
+    why: Option<Why>,
+) {
+    let answer = Answer::of(outcome, count, why);
+    watch.answered(crossing.caller, crossing.packet, &answer);
 }
 
 /// The controller at a place tells the answer to its command, which is an entry unless memory was wanting.

@@ -12,18 +12,18 @@ ghost use Rattle.vsw_switch.specs.Does.{Does};
 ghost use Rattle.vsw_switch.specs.Stay.{CanOpen, port_at_first, standing};
 ghost use Rattle.vsw_answer.specs.Transit.{IsOfFrame};
 
-use crate::callers::{callers, tell_packet, tell_reply};
+use crate::callers::{callers, tell_packet, tell_reply, tell_watch};
 use crate::numbers::place_of;
 use crate::tally::Tally;
 use std::alloc::Global;
 use std::marker::Model;
+use vsw_answer::{Room, Watch};
 use vsw_base::{Crossing, Mac, NoMemory};
 use vsw_commandfile::Line;
 use vsw_frame::Frame;
 use vsw_port::ascending;
 use vsw_promise::Port;
 use vsw_report::{Caller, RoundText, merge_text, port_line};
-use vsw_answer::Room;
 use vsw_sole::{SolePort, transit};
 
 /// The most rows of a port that are reconciled at the end of a round.
@@ -131,9 +131,10 @@ impl Live {
         })
     }
 
-    /// Carries a packet, and tells what became of it. After `NoMemory` nothing is said of the history.
-    pub(crate) fn carry(
+    /// Carries a packet, and tells what became of it, the watch first. After `NoMemory` nothing is said of the history.
+    pub(crate) fn carry<G: Watch>(
         &mut self,
+        watch: &G,
         crossing: &Crossing,
         frame: &Frame<'_>,
         room: &mut Room,
@@ -145,6 +146,7 @@ impl Live {
     {
         let count = reserve(&mut self.port)?;
         let outcome = transit(&mut self.port, crossing, frame, room);
+        tell_watch(watch, crossing, count, outcome, self.port.why());
         let tally = self.tally.and(Tally::of(outcome.fate))?;
         self.tally = tally;
         tell_packet(&mut self.workers, crossing, count, outcome, frame, room)

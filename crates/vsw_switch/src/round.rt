@@ -13,6 +13,7 @@ ghost use Rattle.vsw_switch.specs.Does.{Works, numbers_in, placed_line};
 ghost use Rattle.vsw_switch.specs.Switch.{AreServed, IsAt};
 
 use crate::Switch;
+use vsw_answer::Watch;
 use vsw_base::NoMemory;
 use vsw_commandfile::Line;
 use vsw_pcap::Batch;
@@ -48,23 +49,30 @@ fn ask_all(
 }
 
 /// Forwards these packets, of which the first has this number.
-fn forward_all(switch: &mut Switch, first: u32, packets: &Batch) -> Result<(), NoMemory>
+fn forward_all<G: Watch>(
+    switch: &mut Switch,
+    watch: &G,
+    first: u32,
+    packets: &Batch,
+) -> Result<(), NoMemory>
     requires numbers { first + length packets.now < 2 ^ 32 }
     ensures forwarded { OnOk result (steps.ForwardsAll switch.old (numbered first packets.now) switch.new) }
     ensures served { (lines : List Line) → AreServed switch.old lines → AreServed switch.new lines }
 {
     for place in 0..packets.len() {
         let captured = packets.at(place);
-        switch.forward(first + place as u32, &captured)?;
+        switch.forward(watch, first + place as u32, &captured)?;
     }
     Ok(())
 }
 
 /// Runs the round of these packets, the first of which has the number `first` in the trace: the commands that name that
 /// number, first those before the packets and then those beside them, and then the packets. Appends its text, and answers
-/// whether memory was wanting for one of them. After `NoMemory` nothing is said of the switch and of what was appended.
-pub fn run_round(
+/// whether memory was wanting for one of them. The watch is told of each packet that isn't loose. After `NoMemory` nothing is said of
+/// the switch and of what was appended.
+pub fn run_round<G: Watch>(
     switch: &mut Switch,
+    watch: &G,
     schedule: &Schedule,
     first: u32,
     packets: &Batch,
@@ -79,6 +87,6 @@ pub fn run_round(
     let places = schedule.places(first);
     ask_all(switch, schedule, places, false)?;
     ask_all(switch, schedule, places, true)?;
-    forward_all(switch, first, packets)?;
+    forward_all(switch, watch, first, packets)?;
     switch.close(first, out)
 }

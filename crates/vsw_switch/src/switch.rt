@@ -22,6 +22,7 @@ use crate::tally::{Tally, sum};
 use crate::worker::Worker;
 use std::alloc::Global;
 use std::marker::Model;
+use vsw_answer::Watch;
 use vsw_base::{Items, Mac, NoMemory, Place};
 use vsw_commandfile::Line;
 use vsw_config::PolicyFile;
@@ -98,8 +99,9 @@ fn ask_at(ports: &mut Vec<Live>, place: usize, line: &Line) -> Result<(), NoMemo
 }
 
 /// Packet `packet` is carried at the port of its place.
-fn carry_at(
+fn carry_at<G: Watch>(
     ports: &mut Vec<Live>,
+    watch: &G,
     workers: u32,
     place: Place,
     packet: u32,
@@ -115,12 +117,13 @@ fn carry_at(
 {
     rooms.bring(workers, packet, place, captured.moment, frame);
     let port = &mut ports[place.port as usize];
-    port.carry(&rooms.crossing, frame, &mut rooms.room)
+    port.carry(watch, &rooms.crossing, frame, &mut rooms.room)
 }
 
 /// Packet `packet` arrives at its port. Ok tells why it is loose, where it is.
-fn arrive(
+fn arrive<G: Watch>(
     ports: &mut Vec<Live>,
+    watch: &G,
     macs: &[Mac],
     workers: u32,
     packet: u32,
@@ -144,7 +147,7 @@ fn arrive(
         Ok(frame) => match choose_port(macs, frame.stack()) {
             None => Ok(Some(LooseCause::NoPort)),
             Some(place) => {
-                carry_at(ports, workers, place, packet, captured, frame, rooms)?;
+                carry_at(ports, watch, workers, place, packet, captured, frame, rooms)?;
                 Ok(None)
             }
         },
@@ -239,14 +242,20 @@ impl Switch {
         ask_at(&mut self.ports, place, line)
     }
 
-    /// Forwards packet `packet` to its port and tells what became of it, or why it is loose. After `NoMemory` nothing is
-    /// said of the port's history.
-    pub fn forward(&mut self, packet: u32, captured: &Captured<'_>) -> Result<(), NoMemory>
+    /// Forwards packet `packet` to its port and tells what became of it, the watch too, or why it is loose. After `NoMemory`
+    /// nothing is said of the port's history.
+    pub fn forward<G: Watch>(
+        &mut self,
+        watch: &G,
+        packet: u32,
+        captured: &Captured<'_>,
+    ) -> Result<(), NoMemory>
         ensures forwards { OnOk result (Forwards self.old packet (record { moment = captured.now.moment; original = captured.now.original; bytes = captured.now.bytes.now }) self.new) }
         ensures served { (lines : List Line) → AreServed self.old lines → AreServed self.new lines }
     {
         match arrive(
             &mut self.ports,
+            watch,
             self.macs.as_slice(),
             self.workers,
             packet,

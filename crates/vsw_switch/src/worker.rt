@@ -6,10 +6,10 @@ ghost use Rattle.vsw_frame.specs.Frame.{parts};
 ghost use Rattle.vsw_promise.specs.Jobs.{crossing_by, worker_of};
 
 use std::alloc::Global;
+use vsw_answer::Room;
 use vsw_base::{Control, Crossing, Dir, Moment, NoMemory, Place, Sizes, Stack, Ufid};
 use vsw_frame::Frame;
 use vsw_header::spread;
-use vsw_answer::Room;
 
 /// A packet on its way, and room for its outgoing bytes. Both are written over by the next packet.
 #[derive(Drop)]

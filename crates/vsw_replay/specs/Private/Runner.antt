@@ -6,5 +6,5 @@ use Rattle.vsw_crew.specs.Switch.{SwitchNow}
 
 -- as the one thread has them, or as the callers have seen them
 abbrev pub now_in : {J G : Type 0} → Work J G → SwitchNow
-now_in (work.Alone switch) = switch
+now_in (work.Alone switch watch) = switch
 now_in (work.Beside crew) = crew_now crew

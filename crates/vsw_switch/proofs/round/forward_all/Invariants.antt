@@ -6,7 +6,7 @@ use Rattle.vsw_switch.specs.Switch.{AreServed}
 use Rattle.vsw_switch.proofs.round.forward_all.Given as goal
 
 abbrev pub invariant-loop-place : goal.invariant-loop-place
-invariant-loop-place l = record {
+invariant-loop-place g l = record {
   so_far : ForwardsAll l.fn.switch (numbered l.fn.first (take l.place l.packets)) l.switch;
   served : (lines : List Line) → AreServed l.fn.switch lines → AreServed l.switch lines;
 }

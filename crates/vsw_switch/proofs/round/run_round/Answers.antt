@@ -5,13 +5,13 @@ use Rattle.vsw_switch.proofs.Running.{runs, runs_from}
 use Rattle.vsw_switch.proofs.round.run_round.Goals as goal
 
 pub ask_all-requires-clause-places : goal.ask_all-requires-clause-places
-ask_all-requires-clause-places c = places_within c.args.schedule.now (commands_at c.args.first c.args.schedule.now) c.places-places.result.now c.places-places.ensures
+ask_all-requires-clause-places g c = places_within c.args.schedule.now (commands_at c.args.first c.args.schedule.now) c.places-places.result.now c.places-places.ensures
 
 pub ask_all-requires-2-clause-places : goal.ask_all-requires-2-clause-places
-ask_all-requires-2-clause-places c = places_within c.args.schedule.now (commands_at c.args.first c.args.schedule.now) c.places-places.result.now c.places-places.ensures
+ask_all-requires-2-clause-places g c = places_within c.args.schedule.now (commands_at c.args.first c.args.schedule.now) c.places-places.result.now c.places-places.ensures
 
 pub returns-clause-runs : goal.returns-clause-runs
-returns-clause-runs c =
+returns-clause-runs g c =
     let before = c.take_rooms.new in
     runs_from c.args.first c.args.schedule.now c.args.packets.now c.args.switch.now before.self c.close.new.self c.close.result (whole_text c.args.out.now) (whole_text before.out) (whole_text c.close.new.out) c.take_rooms.ensures.same c.take_rooms.ensures.text
     (runs c.args.first c.args.schedule.now c.places-places.result.now c.args.packets.now before.self c.ask_all.new.switch c.ask_all-2.new.switch c.forward_all.new.switch c.close.new.self c.close.result (whole_text before.out) (whole_text c.close.new.out) c.places-places.ensures

@@ -4,12 +4,11 @@ use Rattle.std.specs.List.{slice_set}
 use mathlib.Core.List.{IsPrefix}
 use Rattle.vsw_flows.specs.Flows.{IsOf, Looking}
 use Rattle.vsw_port.specs.declared.event.Event.{Event}
-use Rattle.vsw_core.specs.Calls.{one_if}
 use Rattle.vsw_table.proofs.Fronts.{prefix_trans}
 use Rattle.vsw_port.specs.Core.{entered}
 use Rattle.vsw_sole.specs.declared.caller.Caller.{Caller}
 use Rattle.vsw_flows.specs.Flows.{Writing}
-use Rattle.vsw_sole.specs.Callers.{HasCalled, IsCaller, IsSole, Numbered, Refills}
+use Rattle.vsw_sole.specs.Callers.{HasCalled, IsCaller, IsSole, Numbered, Refills, one_if}
 
 -- what holds of each with its number holds at a place
 pub numbered_at : (P : ℕ → Caller → Type 0) (n k : ℕ) (cs : List Caller) (c : Caller) → k < length cs → c ≡ get_or cs k c → Numbered P n cs → P (n + k) c

@@ -1,13 +1,17 @@
 -- The callers of a port: what is known of each one's pass, and what a call leaves of it.
-use Rattle.std.specs.Prelude.{◌≡◌, ◌≤◌, ◌+◌, ◌-◌, ℕ, suc, Bool, List, [], ◌∷◌, Option, Some, None, length}
+use Rattle.std.specs.Prelude.{◌≡◌, ◌≤◌, ◌+◌, ◌-◌, ℕ, suc, Bool, true, false, List, [], ◌∷◌, Option, Some, None, length}
 use mathlib.Core.List.{IsPrefix}
 use Rattle.vsw_answer.specs.declared.told.Why.{Why}
 use Rattle.vsw_base.specs.declared.header.Header.{Header}
 use Rattle.vsw_flows.specs.Flows.{IsOf, Looking}
 use Rattle.vsw_port.specs.declared.event.Event.{Event}
-use Rattle.vsw_core.specs.Calls.{one_if}
 use Rattle.vsw_flows.specs.Flows.{Writing}
 use Rattle.vsw_sole.specs.declared.caller.Caller.{Caller}
+
+-- 1, if so
+abbrev pub one_if : Bool → ℕ
+one_if true = 1
+one_if false = 0
 
 -- what is kept of a caller's pass is so
 pub record IsTold (l : Looking) (c : Caller) : Type 0 where

@@ -11,14 +11,13 @@ ghost use Rattle.vsw_port.specs.Calls.{Asked, Carried, Reads, controller_at};
 ghost use Rattle.vsw_port.specs.History.{replay};
 ghost use Rattle.vsw_port.specs.Next.{IsDone};
 ghost use Rattle.vsw_table.specs.Held.{IsRead};
-ghost use Rattle.vsw_core.specs.Calls.{one_if};
 ghost use Rattle.vsw_policy.specs.Obey.{is_memory, rules_given};
 ghost use Rattle.vsw_policy.specs.Refusals.{reply_of};
 ghost use Rattle.vsw_policy.specs.Sound.{Each, IsGoodRule, is_listed};
 ghost use Rattle.vsw_port.specs.Core.{entered};
 ghost use Rattle.vsw_port.specs.Crossed.{EditsPass, IsOwn};
 ghost use Rattle.vsw_answer.specs.Answered.{AnsweredAt};
-ghost use Rattle.vsw_sole.specs.Callers.{HasCalled, IsTold, Refills, edited_by};
+ghost use Rattle.vsw_sole.specs.Callers.{HasCalled, IsTold, Refills, edited_by, one_if};
 ghost use Rattle.vsw_sole.specs.Sole.{IsWhy};
 ghost use Rattle.vsw_rows.specs.GoodRows.{opening_of};
 

@@ -8,14 +8,13 @@ ghost use Rattle.vsw_flows.specs.Flows.{IsOf};
 ghost use Rattle.vsw_port.specs.declared.event.Event.TheVariants as event;
 ghost use Rattle.vsw_port.specs.Calls.{Asked, Carried};
 ghost use Rattle.vsw_port.specs.Next.{IsDone};
-ghost use Rattle.vsw_core.specs.Calls.{one_if};
 ghost use Rattle.vsw_policy.specs.Layers as layers;
 ghost use Rattle.vsw_policy.specs.Obey.{is_memory, rules_given};
 ghost use Rattle.vsw_policy.specs.Refusals.{reply_of};
 ghost use Rattle.vsw_policy.specs.Sound.{Each, IsGoodRule, is_listed};
 ghost use Rattle.vsw_port.specs.Core.{AreAtMost, entered, opening_of};
 ghost use Rattle.vsw_port.specs.Crossed.{EditsPass, IsOwn, MayBeShort, crossed, is_short};
-ghost use Rattle.vsw_sole.specs.Callers.{IsCaller, Numbered};
+ghost use Rattle.vsw_sole.specs.Callers.{IsCaller, Numbered, one_if};
 ghost use Rattle.vsw_sole.specs.Sole.{IsWhy, layers_of};
 
 use crate::caller::{Caller, ask, carry, refill};

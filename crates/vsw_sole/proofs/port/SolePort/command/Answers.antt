@@ -1,13 +1,12 @@
 use Rattle.std.proofs.Common.{◌≡◌, ◌<◌, ◌+◌, ◌-◌, ℕ, List, length, not, sym, ap, subst, ◌∙◌, true, arith}
 use Rattle.vsw_port.specs.declared.event.Event.TheVariants as event
 use Rattle.vsw_port.specs.Calls.{controller_at}
-use Rattle.vsw_core.specs.Calls.{one_if}
 use Rattle.vsw_policy.specs.Layers.{place_of}
 use Rattle.vsw_policy.specs.Obey.{is_memory}
 use Rattle.vsw_policy.specs.Refusals.{reply_of}
 use Rattle.vsw_policy.specs.Sound.{is_listed}
 use Rattle.vsw_port.specs.Core.{entered}
-use Rattle.vsw_sole.specs.Callers.{IsCaller, IsSole}
+use Rattle.vsw_sole.specs.Callers.{IsCaller, IsSole, one_if}
 use Rattle.vsw_sole.specs.Sole.{SoleSeen}
 use Rattle.vsw_sole.proofs.Callers.{caller_at, sole_called}
 use Rattle.vsw_sole.proofs.Listed.{place_within}

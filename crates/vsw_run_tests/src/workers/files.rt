@@ -38,9 +38,9 @@ pub const REMOVES: &str =
 pub const DROPS: &str =
     r#"{"at":0,"when":"during","controller":1,"port":1,"do":"put_rules","layer":10,"group":1,"rules":[{"rule":1,"priority":10,"when":[],"action":"drop","stateful":false,"last":false}]}"#;
 
-/// Before packet 16 layer 10 lets in what comes, so that no row is current any more. The command before packet 17 is refused, which leaves rows
-/// as they are: the round of packet 16 ends there.
+/// Before packet 16 layer 10 lets out what no rule decides, which takes the rows away of flows that have no pair. The command before packet 17 is
+/// refused: the round of packet 16 ends there.
 pub const OPENS: &str = concat!(
-    "{\"at\":16,\"when\":\"before\",\"controller\":1,\"port\":1,\"do\":\"set_default\",\"layer\":10,\"dir\":\"in\",\"default\":\"allow\"}\n",
+    "{\"at\":16,\"when\":\"before\",\"controller\":1,\"port\":1,\"do\":\"set_default\",\"layer\":10,\"dir\":\"out\",\"default\":\"allow\"}\n",
     "{\"at\":17,\"when\":\"before\",\"controller\":1,\"port\":1,\"do\":\"remove_group\",\"layer\":10,\"group\":9}\n",
 );

@@ -21,6 +21,7 @@ fn why_of(answer: &Answer) -> u64 {
         Some(Why::Control) => 1,
         Some(Why::Miss) => 2,
         Some(Why::Late) => 3,
+        Some(Why::Light) => 4,
     }
 }
 

@@ -1,7 +1,7 @@
 //! What a watch is told: each packet's answer once, by its worker.
 
 use crate::memory::empty_trace;
-use crate::workers::files::{ONE_LAYER, OPENS, REMOVES};
+use crate::workers::files::{ONE_LAYER, OPENS, REMOVES, THREE_LAYERS};
 use crate::workers::flows::{PACKETS, flow_of, sent, worker_of};
 use crate::workers::notes::Notes;
 use crate::workers::running::{add, files, report_of, report_of_flows};
@@ -48,6 +48,48 @@ fn the_first_packet_misses_and_rows_answer_the_next(rt: HostRuntime) -> Result<(
     let notes = Notes::new(rt.alloc(), 3)?;
     tell_queries(&rt, rt.alloc(), &notes)?;
     check_queries(&rt, &notes);
+    Ok(())
+}
+
+/// What one worker tells of four packets of a flow at three layers, but for the length and the count. The first makes two pairs: at layers
+/// without any no row was looked for. No row has the second, and then rows answer.
+const ALONE: [u64; 4] = [141, 21, 1, 1];
+
+/// Four packets of one flow.
+fn alike(alloc: Global) -> Result<Vec<u8>, Fail> {
+    let mut trace = empty_trace(alloc)?;
+    for packet in 0..4u32 {
+        add(&mut trace, packet, &sent(alloc, 1)?)?;
+    }
+    Ok(trace)
+}
+
+fn tell_alone<R: Abort + Threads + Wait + Sync>(
+    rt: &R,
+    alloc: Global,
+    notes: &Notes,
+) -> Result<(), Fail> {
+    let held = files(alloc, THREE_LAYERS, "", alike(alloc)?)?;
+    report_of(rt, alloc, "1", held, notes)?;
+    Ok(())
+}
+
+fn check_alone(rt: &impl Abort, notes: &Notes) {
+    for packet in 0..4u32 {
+        assert_eq!(rt;
+            notes.told(packet) % 100_000,
+            ALONE[packet as usize],
+            "{packet}"
+        );
+    }
+    assert!(rt; notes.is_whole());
+}
+
+#[test]
+fn one_worker_tells_that_rows_answer(rt: HostRuntime) -> Result<(), Fail> {
+    let notes = Notes::new(rt.alloc(), 4)?;
+    tell_alone(&rt, rt.alloc(), &notes)?;
+    check_alone(&rt, &notes);
     Ok(())
 }
 

@@ -1,5 +1,5 @@
 -- A row's answer, at what its caller had seen.
-use Rattle.std.proofs.Common.{◌≡◌, ◌≤◌, ℕ, false, List, length, sym, subst, ◌∙◌, ap, arith}
+use Rattle.std.proofs.Common.{◌≡◌, ℕ, List, length, sym, subst, arith}
 use mathlib.Core.List.{IsPrefix}
 use Rattle.vsw_answer.specs.Answers.{Answers, Pass}
 use Rattle.vsw_base.specs.declared.flow.Crossing.{Crossing}

@@ -17,11 +17,13 @@ pub struct Lineup {
     pub workers: usize,
     pub controllers: usize,
     pub round: u32,
+    /// Where the workers have fewer jobs than this, or none, no thread is started.
+    pub fewest: u32,
 }
 
 /// Does all jobs of all seats: callers in the order of their rows, and the reconciler behind them. In the round's slice stand the
-/// workers, the controllers and the reconciler. Where no worker has a job, all are done in turn by this thread; controllers have no
-/// threads either where none of them has a job. The gate is told the same numbers.
+/// workers, the controllers and the reconciler. Where the workers have too few jobs, all are done in turn by this thread; controllers
+/// have no threads either where none of them has a job. The gate is told the same numbers.
 pub(crate) fn run_seats<R: Threads + Wait + Sync, F: Forwarder + Send, G: Gate + Sync>(
     rt: &R,
     alloc: Global,
@@ -35,10 +37,10 @@ pub(crate) fn run_seats<R: Threads + Wait + Sync, F: Forwarder + Send, G: Gate +
     let workers = lineup.workers.min(callers);
     let controllers = lineup.controllers.min(callers - workers);
     let idle = callers - workers - controllers;
-    if are_idle(seats, 0, workers) {
+    if count_jobs(seats, 0, workers) < u64::from(lineup.fewest.max(1)) {
         let shifted = Numbering::of(gate, workers + idle, workers);
         run_in_turn(rt, alloc, seats, &shifted);
-    } else if are_idle(seats, callers - controllers, callers) {
+    } else if count_jobs(seats, callers - controllers, callers) == 0 {
         let shifted = Numbering::of(gate, workers, workers + controllers);
         run_apart(rt, alloc, seats, workers, idle + controllers, &shifted);
     } else {
@@ -46,16 +48,15 @@ pub(crate) fn run_seats<R: Threads + Wait + Sync, F: Forwarder + Send, G: Gate +
     }
 }
 
-/// Whether none of the actors from a place on, up to another, has a job left.
-fn are_idle<F: Forwarder>(actors: &[F], from: usize, to: usize) -> bool
+/// How many jobs are left to the actors from a place on, up to another.
+fn count_jobs<F: Forwarder>(actors: &[F], from: usize, to: usize) -> u64
     requires { to ≤ length actors.now }
 {
+    let mut count = 0u64;
     for place in from..to {
-        if actors[place].left() > 0 {
-            return false;
-        }
+        count = count.saturating_add(u64::from(actors[place].left()));
     }
-    true
+    count
 }
 
 /// Does all jobs of all actors. So many of them behind the first ones have no threads, and do theirs when the others are done.

@@ -24,6 +24,9 @@ use vsw_harbour::{
 };
 use vsw_workers::Gate;
 
+/// A round of fewer packets starts no thread: it takes less time than starting threads does.
+const PACKETS_FOR_THREADS: u32 = 256;
+
 fn add_need(need: u32, needs: &mut Vec<u32>) -> Result<(), NoMemory>
     ensures { OnOk result (needs.new.items ≡ needs.old.items ++ need ∷ []) }
 {
@@ -89,8 +92,8 @@ fn meet_after<'g, J: Naming, G, R: Wait>(
     Ok(())
 }
 
-/// The callers do their shares in the round of this number, each in a thread of its own where it is one of the workers or the
-/// controllers have jobs.
+/// The callers do their shares in the round of this number: in turn where there are few packets, else each in a thread of its own where
+/// it is one of the workers or the controllers have jobs.
 fn work<'g, 'w, J: Naming + Send + Sync, G: Gate + Watch + Sync, R: Threads + Wait + Sync>(
     rt: &R,
     harbour: &Harbour<'g, J, G>,
@@ -106,6 +109,7 @@ fn work<'g, 'w, J: Naming + Send + Sync, G: Gate + Watch + Sync, R: Threads + Wa
         workers,
         controllers: harbour.controllers.len(),
         round,
+        fewest: PACKETS_FOR_THREADS,
     };
     let after = run_rows(
         rt,

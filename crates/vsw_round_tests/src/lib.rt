@@ -1,5 +1,5 @@
 //! Reports that were worked out by hand, beside the definitions of vsw_promise, each evaluated where it is proved; tests of ports, of the order
-//! of commands, and of the report's text; and of actors, over ports that have memory for no command.
+//! of commands, and of the report's text; of actors, over ports that have memory for no command; and of rings.
 #![tactic(auto)]
 
 mod carrying;
@@ -18,6 +18,8 @@ mod ports_tests;
 mod refusing;
 #[cfg(test)]
 mod report_samples;
+#[cfg(test)]
+mod ring_tests;
 #[cfg(test)]
 mod round_tests;
 mod samples;

@@ -160,6 +160,7 @@ fn lineup(workers: usize, controllers: usize) -> Lineup {
         workers,
         controllers,
         round: 0,
+        fewest: 1,
     }
 }
 
@@ -298,11 +299,12 @@ impl Gate for Meeting {
     fn leave(&self, _actor: u32, _job: u32) {}
 }
 
-/// Which of the two actors behind the first one saw the other in a round of one worker and two controllers.
+/// Which of the two actors behind the first one saw the other in such a round of one worker and two controllers.
 fn seen<R: Threads + Wait + Sync>(
     rt: &R,
     alloc: Global,
     shares: Vec<Vec<Placed<Packet>>>,
+    lineup: Lineup,
     turns: u32,
 ) -> Option<[u64; 2]>
     requires shares { AreThreeShares shares.items }
@@ -313,7 +315,7 @@ fn seen<R: Threads + Wait + Sync>(
         here: [AtomicU64::new(0), AtomicU64::new(0)],
         saw: [AtomicU64::new(0), AtomicU64::new(0)],
     };
-    let _rows = round(rt, alloc, &ports, shares, lineup(1, 2), &meeting)?;
+    let _rows = round(rt, alloc, &ports, shares, lineup, &meeting)?;
     Some([
         meeting.saw[0].load(Ordering::SeqCst),
         meeting.saw[1].load(Ordering::SeqCst),
@@ -323,7 +325,7 @@ fn seen<R: Threads + Wait + Sync>(
 #[test]
 fn controllers_beside_packets_see_each_other(rt: HostRuntime) {
     let shares = three_shares(rt.alloc()).expect(&rt, "memory");
-    let saw = seen(&rt, rt.alloc(), shares, 100_000_000).expect(&rt, "memory");
+    let saw = seen(&rt, rt.alloc(), shares, lineup(1, 2), 100_000_000).expect(&rt, "memory");
     assert_eq!(rt; saw, [1, 1]);
 }
 
@@ -331,7 +333,31 @@ fn controllers_beside_packets_see_each_other(rt: HostRuntime) {
 #[test]
 fn controllers_without_packets_beside_them_take_turns(rt: HostRuntime) {
     let shares = last_shares(rt.alloc()).expect(&rt, "memory");
-    let saw = seen(&rt, rt.alloc(), shares, 1_000_000).expect(&rt, "memory");
+    let saw = seen(&rt, rt.alloc(), shares, lineup(1, 2), 1_000_000).expect(&rt, "memory");
+    assert_eq!(rt; saw, [0, 1]);
+}
+
+/// The worker has three packets.
+fn lineup_from(fewest: u32) -> Lineup {
+    Lineup {
+        workers: 1,
+        controllers: 2,
+        round: 0,
+        fewest,
+    }
+}
+
+#[test]
+fn controllers_beside_as_many_packets_as_are_asked_for_see_each_other(rt: HostRuntime) {
+    let shares = three_shares(rt.alloc()).expect(&rt, "memory");
+    let saw = seen(&rt, rt.alloc(), shares, lineup_from(3), 100_000_000).expect(&rt, "memory");
+    assert_eq!(rt; saw, [1, 1]);
+}
+
+#[test]
+fn controllers_beside_fewer_packets_take_turns(rt: HostRuntime) {
+    let shares = three_shares(rt.alloc()).expect(&rt, "memory");
+    let saw = seen(&rt, rt.alloc(), shares, lineup_from(4), 1_000_000).expect(&rt, "memory");
     assert_eq!(rt; saw, [0, 1]);
 }
 
@@ -346,6 +372,7 @@ fn reconciled<R: Threads + Wait + Sync>(
         workers: 2,
         controllers: 0,
         round: round_number,
+        fewest: 1,
     };
     let _rows = round(rt, alloc, &ports, two_shares(alloc)?, lineup, &Open)?;
     Some([

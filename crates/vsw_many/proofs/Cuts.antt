@@ -108,13 +108,14 @@ entries_room o g k low high (c ∷ cs) p is own = by is.0 (entries_room o g k (n
     still m ih =
         let more : length (entries_naming o.controllers k (drop (next_count c) g)) ≤ length (entries_naming o.controllers k (drop low g)) = naming_later o.controllers k low (next_count c) g (omega (arith, p.0, stayed c m)) in
         omega (arith, read_more c cs m, ih, more)
+
     by : IsCall o g c → length (entries_of cs) ≤ length (entries_naming o.controllers k (drop (next_count c) g)) → length (entries_of (c ∷ cs)) ≤ length (entries_naming o.controllers k (drop low g))
     by (Entry i) ih =
         let there : drop c.count g ≡ event_of c.deed ∷ drop (suc c.count) g = drop_at c.count g (event_of c.deed) i.stands in
         let next : next_count c ≡ suc c.count = omega (arith, entered c i.marked) in
         let rest : length (entries_naming o.controllers k (drop (next_count c) g)) ≡ length (entries_naming o.controllers k (drop (suc c.count) g)) = ap (λ n. length (entries_naming o.controllers k (drop n g))) next in
         let one : length (entries_naming o.controllers k (drop c.count g)) ≡ 1 + length (entries_naming o.controllers k (drop (suc c.count) g)) =
-            ap (λ w. length (entries_naming o.controllers k w)) there ∙ own_more o.controllers k c (drop (suc c.count) g) own.0 in
+        ap (λ w. length (entries_naming o.controllers k w)) there ∙ own_more o.controllers k c (drop (suc c.count) g) own.0 in
         omega (arith, entry_more c cs i.marked, ih, rest, one, naming_later o.controllers k low c.count g p.0)
     by (Read i) ih = still i.marked ih
     by (Short i) ih = still i.marked ih
@@ -134,21 +135,22 @@ share_cut o h g k e xs ys s own low high =
     let first = entries_room o (take e g) k (length h) e xs low is (each_front (λ c. doer o.controllers c.deed ≡ k) xs ys own) in
     let later = entries_room o g k e (length g) ys high (each_back (IsCall o g) xs ys s.each) (each_back (λ c. doer o.controllers c.deed ≡ k) xs ys own) in
     let parts : entries_naming o.controllers k (take e g) ++ entries_naming o.controllers k (drop e g) ≡ (entries_naming o.controllers k h ++ entries_of xs) ++ entries_of ys =
-        sym (naming_append o.controllers k (take e g) (drop e g)) ∙ (ap (entries_naming o.controllers k) (take-append-drop e g) ∙ (s.entries ∙ (ap (λ w. entries_naming o.controllers k h ++ w) (entries_append xs ys) ∙ sym (append_assoc (entries_naming o.controllers k h) (entries_of xs) (entries_of ys))))) in
+    sym (naming_append o.controllers k (take e g) (drop e g)) ∙ (ap (entries_naming o.controllers k) (take-append-drop e g) ∙ (s.entries ∙ (ap (λ w. entries_naming o.controllers k h ++ w) (entries_append xs ys) ∙ sym (append_assoc (entries_naming o.controllers k h) (entries_of xs) (entries_of ys))))) in
     let split : length (entries_naming o.controllers k (take e g)) ≡ length (entries_naming o.controllers k h) + length (entries_naming o.controllers k (drop (length h) (take e g))) =
-        ap (λ w. length (entries_naming o.controllers k w)) (sym grown) ∙ (ap length (naming_append o.controllers k h (drop (length h) (take e g))) ∙ length-append (entries_naming o.controllers k h) (entries_naming o.controllers k (drop (length h) (take e g)))) in
+    ap (λ w. length (entries_naming o.controllers k w)) (sym grown) ∙ (ap length (naming_append o.controllers k h (drop (length h) (take e g))) ∙ length-append (entries_naming o.controllers k h) (entries_naming o.controllers k (drop (length h) (take e g)))) in
     let whole : length (entries_naming o.controllers k (take e g)) + length (entries_naming o.controllers k (drop e g)) ≡ length (entries_naming o.controllers k h ++ entries_of xs) + length (entries_of ys) =
-        sym (length-append (entries_naming o.controllers k (take e g)) (entries_naming o.controllers k (drop e g))) ∙ (ap length parts ∙ length-append (entries_naming o.controllers k h ++ entries_of xs) (entries_of ys)) in
+    sym (length-append (entries_naming o.controllers k (take e g)) (entries_naming o.controllers k (drop e g))) ∙ (ap length parts ∙ length-append (entries_naming o.controllers k h ++ entries_of xs) (entries_of ys)) in
     let count : length (entries_naming o.controllers k (take e g)) ≡ length (entries_naming o.controllers k h ++ entries_of xs) =
-        omega (arith, first, later, split, whole, length-append (entries_naming o.controllers k h) (entries_of xs)) in
+    omega (arith, first, later, split, whole, length-append (entries_naming o.controllers k h) (entries_of xs)) in
     let at : entries_naming o.controllers k (take e g) ≡ entries_naming o.controllers k h ++ entries_of xs =
-        front_same (entries_naming o.controllers k (take e g)) (entries_naming o.controllers k (drop e g)) (entries_naming o.controllers k h ++ entries_of xs) (entries_of ys) parts count in
+    front_same (entries_naming o.controllers k (take e g)) (entries_naming o.controllers k (drop e g)) (entries_naming o.controllers k h ++ entries_of xs) (entries_of ys) parts count in
     let order : InOrder (length h) xs (length (take e g)) = subst (λ n. InOrder (length h) xs n) (sym len) low in
     let onward : InOrder (length (take e g)) ys (length g) = subst (λ n. InOrder n ys (length g)) (sym len) high in
     let rest : entries_naming o.controllers k g ≡ entries_naming o.controllers k (take e g) ++ entries_of ys =
-        s.entries ∙ (ap (λ w. entries_naming o.controllers k h ++ w) (entries_append xs ys) ∙ (sym (append_assoc (entries_naming o.controllers k h) (entries_of xs) (entries_of ys)) ∙ ap (λ w. w ++ entries_of ys) (sym at))) in
-    (record { begins = (drop (length h) (take e g), grown); each = is; in_order = order; entries = at },
-     record { begins = take_prefix e g; each = each_back (IsCall o g) xs ys s.each; in_order = onward; entries = rest })
+    s.entries ∙ (ap (λ w. entries_naming o.controllers k h ++ w) (entries_append xs ys) ∙ (sym (append_assoc (entries_naming o.controllers k h) (entries_of xs) (entries_of ys)) ∙ ap (λ w. w ++ entries_of ys) (sym at))) in (
+      record { begins = (drop (length h) (take e g), grown); each = is; in_order = order; entries = at },
+      record { begins = take_prefix e g; each = each_back (IsCall o g) xs ys s.each; in_order = onward; entries = rest },
+    )
 
 -- ---- a lane, cut
 
@@ -180,37 +182,38 @@ lane_cut o h g k e l xs ys is low high a =
     let bytes : Each (HasBytes o g) (xs ++ ys) = subst (Each (HasBytes o g)) is (bytes_of_pass o g l.track.start l.track.now l.met l.track.calls a.is.works a.meets) in
     let own : Each (λ c. doer o.controllers c.deed ≡ k) (xs ++ ys) = subst (Each (λ c. doer o.controllers c.deed ≡ k)) is a.is.own in
     let rest = rest_of_pass o h g k l.track.start l.track.now l.met l.track.calls a.is.rest a.is.works a.meets in
-    let cut = share_cut o h g k e xs ys share own low high in
-    (record {
-       is = record {
-         rest = a.is.rest;
-         works = record {
-           number = sym a.is.rest.number;
-           seen = subst (λ f. IsPrefix f (take e g)) (sym a.is.rest.front) cut.0.begins;
-           each = cut.0.each;
-           bytes = bytes_earlier o g (length h) e xs le low (each_front (HasBytes o g) xs ys bytes);
-           in_order = subst (λ f. InOrder (length f) xs (length (take e g))) (sym a.is.rest.front) cut.0.in_order;
-           receipts = cut.0.entries ∙ ap (λ w. w ++ entries_of xs) (sym a.is.rest.receipts);
-         };
-         own = each_front (λ c. doer o.controllers c.deed ≡ k) xs ys own;
-       };
-       meets = record { number = refl; seen = prefix_self (take e g); front = refl; kept = refl; own = refl };
-     },
-     record {
-       is = record {
-         rest = rest_at o (take e g) k;
-         works = record {
-           number = rest.number;
-           seen = subst (λ f. IsPrefix (take e g) f) (sym rest.front) cut.1.begins;
-           each = subst (λ f. Each (IsCall o f) ys) (sym rest.front) cut.1.each;
-           bytes = subst (λ f. Each (HasBytes o f) ys) (sym rest.front) (each_back (HasBytes o g) xs ys bytes);
-           in_order = subst (λ f. InOrder (length (take e g)) ys (length f)) (sym rest.front) cut.1.in_order;
-           receipts = rest.receipts ∙ cut.1.entries;
-         };
-         own = each_back (λ c. doer o.controllers c.deed ≡ k) xs ys own;
-       };
-       meets = record { number = refl; seen = subst (λ f. IsPrefix f g) (sym rest.front) (prefix_self g); front = rest.front; kept = refl; own = rest.receipts ∙ ap (λ n. entries_naming o.controllers n g) (sym rest.number) };
-     })
+    let cut = share_cut o h g k e xs ys share own low high in (
+      record {
+        is = record {
+          rest = a.is.rest;
+          works = record {
+            number = sym a.is.rest.number;
+            seen = subst (λ f. IsPrefix f (take e g)) (sym a.is.rest.front) cut.0.begins;
+            each = cut.0.each;
+            bytes = bytes_earlier o g (length h) e xs le low (each_front (HasBytes o g) xs ys bytes);
+            in_order = subst (λ f. InOrder (length f) xs (length (take e g))) (sym a.is.rest.front) cut.0.in_order;
+            receipts = cut.0.entries ∙ ap (λ w. w ++ entries_of xs) (sym a.is.rest.receipts);
+          };
+          own = each_front (λ c. doer o.controllers c.deed ≡ k) xs ys own;
+        };
+        meets = record { number = refl; seen = prefix_self (take e g); front = refl; kept = refl; own = refl };
+      },
+      record {
+        is = record {
+          rest = rest_at o (take e g) k;
+          works = record {
+            number = rest.number;
+            seen = subst (λ f. IsPrefix (take e g) f) (sym rest.front) cut.1.begins;
+            each = subst (λ f. Each (IsCall o f) ys) (sym rest.front) cut.1.each;
+            bytes = subst (λ f. Each (HasBytes o f) ys) (sym rest.front) (each_back (HasBytes o g) xs ys bytes);
+            in_order = subst (λ f. InOrder (length (take e g)) ys (length f)) (sym rest.front) cut.1.in_order;
+            receipts = rest.receipts ∙ cut.1.entries;
+          };
+          own = each_back (λ c. doer o.controllers c.deed ≡ k) xs ys own;
+        };
+        meets = record { number = refl; seen = subst (λ f. IsPrefix f g) (sym rest.front) (prefix_self g); front = rest.front; kept = refl; own = rest.receipts ∙ ap (λ n. entries_naming o.controllers n g) (sym rest.number) };
+      },
+    )
 
 -- ---- a phase, cut
 
@@ -249,19 +252,20 @@ phase_cut o h g e ls ps ge le c p =
     let whole : take e g ++ drop e g ≡ g = take-append-drop e g in
     let before : take (length h) (take e g) ≡ h = sym (prefix_take (take e g) g (length h) (take_prefix e g) (omega (arith, ge, len))) ∙ (ap (take (length h)) (sym p.grows.1) ∙ take-append_seam h p.grows.0) in
     let grown : h ++ drop (length h) (take e g) ≡ take e g = ap (λ w. w ++ drop (length h) (take e g)) (sym before) ∙ take-append-drop (length h) (take e g) in
-    let named_here : Each (λ x. named o.controllers x < length ls) (take e g) = each_front (λ x. named o.controllers x < length ls) (take e g) (drop e g) (subst (Each (λ x. named o.controllers x < length ls)) (sym whole) p.named_all) in
-    (record {
-       right = right_front o.controllers o.layers (take e g) (drop e g) (subst (AllRight o) (sym whole) p.right);
-       grows = (drop (length h) (take e g), grown);
-       lanes = both.0;
-       named_all = subst (λ n. Each (λ x. named o.controllers x < n) (take e g)) (sym sizes.0) named_here;
-     },
-     record {
-       right = p.right;
-       grows = take_prefix e g;
-       lanes = both.1;
-       named_all = subst (λ n. Each (λ x. named o.controllers x < n) g) (sym sizes.1) p.named_all;
-     })
+    let named_here : Each (λ x. named o.controllers x < length ls) (take e g) = each_front (λ x. named o.controllers x < length ls) (take e g) (drop e g) (subst (Each (λ x. named o.controllers x < length ls)) (sym whole) p.named_all) in (
+      record {
+        right = right_front o.controllers o.layers (take e g) (drop e g) (subst (AllRight o) (sym whole) p.right);
+        grows = (drop (length h) (take e g), grown);
+        lanes = both.0;
+        named_all = subst (λ n. Each (λ x. named o.controllers x < n) (take e g)) (sym sizes.0) named_here;
+      },
+      record {
+        right = p.right;
+        grows = take_prefix e g;
+        lanes = both.1;
+        named_all = subst (λ n. Each (λ x. named o.controllers x < n) g) (sym sizes.1) p.named_all;
+      },
+    )
 
 calls_cut : (o : Opening) (m : List Event) (low e high k : ℕ) (ls : List Lane) (ps : List (List Call × List Call)) → AreCut low e high ls ps
     → (map (λ l. l.track.calls) (lanes_before o m k ls ps) ≡ map (λ p. p.0) ps) × (map (λ l. l.track.calls) (lanes_behind o m k ls ps) ≡ map (λ p. p.1) ps)

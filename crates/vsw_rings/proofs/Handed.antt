@@ -46,10 +46,12 @@ module _ {T P : Type 0} where
   -- what came next was taken
   pub takes : (fits : List T → T → Type 0) (all : List (Taken T)) (x : Taken T) (before after : Drain T P) → all ≡ received before.ring → received after.ring ≡ all ++ x ∷ []
       → is_at_end before ≡ false → Follows fits all x → Takes fits before x after
-  takes fits all (Item x) before after was now o f =
-      (ap items_in (now ∙ ap (λ w. w ++ Item x ∷ []) was) ∙ item_more (received before.ring) x o,
-       ap has_end (now ∙ ap (λ w. w ++ Item x ∷ []) was) ∙ item_open (received before.ring) x o,
-       subst (λ w. fits (items_in w) x) was f)
-  takes fits all End before after was now o f =
-      (ap items_in (now ∙ ap (λ w. w ++ End ∷ []) was) ∙ end_keeps (received before.ring),
-       ap has_end (now ∙ ap (λ w. w ++ End ∷ []) was) ∙ end_ends (received before.ring))
+  takes fits all (Item x) before after was now o f = (
+    ap items_in (now ∙ ap (λ w. w ++ Item x ∷ []) was) ∙ item_more (received before.ring) x o,
+    ap has_end (now ∙ ap (λ w. w ++ Item x ∷ []) was) ∙ item_open (received before.ring) x o,
+    subst (λ w. fits (items_in w) x) was f,
+  )
+  takes fits all End before after was now o f = (
+    ap items_in (now ∙ ap (λ w. w ++ End ∷ []) was) ∙ end_keeps (received before.ring),
+    ap has_end (now ∙ ap (λ w. w ++ End ∷ []) was) ∙ end_ends (received before.ring),
+  )

@@ -18,7 +18,10 @@ pub struct Feed<T, P: Rule<T> = AnyItem> {
 }
 
 /// Makes a ring with room for so many things at once, an end among them.
-pub fn open<T: Drop, P: Rule<T>>(alloc: Global, count: u32) -> Result<(Feed<T, P>, Drain<T, P>), NoMemory>
+pub fn open<T: Drop, P: Rule<T>>(
+    alloc: Global,
+    count: u32,
+) -> Result<(Feed<T, P>, Drain<T, P>), NoMemory>
     requires room { 0 < count }
     ensures ring { IfOk result (λ r. IsRing r.0 r.1) }
     ensures feed { IfOk result (λ r. (fed r.0 ≡ []) × (has_ended r.0 ≡ false) × (room r.0 ≡ count)) }

@@ -257,7 +257,8 @@ def drawn(seed):
     made, records, moment = policy(draw), [], 0
     text, lines, workers = json.dumps(made), commands(draw, made), draw.choice([1, 1, 2, 3, 4, 8])
     often = [frame(draw) for _ in range(8)]
-    for _ in range(40 if workers == 1 else 300):
+    # commands name packets up to 60, and a round of fewer than 256 packets starts no thread
+    for _ in range(40 if workers == 1 else 400):
         moment += draw.choice(STEPS)
         data = draw.choice(often) if draw.random() < 0.6 else frame(draw)
         records.append((moment, data, len(data)))

@@ -22,7 +22,7 @@ use Rattle.vsw_many.specs.Rounds.{AreJournals, calls_by_port, column, other_colu
 use Rattle.vsw_many.specs.Turns.{PlacedTurns, placed_before}
 use Rattle.vsw_many.specs.Crew.{AreTexts, CrewDid, callers_in}
 use Rattle.vsw_many.specs.Stretch.{AreDone, AreParted, GoThrough, HasLanes, HaveLanes, IsParted, IsStretch, Leg, Rise, calls_at, calls_of_rows, first_calls, leg_jobs, told_by}
-use Rattle.vsw_many.specs.StretchLaw.{StretchIsDone}
+use Rattle.vsw_many.specs.StretchLaw.{RowsAreLanes, StretchIsDone}
 use Rattle.vsw_many.proofs.Cuts.{lane_before, lane_behind, lane_cut}
 use Rattle.vsw_many.proofs.Turns.{turns_begin}
 
@@ -240,6 +240,20 @@ rows_cut cs jobs k ps hs gs es [] [] (d ∷ behind) a q w = absurd q
 rows_cut cs jobs k ps hs gs es [] (c ∷ calls) behind a q w = absurd q
 rows_cut cs jobs k ps hs gs es (row ∷ rows) [] behind a q w = absurd q
 rows_cut cs jobs k ps hs gs es (row ∷ rows) (c ∷ calls) [] a q w = absurd q
+
+has_lanes : (own : List Placed) (i k : ℕ) (ps : List PortSeen) (hs gs : List (List Event)) (row : List Lane) → HasWorked i k ps hs gs row own → HasLanes k ps hs gs row
+has_lanes own i k [] [] [] [] w = tt
+has_lanes own i k (p ∷ ps) (h ∷ hs) (g ∷ gs) (l ∷ row) w = (w.0, has_lanes own (suc i) k ps hs gs row w.2)
+has_lanes own i k [] [] [] (l ∷ row) w = absurd w
+has_lanes own i k [] [] (g ∷ gs) row w = absurd w
+has_lanes own i k [] (h ∷ hs) gs row w = absurd w
+has_lanes own i k (p ∷ ps) [] gs row w = absurd w
+has_lanes own i k (p ∷ ps) (h ∷ hs) [] row w = absurd w
+has_lanes own i k (p ∷ ps) (h ∷ hs) (g ∷ gs) [] w = absurd w
+
+pub rows_are_lanes : RowsAreLanes
+rows_are_lanes cs jobs i k ps hs gs [] a = tt
+rows_are_lanes cs jobs i k ps hs gs (row ∷ rows) a = (has_lanes (deal cs k jobs) i k ps hs gs row a.0, rows_are_lanes cs jobs i (suc k) ps hs gs rows a.1)
 
 -- ---- what a round tells
 

@@ -1,5 +1,5 @@
 -- Each kind of step keeps the rule, and tells what it promises.
-use Rattle.std.proofs.Common.{◌≡◌, ◌≢◌, ℕ, ◌+◌, ◌*◌, ◌-◌, ◌/◌, ◌%◌, max, ◌<◌, ◌≤◌, ◌==◌, Bool, true, false, if◌then◌else◌, List, [], ◌∷◌, ◌++◌, length, refl, ap, sym, ◌∙◌, subst, arith, slice_set, slice_index, set, get_or, replicate, eq-eqb, Some, None}
+use Rattle.std.proofs.Common.{◌≡◌, ◌≢◌, ℕ, ◌+◌, ◌*◌, ◌-◌, ◌%◌, max, ◌<◌, ◌≤◌, ◌==◌, Bool, true, false, if◌then◌else◌, List, [], ◌∷◌, ◌++◌, length, refl, ap, sym, ◌∙◌, subst, arith, slice_set, slice_index, set, get_or, replicate, eq-eqb, Some, None}
 use mathlib.Core.List.{IsPrefix}
 use mathlib.Core.Option.{some, none, some-injective}
 use lib.ListN.{get_elem?}
@@ -12,10 +12,11 @@ use Rattle.vsw_stamps.specs.Machine.{has_row, with_word, is_closed, recorded, fi
 use Rattle.vsw_stamps.specs.Sound.{AreRight}
 use Rattle.vsw_table.specs.declared.view.View.{View}
 use Rattle.vsw_table.specs.declared.view.Tried.{Tried}
-use Rattle.vsw_table.specs.Rules.{IsKept, IsShown, IsManned, IsOf, table_words, words_of, first_view, spent, noted, informed, moved, lent, writer_of, pass_of, granted, advanced, one_more, newcomer, stamp_at, row_at}
+use Rattle.vsw_table.specs.Places.{stamp_place, word_place}
+use Rattle.vsw_table.specs.Rules.{IsKept, IsShown, IsManned, IsOf, IsLaid, first_view, spent, noted, informed, moved, lent, writer_of, pass_of, granted, advanced, one_more, newcomer, stamp_at, row_at}
 use Rattle.vsw_table.specs.Steps as steps
 use Rattle.vsw_table.specs.Held.{HasTop}
-use Rattle.vsw_table.proofs.Words.{all_zero}
+use Rattle.vsw_table.proofs.Words.{word_apart, laid_first}
 use Rattle.vsw_table.proofs.Shows as shows
 use Rattle.vsw_table.proofs.Manned as mans
 
@@ -60,15 +61,18 @@ module _ {O E : Type 0} (who : O → E → ℕ) (good : O → List E → List �
   by_pass s k id v w ws at idle crosses number receipts permits opening shown =
       is_kept (record { words = ws; homes = s.homes; views = set s.views id w }) k.seat k.truth (shown, mans.reads who o k.seat k.truth s.views k.manned id v w at idle crosses number receipts permits opening)
 
-  pub reads_stamp : (slots id : ℕ) (v : V) (r i : ℕ) → v.live ≡ true → v.writes ≡ false → r < size → i ≡ r + 1 → Allows (λ s. Kept s) slots id (v, []) i (λ n. n) (steps.Stamped (step slots i 0 0 none) (v, []))
-  reads_stamp slots id v r i live idle there is s k wide at small =
-      let q : i - 1 < size = omega (arith, is, there) in
-      let p : i ≡ (i - 1) + 1 = omega (arith, is) in
-      let w = steps.stamped v (i - 1) (slice_index s.words i) in
-      let shown = shows.reads_stamp (good o) size k.seat s k.shown id v w (i - 1) i at live idle q p refl refl refl refl refl in
-      (w, keeps, tt, by_pass s k id v w (slice_set s.words i (slice_index s.words i)) at idle refl refl refl refl refl shown, refl)
+  -- a stamp's place is one row's
+  one_stamp : (r q i : ℕ) → i ≡ stamp_place r → i ≡ stamp_place q → r ≡ q
+  one_stamp r q i is is' = omega (arith, is, is')
 
-  pub reads_word : (slots id : ℕ) (v : V) (row j i : ℕ) → v.live ≡ true → v.writes ≡ false → HasTop v.tried v.shown.rows row j → row < size → j < 73 → is_closed v.shown ≡ false → i ≡ 1 + size + 73 * row + j
+  pub reads_stamp : (slots id : ℕ) (v : V) (r i : ℕ) → v.live ≡ true → v.writes ≡ false → r < size → i ≡ stamp_place r → Allows (λ s. Kept s) slots id (v, []) i (λ n. n) (steps.Stamped (step slots i 0 0 none) (v, []))
+  reads_stamp slots id v r i live idle there is s k wide at small =
+      let x = slice_index s.words i in
+      let w = steps.stamped v r x in
+      let shown = shows.reads_stamp (good o) size k.seat s k.shown id v w r i at live idle there is refl refl refl refl refl in
+      (w, keeps, tt, by_pass s k id v w (slice_set s.words i x) at idle refl refl refl refl refl shown, λ q is'. ap (λ (a : ℕ). (steps.stamped v a x, [])) (one_stamp r q i is is'))
+
+  pub reads_word : (slots id : ℕ) (v : V) (row j i : ℕ) → v.live ≡ true → v.writes ≡ false → HasTop v.tried v.shown.rows row j → row < size → j < 73 → is_closed v.shown ≡ false → i ≡ word_place size row j
       → Allows (λ s. Kept s) slots id (v, []) i (λ n. n) (steps.Reads (step slots i 0 0 none) (v, []))
   reads_word slots id v row j i live idle top there few is_open is s k wide at small =
       let x = slice_index s.words i in
@@ -86,7 +90,7 @@ module _ {O E : Type 0} (who : O → E → ℕ) (good : O → List E → List �
       let h = m.history in
       let few = (shows.sound_of (good o) size k.seat s k.shown).short in
       let n = slice_index s.words 0 in
-      let word : n ≡ 4294967296 + length h = ap (λ (ws : List ℕ). get_or ws 0 0) k.shown.words in
+      let word : n ≡ 4294967296 + length h = k.shown.words.count in
       let x : n % 4294967296 ≡ length h = omega (arith, word, few) in
       let u = steps.counted v h (n % 4294967296) in
       let w = then_is u in
@@ -122,12 +126,11 @@ module _ {O E : Type 0} (who : O → E → ℕ) (good : O → List E → List �
   compares_by true v n = (refl, refl, refl, refl, refl, refl, refl, refl, refl, refl)
   compares_by false v n = (refl, refl, refl, refl, refl, refl, refl, refl, refl, refl)
 
-  pub compares : (slots id : ℕ) (v : V) (r j i : ℕ) → v.live ≡ true → v.writes ≡ false → v.crosses ≡ true → HasTop v.tried v.shown.rows r j → is_closed v.shown ≡ true → r < size → i ≡ r + 1
+  pub compares : (slots id : ℕ) (v : V) (r j i : ℕ) → v.live ≡ true → v.writes ≡ false → v.crosses ≡ true → HasTop v.tried v.shown.rows r j → is_closed v.shown ≡ true → r < size → i ≡ stamp_place r
       → Allows (λ s. Kept s) slots id (v, []) i (λ n. n) (steps.Compares good (step slots i 0 0 none) (v, []))
   compares slots id v r j i live idle crosses top closed there is s k wide at small =
       let x = slice_index s.words i in
       let w = steps.compared v x in
-      let q : i - 1 ≡ r = omega (arith, is) in
       let e = compares_by (steps.is_same x v.tried) v x in
       let opens : v.opening ≡ Some o = (k.manned.each id v at).opens crosses ∙ k.manned.desk.opens in
       let both = shows.reads_again (good o) size k.seat s k.shown id v w r i at live idle there closed (has_top v.tried v.shown.rows r j top) is e.0 e.1 e.2 e.3 e.4 in (
@@ -137,17 +140,29 @@ module _ {O E : Type 0} (who : O → E → ℕ) (good : O → List E → List �
         by_pass s k id v w (slice_set s.words i x) at idle e.5 e.6 e.7 e.8 e.9 both.0,
         (
           refl,
-          λ o' is'. let same : o ≡ o' = cc (opens, is') in
-              subst (λ (a : O). AreRight (good a) (longer v.front v.told) (finished_by (Again (i - 1) x) v.shown.count v.shown.rows)) same
-              (subst (λ (a : ℕ). AreRight (good o) (longer v.front v.told) (finished_by (Again a x) v.shown.count v.shown.rows)) (sym q) both.1),
+          λ o' q is' at_row. let same : o ≡ o' = cc (opens, is') in
+              subst (λ (a : O). AreRight (good a) (longer v.front v.told) (finished_by (Again q x) v.shown.count v.shown.rows)) same
+              (subst (λ (a : ℕ). AreRight (good o) (longer v.front v.told) (finished_by (Again a x) v.shown.count v.shown.rows)) (one_stamp r q i is at_row) both.1),
         ),
       )
 
-  -- the writer's words are the table's
-  knows_words : (s : St) (id : ℕ) (v : V) → Both s id v → get_elem? s.views id ≡ some v → v.writes ≡ true → s.words ≡ words_of v
+  -- the table's words tell what the writer keeps
+  knows_words : (s : St) (id : ℕ) (v : V) → Both s id v → get_elem? s.views id ≡ some v → v.writes ≡ true → IsLaid size s.words (length v.history) v.stamps v.rows
   knows_words s id v b at w =
+      let m = b.0.machine in
       let knows = (b.0.each id v at).knows w in
-      b.0.words ∙ (λ j. table_words (length (sym knows.3 j)) (sym knows.1 j) (sym knows.2 j))
+      subst (λ (h : List E). IsLaid size s.words (length h) v.stamps v.rows) (sym knows.3)
+      (subst (λ (ss : List ℕ). IsLaid size s.words (length m.history) ss v.rows) (sym knows.1) (subst (λ (rs : List (List ℕ)). IsLaid size s.words (length m.history) m.stamps rs) (sym knows.2) b.0.words))
+
+  -- it keeps a stamp for each row
+  knows_many : (s : St) (id : ℕ) (v : V) → Both s id v → get_elem? s.views id ≡ some v → v.writes ≡ true → length v.stamps ≡ size
+  knows_many s id v b at w = ap length ((b.0.each id v at).knows w).1 ∙ b.0.many
+
+  stands_at : (t : V) (ws : List ℕ) (c i : ℕ) → IsLaid size ws c t.stamps t.rows → length t.stamps ≡ size → steps.StandsAt t i (get_or ws i 0)
+  stands_at t ws c i laid many = record {
+    stamp = λ r lt is. ap (λ (q : ℕ). get_or ws q 0) is ∙ laid.stamp r (omega (arith, lt, many));
+    word = λ r k lt few is. ap (λ (q : ℕ). get_or ws q 0) (is ∙ ap (λ (m : ℕ). word_place m r k) many) ∙ laid.word r k (omega (arith, lt, many)) few;
+  }
 
   is_short : (s : St) (id : ℕ) (v : V) → Both s id v → length v.history < 4294967295
   is_short s id v b = let few = mans.few_entries who o id v b.1.desk in omega (arith, few)
@@ -157,42 +172,39 @@ module _ {O E : Type 0} (who : O → E → ℕ) (good : O → List E → List �
   finds slots id t i w s k wide at small =
       let b = as_writer s k id t at w in
       let again : record { words = slice_set s.words i (slice_index s.words i); homes = s.homes; views = slice_set s.views id t } ≡ s = λ j. record { words = shows.same_word (good o) size k.seat s i j; homes = s.homes; views = set_again s.views id t at j } in
-      (t, keeps, tt, subst (λ (y : St). Kept y) (sym again) k, (refl, ap (λ (ws : List ℕ). get_or ws i 0) (knows_words s id t b at w), is_short s id t b))
+      (t, keeps, tt, subst (λ (y : St). Kept y) (sym again) k, (refl, stands_at t s.words (length t.history) i (knows_words s id t b at w) (knows_many s id t b at w), is_short s id t b))
 
   -- the writer stores a word of a row whose stamp is 0
-  pub puts_word : (slots id : ℕ) (t : V) (r j i n : ℕ) → t.writes ≡ true → r < size → j < 73 → i ≡ 1 + size + 73 * r + j → stamp_at t.stamps r ≡ 0
+  pub puts_word : (slots id : ℕ) (t : V) (r j i n : ℕ) → t.writes ≡ true → r < size → j < 73 → i ≡ word_place size r j → stamp_at t.stamps r ≡ 0
       → Allows (λ s. Kept s) slots id (t, []) i (λ _. n) (λ _. steps.PutsWord (step slots i n 0 none) (t, []) n)
   puts_word slots id t r j i n w there lt is clear s k wide at small =
       let b = as_writer s k id t at w in
       let t' = steps.with_word t r j n in
-      let many : length t.stamps ≡ size = ap length ((b.0.each id t at).knows w).1 ∙ b.0.many in
-      let at_row : steps.place_of t i / 73 ≡ r = omega (arith, is, many, lt) in
-      let at_word : steps.place_of t i % 73 ≡ j = omega (arith, is, many, lt) in
+      let many = knows_many s id t b at w in
+      let one : (q k : ℕ) → q < length t.stamps → k < 73 → i ≡ word_place (length t.stamps) q k → (r ≡ q) × (j ≡ k) = λ q k lq few is'.
+      word_apart size r q j k there (omega (arith, lq, many)) lt few (sym is ∙ (is' ∙ ap (λ (m : ℕ). word_place m q k) many)) in
       let shown = shows.puts_word (good o) size id s b.0 id t r j i n at w there lt is clear in
       let manned = mans.stays who o id t t' s.views b.1 id refl refl refl refl refl refl refl refl refl refl refl in
-      (t', keeps, tt, is_kept (record { words = slice_set s.words i n; homes = s.homes; views = slice_set s.views id t' }) id t' (shown, manned), (λ h. (steps.with_word t (sym at_row h) (sym at_word h) n, [])))
+      (t', keeps, tt, is_kept (record { words = slice_set s.words i n; homes = s.homes; views = slice_set s.views id t' }) id t' (shown, manned), λ q k lq few is'. let e = one q k lq few is' in (λ h. (steps.with_word t (e.0 h) (e.1 h) n, [])))
 
   -- the writer takes a stamp away
-  pub shakes : (slots id : ℕ) (t : V) (r i : ℕ) → t.writes ≡ true → r < size → i ≡ r + 1 → Allows (λ s. Kept s) slots id (t, []) i (λ _. 0) (λ _. steps.Shakes (step slots i 0 0 none) (t, []) 0)
+  pub shakes : (slots id : ℕ) (t : V) (r i : ℕ) → t.writes ≡ true → r < size → i ≡ stamp_place r → Allows (λ s. Kept s) slots id (t, []) i (λ _. 0) (λ _. steps.Shakes (step slots i 0 0 none) (t, []) 0)
   shakes slots id t r i w there is s k wide at small =
       let b = as_writer s k id t at w in
-      let q : i - 1 < size = omega (arith, is, there) in
-      let p : i ≡ (i - 1) + 1 = omega (arith, is) in
-      let t' = steps.shaken t (i - 1) in
-      let shown = shows.shakes (good o) size id s b.0 id t (i - 1) i at w q p in
+      let t' = steps.shaken t r in
+      let shown = shows.shakes (good o) size id s b.0 id t r i at w there is in
       let manned = mans.stays who o id t t' s.views b.1 id refl refl refl refl refl refl refl refl refl refl refl in
-      (t', keeps, tt, is_kept (record { words = slice_set s.words i 0; homes = s.homes; views = slice_set s.views id t' }) id t' (shown, manned), refl)
+      (t', keeps, tt, is_kept (record { words = slice_set s.words i 0; homes = s.homes; views = slice_set s.views id t' }) id t' (shown, manned), λ q is'. ap (λ (a : ℕ). (steps.shaken t a, [])) (one_stamp r q i is is'))
 
   -- the writer gives a stamp to a row that is good
-  pub restamps : (slots id : ℕ) (t : V) (r i n : ℕ) → t.writes ≡ true → r < size → i ≡ r + 1 → n ≡ t.given + 1 → t.given < 18446744073709551615 → stamp_at t.stamps r ≡ 0 → good o t.history (row_at t.rows r)
+  pub restamps : (slots id : ℕ) (t : V) (r i n : ℕ) → t.writes ≡ true → r < size → i ≡ stamp_place r → n ≡ t.given + 1 → t.given < 18446744073709551615 → stamp_at t.stamps r ≡ 0 → good o t.history (row_at t.rows r)
       → Allows (λ s. Kept s) slots id (t, []) i (λ _. n) (λ _. steps.Restamps (step slots i n 0 none) (t, []) n)
   restamps slots id t r i n w there is n_is few clear good_now s k wide at small =
       let b = as_writer s k id t at w in
-      let q : r ≡ i - 1 = omega (arith, is) in
       let t' = steps.restamped t r in
       let shown = shows.restamps (good o) size id s b.0 id t r i n at w there is n_is few clear good_now in
       let manned = mans.stays who o id t t' s.views b.1 id refl refl refl refl refl refl refl refl refl refl refl in
-      (t', keeps, tt, is_kept (record { words = slice_set s.words i n; homes = s.homes; views = slice_set s.views id t' }) id t' (shown, manned), ap (λ (a : ℕ). (steps.restamped t a, [])) q)
+      (t', keeps, tt, is_kept (record { words = slice_set s.words i n; homes = s.homes; views = slice_set s.views id t' }) id t' (shown, manned), λ q is'. ap (λ (a : ℕ). (steps.restamped t a, [])) (one_stamp r q i is is'))
 
   -- a meeting, by any step that leaves word 0 as it is
   grants_by : (f : ℕ → ℕ) → ((x : ℕ) → 4294967296 ≤ x → f x ≡ x) → (slots id : ℕ) (t : V) (more : ℕ) → t.writes ≡ true → t.crosses ≡ true → length t.receipts + t.permits + more ≤ 134217728
@@ -204,7 +216,7 @@ module _ {O E : Type 0} (who : O → E → ℕ) (good : O → List E → List �
       let self = b.1.each id t b.1.here in
       let p = self.placed crosses in
       let t' = granted t more in
-      let n : slice_index s.words 0 ≡ 4294967296 + length t.history = ap (λ (ws : List ℕ). get_or ws 0 0) (knows_words s id t b at w) in
+      let n : slice_index s.words 0 ≡ 4294967296 + length t.history = (knows_words s id t b at w).count in
       let stays : f (slice_index s.words 0) ≡ slice_index s.words 0 = same (slice_index s.words 0) (omega (arith, n)) in
       let words : slice_set s.words 0 (f (slice_index s.words 0)) ≡ s.words = ap (λ (x : ℕ). set s.words 0 x) stays ∙ shows.same_word (good o) size k.seat s 0 in
       let shown = shows.stands (good o) size id s b.0 id t at t' (slice_set s.words 0 (f (slice_index s.words 0))) words refl (λ g. record { live = g.live; front = g.front; begins = g.begins; shown = g.shown; knows = g.knows }) in
@@ -243,7 +255,7 @@ module _ {O E : Type 0} (who : O → E → ℕ) (good : O → List E → List �
   adds slots id t e old new w crosses some_permit mine old_is new_is stay s k wide at small =
       let b = as_writer s k id t at w in
       let t' = advanced t e in
-      let n : slice_index s.words 0 ≡ 4294967296 + length t.history = ap (λ (ws : List ℕ). get_or ws 0 0) (knows_words s id t b at w) in
+      let n : slice_index s.words 0 ≡ 4294967296 + length t.history = (knows_words s id t b at w).count in
       let becomes : either (slice_index s.words 0 == old) new (slice_index s.words 0) ≡ new = rw (eq-eqb (slice_index s.words 0) old (n ∙ sym old_is)) refl in
       let new_now : new ≡ 4294967296 + length t.history + 1 = omega (arith, new_is, old_is) in
       let shown = shows.adds (good o) size id s b.0 id t t' e new at w new_now (is_short s id t b) stay refl in
@@ -312,9 +324,6 @@ module _ {O E : Type 0} (who : O → E → ℕ) (good : O → List E → List �
       is_kept (record { words = s.words; homes = s.homes; views = set s.views id (writer_of t) ++ pass_of t ∷ [] }) id (writer_of t) (shown, mans.parts who o id t s.views b.1 crosses)
 
   -- the table at the start
-  pub opens : Kept (record { words = 4294967296 ∷ replicate (74 * size) 0; homes = []; views = first_view o size ∷ [] })
-  opens =
-      let z : ℕ = 0 in
-      let words : 4294967296 ∷ replicate (74 * size) z ≡ table_words 0 (replicate size z) (replicate size (replicate 73 z)) = ap (λ (ws : List ℕ). 4294967296 ∷ ws) (all_zero size) in
-      is_kept (record { words = 4294967296 ∷ replicate (74 * size) 0; homes = []; views = first_view o size ∷ [] }) 0 (first_view o size)
-      (shows.opens (good o) size 0 (first_view o size) (4294967296 ∷ replicate (74 * size) 0) refl refl refl refl refl refl refl refl refl refl words, mans.opens who o 0 size refl)
+  pub opens : Kept (record { words = 4294967296 ∷ replicate (13 + 74 * size) 0; homes = []; views = first_view o size ∷ [] })
+  opens = is_kept (record { words = 4294967296 ∷ replicate (13 + 74 * size) 0; homes = []; views = first_view o size ∷ [] }) 0 (first_view o size)
+  (shows.opens (good o) size 0 (first_view o size) (4294967296 ∷ replicate (13 + 74 * size) 0) refl refl refl refl refl refl refl refl refl refl (laid_first size), mans.opens who o 0 size refl)

@@ -5,10 +5,11 @@ use Rattle.std.proofs.Math.Seq.{take-append_seam, drop-append_seam, take-suc-set
 use borrow.Rule.Slice.PartMut.{put_mid}
 use Rattle.atomic_table.specs.Table.{Me}
 use Rattle.vsw_table.specs.declared.view.View.{View}
-use Rattle.vsw_table.specs.Rules.{stamp_at, row_at, words_of, HasRows, first_view, spent, lent, granted, advanced, writer_of, pass_of, counted_record}
-use Rattle.vsw_table.specs.Steps.{with_word, shaken, restamped}
+use Rattle.vsw_table.specs.Places.{table_size, stamp_place, word_place}
+use Rattle.vsw_table.specs.Rules.{stamp_at, row_at, HasRows, first_view, spent, lent, granted, advanced, writer_of, pass_of, counted_record}
+use Rattle.vsw_table.specs.Steps.{with_word, shaken, restamped, StandsAt}
 use Rattle.vsw_table.specs.Held.{Fills, IsWriter, IsPass, after_entry, renewed, has_stamps, put_in}
-use Rattle.vsw_table.proofs.Words.{word_there, wide_at, wide_set, wide_of, set_twice}
+use Rattle.vsw_table.proofs.Words.{wide_at, wide_set, wide_of, set_twice}
 
 -- a row of which the first k words are written
 abbrev pub mixed : ℕ → List ℕ → List ℕ → List ℕ
@@ -57,10 +58,17 @@ module _ {O E : Type 0} where
       let row = mixed k words (row_at v.rows r) in
       (h.0, length-set v.rows r row ∙ h.1, wide_set v.rows r row h.2 (mixed_long k words (row_at v.rows r) (omega (arith, long, le)) (long ∙ sym old) ∙ old))
 
+  -- what the writer finds where a stamp stands, and where a word does
+  pub stamp_found : (t : View O E) (n r x place : ℕ) → HasRows n t.stamps t.rows → r < n → place ≡ stamp_place r → StandsAt t place x → x ≡ stamp_at t.stamps r
+  stamp_found t n r x place h lt is at = at.stamp r (omega (arith, h.0, lt)) is
+
+  pub word_found : (t : View O E) (n r k x place : ℕ) → HasRows n t.stamps t.rows → r < n → k < 73 → place ≡ word_place n r k → StandsAt t place x → x ≡ get_or (row_at t.rows r) k 0
+  word_found t n r k x place h lt few is at = at.word r k (omega (arith, h.0, lt)) few (is ∙ ap (λ (m : ℕ). word_place m r k) (sym h.0))
+
   -- a word that stands there already
-  pub word_same : (t : View O E) (n r k value place : ℕ) → HasRows n t.stamps t.rows → k < 73 → place ≡ 1 + n + 73 * r + k → value ≡ get_or (words_of t) place 0 → with_word t r k value ≡ t
-  word_same t n r k value place h lt is at =
-      let found : value ≡ get_or (row_at t.rows r) k 0 = at ∙ word_there (4294967296 + length t.history) t.stamps t.rows n r k place h.0 h.2 lt is in
+  pub word_same : (t : View O E) (n r k value place : ℕ) → HasRows n t.stamps t.rows → r < n → k < 73 → place ≡ word_place n r k → StandsAt t place value → with_word t r k value ≡ t
+  word_same t n r k value place h lt few is at =
+      let found : value ≡ get_or (row_at t.rows r) k 0 = word_found t n r k value place h lt few is at in
       let row : set (row_at t.rows r) k value ≡ row_at t.rows r = ap (λ (x : ℕ). set (row_at t.rows r) k x) found ∙ set-get_or (row_at t.rows r) k 0 in
       ap (λ (l : List (List ℕ)). record t { rows = l }) (ap (λ (l : List ℕ). set t.rows r l) row ∙ set-get_or t.rows r [])
 
@@ -100,10 +108,10 @@ module _ {O E : Type 0} where
       (rest.0, renewed_rows u n r rows, rest.1)
 
   -- the writer of a new table
-  pub first_desk : (o : O) (n : ℕ) (m : Me E (View O E)) (words : ℕ) → m ≡ (first_view o n, []) → words ≡ 1 + 74 * n → n ≤ 16384 → IsWriter m.0 × (m.1 ≡ []) × HasRows n m.0.stamps m.0.rows × (words ≡ 1 + 74 * n) × (n ≤ 16384) × (0 ≡ m.0.given) × (m.0.live ≡ true)
+  pub first_desk : (o : O) (n : ℕ) (m : Me E (View O E)) (words : ℕ) → m ≡ (first_view o n, []) → words ≡ table_size n → n ≤ 16384 → IsWriter m.0 × (m.1 ≡ []) × HasRows n m.0.stamps m.0.rows × (words ≡ table_size n) × (n ≤ 16384) × (0 ≡ m.0.given) × (m.0.live ≡ true)
   first_desk o n m words is count few =
       let z : ℕ = 0 in
-      subst (λ (x : Me E (View O E)). IsWriter x.0 × (x.1 ≡ []) × HasRows n x.0.stamps x.0.rows × (words ≡ 1 + 74 * n) × (n ≤ 16384) × (0 ≡ x.0.given) × (x.0.live ≡ true)) (sym is)
+      subst (λ (x : Me E (View O E)). IsWriter x.0 × (x.1 ≡ []) × HasRows n x.0.stamps x.0.rows × (words ≡ table_size n) × (n ≤ 16384) × (0 ≡ x.0.given) × (x.0.live ≡ true)) (sym is)
       ((refl, refl, refl, refl, refl, refl, refl, refl, refl), refl, (length-replicate n z, length-replicate n (replicate 73 z), wide_of n (replicate 73 z) refl), count, few, refl, refl)
 
   -- what the writer's view is when it is whole again, and the pass's
@@ -161,5 +169,5 @@ cleared_next words i lt is =
     snoc_zero zero = refl
     snoc_zero (suc n) = ap (λ (l : List ℕ). 0 ∷ l) (snoc_zero n)
 
-pub first_length : (n : ℕ) (words : List ℕ) → (let z : ℕ = 0 in words ≡ 4294967296 ∷ replicate (74 * n) z) → length words ≡ 1 + 74 * n
-first_length n words is = let z : ℕ = 0 in let l : length (replicate (74 * n) z) ≡ 74 * n = length-replicate (74 * n) z in ap length is ∙ omega (arith, l)
+pub first_length : (n : ℕ) (words : List ℕ) → (let z : ℕ = 0 in words ≡ 4294967296 ∷ replicate (13 + 74 * n) z) → length words ≡ table_size n
+first_length n words is = let z : ℕ = 0 in let l : length (replicate (13 + 74 * n) z) ≡ 13 + 74 * n = length-replicate (13 + 74 * n) z in ap length is ∙ omega (arith, l)

@@ -17,8 +17,9 @@ use Rattle.vsw_stamps.specs.Machine.{State, Actor, Lookup, has_row, is_closed, r
 use Rattle.vsw_stamps.specs.Sound.{Sound, AreRight}
 use Rattle.vsw_stamps.proofs.Keeps.{prefix_self, prefix_more, count_other, count_same, is_there, leads_sound, fresh_sound, step_sound}
 use Rattle.vsw_table.specs.declared.view.View.{View}
-use Rattle.vsw_table.specs.Rules.{all_words, table_words, IsOf, IsShown, spent}
-use Rattle.vsw_table.proofs.Words.{all_wide, stamp_there, word_there, stamp_set, word_set, at_end, before_last, first_of, last_of, set_last}
+use Rattle.vsw_table.specs.Places.{stamp_place, word_place}
+use Rattle.vsw_table.specs.Rules.{IsLaid, IsOf, IsShown, spent}
+use Rattle.vsw_table.proofs.Words.{all_wide, wide_at, laid_again, laid_count, laid_stamp, laid_word, at_end, before_last, first_of, last_of, set_last}
 
 module _ {E : Type 0} (good : List E → List ℕ → Type 0) where
   pub longer_nothing : (xs : List E) → longer xs [] ≡ xs
@@ -60,7 +61,7 @@ module _ {E : Type 0} (good : List E → List ℕ → Type 0) where
 
     -- the machine makes a step, and the seat has a new view
     played : (s : table.State E (View O E)) (k : IsShown good n seat s) (id : ℕ) (v : View O E) → get_elem? s.views id ≡ some v → (step : Step E) → Can good k.machine step → (w : View O E) (ws : List ℕ)
-        → (let m = next k.machine step in ws ≡ table_words (length m.history) m.stamps m.rows) → length (next k.machine step).stamps ≡ n
+        → (let m = next k.machine step in IsLaid n ws (length m.history) m.stamps m.rows) → length (next k.machine step).stamps ≡ n
         → length (next k.machine step).actors ≡ length k.machine.actors → w.writes ≡ v.writes → IsOf (next k.machine step) id w
         → ((j : ℕ) (u : View O E) → j ≢ id → get_elem? s.views j ≡ some u → IsOf k.machine j u → IsOf (next k.machine step) j u) → IsShown good n seat (record { words = ws; homes = s.homes; views = set s.views id w })
     played s k id v at step can w ws words many actors writes self others = record {
@@ -83,7 +84,7 @@ module _ {E : Type 0} (good : List E → List ℕ → Type 0) where
       steps = k.steps;
       machine = k.machine;
       leads = k.leads;
-      words = same ∙ k.words;
+      words = subst (λ (xs : List ℕ). IsLaid n xs (length k.machine.history) k.machine.stamps k.machine.rows) (sym same) k.words;
       many = k.many;
       seats = length-set s.views id w ∙ k.seats;
       each = λ j u e. ⊎_elim (λ (m : (j ≡ id) × (w ≡ u)). subst (λ (i : ℕ). IsOf k.machine i u) (sym m.0) (subst (λ (x : View O E). IsOf k.machine id x) m.1 (self (k.each id v at))))
@@ -109,36 +110,33 @@ module _ {E : Type 0} (good : List E → List ℕ → Type 0) where
     }
 
     -- a load of a stamp
-    pub reads_stamp : (s : table.State E (View O E)) (k : IsShown good n seat s) (id : ℕ) (v w : View O E) (r i : ℕ) → get_elem? s.views id ≡ some v → v.live ≡ true → v.writes ≡ false → r < n → i ≡ r + 1
+    pub reads_stamp : (s : table.State E (View O E)) (k : IsShown good n seat s) (id : ℕ) (v w : View O E) (r i : ℕ) → get_elem? s.views id ≡ some v → v.live ≡ true → v.writes ≡ false → r < n → i ≡ stamp_place r
         → w.live ≡ v.live → w.writes ≡ v.writes → w.front ≡ v.front → w.told ≡ v.told → w.shown ≡ recorded (Stamp r (slice_index s.words i) (is_closed v.shown || has_row r v.shown.rows)) v.shown
         → IsShown good n seat (record { words = set s.words i (slice_index s.words i); homes = s.homes; views = set s.views id w })
     reads_stamp s k id v w r i at live idle lt is live' writes' front' told' shown' =
         let f = k.each id v at in
         let m = k.machine in
         let there : r < length m.stamps = omega (arith, lt, k.many) in
-        let x : slice_index s.words i ≡ stamp_at m r = ap (λ (ws : List ℕ). get_or ws i 0) k.words ∙ stamp_there (4294967296 + length m.history) m.stamps (all_words m.rows) r i there is in
+        let x : slice_index s.words i ≡ stamp_at m r = ap (λ (q : ℕ). get_or s.words q 0) is ∙ k.words.stamp r lt in
         let load : Load = Stamp r (slice_index s.words i) (is_closed v.shown || has_row r v.shown.rows) in
         let load_is : Stamp r (stamp_at m r) (is_afresh m id r) ≡ load = λ j. Stamp r (sym x j) (is_closed (sym (f.shown live) j) || has_row r (sym (f.shown live) j).rows) in
         let self : IsOf (next m (LoadStamp id r)) id w = subst (λ (l : Load). IsOf (logged m id l) id w) (sym load_is) (own_load m id load v w live' writes' idle front' told' shown' f) in
-        played s k id v at (LoadStamp id r) (sym f.live ∙ live, there) w (set s.words i (slice_index s.words i)) (same_word s i ∙ k.words) k.many refl writes' self (λ j u ne at' g. other_load m id (Stamp r (stamp_at m r) (is_afresh m id r)) j u ne g)
+        played s k id v at (LoadStamp id r) (sym f.live ∙ live, there) w (set s.words i (slice_index s.words i)) (laid_again n s.words (length m.history) m.stamps m.rows k.words i) k.many refl writes' self (λ j u ne at' g. other_load m id (Stamp r (stamp_at m r) (is_afresh m id r)) j u ne g)
 
     -- a load of a word of a row that the open record holds
-    pub reads_word : (s : table.State E (View O E)) (k : IsShown good n seat s) (id : ℕ) (v w : View O E) (r j i : ℕ) → get_elem? s.views id ≡ some v → v.live ≡ true → v.writes ≡ false → r < n → j < 73 → is_closed v.shown ≡ false → has_row r v.shown.rows ≡ true → i ≡ 1 + n + 73 * r + j
+    pub reads_word : (s : table.State E (View O E)) (k : IsShown good n seat s) (id : ℕ) (v w : View O E) (r j i : ℕ) → get_elem? s.views id ≡ some v → v.live ≡ true → v.writes ≡ false → r < n → j < 73 → is_closed v.shown ≡ false → has_row r v.shown.rows ≡ true → i ≡ word_place n r j
         → w.live ≡ v.live → w.writes ≡ v.writes → w.front ≡ v.front → w.told ≡ v.told → w.shown ≡ recorded (Word r j (slice_index s.words i)) v.shown
         → IsShown good n seat (record { words = set s.words i (slice_index s.words i); homes = s.homes; views = set s.views id w })
     reads_word s k id v w r j i at live idle lt small_word is_open holds is live' writes' front' told' shown' =
         let f = k.each id v at in
         let m = k.machine in
-        let sound = sound_of s k in
         let there : r < length m.stamps = omega (arith, lt, k.many) in
-        let even = sound.even in
-        let all = all_wide m.rows (λ q lt'. sound.wide q (omega (arith, lt', even))) in
-        let x : slice_index s.words i ≡ get_or (row_at m r) j 0 = ap (λ (ws : List ℕ). get_or ws i 0) k.words ∙ word_there (4294967296 + length m.history) m.stamps m.rows n r j i k.many all small_word is in
+        let x : slice_index s.words i ≡ get_or (row_at m r) j 0 = ap (λ (q : ℕ). get_or s.words q 0) is ∙ k.words.word r j lt small_word in
         let load : Load = Word r j (slice_index s.words i) in
         let load_is : Word r j (get_or (row_at m r) j 0) ≡ load = λ q. Word r j (sym x q) in
         let self : IsOf (next m (LoadWord id r j)) id w = subst (λ (l : Load). IsOf (logged m id l) id w) (sym load_is) (own_load m id load v w live' writes' idle front' told' shown' f) in
         let can : Can good m (LoadWord id r j) = (sym f.live ∙ live, there, small_word, sym (ap is_closed (f.shown live)) ∙ is_open, sym (ap (λ (y : Record). has_row r y.rows) (f.shown live)) ∙ holds) in
-        played s k id v at (LoadWord id r j) can w (set s.words i (slice_index s.words i)) (same_word s i ∙ k.words) k.many refl writes' self (λ q u ne at' g. other_load m id (Word r j (get_or (row_at m r) j 0)) q u ne g)
+        played s k id v at (LoadWord id r j) can w (set s.words i (slice_index s.words i)) (laid_again n s.words (length m.history) m.stamps m.rows k.words i) k.many refl writes' self (λ q u ne at' g. other_load m id (Word r j (get_or (row_at m r) j 0)) q u ne g)
 
     -- a load of the stamp again: where it finishes a lookup, its words are those of one row that is good after the entries counted, which the seat has seen
     pub reads_again : (s : table.State E (View O E)) (k : IsShown good n seat s) (id : ℕ) (v w : View O E) (r i : ℕ) → get_elem? s.views id ≡ some v → v.live ≡ true → v.writes ≡ false → r < n → is_closed v.shown ≡ true → has_row r v.shown.rows ≡ true → i ≡ r + 1
@@ -149,14 +147,14 @@ module _ {E : Type 0} (good : List E → List ℕ → Type 0) where
         let m = k.machine in
         let sound = sound_of s k in
         let there : r < length m.stamps = omega (arith, lt, k.many) in
-        let x : slice_index s.words i ≡ stamp_at m r = ap (λ (ws : List ℕ). get_or ws i 0) k.words ∙ stamp_there (4294967296 + length m.history) m.stamps (all_words m.rows) r i there is in
+        let x : slice_index s.words i ≡ stamp_at m r = ap (λ (q : ℕ). get_or s.words q 0) is ∙ k.words.stamp r lt in
         let can : Can good m (LoadStampAgain id r) = (sym f.live ∙ live, there, sym (ap is_closed (f.shown live)) ∙ closed, sym (ap (λ (y : Record). has_row r y.rows) (f.shown live)) ∙ holds) in
         let load : Load = Again r (stamp_at m r) in
         let after : Sound good (next m (LoadStampAgain id r)) = step_sound good m (LoadStampAgain id r) can sound in
         let right : AreRight good m.history (finished_by load (record_of id m.log).count (record_of id m.log).rows) = first_right m.history (finished_by load (record_of id m.log).count (record_of id m.log).rows) _ after.lookups in
         let seen : AreRight good (actor_at m id).front (finished_by load (record_of id m.log).count (record_of id m.log).rows) =
         right_front (actor_at m id).front m.history (sound.fronts id) r (stamp_at m r) (record_of id m.log).count (record_of id m.log).rows (sound.counts id) right in (
-          played s k id v at (LoadStampAgain id r) can w (set s.words i (slice_index s.words i)) (same_word s i ∙ k.words) k.many refl writes' (own_load m id load v w live' writes' idle front' told' shown' f) (λ q u ne at' g. other_load m id load q u ne g),
+          played s k id v at (LoadStampAgain id r) can w (set s.words i (slice_index s.words i)) (laid_again n s.words (length m.history) m.stamps m.rows k.words i) k.many refl writes' (own_load m id load v w live' writes' idle front' told' shown' f) (λ q u ne at' g. other_load m id load q u ne g),
           subst (λ (y : ℕ). AreRight good (longer v.front v.told) (finished_by (Again r y) v.shown.count v.shown.rows)) (sym x)
               (subst (λ (y : Record). AreRight good (longer v.front v.told) (finished_by load y.count y.rows)) (sym (f.shown live)) (subst (λ (h : List E). AreRight good h (finished_by load (record_of id m.log).count (record_of id m.log).rows)) (sym (f.front live idle)) seen)),
         )
@@ -190,7 +188,7 @@ module _ {E : Type 0} (good : List E → List ℕ → Type 0) where
       knows = λ also. absurd (ne (k.alone j u at' also ∙ sym (k.alone id v at writes)));
     }
 
-    pub puts_word : (s : table.State E (View O E)) (k : IsShown good n seat s) (id : ℕ) (v : View O E) (r j i x : ℕ) → get_elem? s.views id ≡ some v → v.writes ≡ true → r < n → j < 73 → i ≡ 1 + n + 73 * r + j → get_or v.stamps r 0 ≡ 0
+    pub puts_word : (s : table.State E (View O E)) (k : IsShown good n seat s) (id : ℕ) (v : View O E) (r j i x : ℕ) → get_elem? s.views id ≡ some v → v.writes ≡ true → r < n → j < 73 → i ≡ word_place n r j → get_or v.stamps r 0 ≡ 0
         → IsShown good n seat (record { words = set s.words i x; homes = s.homes; views = set s.views id (record v { rows = set v.rows r (set (get_or v.rows r []) j x) }) })
     puts_word s k id v r j i x at writes lt small_word is old =
         let f = k.each id v at in
@@ -202,11 +200,12 @@ module _ {E : Type 0} (good : List E → List ℕ → Type 0) where
         let all = all_wide m.rows (λ q lt'. sound.wide q (omega (arith, lt', even))) in
         let old_now : stamp_at m r ≡ 0 = ap (λ (ss : List ℕ). get_or ss r 0) (sym knows.1) ∙ old in
         let w = record v { rows = set v.rows r (set (get_or v.rows r []) j x) } in
-        let words = ap (λ (ws : List ℕ). set ws i x) k.words ∙ word_set (4294967296 + length m.history) m.stamps m.rows n r j i x k.many all small_word (omega (arith, there, even)) is in
+        let in_rows : r < length m.rows = omega (arith, there, even) in
+        let words = laid_word n s.words (length m.history) m.stamps m.rows k.words r j i x lt small_word in_rows (wide_at m.rows r all in_rows) is in
         let self : IsOf (next m (StoreWord r j x)) id w = record { live = f.live; front = f.front; begins = f.begins; shown = f.shown; knows = λ _. (knows.0, knows.1, ap (λ (rows : List (List ℕ)). set rows r (set (get_or rows r []) j x)) knows.2, knows.3) } in
         played s k id v at (StoreWord r j x) (there, small_word, old_now) w (set s.words i x) words k.many refl refl self (other_store s k id v at writes (next m (StoreWord r j x)) refl refl (λ xs p. p))
 
-    pub shakes : (s : table.State E (View O E)) (k : IsShown good n seat s) (id : ℕ) (v : View O E) (r i : ℕ) → get_elem? s.views id ≡ some v → v.writes ≡ true → r < n → i ≡ r + 1
+    pub shakes : (s : table.State E (View O E)) (k : IsShown good n seat s) (id : ℕ) (v : View O E) (r i : ℕ) → get_elem? s.views id ≡ some v → v.writes ≡ true → r < n → i ≡ stamp_place r
         → IsShown good n seat (record { words = set s.words i 0; homes = s.homes; views = set s.views id (record v { stamps = set v.stamps r 0 }) })
     shakes s k id v r i at writes lt is =
         let f = k.each id v at in
@@ -214,11 +213,11 @@ module _ {E : Type 0} (good : List E → List ℕ → Type 0) where
         let knows = f.knows writes in
         let there : r < length m.stamps = omega (arith, lt, k.many) in
         let w = record v { stamps = set v.stamps r 0 } in
-        let words = ap (λ (ws : List ℕ). set ws i 0) k.words ∙ stamp_set (4294967296 + length m.history) m.stamps (all_words m.rows) r i 0 there is in
+        let words = laid_stamp n s.words (length m.history) m.stamps m.rows k.words r i 0 k.many lt is in
         let self : IsOf (next m (ClearStamp r)) id w = record { live = f.live; front = f.front; begins = f.begins; shown = f.shown; knows = λ _. (knows.0, ap (λ (ss : List ℕ). set ss r 0) knows.1, knows.2, knows.3) } in
         played s k id v at (ClearStamp r) there w (set s.words i 0) words (length-set m.stamps r 0 ∙ k.many) refl refl self (other_store s k id v at writes (next m (ClearStamp r)) refl refl (λ xs p. p))
 
-    pub restamps : (s : table.State E (View O E)) (k : IsShown good n seat s) (id : ℕ) (v : View O E) (r i x : ℕ) → get_elem? s.views id ≡ some v → v.writes ≡ true → r < n → i ≡ r + 1 → x ≡ v.given + 1 → v.given < 18446744073709551615 → get_or v.stamps r 0 ≡ 0 → good v.history (get_or v.rows r [])
+    pub restamps : (s : table.State E (View O E)) (k : IsShown good n seat s) (id : ℕ) (v : View O E) (r i x : ℕ) → get_elem? s.views id ≡ some v → v.writes ≡ true → r < n → i ≡ stamp_place r → x ≡ v.given + 1 → v.given < 18446744073709551615 → get_or v.stamps r 0 ≡ 0 → good v.history (get_or v.rows r [])
         → IsShown good n seat (record { words = set s.words i x; homes = s.homes; views = set s.views id (record v { given = v.given + 1; stamps = set v.stamps r (v.given + 1) }) })
     restamps s k id v r i x at writes lt is x_is few old good_now =
         let f = k.each id v at in
@@ -230,7 +229,7 @@ module _ {E : Type 0} (good : List E → List ℕ → Type 0) where
         let few_now : m.given < 18446744073709551615 = subst (λ (g : ℕ). g < 18446744073709551615) knows.0 few in
         let good_here : good m.history (row_at m r) = subst (λ (h : List E). good h (row_at m r)) knows.3 (subst (λ (rows : List (List ℕ)). good v.history (get_or rows r [])) knows.2 good_now) in
         let w = record v { given = v.given + 1; stamps = set v.stamps r (v.given + 1) } in
-        let words = ap (λ (ws : List ℕ). set ws i x) k.words ∙ (stamp_set (4294967296 + length m.history) m.stamps (all_words m.rows) r i x there is ∙ ap (λ (y : ℕ). (4294967296 + length m.history) ∷ set m.stamps r y ++ all_words m.rows) x_now) in
+        let words = subst (λ (y : ℕ). IsLaid n (set s.words i x) (length m.history) (set m.stamps r y) m.rows) x_now (laid_stamp n s.words (length m.history) m.stamps m.rows k.words r i x k.many lt is) in
         let given : v.given + 1 ≡ m.given + 1 = ap (λ (g : ℕ). g + 1) knows.0 in
         let self : IsOf (next m (StoreStamp r)) id w = record { live = f.live; front = f.front; begins = f.begins; shown = f.shown; knows = λ _. (given, ap (λ (ss : List ℕ). set ss r (v.given + 1)) knows.1 ∙ ap (λ (y : ℕ). set m.stamps r y) given, knows.2, knows.3) } in
         played s k id v at (StoreStamp r) (there, old_now, few_now, good_here) w (set s.words i x) words (length-set m.stamps r (m.given + 1) ∙ k.many) refl refl self (other_store s k id v at writes (next m (StoreStamp r)) refl refl (λ xs p. p))
@@ -248,7 +247,7 @@ module _ {E : Type 0} (good : List E → List ℕ → Type 0) where
         subst (λ (h : List E). (r : ℕ) → stamp_at m r ≢ 0 → good (h ++ e ∷ []) (row_at m r)) knows.3 (subst (λ (rows : List (List ℕ)). (r : ℕ) → stamp_at m r ≢ 0 → good (v.history ++ e ∷ []) (get_or rows r [])) knows.2
         (subst (λ (ss : List ℕ). (r : ℕ) → get_or ss r 0 ≢ 0 → good (v.history ++ e ∷ []) (get_or v.rows r [])) knows.1 stay)) in
         let x_now : x ≡ 4294967296 + length (m.history ++ e ∷ []) = omega (arith, x_is, ap length knows.3, length-append m.history (e ∷ [])) in
-        let words = ap (λ (ws : List ℕ). set ws 0 x) k.words ∙ ap (λ (y : ℕ). y ∷ m.stamps ++ all_words m.rows) x_now in
+        let words = laid_count n s.words (length m.history) m.stamps m.rows k.words (length (m.history ++ e ∷ [])) x x_now in
         let u = record v { history = v.history ++ e ∷ []; receipts = w.receipts; permits = w.permits; kept = w.kept } in
         let self : IsOf (next m (StoreCount e)) id u = record { live = f.live; front = f.front; begins = λ l. (prefix_more v.front m.history e (f.begins l).0, prefix_more v.told m.history e (f.begins l).1); shown = f.shown; knows = λ _. (knows.0, knows.1, knows.2, ap (λ (h : List E). h ++ e ∷ []) knows.3) } in
         played s k id v at (StoreCount e) (few_now, stay_now) w (set s.words 0 x) words k.many refl (ap (λ (y : View O E). y.writes) is) (subst (λ (y : View O E). IsOf (next m (StoreCount e)) id y) (sym is) self) (other_store s k id v at writes (next m (StoreCount e)) refl refl (λ xs p. prefix_more xs m.history e p))
@@ -390,7 +389,7 @@ module _ {E : Type 0} (good : List E → List ℕ → Type 0) where
 
     -- the table at the start
     pub opens : (first : View O E) (words : List ℕ) → first.live ≡ true → first.writes ≡ true → first.front ≡ [] → first.told ≡ [] → first.shown ≡ no_record → first.given ≡ 0
-        → (let zero : ℕ = 0 in first.stamps ≡ replicate n zero) → (let zero : ℕ = 0 in first.rows ≡ replicate n (replicate 73 zero)) → first.history ≡ [] → seat ≡ 0 → (let zero : ℕ = 0 in words ≡ table_words 0 (replicate n zero) (replicate n (replicate 73 zero)))
+        → (let zero : ℕ = 0 in first.stamps ≡ replicate n zero) → (let zero : ℕ = 0 in first.rows ≡ replicate n (replicate 73 zero)) → first.history ≡ [] → seat ≡ 0 → (let zero : ℕ = 0 in IsLaid n words 0 (replicate n zero) (replicate n (replicate 73 zero)))
         → IsShown good n seat (record { words = words; homes = []; views = first ∷ [] })
     opens first words live writes front told shown given stamps rows history seat_is words_is =
         let zero : ℕ = 0 in

@@ -1,9 +1,13 @@
 -- Where stamps and words stand in the table, and lists of seats.
-use Rattle.std.proofs.Common.{◌≡◌, ◌≢◌, ◌⊎◌, ℕ, zero, suc, ◌+◌, ◌*◌, ◌-◌, ◌<◌, ◌≤◌, List, [], ◌∷◌, ◌++◌, length, refl, ap, sym, inl, inr, ◌∙◌, arith, ⊎_elim, replicate, set, get_or}
-use Rattle.std.proofs.lemmas.List.{get_or_append_left, get_or-append_right, set-append_left, set-append_right, replicate-append-replicate}
+use Rattle.std.proofs.Common.{◌≡◌, ◌≢◌, ◌⊎◌, ℕ, zero, suc, ◌+◌, ◌*◌, ◌-◌, ◌<◌, ◌≤◌, nat_lt, Bool, true, false, if◌then◌else◌, List, [], ◌∷◌, ◌++◌, length, refl, ap, sym, subst, inl, inr, ◌∙◌, arith, ⊎_elim, replicate, set, get_or, length-set, get_or-set_same, get_or-set_other}
+use Rattle.std.proofs.lemmas.List.{length-replicate, set-get_or}
+use Rattle.std.proofs.lemmas.Bool.{le-ltb, lt-ltb}
+use mathlib.Core.Logic.{dite}
+use native.Mathlib.Decide.{ℕ_discrete}
 use mathlib.Core.Option.{some, some-injective, some-ne-none}
 use lib.ListN.{get_elem?}
-use Rattle.vsw_table.specs.Rules.{all_words, AreWide, row_at}
+use Rattle.vsw_table.specs.Places.{table_size, stamp_place, word_place}
+use Rattle.vsw_table.specs.Rules.{AreWide, row_at, IsLaid}
 
 pub all_wide : (rows : List (List ℕ)) → ((r : ℕ) → r < length rows → length (get_or rows r []) ≡ 73) → AreWide rows
 all_wide [] h = tt
@@ -13,29 +17,6 @@ all_wide (x ∷ xs) h = (h 0 (omega arith), all_wide xs (λ r lt. h (suc r) (ome
 behind : (x : ℕ) (cells : List ℕ) (i : ℕ) → 0 < i → get_or (x ∷ cells) i 0 ≡ get_or cells (i - 1) 0
 behind x cells zero h = absurd (omega arith)
 behind x cells (suc i) h = let e : suc i - 1 ≡ i = omega arith in ap (λ (j : ℕ). get_or cells j 0) (sym e)
-
-set_behind : (x : ℕ) (cells : List ℕ) (i n : ℕ) → 0 < i → set (x ∷ cells) i n ≡ x ∷ set cells (i - 1) n
-set_behind x cells zero n h = absurd (omega arith)
-set_behind x cells (suc i) n h = let e : suc i - 1 ≡ i = omega arith in ap (λ (j : ℕ). x ∷ set cells j n) (sym e)
-
--- the words of row r stand behind those of the r rows before it
-in_rows : (rows : List (List ℕ)) (r k : ℕ) → AreWide rows → k < 73 → get_or (all_words rows) (73 * r + k) 0 ≡ get_or (get_or rows r []) k 0
-in_rows [] r k wide lt = refl
-in_rows (x ∷ xs) zero k wide lt =
-    let at : 73 * 0 + k ≡ k = omega arith in
-    ap (λ (j : ℕ). get_or (x ++ all_words xs) j 0) at ∙ get_or_append_left x (all_words xs) 0 k (omega (arith, lt, wide.0))
-in_rows (x ∷ xs) (suc r) k wide lt =
-    let at : (73 * suc r + k) - 73 ≡ 73 * r + k = omega arith in
-    get_or-append_right x (all_words xs) 73 (73 * suc r + k) 0 wide.0 (omega arith) ∙ (ap (λ (j : ℕ). get_or (all_words xs) j 0) at ∙ in_rows xs r k wide.1 lt)
-
-set_rows : (rows : List (List ℕ)) (r k n : ℕ) → AreWide rows → k < 73 → r < length rows → set (all_words rows) (73 * r + k) n ≡ all_words (set rows r (set (get_or rows r []) k n))
-set_rows [] r k n wide lt there = absurd (omega (arith, there))
-set_rows (x ∷ xs) zero k n wide lt there =
-    let at : 73 * 0 + k ≡ k = omega arith in
-    ap (λ (j : ℕ). set (x ++ all_words xs) j n) at ∙ set-append_left x (all_words xs) k n (omega (arith, lt, wide.0))
-set_rows (x ∷ xs) (suc r) k n wide lt there =
-    let at : (73 * suc r + k) - 73 ≡ 73 * r + k = omega arith in
-    set-append_right x (all_words xs) 73 (73 * suc r + k) n wide.0 (omega arith) ∙ (ap (λ (j : ℕ). x ++ set (all_words xs) j n) at ∙ ap (λ (ws : List ℕ). x ++ ws) (set_rows xs r k n wide.1 lt (omega (arith, there))))
 
 pub wide_at : (rows : List (List ℕ)) (r : ℕ) → AreWide rows → r < length rows → length (row_at rows r) ≡ 73
 wide_at [] r wide there = absurd (omega (arith, there))
@@ -51,41 +32,104 @@ pub wide_of : (n : ℕ) (row : List ℕ) → length row ≡ 73 → AreWide (repl
 wide_of zero row is = tt
 wide_of (suc n) row is = (is, wide_of n row is)
 
--- where a stamp and a word stand in the table
-pub stamp_there : (w : ℕ) (stamps rest : List ℕ) (r i : ℕ) → r < length stamps → i ≡ r + 1 → get_or (w ∷ stamps ++ rest) i 0 ≡ get_or stamps r 0
-stamp_there w stamps rest r i lt is =
-    let at : i - 1 ≡ r = omega (arith, is) in
-    behind w (stamps ++ rest) i (omega (arith, is)) ∙ (ap (λ (j : ℕ). get_or (stamps ++ rest) j 0) at ∙ get_or_append_left stamps rest 0 r lt)
+-- a word stands in the near part of its row or in the far one
+near : (n r k : ℕ) → k < 31 → word_place n r k ≡ 15 + 32 * r + k
+unfolding word_place
+near n r k lt = ap (λ (b : Bool). if b then 15 + 32 * r + k else 14 + 32 * n + 42 * r + (k - 31)) (lt-ltb k 31 lt)
 
-pub word_there : (w : ℕ) (stamps : List ℕ) (rows : List (List ℕ)) (n r k i : ℕ) → length stamps ≡ n → AreWide rows → k < 73 → i ≡ 1 + n + 73 * r + k → get_or (w ∷ stamps ++ all_words rows) i 0 ≡ get_or (row_at rows r) k 0
-word_there w stamps rows n r k i len wide lt is =
-    let at : (i - 1) - n ≡ 73 * r + k = omega (arith, is) in
-    behind w (stamps ++ all_words rows) i (omega (arith, is)) ∙ (get_or-append_right stamps (all_words rows) n (i - 1) 0 len (omega (arith, is)) ∙ (ap (λ (j : ℕ). get_or (all_words rows) j 0) at ∙ in_rows rows r k wide lt))
+far : (n r k : ℕ) → 31 ≤ k → word_place n r k ≡ 14 + 32 * n + 42 * r + (k - 31)
+unfolding word_place
+far n r k le = ap (λ (b : Bool). if b then 15 + 32 * r + k else 14 + 32 * n + 42 * r + (k - 31)) (le-ltb k 31 le)
 
-pub stamp_set : (w : ℕ) (stamps rest : List ℕ) (r i n : ℕ) → r < length stamps → i ≡ r + 1 → set (w ∷ stamps ++ rest) i n ≡ w ∷ set stamps r n ++ rest
-stamp_set w stamps rest r i n lt is =
-    let at : i - 1 ≡ r = omega (arith, is) in
-    set_behind w (stamps ++ rest) i n (omega (arith, is)) ∙ (ap (λ (j : ℕ). w ∷ set (stamps ++ rest) j n) at ∙ ap (λ (ws : List ℕ). w ∷ ws) (set-append_left stamps rest r n lt))
+parted_if : {P : Type 0} (k : ℕ) (b : Bool) → nat_lt k 31 ≡ b → (k < 31 → P) → (31 ≤ k → P) → P
+parted_if k true is here there = here (grind (arith, common_steps))
+parted_if k false is here there = there (grind (arith, common_steps))
 
-pub word_set : (w : ℕ) (stamps : List ℕ) (rows : List (List ℕ)) (m r k i n : ℕ) → length stamps ≡ m → AreWide rows → k < 73 → r < length rows → i ≡ 1 + m + 73 * r + k
-    → set (w ∷ stamps ++ all_words rows) i n ≡ w ∷ stamps ++ all_words (set rows r (set (row_at rows r) k n))
-word_set w stamps rows m r k i n len wide lt there is =
-    let at : (i - 1) - m ≡ 73 * r + k = omega (arith, is) in
-    set_behind w (stamps ++ all_words rows) i n (omega (arith, is)) ∙ ap (λ (ws : List ℕ). w ∷ ws) (set-append_right stamps (all_words rows) m (i - 1) n len (omega (arith, is))
-    ∙ (ap (λ (j : ℕ). stamps ++ set (all_words rows) j n) at ∙ ap (λ (ws : List ℕ). stamps ++ ws) (set_rows rows r k n wide lt there)))
+parted : {P : Type 0} (k : ℕ) → (k < 31 → P) → (31 ≤ k → P) → P
+parted k here there = parted_if k (nat_lt k 31) refl here there
+
+-- behind word 0, and within the table
+pub word_inside : (n r k : ℕ) → r < n → k < 73 → (0 < word_place n r k) × (word_place n r k < table_size n)
+word_inside n r k lt few = parted k (λ h. let e = near n r k h in (omega (arith, e), omega (arith, e, h, lt))) (λ h. let e = far n r k h in (omega (arith, e), omega (arith, e, h, lt, few)))
+
+-- no two words stand in one place
+pub word_apart : (n r q j k : ℕ) → r < n → q < n → j < 73 → k < 73 → word_place n r j ≡ word_place n q k → (r ≡ q) × (j ≡ k)
+word_apart n r q j k lr lq lj lk is =
+    parted j
+    (λ h. let a = near n r j h in parted k (λ h'. let b = near n q k h' in (omega (arith, a, b, is, h, h'), omega (arith, a, b, is, h, h'))) (λ h'. let b = far n q k h' in absurd (omega (arith, a, b, is, h, h', lr))))
+    (λ h. let a = far n r j h in parted k (λ h'. let b = near n q k h' in absurd (omega (arith, a, b, is, h, h', lq))) (λ h'. let b = far n q k h' in (omega (arith, a, b, is, h, h', lj, lk), omega (arith, a, b, is, h, h', lj, lk))))
+
+-- nor a word and a stamp
+pub stamp_apart : (n r q k : ℕ) → r < n → q < n → k < 73 → stamp_place r ≡ word_place n q k → ⊥
+stamp_apart n r q k lr lq lk is = parted k (λ h. let b = near n q k h in omega (arith, b, is, h)) (λ h. let b = far n q k h in omega (arith, b, is, h, lr))
+
+-- a store of a word leaves the rest where it was
+module _ (n : ℕ) (ws : List ℕ) (c : ℕ) (ss : List ℕ) (rs : List (List ℕ)) (l : IsLaid n ws c ss rs) where
+  pub laid_again : (i : ℕ) → IsLaid n (set ws i (get_or ws i 0)) c ss rs
+  laid_again i = subst (λ (xs : List ℕ). IsLaid n xs c ss rs) (sym (set-get_or ws i 0)) l
+
+  pub laid_count : (d x : ℕ) → x ≡ 4294967296 + d → IsLaid n (set ws 0 x) d ss rs
+  laid_count d x is = record {
+    long = length-set ws 0 x ∙ l.long;
+    count = get_or-set_same ws 0 x 0 (omega (arith, l.long)) ∙ is;
+    stamp = λ r lt. get_or-set_other ws 0 (stamp_place r) x 0 (λ e. absurd (omega (arith, e))) ∙ l.stamp r lt;
+    word = λ r k lt few. get_or-set_other ws 0 (word_place n r k) x 0 (λ e. let p = word_inside n r k lt few in absurd (omega (arith, e, p.0))) ∙ l.word r k lt few;
+  }
+
+  pub laid_stamp : (r i x : ℕ) → length ss ≡ n → r < n → i ≡ stamp_place r → IsLaid n (set ws i x) c (set ss r x) rs
+  laid_stamp r i x many lt is = record {
+    long = length-set ws i x ∙ l.long;
+    count = get_or-set_other ws i 0 x 0 (λ e. absurd (omega (arith, e, is))) ∙ l.count;
+    stamp = λ q lq. dite (ℕ_discrete q r)
+        (λ e. subst (λ (p : ℕ). get_or (set ws i x) (stamp_place p) 0 ≡ get_or (set ss r x) p 0) (sym e)
+            (subst (λ (p : ℕ). get_or (set ws i x) p 0 ≡ get_or (set ss r x) r 0) is (get_or-set_same ws i x 0 (omega (arith, is, lt, l.long)) ∙ sym (get_or-set_same ss r x 0 (omega (arith, lt, many))))))
+        (λ ne. get_or-set_other ws i (stamp_place q) x 0 (λ e. ne (omega (arith, e, is))) ∙ (l.stamp q lq ∙ sym (get_or-set_other ss r q x 0 ne)));
+    word = λ q k lq few. get_or-set_other ws i (word_place n q k) x 0 (λ e. absurd (stamp_apart n r q k lt lq few (sym is ∙ sym e))) ∙ l.word q k lq few;
+  }
+
+  pub laid_word : (r j i x : ℕ) → r < n → j < 73 → r < length rs → length (row_at rs r) ≡ 73 → i ≡ word_place n r j → IsLaid n (set ws i x) c ss (set rs r (set (row_at rs r) j x))
+  laid_word r j i x lt few lr wide is =
+      let inside = word_inside n r j lt few in
+      let row = set (row_at rs r) j x in
+      let here : row_at (set rs r row) r ≡ row = get_or-set_same rs r row [] lr in
+      record {
+        long = length-set ws i x ∙ l.long;
+        count = get_or-set_other ws i 0 x 0 (λ e. absurd (omega (arith, e, is, inside.0))) ∙ l.count;
+        stamp = λ q lq. get_or-set_other ws i (stamp_place q) x 0 (λ e. absurd (stamp_apart n q r j lq lt few (e ∙ is))) ∙ l.stamp q lq;
+        word = λ q k lq fk. dite (ℕ_discrete q r)
+            (λ e. subst (λ (p : ℕ). get_or (set ws i x) (word_place n p k) 0 ≡ get_or (row_at (set rs r row) p) k 0) (sym e)
+                (dite (ℕ_discrete k j)
+                (λ f. subst (λ (p : ℕ). get_or (set ws i x) (word_place n r p) 0 ≡ get_or (row_at (set rs r row) r) p 0) (sym f)
+                    (subst (λ (p : ℕ). get_or (set ws i x) p 0 ≡ get_or (row_at (set rs r row) r) j 0) is
+                    (get_or-set_same ws i x 0 (omega (arith, is, inside.1, l.long)) ∙ sym (ap (λ (xs : List ℕ). get_or xs j 0) here ∙ get_or-set_same (row_at rs r) j x 0 (omega (arith, few, wide))))))
+                (λ ne. get_or-set_other ws i (word_place n r k) x 0 (λ g. ne (word_apart n r r k j lt lt fk few (g ∙ is)).1)
+                    ∙ (l.word r k lt fk ∙ sym (ap (λ (xs : List ℕ). get_or xs k 0) here ∙ get_or-set_other (row_at rs r) j k x 0 ne)))))
+            (λ ne. get_or-set_other ws i (word_place n q k) x 0 (λ g. ne (word_apart n q r k j lq lt fk few (g ∙ is)).0)
+                ∙ (l.word q k lq fk ∙ sym (ap (λ (xs : List ℕ). get_or xs k 0) (get_or-set_other rs r q row [] ne))));
+      }
 
 -- all stamps and words of a new table are 0
-zero_words : (n : ℕ) → all_words (replicate n (replicate 73 0)) ≡ replicate (73 * n) 0
-zero_words zero = refl
-zero_words (suc n) =
-    let at : 73 + 73 * n ≡ 73 * suc n = omega arith in
-    ap (λ (ws : List ℕ). replicate 73 0 ++ ws) (zero_words n) ∙ (replicate-append-replicate 73 (73 * n) 0 ∙ ap (λ (m : ℕ). replicate m 0) at)
+all_zero : (n i : ℕ) → let z : ℕ = 0 in get_or (replicate n z) i 0 ≡ 0
+all_zero zero i = refl
+all_zero (suc n) zero = refl
+all_zero (suc n) (suc i) = all_zero n i
 
-pub all_zero : (n : ℕ) → let z : ℕ = 0 in replicate (74 * n) z ≡ replicate n z ++ all_words (replicate n (replicate 73 z))
-all_zero n =
+zero_row : (n r k : ℕ) → let z : ℕ = 0 in get_or (row_at (replicate n (replicate 73 z)) r) k 0 ≡ 0
+zero_row zero r k = refl
+zero_row (suc n) zero k = all_zero 73 k
+zero_row (suc n) (suc r) k = zero_row n r k
+
+pub laid_first : (n : ℕ) → let z : ℕ = 0 in IsLaid n (4294967296 ∷ replicate (13 + 74 * n) z) 0 (replicate n z) (replicate n (replicate 73 z))
+laid_first n =
     let z : ℕ = 0 in
-    let at : n + 73 * n ≡ 74 * n = omega arith in
-    sym (ap (λ (ws : List ℕ). replicate n z ++ ws) (zero_words n) ∙ (replicate-append-replicate n (73 * n) z ∙ ap (λ (m : ℕ). replicate m z) at))
+    let long : length (replicate (13 + 74 * n) z) ≡ 13 + 74 * n = length-replicate (13 + 74 * n) z in
+    let empty : (i : ℕ) → 0 < i → get_or (4294967296 ∷ replicate (13 + 74 * n) z) i 0 ≡ 0 = λ i h. behind 4294967296 (replicate (13 + 74 * n) z) i h ∙ all_zero (13 + 74 * n) (i - 1) in
+    record {
+      long = omega (arith, long);
+      count = omega arith;
+      stamp = λ r lt. empty (stamp_place r) (omega arith) ∙ sym (all_zero n r);
+      word = λ r k lt few. empty (word_place n r k) (word_inside n r k lt few).0 ∙ sym (zero_row n r k);
+    }
 
 module _ {A : Type 0} where
   pub at_end : (l : List A) (a b : A) (j : ℕ) → get_elem? (l ++ a ∷ []) j ≡ some b → ((j < length l) × (get_elem? l j ≡ some b)) ⊎ ((j ≡ length l) × (a ≡ b))

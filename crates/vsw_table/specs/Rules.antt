@@ -10,6 +10,7 @@ use Rattle.vsw_stamps.specs.declared.step.Load.TheVariants.{Count}
 use Rattle.vsw_stamps.specs.declared.shown.Record.{Record}
 use Rattle.vsw_stamps.specs.Machine.{State, no_record, recorded, record_of, actor_at, is_live, longer, fresh, Leads}
 use Rattle.vsw_table.specs.declared.view.View.{View}
+use Rattle.vsw_table.specs.Places.{table_size, stamp_place, word_place}
 
 module _ {E : Type 0} (who : E → ℕ) where
   -- the entries that name n, in order
@@ -29,11 +30,6 @@ stamp_at stamps r = slice_index_or stamps r 0
 abbrev pub row_at : List (List ℕ) → ℕ → List ℕ
 row_at rows r = slice_index_or rows r []
 
--- the words of all rows, one row after another
-abbrev pub all_words : List (List ℕ) → List ℕ
-all_words [] = []
-all_words (row ∷ rows) = row ++ all_words rows
-
 abbrev pub AreWide : List (List ℕ) → Type 0
 AreWide [] = Unit {0}
 AreWide (row ∷ rows) = (length row ≡ 73) × AreWide rows
@@ -42,9 +38,12 @@ AreWide (row ∷ rows) = (length row ≡ 73) × AreWide rows
 abbrev pub HasRows : ℕ → List ℕ → List (List ℕ) → Type 0
 HasRows n stamps rows = (length stamps ≡ n) × (length rows ≡ n) × AreWide rows
 
--- the table's words: word 0, which is 2^32 and the number of entries, then the stamps, then the rows
-abbrev pub table_words : ℕ → List ℕ → List (List ℕ) → List ℕ
-table_words count stamps rows = (4294967296 + count) ∷ stamps ++ all_words rows
+-- the table's words tell of so many entries and of these rows: word 0 is 2^32 and the number of entries, and each stamp and word stands in its place
+pub record IsLaid (n : ℕ) (words : List ℕ) (count : ℕ) (stamps : List ℕ) (rows : List (List ℕ)) : Type 0 where
+  pub long : length words ≡ table_size n
+  pub count : slice_index_or words 0 0 ≡ 4294967296 + count
+  pub stamp : (r : ℕ) → r < n → slice_index_or words (stamp_place r) 0 ≡ stamp_at stamps r
+  pub word : (r k : ℕ) → r < n → k < 73 → slice_index_or words (word_place n r k) 0 ≡ slice_index_or (row_at rows r) k 0
 
 -- what a record has once the entries of this history were counted, and nothing else was loaded
 abbrev pub counted_record : {E : Type 0} → List E → Record
@@ -54,10 +53,6 @@ module _ {O E : Type 0} where
   abbrev pub permits_of : View O E → ℕ → ℕ
   permits_of t n = slice_index_or t.kept n 0
 
-  -- the table's words, as the writer keeps them
-  abbrev pub words_of : View O E → List ℕ
-  words_of t = table_words (length t.history) t.stamps t.rows
-
   -- a view is what the actor of this number has seen and recorded; the writer's also is the machine's stamps, rows and history
   pub record IsOf (m : State E) (a : ℕ) (v : View O E) : Type 0 where
     pub live : v.live ≡ is_live m a
@@ -66,13 +61,13 @@ module _ {O E : Type 0} where
     pub shown : v.live ≡ true → v.shown ≡ record_of a m.log
     pub knows : v.writes ≡ true → (v.given ≡ m.given) × (v.stamps ≡ m.stamps) × (v.rows ≡ m.rows) × (v.history ≡ m.history)
 
-  -- the table shows a machine: its words are the machine's, and each seat is an actor of it
+  -- the table shows a machine: its words tell the machine's, and each seat is an actor of it
   pub record IsShown (good : List E → List ℕ → Type 0) (n seat : ℕ) (s : table.State E (View O E)) : Type 0 where
     -- steps of the machine, each of whose conditions holds, and where they lead a new one of n rows
     pub steps : List (Step E)
     pub machine : State E
     pub leads : Leads good (fresh n) steps machine
-    pub words : s.words ≡ table_words (length machine.history) machine.stamps machine.rows
+    pub words : IsLaid n s.words (length machine.history) machine.stamps machine.rows
     pub many : length machine.stamps ≡ n
     pub seats : length s.views ≡ length machine.actors
     pub each : (id : ℕ) (v : View O E) → get_elem? s.views id ≡ some v → IsOf machine id v

@@ -1,5 +1,5 @@
 -- What each step on the table tells.
-use Rattle.std.specs.Prelude.{ℕ, ◌≡◌, ◌+◌, ◌-◌, ◌/◌, ◌%◌, ◌<◌, ◌==◌, ◌||◌, if◌then◌else◌, Bool, false, List, [], ◌∷◌, ◌++◌, length, slice_index_or, slice_set, Some, None}
+use Rattle.std.specs.Prelude.{ℕ, ◌≡◌, ◌+◌, ◌-◌, ◌%◌, ◌<◌, ◌==◌, ◌||◌, if◌then◌else◌, Bool, false, List, [], ◌∷◌, ◌++◌, length, slice_index_or, slice_set, Some, None}
 use mathlib.Core.List.{IsPrefix}
 use mathlib.Core.Option.{some}
 use Rattle.atomic_table.specs.Table.{Me, Step}
@@ -9,7 +9,8 @@ use Rattle.vsw_stamps.specs.Machine.{recorded, finished_by, has_row, is_closed, 
 use Rattle.vsw_stamps.specs.Sound.{AreRight}
 use Rattle.vsw_table.specs.declared.view.View.{View}
 use Rattle.vsw_table.specs.declared.view.Tried.{Tried}
-use Rattle.vsw_table.specs.Rules.{by_caller, AllBelow, permits_of, words_of, row_at, granted, advanced}
+use Rattle.vsw_table.specs.Places.{stamp_place, word_place}
+use Rattle.vsw_table.specs.Rules.{by_caller, AllBelow, permits_of, stamp_at, row_at, granted, advanced}
 
 -- the row that was tried last has more words read
 abbrev pub appended : List Tried → List ℕ → List Tried
@@ -41,7 +42,7 @@ module _ {O E : Type 0} where
   stamped v r n = record v { tried = (record { row = r; stamp = n; words = []; again = None }) ∷ v.tried; shown = recorded (Stamp r n (is_closed v.shown || has_row r v.shown.rows)) v.shown }
 
   abbrev pub Stamped : Step E → Me E (View O E) → ℕ → Me E (View O E) → Type 0
-  Stamped s v n w = w ≡ (stamped v.0 (s.word - 1) n, v.1)
+  Stamped s v n w = (r : ℕ) → s.word ≡ stamp_place r → w ≡ (stamped v.0 r n, v.1)
 
   -- further words of the row whose stamp was loaded last
   abbrev pub worded : View O E → List ℕ → View O E
@@ -76,36 +77,37 @@ module _ {O E : Type 0} where
 
   -- it tells that the lookup which it finishes, if it does, is right
   abbrev pub Compares : (O → List E → List ℕ → Type 0) → Step E → Me E (View O E) → ℕ → Me E (View O E) → Type 0
-  Compares good s v n w = (w ≡ (compared v.0 n, v.1)) × ((o : O) → v.0.opening ≡ Some o → AreRight (good o) (longer v.0.front v.0.told) (finished_by (Again (s.word - 1) n) v.0.shown.count v.0.shown.rows))
-
-  -- the words begin behind word 0 and the stamps
-  abbrev pub place_of : View O E → ℕ → ℕ
-  place_of t i = i - 1 - length t.stamps
+  Compares good s v n w = (w ≡ (compared v.0 n, v.1)) × ((o : O) (r : ℕ) → v.0.opening ≡ Some o → s.word ≡ stamp_place r → AreRight (good o) (longer v.0.front v.0.told) (finished_by (Again r n) v.0.shown.count v.0.shown.rows))
 
   -- a word of a row is stored, while its stamp is 0
   abbrev pub with_word : View O E → ℕ → ℕ → ℕ → View O E
   with_word t r k n = record t { rows = slice_set t.rows r (slice_set (row_at t.rows r) k n) }
 
   abbrev pub PutsWord : Step E → Me E (View O E) → ℕ → Me E (View O E) → Type 0
-  PutsWord s v n w = w ≡ (with_word v.0 (place_of v.0 s.word / 73) (place_of v.0 s.word % 73) n, v.1)
+  PutsWord s v n w = (r k : ℕ) → r < length v.0.stamps → k < 73 → s.word ≡ word_place (length v.0.stamps) r k → w ≡ (with_word v.0 r k n, v.1)
 
   -- a stamp is taken away. That is right at any time: where the row was good it costs one walk
   abbrev pub shaken : View O E → ℕ → View O E
   shaken t r = record t { stamps = slice_set t.stamps r 0 }
 
   abbrev pub Shakes : Step E → Me E (View O E) → ℕ → Me E (View O E) → Type 0
-  Shakes s v n w = w ≡ (shaken v.0 (s.word - 1), v.1)
+  Shakes s v n w = (r : ℕ) → s.word ≡ stamp_place r → w ≡ (shaken v.0 r, v.1)
 
   -- a stamp is given that no row had before. One that was given twice would pass words of two rows as one row's
   abbrev pub restamped : View O E → ℕ → View O E
   restamped t r = record t { given = t.given + 1; stamps = slice_set t.stamps r (t.given + 1) }
 
   abbrev pub Restamps : Step E → Me E (View O E) → ℕ → Me E (View O E) → Type 0
-  Restamps s v n w = w ≡ (restamped v.0 (s.word - 1), v.1)
+  Restamps s v n w = (r : ℕ) → s.word ≡ stamp_place r → w ≡ (restamped v.0 r, v.1)
+
+  -- what stands at a place of the table, as the writer keeps it
+  pub record StandsAt (t : View O E) (i n : ℕ) : Type 0 where
+    pub stamp : (r : ℕ) → r < length t.stamps → i ≡ stamp_place r → n ≡ stamp_at t.stamps r
+    pub word : (r k : ℕ) → r < length t.stamps → k < 73 → i ≡ word_place (length t.stamps) r k → n ≡ slice_index_or (row_at t.rows r) k 0
 
   -- the writer finds what it keeps
   abbrev pub Finds : Step E → Me E (View O E) → ℕ → Me E (View O E) → Type 0
-  Finds s v n w = (w ≡ v) × (n ≡ slice_index_or (words_of v.0) s.word 0) × (length v.0.history < 4294967295)
+  Finds s v n w = (w ≡ v) × StandsAt v.0 s.word n × (length v.0.history < 4294967295)
 
   -- the permits of the lent pass are those that the writer keeps for it
   abbrev pub IsHeld : View O E → Type 0

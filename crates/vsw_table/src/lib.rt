@@ -4,6 +4,7 @@
 mod law;
 mod look;
 mod lookup;
+mod place;
 mod put;
 mod rule;
 mod steps;

@@ -5,9 +5,11 @@ ghost use Rattle.vsw_stamps.specs.declared.step.Load.TheVariants.{Again};
 ghost use Rattle.vsw_stamps.specs.Machine.{finished_by, is_closed, longer};
 ghost use Rattle.vsw_stamps.specs.Sound.{AreRight};
 ghost use Rattle.vsw_table.specs.declared.view.Tried.{Tried};
+ghost use Rattle.vsw_table.specs.Places.{table_size};
 ghost use Rattle.vsw_table.specs.Steps.{stamped, worded, compared, ended, Counted};
 ghost use Rattle.vsw_table.specs.Held.{HasTop, IsRead, Fills, Found, IsMissed, Missed};
 
+use crate::place::{stamp_place, word_place};
 use crate::rule::{Compare, Count, End, Kept, Key, ReadStamp, ReadWord};
 use crate::view::View;
 use atomic_table::{Seat, Shared};
@@ -17,13 +19,14 @@ use vsw_stamps::Story;
 pub(crate) fn read_stamp<S: Story>(
     shared: &Shared<S::Entry, View<S::Opening, S::Entry>, Key<S::Opening>, Kept<S>>,
     seat: &mut Seat<S::Entry, View<S::Opening, S::Entry>>,
+    rows: usize,
     row: usize,
 ) -> u64
-    requires table { (seat.old.table_id ≡ shared.now.table_id) × (shared.now.table_id.words ≡ 1 + 74 * shared.now.key.rows) × (row < shared.now.key.rows) × (shared.now.key.rows ≤ 16384) }
+    requires table { (seat.old.table_id ≡ shared.now.table_id) × (shared.now.table_id.words ≡ table_size rows) × (rows ≡ shared.now.key.rows) × (row < rows) × (rows ≤ 16384) }
     requires pass { (seat.old.me.0.live ≡ true) × (seat.old.me.0.writes ≡ false) × (seat.old.me.1 ≡ []) }
     ensures { (seat.new.table_id ≡ seat.old.table_id) × (seat.new.me ≡ (stamped seat.old.me.0 row result, [])) }
 {
-    shared.load::<ReadStamp>(seat, 1 + row)
+    shared.load::<ReadStamp>(seat, stamp_place(rows, row))
 }
 
 /// Loads the next word of the row whose stamp was loaded last.
@@ -34,12 +37,12 @@ pub(crate) fn read_word<S: Story>(
     row: usize,
     word: usize,
 ) -> u64
-    requires table { (seat.old.table_id ≡ shared.now.table_id) × (shared.now.table_id.words ≡ 1 + 74 * rows) × (rows ≡ shared.now.key.rows) × (row < rows) × (rows ≤ 16384) }
+    requires table { (seat.old.table_id ≡ shared.now.table_id) × (shared.now.table_id.words ≡ table_size rows) × (rows ≡ shared.now.key.rows) × (row < rows) × (rows ≤ 16384) }
     requires pass { (seat.old.me.0.live ≡ true) × (seat.old.me.0.writes ≡ false) × (seat.old.me.1 ≡ []) }
     requires top { HasTop seat.old.me.0.tried seat.old.me.0.shown.rows row word × (word < 73) × (is_closed seat.old.me.0.shown ≡ false) }
     ensures { (seat.new.table_id ≡ seat.old.table_id) × (seat.new.me ≡ (worded seat.old.me.0 (result ∷ []), [])) }
 {
-    shared.load::<ReadWord>(seat, 1 + rows + 73 * row + word)
+    shared.load::<ReadWord>(seat, word_place(rows, row, word))
 }
 
 /// Loads words of a row, from word `from` on.
@@ -51,7 +54,7 @@ pub(crate) fn read_words<S: Story>(
     from: usize,
     words: &mut [u64],
 )
-    requires table { (seat.old.table_id ≡ shared.now.table_id) × (shared.now.table_id.words ≡ 1 + 74 * rows) × (rows ≡ shared.now.key.rows) × (row < rows) × (rows ≤ 16384) }
+    requires table { (seat.old.table_id ≡ shared.now.table_id) × (shared.now.table_id.words ≡ table_size rows) × (rows ≡ shared.now.key.rows) × (row < rows) × (rows ≤ 16384) }
     requires pass { (seat.old.me.0.live ≡ true) × (seat.old.me.0.writes ≡ false) × (seat.old.me.1 ≡ []) }
     requires top { HasTop seat.old.me.0.tried seat.old.me.0.shown.rows row from × (from + length words.old ≤ 73) × (is_closed seat.old.me.0.shown ≡ false) }
     ensures length { length words.new ≡ length words.old }
@@ -91,7 +94,7 @@ fn read_rest<S: Story>(
     key: &[u64; 16],
     body: &mut [u64],
 )
-    requires table { (seat.old.table_id ≡ shared.now.table_id) × (shared.now.table_id.words ≡ 1 + 74 * rows) × (rows ≡ shared.now.key.rows) × (row < rows) × (rows ≤ 16384) }
+    requires table { (seat.old.table_id ≡ shared.now.table_id) × (shared.now.table_id.words ≡ table_size rows) × (rows ≡ shared.now.key.rows) × (row < rows) × (rows ≤ 16384) }
     requires pass { (seat.old.me.0.live ≡ true) × (seat.old.me.0.writes ≡ false) × (seat.old.me.1 ≡ []) }
     requires top { HasTop seat.old.me.0.tried seat.old.me.0.shown.rows row 16 × (length body.old ≡ 57) × (is_closed seat.old.me.0.shown ≡ false) }
     ensures table { seat.new.table_id ≡ seat.old.table_id }
@@ -135,15 +138,16 @@ fn end<S: Story>(
 fn read_again<S: Story>(
     shared: &Shared<S::Entry, View<S::Opening, S::Entry>, Key<S::Opening>, Kept<S>>,
     seat: &mut Seat<S::Entry, View<S::Opening, S::Entry>>,
+    rows: usize,
     row: usize,
 ) -> u64
-    requires table { (seat.old.table_id ≡ shared.now.table_id) × (shared.now.table_id.words ≡ 1 + 74 * shared.now.key.rows) × (row < shared.now.key.rows) × (shared.now.key.rows ≤ 16384) }
+    requires table { (seat.old.table_id ≡ shared.now.table_id) × (shared.now.table_id.words ≡ table_size rows) × (rows ≡ shared.now.key.rows) × (row < rows) × (rows ≤ 16384) }
     requires pass { (seat.old.me.0.live ≡ true) × (seat.old.me.0.writes ≡ false) × (seat.old.me.0.crosses ≡ true) × (seat.old.me.1 ≡ []) }
     requires top { (n : ℕ) × HasTop seat.old.me.0.tried seat.old.me.0.shown.rows row n × (is_closed seat.old.me.0.shown ≡ true) }
     ensures seat { (seat.new.table_id ≡ seat.old.table_id) × (seat.new.me ≡ (compared seat.old.me.0 result, [])) }
     ensures right { (o : S.Opening) → seat.old.me.0.opening ≡ Some o → AreRight (S.good o) (longer seat.old.me.0.front seat.old.me.0.told) (finished_by (Again row result) seat.old.me.0.shown.count seat.old.me.0.shown.rows) }
 {
-    shared.load::<Compare<S>>(seat, 1 + row)
+    shared.load::<Compare<S>>(seat, stamp_place(rows, row))
 }
 
 /// Loads the key of a row up to the first word that differs. Says whether none did.
@@ -154,7 +158,7 @@ pub(crate) fn has_key<S: Story>(
     row: usize,
     key: &[u64; 16],
 ) -> bool
-    requires table { (seat.old.table_id ≡ shared.now.table_id) × (shared.now.table_id.words ≡ 1 + 74 * rows) × (rows ≡ shared.now.key.rows) × (row < rows) × (rows ≤ 16384) }
+    requires table { (seat.old.table_id ≡ shared.now.table_id) × (shared.now.table_id.words ≡ table_size rows) × (rows ≡ shared.now.key.rows) × (row < rows) × (rows ≤ 16384) }
     requires pass { (seat.old.me.0.live ≡ true) × (seat.old.me.0.writes ≡ false) × (seat.old.me.1 ≡ []) }
     requires top { HasTop seat.old.me.0.tried seat.old.me.0.shown.rows row 0 × (is_closed seat.old.me.0.shown ≡ false) }
     ensures { (seat.new.table_id ≡ seat.old.table_id) × ((words : List ℕ) × (seat.new.me ≡ (worded seat.old.me.0 words, [])) × MatchBool result (words ≡ key.now) ((k : ℕ) × (k < length words) × (slice_index words k ≢ slice_index key.now k))) }
@@ -177,14 +181,14 @@ pub(crate) fn try_row<S: Story>(
     key: &[u64; 16],
     body: &mut [u64; 57],
 ) -> Option<u64>
-    requires table { (seat.old.table_id ≡ shared.now.table_id) × (shared.now.table_id.words ≡ 1 + 74 * rows) × (rows ≡ shared.now.key.rows) × (row < rows) × (rows ≤ 16384) }
+    requires table { (seat.old.table_id ≡ shared.now.table_id) × (shared.now.table_id.words ≡ table_size rows) × (rows ≡ shared.now.key.rows) × (row < rows) × (rows ≤ 16384) }
     requires pass { (seat.old.me.0.live ≡ true) × (seat.old.me.0.writes ≡ false) × (seat.old.me.0.crosses ≡ true) × (seat.old.me.0.told ≡ []) × (seat.old.me.1 ≡ []) }
     ensures table { seat.new.table_id ≡ seat.old.table_id }
     ensures same { IsRead seat.old.me.0 seat.new.me.0 × (seat.new.me.1 ≡ []) }
     ensures hit { IfSome result (λ n. (length seat.new.me.0.front ≡ n) × (n < 4294967296) × (seat.new.me.0.tried ≡ []) × ((o : S.Opening) → seat.old.me.0.opening ≡ Some o → S.good o seat.new.me.0.front (key.now ++ body.new))) }
     ensures found { MatchOption result ((x : Tried) × (seat.new.me.0.tried ≡ x ∷ seat.old.me.0.tried) × IsMissed key.now row x) (λ n. (seat.old.me.0.looks < seat.new.me.0.looks) × Found S.used (key.now ++ body.new) row seat.new.me.0.last) }
 {
-    let stamp = read_stamp(shared, seat, row);
+    let stamp = read_stamp(shared, seat, rows, row);
     if stamp == 0 {
         return None;
     }
@@ -193,7 +197,7 @@ pub(crate) fn try_row<S: Story>(
     }
     read_rest(shared, seat, rows, row, key, body);
     let word = count(shared, seat);
-    if read_again(shared, seat, row) != stamp {
+    if read_again(shared, seat, rows, row) != stamp {
         return None;
     }
     Some(word % (1 << 32))
@@ -208,7 +212,7 @@ pub(crate) fn look_from<S: Story>(
     key: &[u64; 16],
     body: &mut [u64; 57],
 ) -> (bool, u64)
-    requires table { (seat.old.table_id ≡ shared.now.table_id) × (shared.now.table_id.words ≡ 1 + 74 * rows) × (rows ≡ shared.now.key.rows) × (slot < rows) × (rows ≤ 16384) }
+    requires table { (seat.old.table_id ≡ shared.now.table_id) × (shared.now.table_id.words ≡ table_size rows) × (rows ≡ shared.now.key.rows) × (slot < rows) × (rows ≤ 16384) }
     requires pass { (seat.old.me.0.live ≡ true) × (seat.old.me.0.writes ≡ false) × (seat.old.me.0.crosses ≡ true) × (seat.old.me.0.told ≡ []) × (seat.old.me.0.tried ≡ []) × (seat.old.me.1 ≡ []) }
     ensures table { seat.new.table_id ≡ seat.old.table_id }
     ensures same { IsRead seat.old.me.0 seat.new.me.0 × (seat.new.me.1 ≡ []) × (seat.new.me.0.tried ≡ []) }

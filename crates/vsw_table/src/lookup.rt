@@ -1,12 +1,14 @@
 //! The lookup, its writer, its passes and their notes.
 ghost use Rattle.std.specs.Prelude.{◌≡◌, ◌≢◌, ◌+◌, ◌<◌, ◌≤◌, ◌++◌, [], ◌∷◌, ℕ, ◌%◌, ◌*◌, ◌==◌, not, replicate, slice_index_or, slice_set, true, false, length, IfOk, Some, Bool};
 ghost use mathlib.Core.List.{IsPrefix};
+ghost use Rattle.vsw_table.specs.Places.{table_size};
 ghost use Rattle.vsw_table.specs.Rules.{permits_of, first_view, one_more, newcomer, stamp_at, row_at, counted_record};
 ghost use Rattle.vsw_table.specs.Steps.{shaken};
 ghost use Rattle.vsw_table.specs.Held.{Meets, after_entry, passed, renewed, put_in, IsRead, Found, Missed};
 ghost use Rattle.vsw_table.specs.Answers.{IfHit, IfMiss};
 
 use crate::look::{count, look_from};
+use crate::place::{size, stamp_place};
 use crate::put::{put_row, renew_row, shake_row, stamp_of, word_of};
 use crate::rule::{Kept, Key, More, Tell};
 use crate::steps::{add, grant, lend, part};
@@ -39,12 +41,13 @@ pub struct Lookup<S: Story> {
 impl<S: Story> Model for Lookup<S> {
     ghost use Rattle.std.specs.Prelude.{◌≡◌, ◌+◌, ◌*◌, ◌≤◌, ℕ};
     ghost use Rattle.atomic_table.specs.Seated.{TableId};
+    ghost use Rattle.vsw_table.specs.Places.{table_size};
 
     ghost Value = { TableId × S.Opening × ℕ };
 
     ghost view = { λ l. (l.table.shared.table_id, l.table.shared.key.opening.value, l.rows) };
 
-    ghost invariant = { λ l. (l.table.shared.table_id.words ≡ 1 + 74 * l.rows) × (8 ≤ l.rows) × (l.rows ≤ 16384) × (l.rows ≡ l.table.shared.key.rows) × (l.table.shared.table_id.slots ≡ 0) };
+    ghost invariant = { λ l. (l.table.shared.table_id.words ≡ table_size l.rows) × (8 ≤ l.rows) × (l.rows ≤ 16384) × (l.rows ≡ l.table.shared.key.rows) × (l.table.shared.table_id.slots ≡ 0) };
 }
 
 /// The right to add to the history and to store rows.
@@ -57,6 +60,7 @@ pub struct Writer<S: Story> {
 
 impl<S: Story> Model for Writer<S> {
     ghost use Rattle.std.specs.Prelude.{◌≡◌, ◌+◌, ◌*◌, ◌≤◌, [], true};
+    ghost use Rattle.vsw_table.specs.Places.{table_size};
     ghost use Rattle.vsw_table.specs.Rules.{HasRows};
     ghost use Rattle.vsw_table.specs.Held.{Held, IsWriter};
 
@@ -64,7 +68,7 @@ impl<S: Story> Model for Writer<S> {
 
     ghost view = { λ w. record { table = w.seat.table_id; view = w.seat.me.0 } };
 
-    ghost invariant = { λ w. IsWriter w.seat.me.0 × (w.seat.me.1 ≡ []) × HasRows w.rows w.seat.me.0.stamps w.seat.me.0.rows × (w.seat.table_id.words ≡ 1 + 74 * w.rows) × (w.rows ≤ 16384) × (w.given ≡ w.seat.me.0.given) × (w.seat.me.0.live ≡ true) };
+    ghost invariant = { λ w. IsWriter w.seat.me.0 × (w.seat.me.1 ≡ []) × HasRows w.rows w.seat.me.0.stamps w.seat.me.0.rows × (w.seat.table_id.words ≡ table_size w.rows) × (w.rows ≤ 16384) × (w.given ≡ w.seat.me.0.given) × (w.seat.me.0.live ≡ true) };
 }
 
 /// What one caller has seen of the history, which entries are its own, and how many more it may add.
@@ -111,11 +115,11 @@ pub struct Opened<S: Story> {
 /// The words of a new table: no entries, and all stamps and words 0.
 fn first_words(alloc: Global, rows: u32) -> Result<Vec<u64>, AllocError>
     requires { rows ≤ 16384 }
-    ensures { IfOk result (λ v. v.items ≡ 4294967296 ∷ replicate (74 * rows) 0) }
+    ensures { IfOk result (λ v. v.items ≡ 4294967296 ∷ replicate (13 + 74 * rows) 0) }
 {
     let mut words = Vec::new(alloc);
     words.push(1 << 32)?;
-    words.resize(74 * rows as usize + 1, 0)?;
+    words.resize(size(rows as usize), 0)?;
     Ok(words)
 }
 
@@ -149,7 +153,7 @@ impl<S: Story> Lookup<S> {
     pub fn rows(&self) -> u32
         ensures rows { result ≡ self.now.2 }
         ensures range { (8 ≤ result) × (result ≤ 16384) }
-        ensures table { self.now.0.words ≡ 1 + 74 * result }
+        ensures table { self.now.0.words ≡ table_size result }
     {
         self.rows
     }
@@ -180,6 +184,14 @@ impl<S: Story> Lookup<S> {
             Look::Miss {
                 count: count as u32,
             }
+        }
+    }
+
+    /// Loads the stamp of the row at `slot`, so that the front of the row is near when a look comes to it. It changes nothing and tells nothing, so
+    /// the slot may be guessed; one that is no row's is passed over.
+    pub fn touch(&self, slot: u32) {
+        if slot < self.rows {
+            let _ = self.table.shared.peek(stamp_place(self.rows as usize, slot as usize));
         }
     }
 
@@ -279,7 +291,7 @@ impl<S: Story> Writer<S> {
     pub fn rows(&self) -> u32
         ensures stamps { result ≡ length self.now.view.stamps }
         ensures words { result ≡ length self.now.view.rows }
-        ensures table { self.now.table.words ≡ 1 + 74 * result }
+        ensures table { self.now.table.words ≡ table_size result }
     {
         self.rows
     }
@@ -349,7 +361,7 @@ impl<S: Story> Writer<S> {
         let (rows, row) = (self.rows as usize, row as usize);
         shake_row(shared, &mut self.seat, rows, row);
         put_row(shared, &mut self.seat, rows, row, words);
-        self.given = renew_row(shared, &mut self.seat, self.given, row);
+        self.given = renew_row(shared, &mut self.seat, self.given, rows, row);
     }
 
     /// Gives a row without a stamp a fresh one, if one is left, with the words that it has.
@@ -360,6 +372,7 @@ impl<S: Story> Writer<S> {
         ensures { self.new ≡ record self.old { view = renewed self.old.view row } }
     {
         let shared = &lookup.table.shared;
-        self.given = renew_row(shared, &mut self.seat, self.given, row as usize);
+        let (rows, row) = (self.rows as usize, row as usize);
+        self.given = renew_row(shared, &mut self.seat, self.given, rows, row);
     }
 }

@@ -1,9 +1,11 @@
 //! The writer's steps on rows.
 ghost use Rattle.std.specs.Prelude.{◌≡◌, ◌+◌, ◌*◌, ◌<◌, ◌≤◌, ℕ, slice_set, slice_index_or, [], true, false, length};
-ghost use Rattle.vsw_table.specs.Rules.{stamp_at, row_at, words_of, HasRows};
-ghost use Rattle.vsw_table.specs.Steps.{with_word, shaken};
+ghost use Rattle.vsw_table.specs.Places.{table_size};
+ghost use Rattle.vsw_table.specs.Rules.{stamp_at, row_at, HasRows};
+ghost use Rattle.vsw_table.specs.Steps.{with_word, shaken, StandsAt};
 ghost use Rattle.vsw_table.specs.Held.{renewed};
 
+use crate::place::{stamp_place, word_place};
 use crate::rule::{Find, Kept, Key, PutWord, Restamp, Shake};
 use crate::view::View;
 use atomic_table::{Seat, Shared};
@@ -18,7 +20,7 @@ pub(crate) fn find<S: Story>(
     requires table { (writer.old.table_id ≡ shared.now.table_id) × (place < shared.now.table_id.words) }
     requires writer { (writer.old.me.0.writes ≡ true) × (writer.old.me.1 ≡ []) }
     ensures seat { (writer.new.table_id ≡ writer.old.table_id) × (writer.new.me ≡ writer.old.me) }
-    ensures word { (result ≡ slice_index_or (words_of writer.old.me.0) place 0) × (length writer.old.me.0.history < 4294967295) }
+    ensures word { StandsAt writer.old.me.0 place result × (length writer.old.me.0.history < 4294967295) }
 {
     shared.load::<Find>(writer, place)
 }
@@ -30,12 +32,12 @@ pub(crate) fn stamp_of<S: Story>(
     rows: usize,
     row: usize,
 ) -> u64
-    requires table { (writer.old.table_id ≡ shared.now.table_id) × (shared.now.table_id.words ≡ 1 + 74 * rows) × (row < rows) × (rows ≤ 16384) }
+    requires table { (writer.old.table_id ≡ shared.now.table_id) × (shared.now.table_id.words ≡ table_size rows) × (row < rows) × (rows ≤ 16384) }
     requires writer { (writer.old.me.0.writes ≡ true) × (writer.old.me.1 ≡ []) × HasRows rows writer.old.me.0.stamps writer.old.me.0.rows }
     ensures seat { (writer.new.table_id ≡ writer.old.table_id) × (writer.new.me ≡ writer.old.me) }
     ensures stamp { result ≡ stamp_at writer.old.me.0.stamps row }
 {
-    find(shared, writer, 1 + row)
+    find(shared, writer, stamp_place(rows, row))
 }
 
 /// A word of a row.
@@ -46,12 +48,12 @@ pub(crate) fn word_of<S: Story>(
     row: usize,
     word: usize,
 ) -> u64
-    requires table { (writer.old.table_id ≡ shared.now.table_id) × (shared.now.table_id.words ≡ 1 + 74 * rows) × (row < rows) × (word < 73) × (rows ≤ 16384) }
+    requires table { (writer.old.table_id ≡ shared.now.table_id) × (shared.now.table_id.words ≡ table_size rows) × (row < rows) × (word < 73) × (rows ≤ 16384) }
     requires writer { (writer.old.me.0.writes ≡ true) × (writer.old.me.1 ≡ []) × HasRows rows writer.old.me.0.stamps writer.old.me.0.rows }
     ensures seat { (writer.new.table_id ≡ writer.old.table_id) × (writer.new.me ≡ writer.old.me) }
     ensures word { result ≡ slice_index_or (row_at writer.old.me.0.rows row) word 0 }
 {
-    find(shared, writer, 1 + rows + 73 * row + word)
+    find(shared, writer, word_place(rows, row, word))
 }
 
 /// Takes a row's stamp away. Where it is 0 already nothing is stored: a load costs a seventh of a store.
@@ -61,12 +63,12 @@ pub(crate) fn shake_row<S: Story>(
     rows: usize,
     row: usize,
 )
-    requires table { (writer.old.table_id ≡ shared.now.table_id) × (shared.now.table_id.words ≡ 1 + 74 * rows) × (rows ≡ shared.now.key.rows) × (row < rows) × (rows ≤ 16384) }
+    requires table { (writer.old.table_id ≡ shared.now.table_id) × (shared.now.table_id.words ≡ table_size rows) × (rows ≡ shared.now.key.rows) × (row < rows) × (rows ≤ 16384) }
     requires writer { (writer.old.me.0.writes ≡ true) × (writer.old.me.1 ≡ []) × HasRows rows writer.old.me.0.stamps writer.old.me.0.rows }
     ensures { (writer.new.table_id ≡ writer.old.table_id) × (writer.new.me ≡ (shaken writer.old.me.0 row, [])) }
 {
     if stamp_of(shared, writer, rows, row) != 0 {
-        shared.store::<Shake>(writer, 1 + row, 0);
+        shared.store::<Shake>(writer, stamp_place(rows, row), 0);
     }
 }
 
@@ -79,13 +81,13 @@ fn put_word<S: Story>(
     word: usize,
     value: u64,
 )
-    requires table { (writer.old.table_id ≡ shared.now.table_id) × (shared.now.table_id.words ≡ 1 + 74 * rows) × (rows ≡ shared.now.key.rows) × (rows ≤ 16384) }
+    requires table { (writer.old.table_id ≡ shared.now.table_id) × (shared.now.table_id.words ≡ table_size rows) × (rows ≡ shared.now.key.rows) × (rows ≤ 16384) }
     requires place { (row < rows) × (word < 73) }
     requires writer { (writer.old.me.0.writes ≡ true) × (writer.old.me.1 ≡ []) × HasRows rows writer.old.me.0.stamps writer.old.me.0.rows }
     requires zero { stamp_at writer.old.me.0.stamps row ≡ 0 }
     ensures { (writer.new.table_id ≡ writer.old.table_id) × (writer.new.me ≡ (with_word writer.old.me.0 row word value, [])) }
 {
-    let place = 1 + rows + 73 * row + word;
+    let place = word_place(rows, row, word);
     if find(shared, writer, place) != value {
         shared.store::<PutWord>(writer, place, value);
     }
@@ -99,7 +101,7 @@ pub(crate) fn put_row<S: Story>(
     row: usize,
     words: &[u64; 73],
 )
-    requires table { (writer.old.table_id ≡ shared.now.table_id) × (shared.now.table_id.words ≡ 1 + 74 * rows) × (rows ≡ shared.now.key.rows) × (rows ≤ 16384) }
+    requires table { (writer.old.table_id ≡ shared.now.table_id) × (shared.now.table_id.words ≡ table_size rows) × (rows ≡ shared.now.key.rows) × (rows ≤ 16384) }
     requires place { row < rows }
     requires writer { (writer.old.me.0.writes ≡ true) × (writer.old.me.1 ≡ []) × HasRows rows writer.old.me.0.stamps writer.old.me.0.rows }
     requires zero { stamp_at writer.old.me.0.stamps row ≡ 0 }
@@ -115,9 +117,10 @@ pub(crate) fn renew_row<S: Story>(
     shared: &Shared<S::Entry, View<S::Opening, S::Entry>, Key<S::Opening>, Kept<S>>,
     writer: &mut Seat<S::Entry, View<S::Opening, S::Entry>>,
     given: u64,
+    rows: usize,
     row: usize,
 ) -> u64
-    requires table { (writer.old.table_id ≡ shared.now.table_id) × (shared.now.table_id.words ≡ 1 + 74 * shared.now.key.rows) × (row < shared.now.key.rows) × (shared.now.key.rows ≤ 16384) }
+    requires table { (writer.old.table_id ≡ shared.now.table_id) × (shared.now.table_id.words ≡ table_size rows) × (rows ≡ shared.now.key.rows) × (row < rows) × (rows ≤ 16384) }
     requires writer { (writer.old.me.0.writes ≡ true) × (writer.old.me.1 ≡ []) }
     requires given { given ≡ writer.old.me.0.given }
     requires zero { stamp_at writer.old.me.0.stamps row ≡ 0 }
@@ -128,6 +131,6 @@ pub(crate) fn renew_row<S: Story>(
     if given == u64::MAX {
         return given;
     }
-    shared.store::<Restamp>(writer, 1 + row, given + 1);
+    shared.store::<Restamp>(writer, stamp_place(rows, row), given + 1);
     given + 1
 }

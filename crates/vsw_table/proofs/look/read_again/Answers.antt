@@ -1,12 +1,13 @@
-use Rattle.std.proofs.Common.{arith, ◌+◌}
+use Rattle.std.proofs.Common.{arith}
 use Rattle.vsw_table.proofs.Keeps.{compares}
 use Rattle.vsw_table.proofs.look.read_again.Goals as goal
 
 pub load-requires : goal.load-requires
 load-requires g c =
     let z = c.args.shared.now in
-    let v = c.args.seat.now in (
+    let v = c.args.seat.now in
+    let p = c.stamp_place in (
       c.requires.table.0,
-      omega (arith, c.requires.table.1, c.requires.table.2),
-      rw c.requires.pass.3 (compares g.S.Story.who g.S.Story.good z.key.opening.value z.key.rows z.table_id.slots v.id v.me.0 c.args.row c.requires.top.0 (1 + c.args.row) c.requires.pass.0 c.requires.pass.1 c.requires.pass.2 c.requires.top.1 c.requires.top.2 c.requires.table.2 (omega arith)),
+      omega (arith, c.requires.table.1, p.ensures.inside),
+      rw c.requires.pass.3 (compares g.S.Story.who g.S.Story.good z.key.opening.value z.key.rows z.table_id.slots v.id v.me.0 c.args.row c.requires.top.0 p.result c.requires.pass.0 c.requires.pass.1 c.requires.pass.2 c.requires.top.1 c.requires.top.2 (omega (arith, c.requires.table.2, c.requires.table.3)) p.ensures.place),
     )

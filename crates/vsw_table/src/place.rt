@@ -1,0 +1,47 @@
+//! Where stamps and words stand in the table.
+ghost use Rattle.std.specs.Prelude.{◌≡◌, ◌<◌, ◌≤◌};
+ghost use Rattle.vsw_table.specs.Places as spec;
+ghost use Rattle.vsw_table.specs.Places.{table_size};
+
+/// Where the near part of the first row stands. The words of a table of many rows lie 16 bytes behind the beginning of a page with the usual
+/// allocators, and then each near part begins a cache line.
+const FIRST: usize = 14;
+
+/// Words of a row's near part.
+const NEAR: usize = 32;
+
+/// Words of a row's far part.
+const FAR: usize = 42;
+
+/// Words of a table of so many rows.
+pub(crate) fn size(rows: usize) -> usize
+    requires { rows ≤ 16384 }
+    ensures { result ≡ table_size rows }
+{
+    FIRST + (NEAR + FAR) * rows
+}
+
+/// Where a row's stamp stands.
+#[inline(always)]
+pub(crate) fn stamp_place(rows: usize, row: usize) -> usize
+    requires { (row < rows) × (rows ≤ 16384) }
+    ensures place { result ≡ spec.stamp_place row }
+    ensures inside { result < table_size rows }
+{
+    FIRST + NEAR * row
+}
+
+/// Where a row's word stands.
+#[inline(always)]
+#[tactic(auto, unfolding(crate::specs::Places::word_place))]
+pub(crate) fn word_place(rows: usize, row: usize, word: usize) -> usize
+    requires { (row < rows) × (word < 73) × (rows ≤ 16384) }
+    ensures place { result ≡ spec.word_place rows row word }
+    ensures inside { result < table_size rows }
+{
+    if word < NEAR - 1 {
+        FIRST + NEAR * row + 1 + word
+    } else {
+        FIRST + NEAR * rows + FAR * row + (word - (NEAR - 1))
+    }
+}

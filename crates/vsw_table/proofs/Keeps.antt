@@ -325,5 +325,6 @@ module _ {O E : Type 0} (who : O → E → ℕ) (good : O → List E → List �
 
   -- the table at the start
   pub opens : Kept (record { words = 4294967296 ∷ replicate (13 + 74 * size) 0; homes = []; views = first_view o size ∷ [] })
-  opens = is_kept (record { words = 4294967296 ∷ replicate (13 + 74 * size) 0; homes = []; views = first_view o size ∷ [] }) 0 (first_view o size)
-  (shows.opens (good o) size 0 (first_view o size) (4294967296 ∷ replicate (13 + 74 * size) 0) refl refl refl refl refl refl refl refl refl refl (laid_first size), mans.opens who o 0 size refl)
+  opens =
+      is_kept (record { words = 4294967296 ∷ replicate (13 + 74 * size) 0; homes = []; views = first_view o size ∷ [] }) 0 (first_view o size)
+      (shows.opens (good o) size 0 (first_view o size) (4294967296 ∷ replicate (13 + 74 * size) 0) refl refl refl refl refl refl refl refl refl refl (laid_first size), mans.opens who o 0 size refl)

@@ -139,7 +139,7 @@ module _ {E : Type 0} (good : List E → List ℕ → Type 0) where
         played s k id v at (LoadWord id r j) can w (set s.words i (slice_index s.words i)) (laid_again n s.words (length m.history) m.stamps m.rows k.words i) k.many refl writes' self (λ q u ne at' g. other_load m id (Word r j (get_or (row_at m r) j 0)) q u ne g)
 
     -- a load of the stamp again: where it finishes a lookup, its words are those of one row that is good after the entries counted, which the seat has seen
-    pub reads_again : (s : table.State E (View O E)) (k : IsShown good n seat s) (id : ℕ) (v w : View O E) (r i : ℕ) → get_elem? s.views id ≡ some v → v.live ≡ true → v.writes ≡ false → r < n → is_closed v.shown ≡ true → has_row r v.shown.rows ≡ true → i ≡ r + 1
+    pub reads_again : (s : table.State E (View O E)) (k : IsShown good n seat s) (id : ℕ) (v w : View O E) (r i : ℕ) → get_elem? s.views id ≡ some v → v.live ≡ true → v.writes ≡ false → r < n → is_closed v.shown ≡ true → has_row r v.shown.rows ≡ true → i ≡ stamp_place r
         → w.live ≡ v.live → w.writes ≡ v.writes → w.front ≡ v.front → w.told ≡ v.told → w.shown ≡ v.shown
         → IsShown good n seat (record { words = set s.words i (slice_index s.words i); homes = s.homes; views = set s.views id w }) × AreRight good (longer v.front v.told) (finished_by (Again r (slice_index s.words i)) v.shown.count v.shown.rows)
     reads_again s k id v w r i at live idle lt closed holds is live' writes' front' told' shown' =

@@ -39,9 +39,9 @@ abbrev pub HasRows : ℕ → List ℕ → List (List ℕ) → Type 0
 HasRows n stamps rows = (length stamps ≡ n) × (length rows ≡ n) × AreWide rows
 
 -- the table's words tell of so many entries and of these rows: word 0 is 2^32 and the number of entries, and each stamp and word stands in its place
-pub record IsLaid (n : ℕ) (words : List ℕ) (count : ℕ) (stamps : List ℕ) (rows : List (List ℕ)) : Type 0 where
+pub record IsLaid (n : ℕ) (words : List ℕ) (entries : ℕ) (stamps : List ℕ) (rows : List (List ℕ)) : Type 0 where
   pub long : length words ≡ table_size n
-  pub count : slice_index_or words 0 0 ≡ 4294967296 + count
+  pub count : slice_index_or words 0 0 ≡ 4294967296 + entries
   pub stamp : (r : ℕ) → r < n → slice_index_or words (stamp_place r) 0 ≡ stamp_at stamps r
   pub word : (r k : ℕ) → r < n → k < 73 → slice_index_or words (word_place n r k) 0 ≡ slice_index_or (row_at rows r) k 0
 

@@ -1,6 +1,6 @@
 #!/bin/sh
-# Speed of vsw_lookup: a look that finds its row first, one that finds it as the eighth, and one that finds none, over 16, 1,000 and
-# 16,384 rows that are all in use, for rows of three and of six acts; an entry alone, and with a stamp or a row beside; and looks of
+# Speed of vsw_table: a look that finds its row first, one that finds it as the eighth, and one that finds none, over 16, 1,000 and
+# 16,384 rows that are all in use, for rows of three and of six acts; an entry alone, with a stamp that is taken away and given, and with a row that is put; and looks of
 # one, two and three readers at once while a writer adds entries. Beside it the same looks and stores in C, over the same table of
 # atomic words.
 #
@@ -14,7 +14,7 @@ work=$(mktemp -d)
 trap 'rm -rf "$work"' EXIT
 
 cat > "$work/look.c" << 'END'
-// The same table, looks and stores in C: relaxed loads of words, an acquire load of each stamp and of the generation word.
+// The same table, looks and stores in C: relaxed loads of words, acquire loads of stamps and of word 0.
 #include <stdatomic.h>
 #include <stdint.h>
 #include <stdio.h>
@@ -28,28 +28,32 @@ cat > "$work/look.c" << 'END'
 
 static _Atomic uint64_t *words;
 static uint32_t rows;
+static uint64_t given;
 
 static uint64_t load(size_t at) { return atomic_load_explicit(&words[at], memory_order_relaxed); }
 static uint64_t acquire(size_t at) { return atomic_load_explicit(&words[at], memory_order_acquire); }
 static void store(size_t at, uint64_t word) { atomic_store_explicit(&words[at], word, memory_order_seq_cst); }
+static size_t stamp_of(uint32_t row) { return 14 + (size_t)32 * row; }
+static size_t place(uint32_t row, size_t word) {
+    return word < 31 ? 15 + (size_t)32 * row + word : 14 + (size_t)32 * rows + (size_t)42 * row + (word - 31);
+}
 
 static int has_key(uint32_t row, const uint64_t *key) {
-    size_t at = 1 + rows + (size_t)73 * row;
-    for (int i = 0; i < 16; i++) if (load(at + i) != key[i]) return 0;
+    for (int i = 0; i < 16; i++) if (load(place(row, i)) != key[i]) return 0;
     return 1;
 }
 static int look(uint32_t slot, const uint64_t *key, uint64_t *body) {
     for (int i = 0; i < 8; i++) {
         uint32_t row = slot + i < rows ? slot + i : slot + i - rows;
-        uint64_t stamp = acquire(1 + row);
+        uint64_t stamp = acquire(stamp_of(row));
         if (stamp == 0 || !has_key(row, key)) continue;
-        size_t at = 1 + rows + (size_t)73 * row + 16;
-        for (int k = 0; k < 3; k++) body[k] = load(at + k);
+        for (int k = 0; k < 3; k++) body[k] = load(place(row, 16 + k));
         size_t used = body[0] == 0 ? 3 + 3 * (body[2] < 18 ? body[2] : 18) : 4;
-        for (size_t k = 3; k < used; k++) body[k] = load(at + k);
+        for (size_t k = 3; k < used; k++) body[k] = load(place(row, 16 + k));
         for (size_t k = used; k < 57; k++) body[k] = 0;
+        (void)acquire(0);
         atomic_thread_fence(memory_order_acquire);
-        if (acquire(0) >> 32 == stamp) return 1;
+        if (acquire(stamp_of(row)) == stamp) return 1;
     }
     (void)acquire(0);
     return 0;
@@ -60,10 +64,14 @@ static void key_of(uint64_t *key, uint32_t row) {
     key[2] = 0x020000000099, key[3] = 1;
     key[8] = (uint64_t)row << 32 | 0x0a000009;
 }
+static void restamp(uint32_t row) {
+    store(stamp_of(row), 0);
+    store(stamp_of(row), ++given);
+}
 static void put(uint32_t row, const uint64_t *row_words) {
-    size_t at = 1 + rows + (size_t)73 * row;
-    for (int i = 0; i < 73; i++) if (load(at + i) != row_words[i]) store(at + i, row_words[i]);
-    store(1 + row, load(0) >> 32);
+    store(stamp_of(row), 0);
+    for (int i = 0; i < 73; i++) if (load(place(row, i)) != row_words[i]) store(place(row, i), row_words[i]);
+    store(stamp_of(row), ++given);
 }
 static double now(void) {
     struct timespec t;
@@ -95,8 +103,8 @@ static double stores(int what, uint64_t row_words[2][73]) {
     for (int run = 0; run < RUNS; run++) {
         double start = now();
         for (int i = 0; i < STORES; i++) {
-            store(0, load(0) + (1ull << 32) + 1);
-            if (what == 1) store(1, load(0) >> 32);
+            store(0, load(0) + 1);
+            if (what == 1) restamp(0);
             if (what == 2) put(0, row_words[i % 2]);
         }
         double took = (now() - start) / STORES;
@@ -109,7 +117,7 @@ int main(void) {
         static const uint32_t counts[] = {16, 1000, 16384};
         for (int c = 0; c < 3; c++) {
             rows = counts[c];
-            words = calloc(1 + (size_t)74 * rows, 8);
+            words = calloc(14 + (size_t)74 * rows, 8);
             uint64_t row_words[2][73] = {0};
             for (int w = 0; w < 2; w++) {
                 key_of(row_words[w], 0);
@@ -134,7 +142,7 @@ END
 cc -O2 -o "$work/look" "$work/look.c"
 
 mkdir -p "$work/repo/crates"
-for name in vsw_base vsw_transpose vsw_words vsw_machine vsw_lookup; do
+for name in vsw_base vsw_transpose vsw_words vsw_stamps vsw_table; do
     cp -r "$root/crates/$name" "$work/repo/crates"
 done
 cp "$root/HANDLES" "$work/repo"
@@ -144,22 +152,28 @@ cat > crates.txt << 'END'
 vsw_base: byteorder
 vsw_transpose: vsw_base
 vsw_words: vsw_base vsw_transpose
-vsw_machine: vsw_base
-vsw_lookup: vsw_base vsw_machine atomic_table
-look_speed: vsw_base vsw_transpose vsw_words vsw_machine vsw_lookup
+vsw_stamps: vsw_base
+vsw_table: vsw_base vsw_stamps atomic_table
+look_speed: vsw_base vsw_transpose vsw_words vsw_stamps vsw_table
 END
 mkdir -p crates/look_speed/src crates/look_speed/specs crates/look_speed/proofs
 cd crates/look_speed
 mkdir -p proofs/beside/fill_any proofs/beside/write proofs/looks/find_all proofs/timed/fill proofs/timed/least_look proofs/timed/least_store proofs/timed/store_all
-: > proofs/Lib.antt
+echo "pub mod First" > proofs/Lib.antt
+cat > proofs/First.antt << 'END'
+-- A stamp that was taken away is 0.
+use Rattle.std.proofs.Common.{◌≡◌, ℕ, List, [], ◌∷◌, refl, set, get_or}
+
+pub first_zero : (stamps : List ℕ) → get_or (set stamps 0 0) 0 0 ≡ 0
+first_zero [] = refl
+first_zero (s ∷ ss) = refl
+END
 cat > proofs/beside/fill_any/Invariants.antt << 'END'
-use Rattle.std.proofs.Common.{◌≡◌, ◌<◌, ◌≤◌, ℕ}
-use Rattle.vsw_lookup.specs.Rules.{stamp_at}
+use Rattle.std.proofs.Common.{◌≡◌}
 use Rattle.look_speed.proofs.beside.fill_any.Given as goal
 
 abbrev pub invariant-loop-number : goal.invariant-loop-number
 invariant-loop-number l = (l.writer.table ≡ l.lookup.0) × (l.writer.view.opening ≡ l.initial.writer.view.opening)
-    × ((r : ℕ) → l.number ≤ r → stamp_at l.writer.view.stamps r < l.writer.view.generation)
 END
 cat > proofs/beside/write/Invariants.antt << 'END'
 use Rattle.std.proofs.Common.{◌≡◌, ◌≤◌, ◌+◌, Some}
@@ -171,20 +185,18 @@ invariant-loop-done l = (l.writer.table ≡ l.lookup.0) × (l.pass.table ≡ l.l
 END
 cat > proofs/looks/find_all/Invariants.antt << 'END'
 use Rattle.std.proofs.Common.{◌≡◌, Some}
-use Rattle.vsw_lookup.specs.Rules.{IsRead}
+use Rattle.vsw_table.specs.Held.{IsRead}
 use Rattle.look_speed.proofs.looks.find_all.Given as goal
 
 abbrev pub invariant-loop : goal.invariant-loop
 invariant-loop g l = IsRead l.initial.pass.view l.pass.view × (l.pass.table ≡ l.initial.pass.table)
 END
 cat > proofs/timed/fill/Invariants.antt << 'END'
-use Rattle.std.proofs.Common.{◌≡◌, ◌<◌, ◌≤◌, ℕ}
-use Rattle.vsw_lookup.specs.Rules.{stamp_at}
+use Rattle.std.proofs.Common.{◌≡◌}
 use Rattle.look_speed.proofs.timed.fill.Given as goal
 
 abbrev pub invariant-loop-number : goal.invariant-loop-number
-invariant-loop-number l = (l.writer.table ≡ l.lookup.0) × (l.writer.view.opening ≡ l.initial.writer.view.opening) × (stamp_at l.writer.view.stamps 0 ≤ l.writer.view.generation)
-    × ((r : ℕ) → l.number ≤ r → stamp_at l.writer.view.stamps r < l.writer.view.generation)
+invariant-loop-number l = (l.writer.table ≡ l.lookup.0) × (l.writer.view.opening ≡ l.initial.writer.view.opening)
 END
 cat > proofs/timed/least_look/Invariants.antt << 'END'
 use Rattle.std.proofs.Common.{◌≡◌, Some}
@@ -195,25 +207,19 @@ invariant-loop g l = (l.pass.table ≡ l.initial.pass.table) × (l.pass.view.ope
 END
 cat > proofs/timed/least_store/Invariants.antt << 'END'
 use Rattle.std.proofs.Common.{◌≡◌, ◌≤◌, ◌+◌, ◌*◌, Some}
-use Rattle.vsw_lookup.specs.Rules.{stamp_at, row_at}
-use Rattle.look_speed.specs.Written.{IsWritten}
 use Rattle.look_speed.proofs.timed.least_store.Given as goal
 
 abbrev pub invariant-loop-run : goal.invariant-loop-run
 invariant-loop-run g l = (l.writer.table ≡ l.lookup.0) × (l.pass.table ≡ l.lookup.0) × (l.writer.view.opening ≡ Some l.lookup.1) × (l.pass.view.opening ≡ Some l.lookup.1)
     × (l.pass.view.number ≡ 0) × (l.pass.view.permits + 200000 * l.run ≡ l.initial.pass.view.permits)
-    × (stamp_at l.writer.view.stamps 0 ≤ l.writer.view.generation) × IsWritten (row_at l.writer.view.rows 0)
 END
 cat > proofs/timed/store_all/Invariants.antt << 'END'
 use Rattle.std.proofs.Common.{◌≡◌, ◌≤◌, ◌+◌, Some}
-use Rattle.vsw_lookup.specs.Rules.{stamp_at, row_at}
-use Rattle.look_speed.specs.Written.{IsWritten}
 use Rattle.look_speed.proofs.timed.store_all.Given as goal
 
 abbrev pub invariant-loop-done : goal.invariant-loop-done
 invariant-loop-done l = (l.writer.table ≡ l.lookup.0) × (l.pass.table ≡ l.lookup.0) × (l.writer.view.opening ≡ Some l.lookup.1) × (l.pass.view.opening ≡ Some l.lookup.1)
     × (l.pass.view.number ≡ 0) × (l.pass.view.permits + l.done ≡ l.initial.pass.view.permits)
-    × (stamp_at l.writer.view.stamps 0 ≤ l.writer.view.generation) × IsWritten (row_at l.writer.view.rows 0)
 END
 cat > specs/Lib.antt << 'END'
 pub mod Written
@@ -227,7 +233,6 @@ use Rattle.std.proofs.Math.Seq.{take-length}
 use Rattle.std.proofs.lemmas.List.{append-nil, get_or-take, take-append-drop}
 use Rattle.vsw_words.specs.Row.{in_use}
 use Rattle.vsw_words.proofs.Used.{row_ends}
-use Rattle.vsw_words.proofs.Written.{form_short}
 use Rattle.look_speed.specs.Written.{IsWritten}
 
 front_tells : (words : List ℕ) → in_use (take 19 words) ≡ in_use words
@@ -238,7 +243,7 @@ whole n words e = sym (take-append-drop n words) ∙ ap (λ zs. take n words ++ 
 
 pub whole_written : (words : List ℕ) → IsWritten words → words ≡ take (in_use (take 19 words)) words ++ replicate (73 - in_use (take 19 words)) 0
 whole_written words w =
-    let ends : drop (in_use words) words ≡ replicate (73 - in_use words) 0 = subst (λ ws. drop (in_use ws) ws ≡ replicate (73 - in_use ws) 0) (sym w.words_is) (row_ends w.id w.verdict w.acts w.until (form_short w.acts w.body.form)) in
+    let ends : drop (in_use words) words ≡ replicate (73 - in_use words) 0 = subst (λ ws. drop (in_use ws) ws ≡ replicate (73 - in_use ws) 0) (sym w.words_is) (row_ends w.id w.verdict w.acts w.until w.body.few) in
     rw (front_tells words) (whole (in_use words) words ends)
 
 -- all 73 words of a row are in use
@@ -266,8 +271,6 @@ cat > src/beside.rt << 'END'
 //! Readers beside a writer, each in a thread of its own.
 
 ghost use Rattle.std.specs.Prelude.{◌≡◌, ◌<◌, ◌≤◌, ◌+◌, ℕ, Some};
-ghost use Rattle.vsw_lookup.specs.Rules.{stamp_at};
-
 use crate::looks::find_all;
 use crate::rows::{acts_of, first_key, id_of, write_row};
 use crate::story::Any;
@@ -276,7 +279,7 @@ use std::io;
 use std::rt::Clock;
 use std::thread::{Threads, join};
 use std::time::Instant;
-use vsw_lookup::{Lookup, Opened, Pass, Writer};
+use vsw_table::{Lookup, Opened, Pass, Writer};
 
 /// Looks of a reader.
 const LOOKS: u32 = 1_000_000;
@@ -384,7 +387,6 @@ fn read_many<R: Threads + Clock + Sync>(
 /// Writes the row of each flow at its number.
 fn fill_any(lookup: &Lookup<Any>, writer: &mut Writer<Any>, rows: u32) -> bool
     requires table { (writer.old.table ≡ lookup.now.0) × (rows ≡ lookup.now.2) }
-    requires old { (r : ℕ) → stamp_at writer.old.view.stamps r < writer.old.view.generation }
     ensures table { writer.new.table ≡ lookup.now.0 }
     ensures opens { writer.new.view.opening ≡ writer.old.view.opening }
 {
@@ -396,7 +398,9 @@ fn fill_any(lookup: &Lookup<Any>, writer: &mut Writer<Any>, rows: u32) -> bool
         let Some(id) = id_of(number) else {
             return false;
         };
-        write_row(&id, &by, 7, &mut words);
+        if !write_row(&id, &by, 7, &mut words) {
+            return false;
+        }
         writer.put(lookup, number, &words);
     }
     true
@@ -411,7 +415,7 @@ fn write(lookup: &Lookup<Any>, first: Writer<Any>, caller: Pass<Any>) -> bool
     let mut writer = first;
     let mut pass = caller;
     for done in 0..ENTRIES {
-        writer.advance(lookup, &mut pass, &u64::from(done), false);
+        writer.advance(lookup, &mut pass, &u64::from(done));
     }
     true
 }
@@ -455,10 +459,10 @@ cat > src/looks.rt << 'END'
 //! Looks, one after the other.
 
 ghost use Rattle.std.specs.Prelude.{◌≡◌, ◌<◌, ◌≤◌, Some};
-ghost use Rattle.vsw_lookup.specs.Rules.{IsRead};
+ghost use Rattle.vsw_table.specs.Held.{IsRead};
 
-use vsw_lookup::{Look, Lookup, Pass};
-use vsw_machine::Story;
+use vsw_table::{Look, Lookup, Pass};
+use vsw_stamps::Story;
 
 /// Looks for a row from the one on that stands `back` before it. Whether it was found.
 fn look_once<S: Story>(
@@ -509,7 +513,7 @@ pub fn find_all<S: Story>(
 }
 END
 cat > src/main.rt << 'END'
-//! Times looks, puts, stamps and entries of vsw_lookup.
+//! Times looks, puts, stamps and entries of vsw_table.
 #![tactic(auto)]
 
 mod beside;
@@ -537,7 +541,7 @@ END
 cat > src/rows.rt << 'END'
 //! Rows of UDP flows that differ in their source address.
 
-ghost use Rattle.std.specs.Prelude.{◌<◌, ◌^◌};
+ghost use Rattle.std.specs.Prelude.{◌≡◌, ◌<◌, ◌^◌, true};
 ghost use Rattle.look_speed.specs.Written.{IsWritten};
 
 use vsw_base::{Dir, Header, Ip4, Mac, Moment, Stack, Ufid, Verdict};
@@ -613,11 +617,15 @@ pub fn first_key(out: &mut [u64; 16]) {
     }
 }
 
-/// The row of a flow.
-pub fn write_row(id: &Ufid, by: &Transposition, until: u64, out: &mut [u64; 73])
-    ensures { IsWritten out.new }
+/// Writes the row of a flow, if the acts fit its stack. Says whether they do.
+pub fn write_row(id: &Ufid, by: &Transposition, until: u64, out: &mut [u64; 73]) -> bool
+    ensures { result ≡ true → IsWritten out.new }
 {
+    if !by.fits(&id.stack) {
+        return false;
+    }
     row_of(id, &Verdict::Pass, by, Moment::of(until), out);
+    true
 }
 END
 cat > src/story.rt << 'END'
@@ -625,7 +633,7 @@ cat > src/story.rt << 'END'
 
 ghost use Rattle.std.specs.Prelude.{◌≡◌, ◌≤◌};
 
-use vsw_machine::Story;
+use vsw_stamps::Story;
 use vsw_words::words_in_use;
 
 pub struct Written;
@@ -680,16 +688,15 @@ cat > src/timed.rt << 'END'
 
 ghost use Rattle.std.specs.Prelude.{◌≡◌, ◌<◌, ◌≤◌, ◌+◌, ℕ, Some, IfSome, length};
 ghost use Rattle.look_speed.specs.Written.{IsWritten};
-ghost use Rattle.vsw_lookup.specs.Rules.{stamp_at, row_at};
 
 use crate::looks::find_all;
 use crate::rows::{acts_of, first_key, id_of, write_row};
-use crate::story::Written;
+use crate::story::{Any, Written};
 use std::alloc::Global;
 use std::io;
 use std::rt::Clock;
 use std::time::Instant;
-use vsw_lookup::{Lookup, Opened, Pass, Writer};
+use vsw_table::{Lookup, Opened, Pass, Writer};
 use vsw_transpose::Transposition;
 
 /// Looks of one run.
@@ -709,17 +716,17 @@ fn fill(
     by: &Transposition,
 ) -> bool
     requires table { (writer.old.table ≡ lookup.now.0) × (rows ≡ lookup.now.2) }
-    requires old { (r : ℕ) → stamp_at writer.old.view.stamps r < writer.old.view.generation }
     ensures table { writer.new.table ≡ lookup.now.0 }
     ensures opens { writer.new.view.opening ≡ writer.old.view.opening }
-    ensures stamp { stamp_at writer.new.view.stamps 0 ≤ writer.new.view.generation }
 {
     let mut words = [0; 73];
     for number in 0..rows {
         let Some(id) = id_of(number) else {
             return false;
         };
-        write_row(&id, by, 7, &mut words);
+        if !write_row(&id, by, 7, &mut words) {
+            return false;
+        }
         writer.put(lookup, number, &words);
     }
     true
@@ -748,38 +755,38 @@ fn least_look<R: Clock>(
     Ok(least / u128::from(LOOKS / 100))
 }
 
-/// Adds an entry after which no row is current, and where asked writes row 0 anew with these words, or stamps it.
+/// Adds an entry, and where asked takes the stamp of row 0 away and gives it another, or writes it anew with these words.
+#[tactic(auto, using(crate::proofs::First::first_zero))]
 fn store(
-    lookup: &Lookup<Written>,
-    writer: &mut Writer<Written>,
-    pass: &mut Pass<Written>,
+    lookup: &Lookup<Any>,
+    writer: &mut Writer<Any>,
+    pass: &mut Pass<Any>,
     words: &[u64; 73],
     what: u32,
 )
     requires table { (writer.old.table ≡ lookup.now.0) × (pass.old.table ≡ lookup.now.0) × (0 < lookup.now.2) }
     requires opens { (writer.old.view.opening ≡ Some lookup.now.1) × (pass.old.view.opening ≡ Some lookup.now.1) }
     requires permit { (pass.old.view.number ≡ 0) × (0 < pass.old.view.permits) }
-    requires stamp { stamp_at writer.old.view.stamps 0 ≤ writer.old.view.generation }
-    requires written { IsWritten words.now × IsWritten (row_at writer.old.view.rows 0) }
     ensures table { (writer.new.table ≡ lookup.now.0) × (pass.new.table ≡ lookup.now.0) }
     ensures opens { (writer.new.view.opening ≡ Some lookup.now.1) × (pass.new.view.opening ≡ Some lookup.now.1) }
     ensures permit { (pass.new.view.number ≡ 0) × (pass.new.view.permits + 1 ≡ pass.old.view.permits) }
-    ensures stamp { stamp_at writer.new.view.stamps 0 ≤ writer.new.view.generation }
-    ensures written { IsWritten (row_at writer.new.view.rows 0) }
 {
-    writer.advance(lookup, pass, &7, true);
+    writer.advance(lookup, pass, &7);
     match what {
         0 => {}
-        1 => writer.stamp(lookup, 0),
+        1 => {
+            writer.shake(lookup, 0);
+            writer.stamp(lookup, 0);
+        }
         _ => writer.put(lookup, 0, words),
     }
 }
 
 /// Stores so often, with these two rows in turn.
 fn store_all(
-    lookup: &Lookup<Written>,
-    writer: &mut Writer<Written>,
-    pass: &mut Pass<Written>,
+    lookup: &Lookup<Any>,
+    writer: &mut Writer<Any>,
+    pass: &mut Pass<Any>,
     one: &[u64; 73],
     two: &[u64; 73],
     what: u32,
@@ -787,13 +794,9 @@ fn store_all(
     requires table { (writer.old.table ≡ lookup.now.0) × (pass.old.table ≡ lookup.now.0) × (0 < lookup.now.2) }
     requires opens { (writer.old.view.opening ≡ Some lookup.now.1) × (pass.old.view.opening ≡ Some lookup.now.1) }
     requires permit { (pass.old.view.number ≡ 0) × (200000 ≤ pass.old.view.permits) }
-    requires stamp { stamp_at writer.old.view.stamps 0 ≤ writer.old.view.generation }
-    requires written { IsWritten one.now × IsWritten two.now × IsWritten (row_at writer.old.view.rows 0) }
     ensures table { (writer.new.table ≡ lookup.now.0) × (pass.new.table ≡ lookup.now.0) }
     ensures opens { (writer.new.view.opening ≡ Some lookup.now.1) × (pass.new.view.opening ≡ Some lookup.now.1) }
     ensures permit { (pass.new.view.number ≡ 0) × (pass.new.view.permits + 200000 ≡ pass.old.view.permits) }
-    ensures stamp { stamp_at writer.new.view.stamps 0 ≤ writer.new.view.generation }
-    ensures written { IsWritten (row_at writer.new.view.rows 0) }
 {
     for done in 0..STORES {
         let words = if done % 2 == 0 { one } else { two };
@@ -809,35 +812,31 @@ struct Rows {
 }
 
 fn two_rows(by: &Transposition, other: &Transposition) -> Option<Rows>
-    ensures { IfSome result (λ rows. IsWritten rows.one × IsWritten rows.two) }
 {
     let id = id_of(0)?;
     let mut one = [0; 73];
     let mut two = [0; 73];
-    write_row(&id, by, 8, &mut one);
-    write_row(&id, other, 9, &mut two);
+    if !write_row(&id, by, 8, &mut one) || !write_row(&id, other, 9, &mut two) {
+        return None;
+    }
     Some(Rows { one, two })
 }
 
 /// The least time of an entry over the runs, in hundredths of a nanosecond, with what is stored beside.
 fn least_store<R: Clock>(
     rt: &R,
-    lookup: &Lookup<Written>,
-    writer: &mut Writer<Written>,
-    pass: &mut Pass<Written>,
+    lookup: &Lookup<Any>,
+    writer: &mut Writer<Any>,
+    pass: &mut Pass<Any>,
     rooms: &Rows,
     what: u32,
 ) -> io::Result<u128>
     requires table { (writer.old.table ≡ lookup.now.0) × (pass.old.table ≡ lookup.now.0) × (0 < lookup.now.2) }
     requires opens { (writer.old.view.opening ≡ Some lookup.now.1) × (pass.old.view.opening ≡ Some lookup.now.1) }
     requires permit { (pass.old.view.number ≡ 0) × (1800000 ≤ pass.old.view.permits) }
-    requires stamp { stamp_at writer.old.view.stamps 0 ≤ writer.old.view.generation }
-    requires written { IsWritten rooms.now.one × IsWritten rooms.now.two × IsWritten (row_at writer.old.view.rows 0) }
     ensures table { (writer.new.table ≡ lookup.now.0) × (pass.new.table ≡ lookup.now.0) }
     ensures opens { (writer.new.view.opening ≡ Some lookup.now.1) × (pass.new.view.opening ≡ Some lookup.now.1) }
     ensures permit { (pass.new.view.number ≡ 0) × (pass.old.view.permits ≤ pass.new.view.permits + 1800000) }
-    ensures stamp { stamp_at writer.new.view.stamps 0 ≤ writer.new.view.generation }
-    ensures written { IsWritten (row_at writer.new.view.rows 0) }
 {
     let mut least = u128::MAX;
     for run in 0..RUNS {
@@ -849,7 +848,54 @@ fn least_store<R: Clock>(
     Ok(least / u128::from(STORES / 100))
 }
 
-/// Prints the least time of looks and of entries over a table of so many rows, all of them in use.
+/// Prints the least time of looks over a table of so many rows, all of them in use.
+fn measure_looks<R: Clock + Print>(
+    rt: &R,
+    alloc: Global,
+    rows: u32,
+    acts: usize,
+    by: &Transposition,
+) -> io::Result<()>
+    requires { (8 ≤ rows) × (rows ≤ 16384) }
+{
+    let Ok(opened) = Lookup::<Written>::open(alloc, rows, &()) else {
+        return Ok(());
+    };
+    let Opened { lookup, mut writer } = opened;
+    let mut pass = writer.pass(&lookup);
+    if !fill(&lookup, &mut writer, rows, by) {
+        return Ok(());
+    }
+    let near = least_look(rt, &lookup, &mut pass, rows, 0, 0)?;
+    let far = least_look(rt, &lookup, &mut pass, rows, 7, 0)?;
+    let none = least_look(rt, &lookup, &mut pass, rows, 0, 1)?;
+    println!(rt; "look {acts} {rows} {near} {far} {none}")
+}
+
+/// Prints the least time of entries, of stamps and of puts over such a table.
+fn measure_stores<R: Clock + Print>(
+    rt: &R,
+    alloc: Global,
+    rows: u32,
+    acts: usize,
+    rooms: &Rows,
+) -> io::Result<()>
+    requires { (8 ≤ rows) × (rows ≤ 16384) }
+{
+    let Ok(opened) = Lookup::<Any>::open(alloc, rows, &()) else {
+        return Ok(());
+    };
+    let Opened { lookup, mut writer } = opened;
+    let mut pass = writer.pass(&lookup);
+    writer.meet(&lookup, &mut pass, 10_000_000);
+    writer.put(&lookup, 0, &rooms.one);
+    let alone = least_store(rt, &lookup, &mut writer, &mut pass, rooms, 0)?;
+    let stamped = least_store(rt, &lookup, &mut writer, &mut pass, rooms, 1)?;
+    let put = least_store(rt, &lookup, &mut writer, &mut pass, rooms, 2)?;
+    println!(rt; "store {acts} {rows} {alone} {stamped} {put}")
+}
+
+/// Measures looks and stores of rows of so many acts.
 pub fn measure<R: Clock + Print>(rt: &R, alloc: Global, rows: u32, acts: usize) -> io::Result<()>
     requires { (8 ≤ rows) × (rows ≤ 16384) × (acts ≤ 9) }
 {
@@ -859,25 +905,8 @@ pub fn measure<R: Clock + Print>(rt: &R, alloc: Global, rows: u32, acts: usize) 
     let Some(rooms) = two_rows(&by, &other) else {
         return Ok(());
     };
-    let Ok(opened) = Lookup::<Written>::open(alloc, rows, &()) else {
-        return Ok(());
-    };
-    let Opened { lookup, mut writer } = opened;
-    let mut pass = writer.pass(&lookup);
-    writer.meet(&lookup, &mut pass, 10_000_000);
-    if !fill(&lookup, &mut writer, rows, &by) {
-        return Ok(());
-    }
-    let near = least_look(rt, &lookup, &mut pass, rows, 0, 0)?;
-    let far = least_look(rt, &lookup, &mut pass, rows, 7, 0)?;
-    let none = least_look(rt, &lookup, &mut pass, rows, 0, 1)?;
-    println!(rt; "look {acts} {rows} {near} {far} {none}")?;
-    writer.advance(&lookup, &mut pass, &7, true);
-    writer.put(&lookup, 0, &rooms.one);
-    let alone = least_store(rt, &lookup, &mut writer, &mut pass, &rooms, 0)?;
-    let stamped = least_store(rt, &lookup, &mut writer, &mut pass, &rooms, 1)?;
-    let put = least_store(rt, &lookup, &mut writer, &mut pass, &rooms, 2)?;
-    println!(rt; "store {acts} {rows} {alone} {stamped} {put}")
+    measure_looks(rt, alloc, rows, acts, &by)?;
+    measure_stores(rt, alloc, rows, acts, &rooms)
 }
 END
 rt run > "$work/said" 2> "$work/log" || { cat "$work/said" "$work/log"; exit 1; }

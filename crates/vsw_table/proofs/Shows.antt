@@ -1,5 +1,5 @@
 -- Each step of the table is a step of the machine, or none: the table goes on showing a machine.
-use Rattle.std.proofs.Common.{◌≡◌, ◌≢◌, ℕ, ◌+◌, ◌*◌, ◌<◌, ◌≤◌, ◌==◌, ◌&&◌, ◌||◌, Bool, true, false, if◌then◌else◌, List, [], ◌∷◌, ◌++◌, length, take, refl, ap, sym, ◌∙◌, subst, arith, ⊎_elim, slice_index, replicate, set, get_or, length-set, length-append, get_or-set_same, get_or-set_other, Option, None, Some}
+use Rattle.std.proofs.Common.{◌≡◌, ◌≢◌, ℕ, ◌+◌, ◌<◌, ◌≤◌, ◌==◌, ◌&&◌, ◌||◌, Bool, true, false, if◌then◌else◌, List, [], ◌∷◌, ◌++◌, length, take, refl, ap, sym, ◌∙◌, subst, arith, ⊎_elim, slice_index, replicate, set, get_or, length-set, length-append, get_or-set_same, get_or-set_other, Option, None, Some}
 use Rattle.std.proofs.lemmas.List.{set-get_or, length-replicate, get_or_append_left, set-append_left, take-append-le}
 use Rattle.std.proofs.lemmas.Bool.{le-ltb}
 use mathlib.Core.List.{IsPrefix}

@@ -83,7 +83,7 @@ module _ (n : ℕ) (ws : List ℕ) (c : ℕ) (ss : List ℕ) (rs : List (List �
     count = get_or-set_other ws i 0 x 0 (λ e. absurd (omega (arith, e, is))) ∙ l.count;
     stamp = λ q lq. dite (ℕ_discrete q r)
         (λ e. subst (λ (p : ℕ). get_or (set ws i x) (stamp_place p) 0 ≡ get_or (set ss r x) p 0) (sym e)
-            (subst (λ (p : ℕ). get_or (set ws i x) p 0 ≡ get_or (set ss r x) r 0) is (get_or-set_same ws i x 0 (omega (arith, is, lt, l.long)) ∙ sym (get_or-set_same ss r x 0 (omega (arith, lt, many))))))
+        (subst (λ (p : ℕ). get_or (set ws i x) p 0 ≡ get_or (set ss r x) r 0) is (get_or-set_same ws i x 0 (omega (arith, is, lt, l.long)) ∙ sym (get_or-set_same ss r x 0 (omega (arith, lt, many))))))
         (λ ne. get_or-set_other ws i (stamp_place q) x 0 (λ e. ne (omega (arith, e, is))) ∙ (l.stamp q lq ∙ sym (get_or-set_other ss r q x 0 ne)));
     word = λ q k lq few. get_or-set_other ws i (word_place n q k) x 0 (λ e. absurd (stamp_apart n r q k lt lq few (sym is ∙ sym e))) ∙ l.word q k lq few;
   }
@@ -99,14 +99,14 @@ module _ (n : ℕ) (ws : List ℕ) (c : ℕ) (ss : List ℕ) (rs : List (List �
         stamp = λ q lq. get_or-set_other ws i (stamp_place q) x 0 (λ e. absurd (stamp_apart n q r j lq lt few (e ∙ is))) ∙ l.stamp q lq;
         word = λ q k lq fk. dite (ℕ_discrete q r)
             (λ e. subst (λ (p : ℕ). get_or (set ws i x) (word_place n p k) 0 ≡ get_or (row_at (set rs r row) p) k 0) (sym e)
-                (dite (ℕ_discrete k j)
-                (λ f. subst (λ (p : ℕ). get_or (set ws i x) (word_place n r p) 0 ≡ get_or (row_at (set rs r row) r) p 0) (sym f)
-                    (subst (λ (p : ℕ). get_or (set ws i x) p 0 ≡ get_or (row_at (set rs r row) r) j 0) is
-                    (get_or-set_same ws i x 0 (omega (arith, is, inside.1, l.long)) ∙ sym (ap (λ (xs : List ℕ). get_or xs j 0) here ∙ get_or-set_same (row_at rs r) j x 0 (omega (arith, few, wide))))))
-                (λ ne. get_or-set_other ws i (word_place n r k) x 0 (λ g. ne (word_apart n r r k j lt lt fk few (g ∙ is)).1)
-                    ∙ (l.word r k lt fk ∙ sym (ap (λ (xs : List ℕ). get_or xs k 0) here ∙ get_or-set_other (row_at rs r) j k x 0 ne)))))
+            (dite (ℕ_discrete k j)
+            (λ f. subst (λ (p : ℕ). get_or (set ws i x) (word_place n r p) 0 ≡ get_or (row_at (set rs r row) r) p 0) (sym f)
+            (subst (λ (p : ℕ). get_or (set ws i x) p 0 ≡ get_or (row_at (set rs r row) r) j 0) is
+            (get_or-set_same ws i x 0 (omega (arith, is, inside.1, l.long)) ∙ sym (ap (λ (xs : List ℕ). get_or xs j 0) here ∙ get_or-set_same (row_at rs r) j x 0 (omega (arith, few, wide))))))
+            (λ ne. get_or-set_other ws i (word_place n r k) x 0 (λ g. ne (word_apart n r r k j lt lt fk few (g ∙ is)).1)
+            ∙ (l.word r k lt fk ∙ sym (ap (λ (xs : List ℕ). get_or xs k 0) here ∙ get_or-set_other (row_at rs r) j k x 0 ne)))))
             (λ ne. get_or-set_other ws i (word_place n q k) x 0 (λ g. ne (word_apart n q r k j lq lt fk few (g ∙ is)).0)
-                ∙ (l.word q k lq fk ∙ sym (ap (λ (xs : List ℕ). get_or xs k 0) (get_or-set_other rs r q row [] ne))));
+            ∙ (l.word q k lq fk ∙ sym (ap (λ (xs : List ℕ). get_or xs k 0) (get_or-set_other rs r q row [] ne))));
       }
 
 -- all stamps and words of a new table are 0

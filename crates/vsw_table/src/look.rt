@@ -1,6 +1,5 @@
 //! A look: what it loads, in which order, and what it makes of it.
-ghost use Rattle.std.specs.Prelude.{◌≡◌, ◌≢◌, ◌+◌, ◌*◌, ◌<◌, ◌≤◌, ◌%◌, ◌++◌, ◌∷◌, ℕ, List, [], true, false, length, Some, Option, MatchBool, MatchOption, IfSome, slice_index, replicate};
-ghost use mathlib.Core.List.{IsPrefix};
+ghost use Rattle.std.specs.Prelude.{◌≡◌, ◌≢◌, ◌+◌, ◌<◌, ◌≤◌, ◌%◌, ◌++◌, ◌∷◌, ℕ, List, [], true, false, length, Some, Option, MatchBool, MatchOption, IfSome, slice_index, replicate};
 ghost use Rattle.vsw_stamps.specs.declared.step.Load.TheVariants.{Again};
 ghost use Rattle.vsw_stamps.specs.Machine.{finished_by, is_closed, longer};
 ghost use Rattle.vsw_stamps.specs.Sound.{AreRight};

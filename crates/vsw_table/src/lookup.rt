@@ -39,7 +39,7 @@ pub struct Lookup<S: Story> {
 }
 
 impl<S: Story> Model for Lookup<S> {
-    ghost use Rattle.std.specs.Prelude.{◌≡◌, ◌+◌, ◌*◌, ◌≤◌, ℕ};
+    ghost use Rattle.std.specs.Prelude.{◌≡◌, ◌≤◌, ℕ};
     ghost use Rattle.atomic_table.specs.Seated.{TableId};
     ghost use Rattle.vsw_table.specs.Places.{table_size};
 
@@ -59,7 +59,7 @@ pub struct Writer<S: Story> {
 }
 
 impl<S: Story> Model for Writer<S> {
-    ghost use Rattle.std.specs.Prelude.{◌≡◌, ◌+◌, ◌*◌, ◌≤◌, [], true};
+    ghost use Rattle.std.specs.Prelude.{◌≡◌, ◌≤◌, [], true};
     ghost use Rattle.vsw_table.specs.Places.{table_size};
     ghost use Rattle.vsw_table.specs.Rules.{HasRows};
     ghost use Rattle.vsw_table.specs.Held.{Held, IsWriter};
@@ -191,7 +191,10 @@ impl<S: Story> Lookup<S> {
     /// the slot may be guessed; one that is no row's is passed over.
     pub fn touch(&self, slot: u32) {
         if slot < self.rows {
-            let _ = self.table.shared.peek(stamp_place(self.rows as usize, slot as usize));
+            let _ = self
+                .table
+                .shared
+                .peek(stamp_place(self.rows as usize, slot as usize));
         }
     }
 

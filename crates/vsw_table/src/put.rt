@@ -1,5 +1,5 @@
 //! The writer's steps on rows.
-ghost use Rattle.std.specs.Prelude.{◌≡◌, ◌+◌, ◌*◌, ◌<◌, ◌≤◌, ℕ, slice_set, slice_index_or, [], true, false, length};
+ghost use Rattle.std.specs.Prelude.{◌≡◌, ◌<◌, ◌≤◌, slice_set, slice_index_or, [], true, length};
 ghost use Rattle.vsw_table.specs.Places.{table_size};
 ghost use Rattle.vsw_table.specs.Rules.{stamp_at, row_at, HasRows};
 ghost use Rattle.vsw_table.specs.Steps.{with_word, shaken, StandsAt};

@@ -34,7 +34,7 @@ join : (front : List (List ℕ)) (r : List ℕ) (back : List (List ℕ)) (key : 
 join [] r back key a h b = (h, b)
 join (f ∷ fs) r back key a h b = (a.0, join fs r back key a.1 h b)
 
-never : (a b : List ℕ) → is_less a b ≡ true → a ≡ b → ⊥
+pub never : (a b : List ℕ) → is_less a b ≡ true → a ≡ b → ⊥
 never a b less same = true≢false (sym less ∙ (ap (λ x. is_less x b) same ∙ less_not_self b))
 
 lesser : (r key : List ℕ) (fs : List (List ℕ)) → is_less (key_of r) key ≡ true → Each (λ f. is_before f r ≡ true) fs → HasNone fs key

@@ -12,3 +12,5 @@ pub mod Found
 pub mod ByRow
 pub mod Cut
 pub mod Exact
+pub mod Alone
+pub mod Tables

@@ -1,5 +1,5 @@
 -- What the rows of a port answer a packet.
-use Rattle.std.specs.Prelude.{◌≡◌, ◌≢◌, ◌⊎◌, ◌<◌, ℕ, zero, suc, List, [], ◌∷◌, ◌++◌, true, take, Option, Some, None, Result, Ok, Err}
+use Rattle.std.specs.Prelude.{◌≡◌, ◌≢◌, ◌⊎◌, ◌<◌, ℕ, zero, suc, List, [], ◌∷◌, ◌++◌, true, take, Option, Some, None, IsSome, Result, Ok, Err}
 use Rattle.vsw_base.specs.declared.fate.Cause.TheVariants as cause
 use Rattle.vsw_base.specs.declared.fate.Fate.{Fate}
 use Rattle.vsw_base.specs.declared.fate.Fate.TheVariants.{Pass, Drop}
@@ -12,6 +12,7 @@ use Rattle.vsw_base.specs.declared.packet.Control.TheVariants as control
 use Rattle.vsw_base.specs.Frame.{Parts, frame_of, sizes_of}
 use Rattle.vsw_base.specs.Shape.{is_stack}
 use Rattle.vsw_frame.specs.Bytes.{answer, outgoing}
+use Rattle.vsw_offload.specs.Rows.{Rise}
 use Rattle.vsw_offload.specs.declared.port_rows.PortRows.{PortRows}
 use Rattle.vsw_policy.specs.Sound.{Each}
 use Rattle.vsw_port.specs.declared.event.Event.{Event}
@@ -82,6 +83,10 @@ pub record IsPacketOf (x : Crossing) (place : Place) (p : Parts) (moment : ℕ) 
 -- words say one row
 abbrev pub WordsSayOne : Type 0
 WordsSayOne = (words : List ℕ) (r s : Row) → Says words r → Says words s → r ≡ s
+
+-- rows whose keys rise give a packet one answer, with its bytes
+abbrev pub OneAnswer : Type 0
+OneAnswer = (rows : List (List ℕ)) (x : Crossing) (p : Parts) (one other : Option Fate) (bytes others : List ℕ) → Rise rows → Answered rows x p one bytes → Answered rows x p other others → (one ≡ other) × (IsSome one → bytes ≡ others)
 
 -- what rows answer that are good after a history is the fate and the bytes of the packet's crossing there, which changes nothing
 abbrev pub RowsAnswerAsLayers : Type 0

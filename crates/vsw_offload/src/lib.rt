@@ -15,6 +15,7 @@ mod reading;
 mod rows;
 mod writing;
 
+pub use answer::AnswerRoom;
 pub use fault::BadRows;
 pub use id::id_of;
 pub use law::{file_laws, laws};

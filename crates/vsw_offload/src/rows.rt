@@ -5,36 +5,80 @@ ghost use Rattle.vsw_base.specs.declared.flow.Crossing.{Crossing};
 ghost use Rattle.vsw_frame.specs.Frame.{parts};
 ghost use Rattle.vsw_offload.specs.Answered.{Answered, IsPacketOf, bytes_left, rows_at};
 ghost use Rattle.vsw_offload.specs.Bad.{IsBadRows};
+ghost use Rattle.vsw_offload.specs.Rows as spec;
 ghost use Rattle.vsw_offload.specs.Rows.{AreRows, rows_bytes};
 ghost use Rattle.vsw_policy.specs.Sound.{Each};
 ghost use Rattle.vsw_offload.specs.declared.fault.BadRows.TheVariants.{Memory};
 ghost use Rattle.vsw_offload.specs.declared.port_rows.PortRows.{PortRows};
 
-use crate::answer::answer;
+use crate::answer::{AnswerRoom, answer};
 use crate::fault::BadRows;
 use crate::port_rows::PortRows;
 use crate::reading::read_file;
 use std::alloc::Global;
 use std::marker::Model;
-use vsw_base::{Fate, Items, Moment, Place};
+use vsw_base::{Fate, Items, Mac, Moment, NoMemory, Place};
 use vsw_frame::Frame;
 
 /// The rows of a file. Those of each port stand in the order of their keys.
 #[derive(Drop)]
 pub struct Rows {
     ports: Items<PortRows>,
+    /// Their addresses and their numbers, each as a list.
+    macs: Items<Mac>,
+    numbers: Items<u32>,
 }
 
 impl Model for Rows {
-    ghost use Rattle.std.specs.Prelude.{List};
-    ghost use Rattle.vsw_offload.specs.Rows.{AreRows};
+    ghost use Rattle.std.specs.Prelude.{◌≡◌, List};
+    ghost use Rattle.vsw_offload.specs.Rows.{AreRows, macs_of, numbers_of};
     ghost use Rattle.vsw_offload.specs.declared.port_rows.PortRows.{PortRows};
 
     ghost Value = { List PortRows };
 
     ghost view = { λ s. s.ports };
 
-    ghost invariant = { λ s. AreRows s.ports };
+    ghost invariant = { λ s. AreRows s.ports × (s.macs ≡ macs_of s.ports) × (s.numbers ≡ numbers_of s.ports) };
+}
+
+/// The addresses of ports, in their order.
+fn macs_of(alloc: Global, ports: &[PortRows]) -> Result<Items<Mac>, NoMemory>
+    ensures { IfOk result (λ macs. macs ≡ spec.macs_of ports.now) }
+{
+    let mut macs = Items::new(alloc);
+    for port in ports {
+        if macs.push(port.mac).is_err() {
+            return Err(NoMemory);
+        }
+    }
+    Ok(macs)
+}
+
+/// The numbers of ports, in their order.
+fn numbers_of(alloc: Global, ports: &[PortRows]) -> Result<Items<u32>, NoMemory>
+    ensures { IfOk result (λ numbers. numbers ≡ spec.numbers_of ports.now) }
+{
+    let mut numbers = Items::new(alloc);
+    for port in ports {
+        if numbers.push(port.port).is_err() {
+            return Err(NoMemory);
+        }
+    }
+    Ok(numbers)
+}
+
+/// The rows of these ports.
+fn with_lists(alloc: Global, ports: Items<PortRows>) -> Result<Rows, NoMemory>
+    requires { AreRows ports }
+    ensures { IfOk result (λ rows. rows ≡ ports) }
+{
+    let macs = macs_of(alloc, ports.as_slice())?;
+    let numbers = numbers_of(alloc, ports.as_slice())?;
+    Ok(Rows {
+        ports,
+        macs,
+        numbers,
+    })
 }
 
 impl Rows {
@@ -48,11 +92,30 @@ impl Rows {
         ensures same { (ps : List PortRows) → AreRows ps → bytes.now ≡ rows_bytes ps → IfOk result (λ rows. rows ≡ ps) }
     {
         let ports = read_file(alloc, bytes)?;
-        Ok(Rows { ports })
+        match with_lists(alloc, ports) {
+            Ok(rows) => Ok(rows),
+            Err(_) => Err(BadRows::Memory),
+        }
     }
 
-    /// The ports, in the file's order.
-    pub fn ports(&self) -> &[PortRows]
+    /// The ports' addresses, in the file's order.
+    pub fn macs(&self) -> &[Mac]
+        ensures macs { result.now ≡ spec.macs_of self.now }
+        ensures few { length result.now ≤ 16 }
+    {
+        self.macs.as_slice()
+    }
+
+    /// The ports' numbers, in the file's order.
+    pub fn ports(&self) -> &[u32]
+        ensures numbers { result.now ≡ spec.numbers_of self.now }
+        ensures few { length result.now ≤ 16 }
+    {
+        self.numbers.as_slice()
+    }
+
+    /// The ports with their rows, in the file's order.
+    pub fn port_rows(&self) -> &[PortRows]
         ensures all { result.now ≡ self.now }
         ensures are { AreRows self.now }
         ensures ports { length result.now ≤ 16 }
@@ -73,6 +136,21 @@ impl Rows {
         requires room { length out.old ≡ 65700 }
         ensures { (x : Crossing) → IsPacketOf x place (parts frame.now) moment → Answered (rows_at self.now place.port) x (parts frame.now) result (bytes_left result out.new) }
     {
-        answer(self.ports.as_slice(), place, frame, moment, out)
+        self.answer_in(place, frame, moment, &mut AnswerRoom::new(), out)
+    }
+
+    /// The same, made in rooms that live on.
+    pub fn answer_in(
+        &self,
+        place: Place,
+        frame: &Frame<'_>,
+        moment: Moment,
+        room: &mut AnswerRoom,
+        out: &mut [u8],
+    ) -> Option<Fate>
+        requires room { length out.old ≡ 65700 }
+        ensures { (x : Crossing) → IsPacketOf x place (parts frame.now) moment → Answered (rows_at self.now place.port) x (parts frame.now) result (bytes_left result out.new) }
+    {
+        answer(self.ports.as_slice(), place, frame, moment, room, out)
     }
 }

@@ -27,7 +27,7 @@ fn is_back(alloc: Global, bytes: &[u8]) -> bool {
     let Ok(rows) = Rows::read(alloc, bytes) else {
         return false;
     };
-    match write_rows(alloc, rows.ports()) {
+    match write_rows(alloc, rows.port_rows()) {
         Ok(again) => again.as_slice() == bytes,
         Err(_) => false,
     }

@@ -2,6 +2,7 @@ pub mod Places
 pub mod Answered
 pub mod Closed
 pub mod Staying
+pub mod Loosened
 pub mod Opened
 pub mod Steps
 pub mod Asking

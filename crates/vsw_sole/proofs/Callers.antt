@@ -1,11 +1,10 @@
 -- Callers by their numbers, and what a call leaves of them.
-use Rattle.std.proofs.Common.{◌≡◌, ◌≢◌, ◌≤◌, ◌<◌, ◌+◌, ◌-◌, ◌++◌, ℕ, zero, suc, Bool, true, false, List, [], ◌∷◌, length, get_or, refl, sym, ap, subst, ◌∙◌, arith, length-set}
+use Rattle.std.proofs.Common.{◌≡◌, ◌≢◌, ◌≤◌, ◌<◌, ◌+◌, ◌-◌, ◌++◌, ℕ, zero, suc, Bool, List, [], ◌∷◌, length, get_or, refl, sym, ap, subst, ◌∙◌, arith, length-set}
 use Rattle.std.specs.List.{slice_set}
 use mathlib.Core.List.{IsPrefix}
 use Rattle.vsw_flows.specs.Flows.{IsOf, Looking}
 use Rattle.vsw_port.specs.declared.event.Event.{Event}
 use Rattle.vsw_table.proofs.Fronts.{prefix_trans}
-use Rattle.vsw_port.specs.Core.{entered}
 use Rattle.vsw_sole.specs.declared.caller.Caller.{Caller}
 use Rattle.vsw_flows.specs.Flows.{Writing}
 use Rattle.vsw_sole.specs.Callers.{HasCalled, IsCaller, IsSole, Numbered, Refills, one_if}

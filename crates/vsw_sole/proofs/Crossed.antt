@@ -1,5 +1,5 @@
 -- What a call at the history's end tells of a packet.
-use Rattle.std.proofs.Common.{◌≡◌, ℕ, Bool, true, false, not, true≢false, List, [], ◌∷◌, ◌++◌, Option, None, Some, Result, Ok, Err, refl, sym, ap, subst, ◌∙◌, append-nil}
+use Rattle.std.proofs.Common.{◌≡◌, ℕ, Bool, true, false, List, [], ◌∷◌, ◌++◌, Option, None, Some, Err, refl, sym, ap, subst, ◌∙◌, append-nil}
 use Rattle.vsw_port.specs.declared.stop.Stop.{Stop}
 use Rattle.vsw_port.specs.declared.stop.Stop.TheVariants.{Long, Full, Taken, Memory}
 use Rattle.vsw_port.specs.Admit.{stop_of}
@@ -21,7 +21,7 @@ use Rattle.vsw_port.specs.Next.{IsDone, Enters, Reading, Wanting}
 use Rattle.vsw_port.proofs.Next.{still}
 use Rattle.vsw_policy.specs.Layer.{LayerSeen}
 use Rattle.vsw_port.specs.Core.{entered}
-use Rattle.vsw_port.specs.Crossed.{Crossed, MayBeShort, crossed, is_short}
+use Rattle.vsw_port.specs.Crossed.{MayBeShort, crossed, is_short}
 use Rattle.vsw_walk.specs.Walk.{walk_of}
 
 -- no crossing ends for want of memory

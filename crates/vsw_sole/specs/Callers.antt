@@ -1,5 +1,5 @@
 -- The callers of a port: what is known of each one's pass, and what a call leaves of it.
-use Rattle.std.specs.Prelude.{◌≡◌, ◌≤◌, ◌+◌, ◌-◌, ℕ, suc, Bool, true, false, List, [], ◌∷◌, Option, Some, None, length}
+use Rattle.std.specs.Prelude.{◌≡◌, ◌≤◌, ◌+◌, ℕ, suc, Bool, true, false, List, [], ◌∷◌, Option, Some, None, length}
 use mathlib.Core.List.{IsPrefix}
 use Rattle.vsw_answer.specs.declared.told.Why.{Why}
 use Rattle.vsw_base.specs.declared.header.Header.{Header}

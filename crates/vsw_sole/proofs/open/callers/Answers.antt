@@ -1,4 +1,4 @@
-use Rattle.std.proofs.Common.{◌≡◌, ◌∙◌, ◌+◌, length, sym, ap, subst, arith, length-append}
+use Rattle.std.proofs.Common.{◌∙◌, ◌+◌, length, sym, ap, subst, length-append}
 use Rattle.vsw_core.specs.Core.{Begins}
 use Rattle.vsw_sole.proofs.Opened.{more_begins, one_caller}
 use Rattle.vsw_sole.proofs.open.callers.Goals as goal

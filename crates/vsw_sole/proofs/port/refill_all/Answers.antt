@@ -1,4 +1,4 @@
-use Rattle.std.proofs.Common.{◌≡◌, ◌<◌, ◌≤◌, ◌+◌, ℕ, length, length-set, ap, sym, ◌∙◌, subst, refl, arith}
+use Rattle.std.proofs.Common.{◌<◌, ◌≤◌, ◌+◌, length, length-set, sym, ◌∙◌, subst, refl, arith}
 use Rattle.vsw_sole.specs.Callers.{IsCaller, Refills}
 use Rattle.vsw_sole.proofs.Callers.{all_filled, caller_at, callers_refilled, none_filled, one_filled}
 use Rattle.vsw_sole.proofs.port.refill_all.Goals as goal

@@ -1,7 +1,7 @@
-use Rattle.std.proofs.Common.{◌≡◌, ◌<◌, ◌-◌, length, sym, ap, subst, arith}
+use Rattle.std.proofs.Common.{◌<◌, length, sym, ap, subst, arith}
 use Rattle.vsw_port.specs.declared.event.Event.TheVariants as event
 use Rattle.vsw_port.specs.Core.{entered, opening_of}
-use Rattle.vsw_sole.specs.Callers.{IsCaller, IsSole, one_if}
+use Rattle.vsw_sole.specs.Callers.{IsCaller, IsSole}
 use Rattle.vsw_sole.specs.Sole.{SoleSeen}
 use Rattle.vsw_sole.proofs.Callers.{caller_at, sole_called}
 use Rattle.vsw_sole.proofs.Crossed.{done_crossed, done_short}

@@ -64,8 +64,13 @@ none_found (Some p) f asks e h = absurd (true≢false (ap (λ o. elim o [ None �
 pub other_found : (o : Option Pair) (p : Pair) (g : ℕ) (old new : List Rule) (asks : Bool) → o ≡ Some p → not (p.group == g) ≡ true → by_found o (λ p. not (goes g old new p)) asks ≡ true
 other_found o p g old new asks e h = ap (λ o. by_found o (λ p. not (goes g old new p)) asks) e ∙ ap not (other_stays g old new p (negated (p.group == g) h))
 
-pub add_none : (q : Looked) (n : ℕ) (r : Rule) (gs ss : List Group) (o : Option Pair) (f : Pair → Bool) (test : Bool) → ss ≡ gs → test ≡ in_group (adds q r) (find (is_group n) ss) → o ≡ None → test ≡ true → by_found o f (all_same q n (λ h. h.rules ++ r ∷ []) gs) ≡ true
-add_none q n r gs ss o f test e t i h = none_found o f (all_same q n (λ h. h.rules ++ r ∷ []) gs) i (adds_same q n r gs (sym (ap (λ gs. in_group (adds q r) (find (is_group n) gs)) e) ∙ (sym t ∙ h)))
+-- a further rule asks the rules first, and only then whether there is a pair
+stays_or : (o : Option Pair) (asks : Bool) → asks ≡ true → by_found o (λ p. true) asks ≡ true
+stays_or None asks h = h
+stays_or (Some p) asks h = refl
+
+pub add_stays : (q : Looked) (n : ℕ) (r : Rule) (gs ss : List Group) (o : Option Pair) (test : Bool) → ss ≡ gs → test ≡ in_group (adds q r) (find (is_group n) ss) → test ≡ true → by_found o (λ p. true) (all_same q n (λ h. h.rules ++ r ∷ []) gs) ≡ true
+add_stays q n r gs ss o test e t h = stays_or o (all_same q n (λ h. h.rules ++ r ∷ []) gs) (adds_same q n r gs (sym (ap (λ gs. in_group (adds q r) (find (is_group n) gs)) e) ∙ (sym t ∙ h)))
 
 pub drop_none : (q : Looked) (n k : ℕ) (gs ss : List Group) (o : Option Pair) (f : Pair → Bool) (test : Bool) → ss ≡ gs → test ≡ in_group (drops q k) (find (is_group n) ss) → o ≡ None → test ≡ true → by_found o f (all_same q n (λ h. removed (is_rule k) h.rules) gs) ≡ true
 drop_none q n k gs ss o f test e t i h = none_found o f (all_same q n (λ h. removed (is_rule k) h.rules) gs) i (drops_same q n k gs (sym (ap (λ gs. in_group (drops q k) (find (is_group n) gs)) e) ∙ (sym t ∙ h)))

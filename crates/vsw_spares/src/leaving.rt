@@ -26,14 +26,14 @@ fn allows(layer: &Layer, dir: Dir) -> bool
     }
 }
 
-/// Another default.
+/// Another default. A pair is looked for only where the default would be the look's own and another: a command asks each row.
 pub fn default_leaves(layer: &Layer, look: &Looked, number: u16, dir: Dir, allow: bool) -> bool
     ensures { result ≡ leaves (SetDefault number dir allow) (seen layer.now) look.now }
 {
-    match layer.flows.find(look.dir, &look.key) {
-        Some(_) => true,
-        None => dir != look.dir || allow == allows(layer, dir),
+    if dir != look.dir || allow == allows(layer, dir) {
+        return true;
     }
+    layer.flows.find(look.dir, &look.key).is_some()
 }
 
 /// A sweep.
@@ -113,10 +113,10 @@ fn rules_stay_clearing(look: &Looked, number: u16, groups: &[Group]) -> bool
 pub fn add_rule_leaves(layer: &Layer, look: &Looked, number: u16, group: u16, rule: &Rule) -> bool
     ensures { result ≡ true → leaves (AddRule number group rule.now) (seen layer.now) look.now ≡ true }
 {
-    match layer.flows.find(look.dir, &look.key) {
-        Some(_) => true,
-        None => rules_stay_adding(look, group, rule, layer.groups.as_slice()),
+    if rules_stay_adding(look, group, rule, layer.groups.as_slice()) {
+        return true;
     }
+    layer.flows.find(look.dir, &look.key).is_some()
 }
 
 /// A rule goes.

@@ -1,4 +1,3 @@
-use Rattle.std.proofs.Common.{sym, ap, true, ◌∙◌, option_copied}
 use Rattle.vsw_layerflow.specs.Pairs.{pair_of}
 use Rattle.vsw_spares.proofs.Stayed.{add_stays}
 use Rattle.vsw_spares.proofs.leaving.add_rule_leaves.Goals as goal

@@ -11,3 +11,8 @@ pub mod Formed
 pub mod Loosely
 pub mod Halves
 pub mod Taken
+pub mod Pairs
+pub mod OfKind
+pub mod Read
+pub mod Done
+pub mod Tallied

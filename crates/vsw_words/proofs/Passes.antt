@@ -163,18 +163,19 @@ verdict_back (Default c l In) n fit e =
     rw (k, a, b) refl
 
 -- the words of a body tell its verdict
-told_verdict : (word until count first : ℕ) (last : List ℕ) (v : Verdict) (by : List Act) (u : ℕ) → first ≡ get_or last 0 0 → IsBody v by → word ∷ until ∷ count ∷ last ≡ body_words v by u → verdict_of word first ≡ Some v
+pub told_verdict : (word until count first : ℕ) (last : List ℕ) (v : Verdict) (by : List Act) (u : ℕ) → first ≡ get_or last 0 0 → IsBody v by → word ∷ until ∷ count ∷ last ≡ body_words v by u → verdict_of word first ≡ Some v
 told_verdict word until count first last v by u f body e =
     let p = parts word until count last v by u e in
     let dropper : IsDropper v first = subst (IsDropper v) (sym (f ∙ ap (λ (l : List ℕ). get_or l 0 0) p.3)) (dropper_of v by) in
     rw p.0 (verdict_back v first body.numbers dropper)
 
-pub none_back : (word until count first : ℕ) (last : List ℕ) (o : Option Verdict) → first ≡ get_or last 0 0 → o ≡ verdict_of word first → o ≡ None → (v : Verdict) (by : List Act) (u : ℕ) → IsBody v by → word ∷ until ∷ count ∷ last ≡ body_words v by u → ⊥
-none_back word until count first last o f is none v by u body e = no_some v (sym none ∙ is ∙ told_verdict word until count first last v by u f body e) where
-  no_some : (v : Verdict) → ◌≡◌ {A = Option Verdict} None (Some v) → ⊥
-  no_some v h = grind (arith, common_steps)
+pub none_is : (v : Verdict) → ◌≡◌ {A = Option Verdict} None (Some v) → ⊥
+none_is v h = grind (arith, common_steps)
 
-some_is : (v w : Verdict) → ◌≡◌ {A = Option Verdict} (Some v) (Some w) → v ≡ w
+pub none_back : (word until count first : ℕ) (last : List ℕ) (o : Option Verdict) → first ≡ get_or last 0 0 → o ≡ verdict_of word first → o ≡ None → (v : Verdict) (by : List Act) (u : ℕ) → IsBody v by → word ∷ until ∷ count ∷ last ≡ body_words v by u → ⊥
+none_back word until count first last o f is none v by u body e = none_is v (sym none ∙ is ∙ told_verdict word until count first last v by u f body e)
+
+pub some_is : (v w : Verdict) → ◌≡◌ {A = Option Verdict} (Some v) (Some w) → v ≡ w
 some_is v w h = grind (arith, common_steps)
 
 pub some_told : (word until count first micros : ℕ) (last : List ℕ) (w : Verdict) (by : List Act) → first ≡ get_or last 0 0 → micros ≡ until → (word ≡ verdict_word w) × IsDropper w first → (IsDropper w (get_or last 0 0) → IsLast w count last by) → IsTold (word ∷ until ∷ count ∷ last) w by micros

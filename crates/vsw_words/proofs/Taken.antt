@@ -148,7 +148,7 @@ three (h ∷ []) l = absurd (omega (arith, l))
 three (h ∷ a ∷ []) l = absurd (omega (arith, l))
 
 -- the words by their first three and the others
-parted : (ws rest : List ℕ) (w : ℕ × ℕ × ℕ) → 3 ≤ length ws → w ≡ (get_or ws 0 0, get_or ws 1 0, get_or ws 2 0) → rest ≡ drop 3 ws → ws ≡ w.0 ∷ w.1 ∷ w.2 ∷ rest
+pub parted : (ws rest : List ℕ) (w : ℕ × ℕ × ℕ) → 3 ≤ length ws → w ≡ (get_or ws 0 0, get_or ws 1 0, get_or ws 2 0) → rest ≡ drop 3 ws → ws ≡ w.0 ∷ w.1 ∷ w.2 ∷ rest
 parted ws rest w l e f = three ws l ∙ ap (λ (v : ℕ × ℕ × ℕ). v.0 ∷ v.1 ∷ v.2 ∷ drop 3 ws) (sym e) ∙ ap (λ (r : List ℕ). w.0 ∷ w.1 ∷ w.2 ∷ r) (sym f)
 
 -- one act is taken, and the others are left
@@ -176,10 +176,10 @@ two_taken (suc n) ws rest behind w o z p l e f g t is joins =
     let whole = two_at n w.0 w.1 w.2 rest z (ap (λ (vs : List ℕ). is_some (read_acts (suc n) vs)) (sym parts) ∙ t) (ap (λ (m : ℕ). both_of (src_of w.0 w.1 w.2) (dst_ahead m rest)) less ∙ sym is ∙ joins) in
     (omega (arith, whole.0), subst (λ (us : List ℕ). P (suc n - 2) ws us) (sym g) (subst (λ (vs : List ℕ). P (suc n - 2) vs (drop 3 rest)) (sym parts) (subst (λ (m : ℕ). P m (w.0 ∷ w.1 ∷ w.2 ∷ rest) (drop 3 rest)) fewer whole.1)))
 
-push_more : (old xs : List Act) (x : Act) → (old ++ x ∷ []) ++ xs ≡ old ++ x ∷ xs
+push_more : {A : Type 0} (old xs : List A) (x : A) → (old ++ x ∷ []) ++ xs ≡ old ++ x ∷ xs
 push_more [] xs x = refl
-push_more (y ∷ old) xs x = ap (λ (l : List Act). y ∷ l) (push_more old xs x)
+push_more (y ∷ old) xs x = ap (λ l. y ∷ l) (push_more old xs x)
 
 -- what was pushed, and then the others
-pub pushed_on : (old pushed new xs ys : List Act) (x : Act) → pushed ≡ old ++ x ∷ [] → new ≡ pushed ++ xs → ys ≡ x ∷ xs → new ≡ old ++ ys
-pushed_on old pushed new xs ys x e f g = f ∙ ap (λ (l : List Act). l ++ xs) e ∙ push_more old xs x ∙ ap (λ (l : List Act). old ++ l) (sym g)
+pub pushed_on : {A : Type 0} (old pushed new xs ys : List A) (x : A) → pushed ≡ old ++ x ∷ [] → new ≡ pushed ++ xs → ys ≡ x ∷ xs → new ≡ old ++ ys
+pushed_on old pushed new xs ys x e f g = f ∙ ap (λ l. l ++ xs) e ∙ push_more old xs x ∙ ap (λ l. old ++ l) (sym g)

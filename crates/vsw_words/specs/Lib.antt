@@ -7,3 +7,5 @@ pub mod Slot
 pub mod Stage
 pub mod Law
 pub mod Loose
+pub mod Doing
+pub mod Private

@@ -2,6 +2,7 @@
 
 ghost use Rattle.std.specs.Prelude.{◌≡◌, ◌<◌, ◌^◌, None, Some, is_some, true};
 ghost use Rattle.vsw_base.specs.Fits.{IsFit};
+ghost use Rattle.vsw_words.specs.Private.Acts.{pair_of};
 ghost use Rattle.vsw_words.specs.Reading as reading;
 ghost use Rattle.vsw_words.specs.Reading.{IsBelow, IsActFit, IsRanged};
 ghost use Rattle.vsw_words.specs.Row as spec;
@@ -214,8 +215,7 @@ fn port_word(port: &Option<u16>) -> u64
     }
 }
 
-/// The source and the destination whose words these are, as one change, where the first three words are of a lone source
-/// and the first of so many acts behind them is a lone destination.
+/// The source and the destination whose words these are, as one act: see `pair`.
 #[inline(always)]
 pub(crate) fn joined_act(
     head: u64,
@@ -226,21 +226,33 @@ pub(crate) fn joined_act(
 ) -> Option<Act>
     ensures { result ≡ reading.both_of (reading.src_of head first second) (reading.dst_ahead count behind.now) }
 {
+    match pair(head, first, second, count, behind) {
+        None => None,
+        Some(change) => Some(Act::Modify(change)),
+    }
+}
+
+/// The change of both addresses of IPv6, where the first three words are of a lone source and the first of so many acts
+/// behind them is a lone destination.
+#[inline(always)]
+pub(crate) fn pair(head: u64, first: u64, second: u64, count: u64, behind: &[u64]) -> Option<Change>
+    ensures { result ≡ pair_of (reading.src_of head first second) (reading.dst_ahead count behind.now) }
+{
     if head % 16 != 9 {
         return None;
     }
     match dst_ahead(count, behind) {
         None => None,
-        Some(dst) => Some(Act::Modify(Change::Six {
+        Some(dst) => Some(Change::Six {
             src: Some(ip6(first, second)),
             dst: Some(dst),
-        })),
+        }),
     }
 }
 
 /// The destination, where the first of so many acts is a lone one.
 #[inline(always)]
-fn dst_ahead(count: u64, words: &[u64]) -> Option<Ip6>
+pub(crate) fn dst_ahead(count: u64, words: &[u64]) -> Option<Ip6>
     ensures { result ≡ reading.dst_ahead count words.now }
 {
     if count == 0 {
@@ -333,8 +345,9 @@ fn act_by(head: u64, first: u64, second: u64) -> Option<Act>
     }
 }
 
+/// The Ethernet header that words push.
 #[inline(always)]
-fn ether_by(head: u64, first: u64, second: u64) -> Header
+pub(crate) fn ether_by(head: u64, first: u64, second: u64) -> Header
     ensures { result ≡ reading.ether_by head first second }
 {
     Header::Ether {
@@ -344,8 +357,9 @@ fn ether_by(head: u64, first: u64, second: u64) -> Header
     }
 }
 
+/// The IPv4 header that words push.
 #[inline(always)]
-fn ip_by(head: u64, first: u64, second: u64) -> Header
+pub(crate) fn ip_by(head: u64, first: u64, second: u64) -> Header
     ensures { result ≡ reading.ip_by head first second }
 {
     Header::Ip {
@@ -356,8 +370,9 @@ fn ip_by(head: u64, first: u64, second: u64) -> Header
     }
 }
 
+/// The VXLAN header that words push.
 #[inline(always)]
-fn vxlan_by(head: u64) -> Header
+pub(crate) fn vxlan_by(head: u64) -> Header
     ensures { result ≡ reading.vxlan_by head }
 {
     Header::Vxlan {
@@ -365,8 +380,9 @@ fn vxlan_by(head: u64) -> Header
     }
 }
 
+/// The change of an Ethernet header.
 #[inline(always)]
-fn ether_change(head: u64, first: u64, second: u64) -> Change
+pub(crate) fn ether_change(head: u64, first: u64, second: u64) -> Change
     ensures { result ≡ reading.ether_change head first second }
 {
     Change::Ether {
@@ -383,8 +399,9 @@ fn ether_change(head: u64, first: u64, second: u64) -> Change
     }
 }
 
+/// The change of an IPv4 header.
 #[inline(always)]
-fn ip_change(head: u64, first: u64, second: u64) -> Change
+pub(crate) fn ip_change(head: u64, first: u64, second: u64) -> Change
     ensures { result ≡ reading.ip_change head first second }
 {
     Change::Ip {
@@ -401,8 +418,9 @@ fn ip_change(head: u64, first: u64, second: u64) -> Change
     }
 }
 
+/// The change of ports.
 #[inline(always)]
-fn ports_change(head: u64, first: u64, second: u64) -> Change
+pub(crate) fn ports_change(head: u64, first: u64, second: u64) -> Change
     ensures { result ≡ reading.ports_change head first second }
 {
     Change::Ports {
@@ -447,8 +465,9 @@ fn ip4(word: u64) -> Ip4
     Ip4::of((word % 0x1_0000_0000) as u32)
 }
 
+/// An address of IPv6 of its two halves.
 #[inline(always)]
-fn ip6(high: u64, low: u64) -> Ip6
+pub(crate) fn ip6(high: u64, low: u64) -> Ip6
     ensures { result ≡ reading.ip6 high low }
 {
     Ip6::of(u128::from(high) * 0x1_0000_0000_0000_0000 + u128::from(low))

@@ -63,7 +63,7 @@ fn take_body(verdict: u64, until: u64, count: u64, last: &[u64], out: &mut Body)
     ensures { (v : Verdict) (by : List Act) (u : ℕ) → IsBody v by → verdict ∷ until ∷ count ∷ last.now ≡ body_words v by u → (out.new.verdict ≡ v) × (out.new.by ≡ by) × (out.new.until ≡ u) }
 {
     out.until = Moment::of(until);
-    match verdict_of(verdict, first(last)) {
+    match verdict_of(verdict, word(last, 0)) {
         // The words of a body have a verdict.
         None => {}
         Some(verdict) => {
@@ -113,7 +113,7 @@ fn read_body(verdict: u64, until: u64, count: u64, last: &[u64], out: &mut Body)
     ensures back { (v : Verdict) (by : List Act) (u : ℕ) → IsBody v by → verdict ∷ until ∷ count ∷ last.now ≡ body_words v by u → (result ≡ true) × (out.new.verdict ≡ v) × (out.new.by ≡ by) × (out.new.until ≡ u) }
 {
     out.until = Moment::of(until);
-    match verdict_of(verdict, first(last)) {
+    match verdict_of(verdict, word(last, 0)) {
         None => false,
         Some(verdict) => {
             out.verdict = verdict;
@@ -122,11 +122,13 @@ fn read_body(verdict: u64, until: u64, count: u64, last: &[u64], out: &mut Body)
     }
 }
 
-fn first(words: &[u64]) -> u64
-    requires { 0 < length words.now }
-    ensures { result ≡ get_or words.now 0 0 }
+/// The word at a place.
+#[inline(always)]
+pub(crate) fn word(words: &[u64], place: usize) -> u64
+    requires { place < length words.now }
+    ensures { result ≡ get_or words.now place 0 }
 {
-    words[0]
+    words[place]
 }
 
 /// Reads what stands behind the number of acts.
@@ -156,7 +158,8 @@ fn read_drop(count: u64, last: &[u64], by: &mut Transposition) -> bool
 }
 
 /// The verdict of its word and the word of who drops.
-fn verdict_of(word: u64, dropper: u64) -> Option<Verdict>
+#[inline(always)]
+pub(crate) fn verdict_of(word: u64, dropper: u64) -> Option<Verdict>
     ensures value { result ≡ spec.verdict_of word dropper }
     ensures word { IfSome result (λ v. (word ≡ verdict_word v) × IsDropper v dropper) }
 {
@@ -267,8 +270,9 @@ fn write_acts(count: u64, words: &[u64], out: &mut Acts)
     }
 }
 
+/// The words of the first act.
 #[inline(always)]
-fn first_three(words: &[u64]) -> (u64, u64, u64)
+pub(crate) fn first_three(words: &[u64]) -> (u64, u64, u64)
     requires { 3 ≤ length words.now }
     ensures { result ≡ (get_or words.now 0 0, get_or words.now 1 0, get_or words.now 2 0) }
 {
@@ -277,7 +281,7 @@ fn first_three(words: &[u64]) -> (u64, u64, u64)
 
 /// The words behind those of an act.
 #[inline(always)]
-fn behind(words: &[u64]) -> &[u64]
+pub(crate) fn behind(words: &[u64]) -> &[u64]
     ensures { result.now ≡ drop 3 words.now }
 {
     if words.len() < 3 { &[] } else { &words[3..] }

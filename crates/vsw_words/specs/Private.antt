@@ -1,0 +1,2 @@
+-- What contracts of private functions are of. No caller need read it.
+pub mod Acts

@@ -1,5 +1,5 @@
 pub mod Rows
-pub mod Ignored
+pub mod Sizes
 pub mod Looks
 pub mod Answered
 pub mod Fates

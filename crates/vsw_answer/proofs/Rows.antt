@@ -3,7 +3,7 @@ use Rattle.std.proofs.Common.{◌≡◌, ◌≤◌, ◌<◌, ℕ, List, [], ◌+
 use Rattle.std.proofs.Math.Seq.{drop-append_seam}
 use Rattle.vsw_port.specs.declared.stop.Stop.{Stop}
 use Rattle.vsw_port.specs.Admit.{stop_of}
-use Rattle.vsw_answer.specs.Private.Said.{AreEdited, AreWordsOf, IfPasses, IsBodyOf, IsEdited, IsFound, Said, SaidLate, fate_said, row_with}
+use Rattle.vsw_answer.specs.Private.Said.{AreEdited, AreWordsOf, IfPasses, IsBodyOf, IsEdited, IsFound, IsOf, Said, SaidLate, fate_said, row_with}
 use Rattle.vsw_base.specs.declared.fate.Cause.{Cause}
 use Rattle.vsw_base.specs.declared.fate.Fate.{Fate}
 use Rattle.vsw_base.specs.declared.fate.Fate.TheVariants.{Pass, Drop}
@@ -24,13 +24,11 @@ use Rattle.vsw_rows.proofs.Answered.{row_answers}
 use Rattle.vsw_port.specs.declared.crossing.Outcome.{Outcome}
 use Rattle.vsw_port.specs.Crossed.{EditsPass, IsOwn}
 use Rattle.vsw_rows.proofs.Answers.{fronts, key_length, words_are}
-use Rattle.vsw_transpose.specs.declared.act.Act.{Act}
 use Rattle.vsw_transpose.specs.Apply.{apply}
 use Rattle.vsw_transpose.specs.Fits as fit
 use Rattle.vsw_words.specs.declared.row.Body.{Body}
 use Rattle.vsw_words.specs.Key.{key_words}
 use Rattle.vsw_words.specs.Law.{IsId}
-use Rattle.vsw_words.specs.Reading.{IsBody}
 use Rattle.vsw_words.specs.Row.{body_words}
 use Rattle.vsw_words.proofs.Decoded.{apart}
 
@@ -49,25 +47,22 @@ found_is o h x words is found =
     let same : key ≡ other = fronts key words other said (key_length x.id.dir x.id.stack) (key_length row.id.dir row.id.stack) all in
     (apart x.id row.id is found.id same, rests key words other said (key_length x.id.dir x.id.stack) (key_length row.id.dir row.id.stack) all)
 
-pub found_body : (o : Opening) (h : List Event) (x : Crossing) (words : List ℕ) → IsId x.id → IsFound o h x.id words → (v : Verdict) × (acts : List Act) × (until : ℕ) × IsBody v acts × (words ≡ body_words v acts until)
-found_body o h x words is found = (found.row.verdict, found.row.acts, found.row.until, found.body, (found_is o h x words is found).1)
+-- what the row that was found says
+abbrev pub says_of : Row → Body
+says_of r = record { verdict = r.verdict; by = r.acts; until = r.until }
 
--- what a body says that is read back from the words of a row
-abbrev pub ReadsBack : List ℕ → Body → Type 0
-ReadsBack words b = (v : Verdict) (acts : List Act) (until : ℕ) → IsBody v acts → words ≡ body_words v acts until → (b.verdict ≡ v) × (b.by ≡ acts) × (b.until ≡ until)
+row_is : (o : Opening) (h : List Event) (x : Crossing) (words : List ℕ) → IsId x.id → (found : IsFound o h x.id words) → row_with x (says_of found.row) ≡ found.row
+row_is o h x words is found = let f = found_is o h x words is found in λ i. record { id = f.0 i; verdict = found.row.verdict; acts = found.row.acts; until = found.row.until }
 
--- a body that is read from the words of a row that was found says what that row says
-row_back : (o : Opening) (h : List Event) (x : Crossing) (words : List ℕ) (b : Body) → IsId x.id → (found : IsFound o h x.id words) → ReadsBack words b → row_with x b ≡ found.row
-row_back o h x words b is found back =
-    let f = found_is o h x words is found in
-    let t = back found.row.verdict found.row.acts found.row.until found.body f.1 in
-    λ i. record { id = f.0 i; verdict = t.0 i; acts = t.1 i; until = t.2 i }
+pub found_good : (o : Opening) (h : List Event) (x : Crossing) (words : List ℕ) → IsId x.id → (found : IsFound o h x.id words) → IsBodyOf o h x (says_of found.row)
+found_good o h x words is found = subst (Good (replay o h)) (sym (row_is o h x words is found)) found.good
 
-pub read_back : (o : Opening) (h : List Event) (x : Crossing) (words : List ℕ) (b : Body) → IsId x.id → IsFound o h x.id words → ReadsBack words b → IsBodyOf o h x b
-read_back o h x words b is found back = subst (Good (replay o h)) (sym (row_back o h x words b is found back)) found.good
+pub found_whole : (o : Opening) (h : List Event) (x : Crossing) (words : List ℕ) → IsId x.id → (found : IsFound o h x.id words) → AreWordsOf x words (row_with x (says_of found.row))
+found_whole o h x words is found = subst (AreWordsOf x words) (sym (row_is o h x words is found)) found.words_is
 
-pub read_whole : (o : Opening) (h : List Event) (x : Crossing) (words : List ℕ) (b : Body) → IsId x.id → IsFound o h x.id words → ReadsBack words b → AreWordsOf x words (row_with x b)
-read_whole o h x words b is found back = subst (AreWordsOf x words) (sym (row_back o h x words b is found back)) found.words_is
+-- its words are those of what it says
+pub found_of : (o : Opening) (h : List Event) (x : Crossing) (words : List ℕ) → IsId x.id → (found : IsFound o h x.id words) → IsOf x words (says_of found.row)
+found_of o h x words is found = ((found.body, (found_is o h x words is found).1), (found_good o h x words is found).fits)
 
 is_pass : Fate → Bool
 is_pass (Pass len) = true
@@ -118,7 +113,3 @@ said o h x words b edited outcome count plain good whole time many fate edits ow
 
 pub said_late : (o : Opening) (h : List Event) (x : Crossing) (words : List ℕ) (b : Body) → IsBodyOf o h x b → AreWordsOf x words (row_with x b) → b.until < x.moment → SaidLate o h x words
 said_late o h x words b good whole late = record { row = row_with x b; whole = whole; id = refl; good = good; late = late }
-
--- the acts of a good row that passes fit
-pub acts_fit : (o : Opening) (h : List Event) (x : Crossing) (b : Body) → IsBodyOf o h x b → b.verdict ≡ verdict.Pass → fit.fits b.by x.id.stack ≡ true
-acts_fit o h x b good passes = good.fits passes

@@ -2,7 +2,7 @@
 
 ghost use Rattle.std.specs.Prelude.{◌≡◌, ◌<◌, ◌≤◌, ◌+◌, ◌%◌, ◌++◌, ℕ, List, length};
 ghost use Rattle.vsw_answer.specs.Answers.{HasHit, Sees, Tells};
-ghost use Rattle.vsw_answer.specs.Private.Said.{AreWordsOf, IsBodyOf, IsFound, Says, row_with};
+ghost use Rattle.vsw_answer.specs.Private.Said.{IsFound, Says};
 ghost use Rattle.vsw_base.specs.declared.packet.Control.TheVariants as control;
 ghost use Rattle.vsw_flows.specs.Flows.{IsOf};
 ghost use Rattle.vsw_port.specs.declared.event.Event.{Event};
@@ -20,7 +20,7 @@ use vsw_base::{Control, Crossing, Stack, Ufid};
 use vsw_flows::PortStory;
 use vsw_port::Outcome;
 use vsw_table::{Look, Lookup, Pass};
-use vsw_words::{Body, body_from, key_words, slot_of};
+use vsw_words::{key_words, slot_of, until_in};
 
 /// What the rows tell of a packet.
 #[derive(Clone, Copy, Debug, PartialEq, Eq)]
@@ -53,13 +53,7 @@ pub fn answer_by_row(
     }
     match seek(lookup, pass, &crossing.id, &mut desk.key, &mut desk.words) {
         Look::Miss { .. } => RowAnswer::Miss,
-        Look::Hit { count } => answer(
-            crossing,
-            count,
-            &desk.words,
-            &mut desk.body,
-            &mut desk.edited,
-        ),
+        Look::Hit { count } => answer(crossing, count, &desk.words, &mut desk.edited),
     }
 }
 
@@ -87,34 +81,17 @@ fn seek(
 }
 
 /// What a row that was found says of the packet.
-fn answer(
-    crossing: &Crossing,
-    count: u32,
-    words: &[u64; 57],
-    body: &mut Body,
-    edited: &mut Stack,
-) -> RowAnswer
+fn answer(crossing: &Crossing, count: u32, words: &[u64; 57], edited: &mut Stack) -> RowAnswer
     requires control { crossing.now.control ≡ control.None }
     requires id { IsId crossing.now.id }
     requires found { (o : Opening) × (h : List Event) × IsFound o h crossing.now.id words.now }
     ensures says { (o : Opening) (h : List Event) → IsFound o h crossing.now.id words.now → count ≡ length h → Says o h crossing.now words.now edited.new result }
 {
-    read(crossing, words, body);
-    if body.until.micros() < crossing.moment.micros() {
+    if until_in(words).micros() < crossing.moment.micros() {
         return RowAnswer::Late;
     }
     RowAnswer::Read {
-        outcome: outcome_by(crossing, body, edited),
+        outcome: outcome_by(crossing, words, edited),
         count,
     }
-}
-
-/// Reads the body of a row that was found.
-fn read(crossing: &Crossing, words: &[u64; 57], body: &mut Body)
-    requires id { IsId crossing.now.id }
-    requires found { (o : Opening) × (h : List Event) × IsFound o h crossing.now.id words.now }
-    ensures body { (o : Opening) (h : List Event) → IsFound o h crossing.now.id words.now → IsBodyOf o h crossing.now body.new }
-    ensures whole { (o : Opening) (h : List Event) → IsFound o h crossing.now.id words.now → AreWordsOf crossing.now words.now (row_with crossing.now body.new) }
-{
-    body_from(words, body);
 }

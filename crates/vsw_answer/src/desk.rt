@@ -4,15 +4,13 @@ ghost use Rattle.std.specs.Prelude.{◌≡◌};
 
 use std::marker::Model;
 use vsw_base::Stack;
-use vsw_words::Body;
 
-/// The key words of a packet's identity, the words and the body of a row, and the headers that the row's acts give.
+/// The key words of a packet's identity, the words of a row's body, and the headers that the row's acts give.
 /// A desk lives on from packet to packet. Contracts see the headers.
 #[derive(Drop)]
 pub struct Desk {
     pub(crate) key: [u64; 16],
     pub(crate) words: [u64; 57],
-    pub(crate) body: Body,
     pub(crate) edited: Stack,
 }
 
@@ -31,7 +29,6 @@ impl Desk {
         Desk {
             key: [0; 16],
             words: [0; 57],
-            body: Body::room(),
             edited: Stack::room(),
         }
     }

@@ -1,10 +1,12 @@
 -- What a row that was found says of the packet that found it.
-use Rattle.std.specs.Prelude.{◌≡◌, ◌<◌, ◌≤◌, ◌++◌, ℕ, List, [], ◌∷◌, false, true, length}
+use Rattle.std.specs.Prelude.{◌≡◌, ◌<◌, ◌≤◌, ◌++◌, ℕ, List, false, true, length}
 use Rattle.vsw_answer.specs.declared.answer.RowAnswer.{RowAnswer}
 use Rattle.vsw_answer.specs.declared.answer.RowAnswer.TheVariants.{Read, Control, Miss, Late}
 use Rattle.vsw_base.specs.declared.fate.Fate.{Fate}
 use Rattle.vsw_base.specs.declared.fate.Fate.TheVariants.{Pass, Drop}
+use Rattle.vsw_base.specs.declared.fate.Verdict.TheVariants as verdict
 use Rattle.vsw_base.specs.declared.flow.Crossing.{Crossing}
+use Rattle.vsw_words.specs.Doing.{AreOf}
 use Rattle.vsw_base.specs.declared.flow.Ufid.{Ufid}
 use Rattle.vsw_base.specs.declared.header.Header.{Header}
 use Rattle.vsw_base.specs.Frame.{Parts}
@@ -20,7 +22,6 @@ use Rattle.vsw_port.specs.Crossed.{EditsPass, IsOwn}
 use Rattle.vsw_rows.specs.Law.{row_found}
 use Rattle.vsw_rows.specs.GoodRows.{IsGoodRow, words_of}
 use Rattle.vsw_transpose.specs.declared.act.Act.{Act}
-use Rattle.vsw_transpose.specs.declared.act.Act.TheVariants.{Ignore}
 use Rattle.vsw_transpose.specs.Apply.{apply}
 use Rattle.vsw_transpose.specs.Fits as fit
 use Rattle.vsw_words.specs.declared.row.Body.{Body}
@@ -41,6 +42,10 @@ IsBodyOf o h x b = Good (replay o h) (row_with x b)
 abbrev pub AreWordsOf : Crossing → List ℕ → Row → Type 0
 AreWordsOf x words row = key_words x.id.dir x.id.stack ++ words ≡ words_of row
 
+-- the words are those of this body, whose acts fit the packet where it passes
+abbrev pub IsOf : Crossing → List ℕ → Body → Type 0
+IsOf x words b = AreOf words b.verdict b.by b.until × (b.verdict ≡ verdict.Pass → fit.fits b.by x.id.stack ≡ true)
+
 -- the fate that a body gives the packet
 abbrev pub fate_said : Crossing → Body → Fate
 fate_said x b = fate_by x (fate_after b.verdict (stop_by (row_with x b) x) (apply b.by x.id.stack) (fit.kept b.by))
@@ -49,12 +54,6 @@ fate_said x b = fate_by x (fate_after b.verdict (stop_by (row_with x b) x) (appl
 pub record AreEdited (x : Crossing) (acts : List Act) (edited : List Header) (kept : ℕ) : Type 0 where
   pub stack : edited ≡ apply acts x.id.stack
   pub kept_is : kept ≡ fit.kept acts
-
--- acts that leave each header as it is
-abbrev pub AreIgnores : List Act → Type 0
-AreIgnores [] = Unit {0}
-AreIgnores (Ignore ∷ acts) = AreIgnores acts
-AreIgnores (act ∷ acts) = ⊥
 
 abbrev pub IfPasses : Fate → Type 0 → Type 0
 IfPasses (Pass len) fact = fact

@@ -1,5 +1,0 @@
-use Rattle.std.proofs.Common.{length}
-use Rattle.vsw_answer.proofs.outcome.+is_nothing.Given as goal
-
-abbrev pub decreases-is_nothing : goal.decreases-is_nothing
-decreases-is_nothing l = length l.acts.now

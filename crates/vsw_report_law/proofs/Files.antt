@@ -84,6 +84,7 @@ tells_read s t (ending.Policy why) text f are w = absurd w
 tells_read s t (ending.Commands why) text f are w = absurd w
 tells_read s t (ending.Report why) text f are w = absurd w
 tells_read s t ending.Illegal text f are w = absurd w
+tells_read s t (ending.Rows why) text f are w = absurd w
 
 workers_are : (words : List (List ℕ)) (q : Request) → asked_in words ≡ Some (Forward q) → IsCount q.workers
 workers_are words q e = let h : Asks words (Forward q) = (reads_grammar words (Forward q)).0 e in counted h.3.option q.workers h.3.option_is

@@ -208,3 +208,4 @@ found_check c old new a ending.ReadFault told clean n r = absurd (clean.read r.e
 found_check c old new a ending.WriteFault told clean n r = absurd (clean.put r.ends.0)
 found_check c old new a ending.Memory told clean n r = absurd (n refl)
 found_check c old new a ending.Usage told clean n r = absurd r.ends
+found_check c old new a (ending.Rows why) told clean n r = absurd r.ends

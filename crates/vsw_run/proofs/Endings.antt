@@ -111,6 +111,7 @@ one_ending file ending.Done (ending.Commands why) rs qs a b = absurd b
 one_ending file ending.Done ending.Memory rs qs a b = absurd b
 one_ending file ending.Done (ending.Report why) rs qs a b = absurd b
 one_ending file ending.Done ending.Illegal rs qs a b = absurd b
+one_ending file ending.Done (ending.Rows why) rs qs a b = absurd b
 one_ending file (ending.Trace bad) ending.Usage rs qs a b = absurd b
 one_ending file (ending.Trace bad) ending.ReadFault rs qs a b = absurd b
 one_ending file (ending.Trace bad) ending.WriteFault rs qs a b = absurd b
@@ -119,6 +120,7 @@ one_ending file (ending.Trace bad) (ending.Commands why) rs qs a b = absurd b
 one_ending file (ending.Trace bad) ending.Memory rs qs a b = absurd b
 one_ending file (ending.Trace bad) (ending.Report why) rs qs a b = absurd b
 one_ending file (ending.Trace bad) ending.Illegal rs qs a b = absurd b
+one_ending file (ending.Trace bad) (ending.Rows why) rs qs a b = absurd b
 one_ending file ending.Records ending.Usage rs qs a b = absurd b
 one_ending file ending.Records ending.ReadFault rs qs a b = absurd b
 one_ending file ending.Records ending.WriteFault rs qs a b = absurd b
@@ -127,6 +129,7 @@ one_ending file ending.Records (ending.Commands why) rs qs a b = absurd b
 one_ending file ending.Records ending.Memory rs qs a b = absurd b
 one_ending file ending.Records (ending.Report why) rs qs a b = absurd b
 one_ending file ending.Records ending.Illegal rs qs a b = absurd b
+one_ending file ending.Records (ending.Rows why) rs qs a b = absurd b
 one_ending file ending.Usage f rs qs a b = absurd a
 one_ending file ending.ReadFault f rs qs a b = absurd a
 one_ending file ending.WriteFault f rs qs a b = absurd a
@@ -135,6 +138,7 @@ one_ending file (ending.Commands why) f rs qs a b = absurd a
 one_ending file ending.Memory f rs qs a b = absurd a
 one_ending file (ending.Report why) f rs qs a b = absurd a
 one_ending file ending.Illegal f rs qs a b = absurd a
+one_ending file (ending.Rows why) f rs qs a b = absurd a
 
 -- ---- what was read of a file tells what it says
 
@@ -144,7 +148,7 @@ pub record IsOfFile (file : List ℕ) (t : Trace) : Type 0 where
   pub is : file ≡ t.bytes ++ more
   pub all : t.reach ≡ All → file ≡ t.bytes
 
-longer : (bytes more : List ℕ) (rs : List Record) (form : Form) (rest : List ℕ) → header_of bytes ≡ Ok form → Splits form (drop 24 bytes) rs rest → Splits form (drop 24 (bytes ++ more)) rs (rest ++ more)
+pub longer : (bytes more : List ℕ) (rs : List Record) (form : Form) (rest : List ℕ) → header_of bytes ≡ Ok form → Splits form (drop 24 bytes) rs rest → Splits form (drop 24 (bytes ++ more)) rs (rest ++ more)
 longer bytes more rs form rest h s = rw (drop-append-le 24 bytes more (accepted_long bytes form h)) (Splits-append form (drop 24 bytes) rs rest more s)
 
 pub huge_longer : (bytes more : List ℕ) (rs : List Record) (at : ℕ) → Stops bytes rs at Oversize → Stops (bytes ++ more) rs at Oversize

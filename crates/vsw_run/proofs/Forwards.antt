@@ -1,13 +1,13 @@
--- The words after `forward` and after `check`: what the grammar says of them is worked out of them, and nothing else.
+-- The words after `forward`, `check` and `engine`: what the grammar says of them is worked out of them, and nothing else.
 use Rattle.std.proofs.Common.{◌≡◌, ◌≢◌, ℕ, suc, Bool, true, false, List, [], ◌∷◌, length, Option, Some, None, cond, refl, sym, ap, ◌∙◌, subst, arith}
 use Rattle.std.specs.Prelude.{option_and_then}
 use Rattle.std.specs.List.{list_any}
 use Rattle.std.proofs.lemmas.Bool.{cond-false, ne_eqb, or_from, or_parts, both_ways}
 use Rattle.std.proofs.lemmas.List.Elements.{All-nil, All-cons, All-head, All-tail}
 use Rattle.std.proofs.lemmas.Option.{none-some, same_Some}
-use Rattle.vsw_run.specs.Grammar.{AreNames, IsForward, IsClaim, files_of}
-use Rattle.vsw_run.specs.Words.{Request, Claim, Named, is_empty, request_of, claim_of, named_in, forward_in, check_in}
-use Rattle.vsw_run.proofs.Naming.{Full, names_read, names_are}
+use Rattle.vsw_run.specs.Grammar.{AreNames, ArePlain, IsForward, IsClaim, IsQuery, files_of}
+use Rattle.vsw_run.specs.Words.{Request, Claim, Query, Named, is_empty, request_of, claim_of, query_of, named_in, plain_in, forward_in, check_in, engine_in}
+use Rattle.vsw_run.proofs.Naming.{Full, names_read, names_are, plain_read, plain_are}
 
 -- ---- names, none of them empty
 
@@ -97,3 +97,29 @@ check_is words c e =
     let b = behind claim_of words c e in
     let (count, are, full) = claim_is b.named.workers b.named.names c b.is in
     subst (λ n. AreNames words n (named c)) count (subst (AreNames words b.named.workers) are (names_are words b.named b.read full))
+
+-- ---- two names without an option
+
+abbrev two : Query → List (List ℕ)
+two q = q.rows ∷ q.trace ∷ []
+
+query_fits : (q : Query) → Full (two q) → query_of (two q) ≡ Some q
+query_fits q h = cond-false (list_any is_empty (two q)) None _ (none_empty (two q) h)
+
+query_is : (names : List (List ℕ)) (q : Query) → query_of names ≡ Some q → (names ≡ two q) × Full names
+query_is [] q e = absurd (none-some q e)
+query_is (r ∷ []) q e = absurd (none-some q e)
+query_is (r ∷ t ∷ []) q e =
+    let (f, is) = unless (list_any is_empty (r ∷ t ∷ [])) (record { rows = r; trace = t }) q e in (ap two is, all_full (r ∷ t ∷ []) f)
+query_is (r ∷ t ∷ x ∷ xs) q e = absurd (none-some q e)
+
+pub engine_reads : (words : List (List ℕ)) (q : Query) → IsQuery words q → engine_in words ≡ Some q
+engine_reads words q f = ap (option_and_then query_of) (plain_read words (two q) f) ∙ query_fits q f.nonempty
+
+pub engine_is : (words : List (List ℕ)) (q : Query) → engine_in words ≡ Some q → IsQuery words q
+engine_is words q e = by (plain_in words) refl e where
+  by : (o : Option (List (List ℕ))) → plain_in words ≡ o → option_and_then query_of o ≡ Some q → IsQuery words q
+  by None is e = absurd (none-some q e)
+  by (Some names) is e =
+      let (are, full) = query_is names q e in
+      subst (ArePlain words) are (plain_are words names is full)

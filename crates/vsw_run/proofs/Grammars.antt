@@ -5,9 +5,9 @@ use Rattle.std.proofs.lemmas.Option.{none-some, same_Some}
 use Rattle.std.proofs.lemmas.Slice.Eq.{bytes_eq-Decides}
 use Rattle.vsw_run.specs.Grammar.{IsGenerate, Asks}
 use Rattle.vsw_run.specs.GrammarLaw.{ReadsGrammar, RefusesOthers, ReadsForward, OneReading}
-use Rattle.vsw_run.specs.Words.{Request, Claim, Asked, Forward, Check, Generate, number_in, forward_in, check_in, generate_in, asked_in, request_in}
+use Rattle.vsw_run.specs.Words.{Request, Claim, Query, Asked, Forward, Check, Engine, Generate, number_in, forward_in, check_in, engine_in, generate_in, asked_in, request_in}
 use Rattle.vsw_run.proofs.Decimals.{number_is, number_of}
-use Rattle.vsw_run.proofs.Forwards.{forward_reads, forward_is, check_reads, check_is}
+use Rattle.vsw_run.proofs.Forwards.{forward_reads, forward_is, check_reads, check_is, engine_reads, engine_is}
 
 -- ---- the words after `generate`
 
@@ -50,6 +50,7 @@ generate_is (a ∷ b ∷ []) asked e = first (number_in 0 2147483647 a) refl e w
 asked_reads : (words : List (List ℕ)) (asked : Asked) → Asks words asked → asked_in words ≡ Some asked
 asked_reads words (Forward q) h = ap asked_in h.2 ∙ ap (option_map Forward) (forward_reads h.1 q h.3)
 asked_reads words (Check c) h = ap asked_in h.2 ∙ ap (option_map Check) (check_reads h.1 c h.3)
+asked_reads words (Engine q) h = ap asked_in h.2 ∙ ap (option_map Engine) (engine_reads h.1 q h.3)
 asked_reads words (Generate start packets) h = ap asked_in h.2 ∙ generate_reads h.1 start packets h.3
 
 forward_asks : (program command : List ℕ) (words : List (List ℕ)) (q : Request) → bytes_eq command (codes "forward") ≡ true → forward_in words ≡ Some q → Asks (program ∷ command ∷ words) (Forward q)
@@ -57,6 +58,9 @@ forward_asks program command words q t e = (program, words, ap (λ c. program �
 
 check_asks : (program command : List ℕ) (words : List (List ℕ)) (c : Claim) → bytes_eq command (codes "check") ≡ true → check_in words ≡ Some c → Asks (program ∷ command ∷ words) (Check c)
 check_asks program command words c t e = (program, words, ap (λ c. program ∷ c ∷ words) ((bytes_eq-Decides command (codes "check")).0 t), check_is words c e)
+
+engine_asks : (program command : List ℕ) (words : List (List ℕ)) (q : Query) → bytes_eq command (codes "engine") ≡ true → engine_in words ≡ Some q → Asks (program ∷ command ∷ words) (Engine q)
+engine_asks program command words q t e = (program, words, ap (λ c. program ∷ c ∷ words) ((bytes_eq-Decides command (codes "engine")).0 t), engine_is words q e)
 
 asked_is : (words : List (List ℕ)) (asked : Asked) → asked_in words ≡ Some asked → Asks words asked
 asked_is [] asked e = absurd (none-some asked e)
@@ -70,17 +74,25 @@ asked_is (program ∷ command ∷ words) asked e = first (bytes_eq command (code
   checks t None is e = absurd (none-some asked e)
   checks t (Some c) is e = subst (Asks (program ∷ command ∷ words)) (same_Some (Check c) asked e) (check_asks program command words c t is)
 
-  third : (b : Bool) → bytes_eq command (codes "generate") ≡ b → cond b (generate_in words) None ≡ Some asked → Asks (program ∷ command ∷ words) asked
-  third false t e = absurd (none-some asked e)
-  third true t e =
+  answers : bytes_eq command (codes "engine") ≡ true → (r : Option Query) → engine_in words ≡ r → option_map Engine r ≡ Some asked → Asks (program ∷ command ∷ words) asked
+  answers t None is e = absurd (none-some asked e)
+  answers t (Some q) is e = subst (Asks (program ∷ command ∷ words)) (same_Some (Engine q) asked e) (engine_asks program command words q t is)
+
+  fourth : (b : Bool) → bytes_eq command (codes "generate") ≡ b → cond b (generate_in words) None ≡ Some asked → Asks (program ∷ command ∷ words) asked
+  fourth false t e = absurd (none-some asked e)
+  fourth true t e =
       let g = generate_is words asked e in
       subst (Asks (program ∷ command ∷ words)) g.is (program, words, ap (λ c. program ∷ c ∷ words) ((bytes_eq-Decides command (codes "generate")).0 t), g.said)
 
-  second : (b : Bool) → bytes_eq command (codes "check") ≡ b → cond b (option_map Check (check_in words)) (cond (bytes_eq command (codes "generate")) (generate_in words) None) ≡ Some asked → Asks (program ∷ command ∷ words) asked
-  second true t e = checks t (check_in words) refl e
-  second false t e = third (bytes_eq command (codes "generate")) refl e
+  third : (b : Bool) → bytes_eq command (codes "engine") ≡ b → cond b (option_map Engine (engine_in words)) (cond (bytes_eq command (codes "generate")) (generate_in words) None) ≡ Some asked → Asks (program ∷ command ∷ words) asked
+  third true t e = answers t (engine_in words) refl e
+  third false t e = fourth (bytes_eq command (codes "generate")) refl e
 
-  first : (b : Bool) → bytes_eq command (codes "forward") ≡ b → cond b (option_map Forward (forward_in words)) (cond (bytes_eq command (codes "check")) (option_map Check (check_in words)) (cond (bytes_eq command (codes "generate")) (generate_in words) None)) ≡ Some asked → Asks (program ∷ command ∷ words) asked
+  second : (b : Bool) → bytes_eq command (codes "check") ≡ b → cond b (option_map Check (check_in words)) (cond (bytes_eq command (codes "engine")) (option_map Engine (engine_in words)) (cond (bytes_eq command (codes "generate")) (generate_in words) None)) ≡ Some asked → Asks (program ∷ command ∷ words) asked
+  second true t e = checks t (check_in words) refl e
+  second false t e = third (bytes_eq command (codes "engine")) refl e
+
+  first : (b : Bool) → bytes_eq command (codes "forward") ≡ b → cond b (option_map Forward (forward_in words)) (cond (bytes_eq command (codes "check")) (option_map Check (check_in words)) (cond (bytes_eq command (codes "engine")) (option_map Engine (engine_in words)) (cond (bytes_eq command (codes "generate")) (generate_in words) None))) ≡ Some asked → Asks (program ∷ command ∷ words) asked
   first true t e = forwards t (forward_in words) refl e
   first false t e = second (bytes_eq command (codes "check")) refl e
 

@@ -6,6 +6,7 @@ pub mod Grammars
 pub mod Stops
 pub mod Endings
 pub mod Checking
+pub mod Answering
 pub mod Wants
 pub mod Runs
 pub mod Wholes

@@ -7,8 +7,8 @@ use Rattle.std.proofs.lemmas.List.{take-append-drop}
 use Rattle.std.proofs.lemmas.List.Elements.{All-append, All-take, All-drop}
 use Rattle.std.proofs.lemmas.Option.{none-some, same_Some, cond_some}
 use Rattle.std.proofs.lemmas.Slice.Eq.{bytes_eq-Decides}
-use Rattle.vsw_run.specs.Grammar.{IsDashed, IsCount, IsOption, IsBehind, AreNames}
-use Rattle.vsw_run.specs.Words.{Opted, Named, number_in, before_dash, from_dash, behind_in, opted, joined_in, next_in, option_in, after_option, named_of, named_in}
+use Rattle.vsw_run.specs.Grammar.{IsDashed, IsCount, IsOption, IsBehind, AreNames, ArePlain}
+use Rattle.vsw_run.specs.Words.{Opted, Named, number_in, before_dash, from_dash, behind_in, opted, joined_in, next_in, option_in, after_option, named_of, named_in, plain_in}
 use Rattle.vsw_run.proofs.Decimals.{number_is, number_of}
 use Rattle.vsw_run.proofs.Stops.{Undashed, Stops, before_is, from_is, undashed, behind_stops, behind_of}
 
@@ -198,3 +198,33 @@ names_are words n e = by (behind_in (from_dash words)) refl e where
   by : (found : Option (List (List ℕ))) → behind_in (from_dash words) ≡ found → judged (before_dash words) (from_dash words) found ≡ Some n → Reads words n
   by (Some behind) last e = subst (Reads words) (same_Some (naming 1 (before_dash words ++ behind)) n e) (read_plain words behind last)
   by None last e = opted_last (option_in (from_dash words)) refl e
+
+-- ---- without an option
+
+abbrev with_behind : List (List ℕ) → Option (List (List ℕ)) → Option (List (List ℕ))
+with_behind before found = option_map (λ behind. before ++ behind) found
+
+pub plain_read : (words names : List (List ℕ)) → ArePlain words names → plain_in words ≡ Some names
+plain_read words names f =
+    let tail : Stops f.end = behind_stops f.end f.behind f.end_is in
+    ap plain_in f.shape
+    ∙ (ap₂ (λ before end. with_behind before (behind_in end)) (before_is f.before f.end f.undashed tail) (from_is f.before f.end f.undashed tail)
+    ∙ (ap (with_behind f.before) (behind_of f.end f.behind f.end_is) ∙ ap (λ (xs : List (List ℕ)). Some xs) f.all))
+
+read_names : (words behind : List (List ℕ)) → behind_in (from_dash words) ≡ Some behind → Full (before_dash words ++ behind) → ArePlain words (before_dash words ++ behind)
+read_names words behind last full = record {
+  before = before_dash words;
+  end = from_dash words;
+  behind = behind;
+  shape = sym (take-append-drop _ words);
+  end_is = behind_is (from_dash words) behind last;
+  undashed = undashed words;
+  all = refl;
+  nonempty = full;
+}
+
+pub plain_are : (words names : List (List ℕ)) → plain_in words ≡ Some names → Full names → ArePlain words names
+plain_are words names e = by (behind_in (from_dash words)) refl e where
+  by : (found : Option (List (List ℕ))) → behind_in (from_dash words) ≡ found → with_behind (before_dash words) found ≡ Some names → Full names → ArePlain words names
+  by None last e = absurd (none-some names e)
+  by (Some behind) last e = subst (λ names. Full names → ArePlain words names) (same_Some (before_dash words ++ behind) names e) (read_names words behind last)

@@ -30,9 +30,10 @@ use Rattle.vsw_promise.specs.Jobs.{Setting, cuts, cuts_within}
 use Rattle.vsw_report.specs.Print.{report_text}
 use Rattle.vsw_promise.specs.Rounds.{AreRounds}
 use Rattle.vsw_run.specs.Trace.{All as Whole, Trace, Tells}
-use Rattle.vsw_run.specs.Words.{Request, Asked, Forward, Check, Generate, asked_in}
+use Rattle.vsw_run.specs.Words.{Request, Asked, Forward, Check, Engine, Generate, asked_in}
 use Rattle.vsw_history_law.specs.Law.{AreAsked}
 use Rattle.vsw_run.specs.Law.{AreAlike, HasNoFault, OneText, OneStatus, OneRun, TellsWant}
+use Rattle.vsw_run.proofs.Answering.{ByRows, found_rows, same_rows}
 use Rattle.vsw_run.proofs.Checking.{ByPolicy, found_check, one_by_policy, put_by}
 use Rattle.vsw_run.proofs.Endings.{Says, one_ending, IsOfFile, header_longer, says_cut, says_huge, says_more}
 use Rattle.vsw_history_law.proofs.Values.{one_value}
@@ -88,6 +89,7 @@ one_text_by s (ending.Commands why) rs text other i apart w asked none nothing a
 one_text_by s ending.Memory rs text other i apart w asked none nothing a b = absurd i
 one_text_by s (ending.Report why) rs text other i apart w asked none nothing a b = absurd i
 one_text_by s ending.Illegal rs text other i apart w asked none nothing a b = absurd i
+one_text_by s (ending.Rows why) rs text other i apart w asked none nothing a b = absurd i
 
 -- ---- what a run found in the files
 
@@ -170,6 +172,7 @@ shown_by s file t (ending.Commands why) text b i r = absurd b
 shown_by s file t ending.Memory text b i r = absurd b
 shown_by s file t (ending.Report why) text b i r = absurd b
 shown_by s file t ending.Illegal text b i r = absurd b
+shown_by s file t (ending.Rows why) text b i r = absurd b
 
 found_trace : (q : Request) (old new : Outside) (a : Inputs) (e : Ending) (r : Runs q old new e) → old.inputs ≡ Some a → IsByTrace e → EndsByTrace q old new r.files e → FoundTrace q a.files old.put new.put e
 found_trace q old new a e r told b ends =
@@ -228,6 +231,7 @@ found q old new a ending.Memory told clean n r = absurd (n refl)
 found q old new a ending.Usage told clean n r = absurd r.ends
 found q old new a (ending.Report why) told clean n r = absurd r.ends
 found q old new a ending.Illegal told clean n r = absurd r.ends
+found q old new a (ending.Rows why) told clean n r = absurd r.ends
 
 -- ---- two such runs
 
@@ -313,6 +317,7 @@ summarized start packets old new (ending.Trace bad) clean plenty r = absurd r.en
 summarized start packets old new ending.Records clean plenty r = absurd r.ends
 summarized start packets old new (ending.Report why) clean plenty r = absurd r.ends
 summarized start packets old new ending.Illegal clean plenty r = absurd r.ends
+summarized start packets old new (ending.Rows why) clean plenty r = absurd r.ends
 
 -- there is one summary
 one_summary : (start packets : ℕ) (a b : List ℕ) → Summarizes start packets false a → Summarizes start packets false b → a ≡ b
@@ -330,35 +335,40 @@ pub runs_as : (words : List (List ℕ)) (o : Option Asked) (old new : Outside) (
 runs_as words o old new s r e = subst (λ w. RunsBy w old new r.end) e r.runs
 
 record Both (q : Option Asked) (old new other last : Outside) (e f : Ending) : Type 0 where
-  ends : e ≡ f
+  ends : status_of e ≡ status_of f
   text : ((r : Request) → q ≡ Some (Forward r) → r.workers ≡ 1) → (a b : List ℕ) → old.put ≡ Some [] → other.put ≡ Some [] → new.put ≡ Some a → last.put ≡ Some b → ¬ (TellsWant a) → ¬ (TellsWant b) → a ≡ b
 
 both : (words : List (List ℕ)) (old new other last : Outside) (s t : Status) (o : Option Asked) → asked_in words ≡ o → AreAlike old other → HasNoFault old new → HasNoFault other last → (r : IsRun words old new s) (u : IsRun words other last t) → s ≢ status.Memory → t ≢ status.Memory → Both o old new other last r.end u.end
 both words old new other last s t None e same clean also r u m n =
     let a = runs_as words None old new s r e in
     let b = runs_as words None other last t u e in
-    record { ends = a.usage ∙ sym b.usage; text = λ w x y o p k l none nothing. put_is old.put new.put [] x o k a.nothing ∙ sym (put_is other.put last.put [] y p l b.nothing) }
+    record { ends = ap status_of (a.usage ∙ sym b.usage); text = λ w x y o p k l none nothing. put_is old.put new.put [] x o k a.nothing ∙ sym (put_is other.put last.put [] y p l b.nothing) }
 both words old new other last s t (Some (Forward q)) e same clean also r u m n =
     let a = found q old new same.files r.end same.told clean (λ k. m (r.status_is ∙ k)) (runs_as words (Some (Forward q)) old new s r e) in
     let b = found q other last same.others u.end same.told_too also (λ k. n (u.status_is ∙ k)) (runs_as words (Some (Forward q)) other last t u e) in
     let agreed = agree q same.files.files old.put new.put other.put last.put r.end u.end a (subst (λ f. Found q f other.put last.put u.end) (sym same.same) b) in
-    record { ends = agreed.ends; text = λ w. agreed.text (w q refl) }
+    record { ends = ap status_of agreed.ends; text = λ w. agreed.text (w q refl) }
 both words old new other last s t (Some (Check c)) e same clean also r u m n =
     let a = found_check c old new same.files r.end same.told clean (λ k. m (r.status_is ∙ ap status_of k)) (runs_as words (Some (Check c)) old new s r e) in
     let b = found_check c other last same.others u.end same.told_too also (λ k. n (u.status_is ∙ ap status_of k)) (runs_as words (Some (Check c)) other last t u e) in
     let ends = one_by_policy same.files.files c r.end u.end a.0 (subst (λ f. ByPolicy f c u.end) (sym same.same) b.0) in
-    record { ends = ends; text = λ w x y o p k l none nothing. put_is old.put new.put (put_by r.end) x o k a.1 ∙ (ap put_by ends ∙ sym (put_is other.put last.put (put_by u.end) y p l b.1)) }
+    record { ends = ap status_of ends; text = λ w x y o p k l none nothing. put_is old.put new.put (put_by r.end) x o k a.1 ∙ (ap put_by ends ∙ sym (put_is other.put last.put (put_by u.end) y p l b.1)) }
+both words old new other last s t (Some (Engine q)) e same clean also r u m n =
+    let a = found_rows q old new same.files r.end same.told clean (λ k. m (r.status_is ∙ ap status_of k)) (runs_as words (Some (Engine q)) old new s r e) in
+    let b = found_rows q other last same.others u.end same.told_too also (λ k. n (u.status_is ∙ ap status_of k)) (runs_as words (Some (Engine q)) other last t u e) in
+    let agreed = same_rows q same.files.files r.end u.end a.text b.text a.found (subst (λ f. ByRows f q u.end b.text) (sym same.same) b.found) in
+    record { ends = agreed.0; text = λ w x y o p k l none nothing. put_is old.put new.put a.text x o k a.puts ∙ (agreed.1 ∙ sym (put_is other.put last.put b.text y p l b.puts)) }
 both words old new other last s t (Some (Generate start packets)) e same clean also r u m n =
     let a = summarized start packets old new r.end clean (λ k. m (r.status_is ∙ k)) (runs_as words (Some (Generate start packets)) old new s r e) in
     let b = summarized start packets other last u.end also (λ k. n (u.status_is ∙ k)) (runs_as words (Some (Generate start packets)) other last t u e) in
-    record { ends = a.0 ∙ sym b.0; text = λ w x y o p k l none nothing. put_is old.put new.put a.1.text x o k a.1.puts ∙ (one_summary start packets a.1.text b.1.text a.1.summarizes b.1.summarizes ∙ sym (put_is other.put last.put b.1.text y p l b.1.puts)) }
+    record { ends = ap status_of (a.0 ∙ sym b.0); text = λ w x y o p k l none nothing. put_is old.put new.put a.1.text x o k a.1.puts ∙ (one_summary start packets a.1.text b.1.text a.1.summarizes b.1.summarizes ∙ sym (put_is other.put last.put b.1.text y p l b.1.puts)) }
 
 pub one_status : OneStatus
 one_status words old new other last s t same clean also r u m n =
-    r.status_is ∙ (ap status_of (both words old new other last s t (asked_in words) refl same clean also r u m n).ends ∙ sym u.status_is)
+    r.status_is ∙ ((both words old new other last s t (asked_in words) refl same clean also r u m n).ends ∙ sym u.status_is)
 
 pub one_run : OneRun
 one_run words old new other last s t same clean also r u m n w a b =
     let agreed = both words old new other last s t (asked_in words) refl same clean also r u m n in
     let texts = agreed.text w a.text b.text a.before b.before a.now b.now a.plenty b.plenty in
-    (a.now ∙ (ap (λ x. Some x) texts ∙ sym b.now), r.status_is ∙ (ap status_of agreed.ends ∙ sym u.status_is))
+    (a.now ∙ (ap (λ x. Some x) texts ∙ sym b.now), r.status_is ∙ (agreed.ends ∙ sym u.status_is))

@@ -18,7 +18,7 @@ use Rattle.vsw_run.proofs.Bounds.{counted}
 use Rattle.vsw_run.proofs.Grammars.{reads_grammar}
 use Rattle.vsw_run.proofs.Runs.{each_asked, runs_as}
 use Rattle.vsw_run.proofs.Wholes.{done_reads_all}
-use Rattle.vsw_run.specs.Complaint.{commands_status, policy_status, report_status, status_of}
+use Rattle.vsw_run.specs.Complaint.{commands_status, policy_status, report_status, rows_status, status_of}
 use Rattle.vsw_run.specs.Well.{DoneRanWell, RanWell}
 use Rattle.vsw_run.specs.Files.{IsWhole, Reaches}
 use Rattle.vsw_run.specs.Grammar.{Asks, IsCount}
@@ -29,6 +29,9 @@ use Rattle.vsw_run.specs.declared.ending.Ending.{Ending}
 use Rattle.vsw_run.specs.declared.ending.Ending.TheVariants as ending
 use Rattle.vsw_run.specs.declared.ending.ReportFault.{ReportFault}
 use Rattle.vsw_run.specs.declared.ending.ReportFault.TheVariants as report
+use Rattle.vsw_offload.specs.declared.fault.BadRows.TheVariants as bad
+use Rattle.vsw_run.specs.declared.ending.RowsFault.{RowsFault}
+use Rattle.vsw_run.specs.declared.ending.RowsFault.TheVariants as rows
 use Rattle.vsw_run.specs.declared.ending.Status.TheVariants as status
 
 not_policy : (why : ConfigFault) → status.Done ≡ policy_status why → ⊥
@@ -48,6 +51,18 @@ not_report : (why : ReportFault) → status.Done ≡ report_status why → ⊥
 not_report (report.Line number) e = cc e
 not_report report.ReportLimit e = cc e
 
+not_rows : (why : RowsFault) → status.Done ≡ rows_status why → ⊥
+not_rows (rows.Bad bad.NotRows) e = cc e
+not_rows (rows.Bad (bad.Cut at)) e = cc e
+not_rows (rows.Bad (bad.ManyPorts at)) e = cc e
+not_rows (rows.Bad (bad.PortTwice at)) e = cc e
+not_rows (rows.Bad (bad.ManyRows at)) e = cc e
+not_rows (rows.Bad (bad.BadRow at)) e = cc e
+not_rows (rows.Bad (bad.Order at)) e = cc e
+not_rows (rows.Bad (bad.Extra at)) e = cc e
+not_rows (rows.Bad bad.Memory) e = cc e
+not_rows rows.RowsLimit e = cc e
+
 -- one ending has this status
 done_is : (end : Ending) → status.Done ≡ status_of end → end ≡ ending.Done
 done_is ending.Done e = refl
@@ -60,6 +75,7 @@ done_is (ending.Trace bad) e = absurd (cc e)
 done_is ending.Records e = absurd (cc e)
 done_is ending.Memory e = absurd (cc e)
 done_is (ending.Report why) e = absurd (not_report why e)
+done_is (ending.Rows why) e = absurd (not_rows why e)
 done_is ending.Illegal e = absurd (cc e)
 
 workers_are : (words : List (List ℕ)) (q : Request) → asked_in words ≡ Some (Forward q) → IsCount q.workers

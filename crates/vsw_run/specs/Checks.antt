@@ -129,6 +129,7 @@ Ends c old new files (ending.Report why) = HasBadReport files why × Grows old.p
 Ends c old new files ending.ReadFault = Rose old.input_faults new.input_faults × AreCutShort files × Grows old.put new.put []
 Ends c old new files ending.WriteFault = Rose old.put_faults new.put_faults × ((answer : Bool) × (count : ℕ) × Answers c files answer × Grows old.put new.put (take count (answer_text answer)))
 Ends c old new files ending.Memory = Grows old.put new.put []
+Ends c old new files (ending.Rows why) = ⊥
 Ends c old new files ending.Usage = ⊥
 
 -- the words ask for a check

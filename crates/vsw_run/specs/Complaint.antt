@@ -6,6 +6,8 @@ use Rattle.vsw_config.specs.declared.fault.Kind.{Kind}
 use Rattle.vsw_config.specs.declared.fault.Step.{Step}
 use Rattle.vsw_config.specs.Path.{path_text, kind_name}
 use Rattle.vsw_host.specs.Outside.{Outside, Grows, Rose}
+use Rattle.vsw_offload.specs.declared.fault.BadRows.{BadRows}
+use Rattle.vsw_offload.specs.declared.fault.BadRows.TheVariants as bad
 use Rattle.vsw_pcap.specs.Fault.{trace_name}
 use Rattle.vsw_pcap.specs.declared.fault.BadTrace.{BadTrace}
 use Rattle.vsw_pcap.specs.declared.fault.BadTrace.TheVariants.{NotPcap, Version, LinkType, Cut, Huge}
@@ -15,6 +17,8 @@ use Rattle.vsw_run.specs.declared.ending.Ending.{Ending}
 use Rattle.vsw_run.specs.declared.ending.Ending.TheVariants as ending
 use Rattle.vsw_run.specs.declared.ending.ReportFault.{ReportFault}
 use Rattle.vsw_run.specs.declared.ending.ReportFault.TheVariants as report
+use Rattle.vsw_run.specs.declared.ending.RowsFault.{RowsFault}
+use Rattle.vsw_run.specs.declared.ending.RowsFault.TheVariants as rows
 use Rattle.vsw_run.specs.declared.ending.Status.{Status}
 use Rattle.vsw_run.specs.declared.ending.Status.TheVariants as status
 
@@ -33,6 +37,11 @@ abbrev pub report_status : ReportFault → Status
 report_status (report.Line number) = status.Refused
 report_status report.ReportLimit = status.Limit
 
+abbrev pub rows_status : RowsFault → Status
+rows_status (rows.Bad bad.Memory) = status.Memory
+rows_status (rows.Bad why) = status.Refused
+rows_status rows.RowsLimit = status.Limit
+
 -- the status of an ending
 abbrev pub status_of : Ending → Status
 status_of ending.Done = status.Done
@@ -44,6 +53,7 @@ status_of (ending.Commands why) = commands_status why
 status_of (ending.Trace bad) = status.Refused
 status_of ending.Records = status.Limit
 status_of (ending.Report why) = report_status why
+status_of (ending.Rows why) = rows_status why
 status_of ending.Illegal = status.Illegal
 status_of ending.Memory = status.Memory
 
@@ -84,6 +94,23 @@ abbrev pub report_text : ReportFault → List ℕ
 report_text (report.Line number) = codes "vsw: refused report " ++ decimal number ++ codes "\n"
 report_text report.ReportLimit = codes "vsw: limit report\n"
 
+-- what is at fault with rows, and where it begins
+abbrev pub place_text : BadRows → List ℕ
+place_text bad.NotRows = codes "NotRows"
+place_text (bad.Cut at) = codes "Cut " ++ decimal at
+place_text (bad.ManyPorts at) = codes "ManyPorts " ++ decimal at
+place_text (bad.PortTwice at) = codes "PortTwice " ++ decimal at
+place_text (bad.ManyRows at) = codes "ManyRows " ++ decimal at
+place_text (bad.BadRow at) = codes "BadRow " ++ decimal at
+place_text (bad.Order at) = codes "Order " ++ decimal at
+place_text (bad.Extra at) = codes "Extra " ++ decimal at
+place_text bad.Memory = codes "Memory"
+
+-- what is complained of rows
+abbrev pub rows_text : RowsFault → List ℕ
+rows_text (rows.Bad why) = codes "vsw: refused rows " ++ place_text why ++ codes "\n"
+rows_text rows.RowsLimit = codes "vsw: limit rows\n"
+
 -- the byte at which a record is cut or huge
 abbrev pub byte_text : BadTrace → List ℕ
 byte_text NotPcap = []
@@ -103,6 +130,7 @@ complaint (ending.Commands why) = commands_text why
 complaint (ending.Trace bad) = codes "vsw: refused trace " ++ trace_name bad ++ byte_text bad ++ codes "\n"
 complaint ending.Records = codes "vsw: limit records\n"
 complaint (ending.Report why) = report_text why
+complaint (ending.Rows why) = rows_text why
 complaint ending.Illegal = []
 complaint ending.Memory = memory_text
 

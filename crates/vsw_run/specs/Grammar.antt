@@ -1,8 +1,8 @@
--- The command line as a grammar: `vsw forward [--workers N] POLICY COMMANDS TRACE`, `vsw check [--workers N] POLICY COMMANDS TRACE REPORT` and
--- `vsw generate START PACKETS`.
+-- The command line as a grammar: `vsw forward [--workers N] POLICY COMMANDS TRACE`, `vsw check [--workers N] POLICY COMMANDS TRACE REPORT`,
+-- `vsw engine ROWS TRACE` and `vsw generate START PACKETS`.
 use Rattle.std.specs.Prelude.{◌≡◌, ◌≢◌, ◌⊎◌, ◌≤◌, ℕ, List, [], ◌∷◌, ◌++◌, codes, decimal}
 use Rattle.std.specs.List.{All}
-use Rattle.vsw_run.specs.Words.{Request, Claim, Asked, Forward, Check, Generate}
+use Rattle.vsw_run.specs.Words.{Request, Claim, Query, Asked, Forward, Check, Engine, Generate}
 
 -- a word of more than one byte that begins with a dash
 abbrev pub IsDashed : List ℕ → Type 0
@@ -38,6 +38,17 @@ pub record AreNames (words : List (List ℕ)) (workers : ℕ) (names : List (Lis
   pub all : before ++ after ++ behind ≡ names
   pub nonempty : All (λ name. name ≢ []) names
 
+-- the same without an option
+pub record ArePlain (words : List (List ℕ)) (names : List (List ℕ)) : Type 0 where
+  pub before : List (List ℕ)
+  pub end : List (List ℕ)
+  pub behind : List (List ℕ)
+  pub shape : words ≡ before ++ end
+  pub end_is : IsBehind end behind
+  pub undashed : All (λ name. ¬ (IsDashed name)) before
+  pub all : before ++ behind ≡ names
+  pub nonempty : All (λ name. name ≢ []) names
+
 -- the files of a run
 abbrev pub files_of : Request → List (List ℕ)
 files_of q = q.policy ∷ q.commands ∷ q.trace ∷ []
@@ -50,6 +61,10 @@ IsForward words request = AreNames words request.workers (files_of request)
 abbrev pub IsClaim : List (List ℕ) → Claim → Type 0
 IsClaim words claim = AreNames words claim.run.workers (files_of claim.run ++ claim.report ∷ [])
 
+-- the words after `engine`: the rows' name, and the trace's
+abbrev pub IsQuery : List (List ℕ) → Query → Type 0
+IsQuery words q = ArePlain words (q.rows ∷ q.trace ∷ [])
+
 -- the words after `generate`: the number that packets are drawn from, and how many packets
 pub record IsGenerate (words : List (List ℕ)) (start packets : ℕ) : Type 0 where
   pub shape : words ≡ decimal start ∷ decimal packets ∷ []
@@ -60,11 +75,13 @@ pub record IsGenerate (words : List (List ℕ)) (start packets : ℕ) : Type 0 w
 abbrev pub IsAsked : List (List ℕ) → Asked → Type 0
 IsAsked words (Forward request) = IsForward words request
 IsAsked words (Check claim) = IsClaim words claim
+IsAsked words (Engine q) = IsQuery words q
 IsAsked words (Generate start packets) = IsGenerate words start packets
 
 abbrev pub command_of : Asked → List ℕ
 command_of (Forward request) = codes "forward"
 command_of (Check claim) = codes "check"
+command_of (Engine q) = codes "engine"
 command_of (Generate start packets) = codes "generate"
 
 -- a command line: the program's name, the command, and the words after it

@@ -6,6 +6,8 @@ use Rattle.vsw_commandfile.specs.Commands.{commands_file_of}
 use Rattle.vsw_pcap.specs.Capture.{IsCapture}
 use Rattle.vsw_pcap.specs.declared.capture.Record.{Record}
 use Rattle.vsw_config.specs.Policy.{policy_file_of}
+use Rattle.vsw_run.specs.ByRows as rows
+use Rattle.vsw_run.specs.ByRows.{RunsByRows}
 use Rattle.vsw_run.specs.Checks.{AreGood, Checks}
 use Rattle.vsw_run.specs.Complaint.{status_of, complaint, Complains}
 use Rattle.vsw_run.specs.declared.ending.Ending.{Ending}
@@ -16,7 +18,7 @@ use Rattle.vsw_run.specs.Files.{Opens, HasBadPolicy, HasBadCommands, LacksTrace,
 use Rattle.vsw_run.specs.Generated.{Summarizes}
 use Rattle.vsw_promise.specs.Jobs.{Setting}
 use Rattle.vsw_run.specs.Trace.{Trace, Tells, MayTell, most_records}
-use Rattle.vsw_run.specs.Words.{Request, Claim, Asked, Forward, Check, Generate, asked_in}
+use Rattle.vsw_run.specs.Words.{Request, Claim, Query, Asked, Forward, Check, Engine, Generate, asked_in}
 
 -- a text was put, or a front of it, or nothing
 abbrev pub Puts : Outside → Outside → List ℕ → Type 0
@@ -104,6 +106,7 @@ abbrev pub RunsBy : Option Asked → Outside → Outside → Ending → Type 0
 RunsBy None old new end = RunsNot old new end
 RunsBy (Some (Forward q)) old new end = Runs q old new end
 RunsBy (Some (Check c)) old new end = Checks c old new end
+RunsBy (Some (Engine q)) old new end = RunsByRows q old new end
 RunsBy (Some (Generate start packets)) old new end = RunsGenerated start packets old new end
 
 -- the whole program: what a run of these words left, by its status
@@ -143,3 +146,7 @@ IsCompleteAlone words old new s = (start packets : ℕ) → asked_in words ≡ S
 -- the words ask for a check of good files: then nothing but a fault or want of memory keeps it from an answer
 abbrev pub IsAnswered : List (List ℕ) → Outside → Outside → Status → Type 0
 IsAnswered words old new s = (c : Claim) → asked_in words ≡ Some (Check c) → AreGood c old.inputs → ¬ (Rose old.input_faults new.input_faults) → ¬ (Rose old.put_faults new.put_faults) → (s ≡ status.Done) ⊎ (s ≡ status.Illegal) ⊎ (s ≡ status.Memory)
+
+-- the words ask for a good trace to be answered from a rows file: then nothing but a fault or want of memory keeps the run from its end
+abbrev pub IsCompleteByRows : List (List ℕ) → Outside → Outside → Status → Type 0
+IsCompleteByRows words old new s = (q : Query) → asked_in words ≡ Some (Engine q) → rows.AreGood q old.inputs → ¬ (Rose old.input_faults new.input_faults) → ¬ (Rose old.put_faults new.put_faults) → (s ≡ status.Done) ⊎ (s ≡ status.Memory)

@@ -8,6 +8,9 @@ pub mod Files
 pub mod Complaint
 pub mod Generated
 pub mod Checks
+pub mod Engine
+pub mod ByRows
+pub mod Export
 pub mod IsRun
 pub mod Law
 pub mod Well

@@ -15,10 +15,16 @@ pub record Claim : Type 0 where
   pub run : Request
   pub report : List ℕ
 
--- what the words ask for: to forward, to check a report, or to generate so many packets, which are drawn from a number
+-- what `engine` is asked for: the names of a rows file and of a trace
+pub record Query : Type 0 where
+  pub rows : List ℕ
+  pub trace : List ℕ
+
+-- what the words ask for: to forward, to check a report, to answer a trace from a rows file, or to generate so many packets, which are drawn from a number
 pub data Asked : Type 0 where
   Forward : Request → Asked
   Check : Claim → Asked
+  Engine : Query → Asked
   Generate : (start packets : ℕ) → Asked
 
 -- what the word's digits are worth, where that number within the bounds is written so
@@ -104,6 +110,19 @@ claim_of workers names = None
 abbrev pub check_in : List (List ℕ) → Option Claim
 check_in words = option_and_then (λ n. claim_of n.workers n.names) (named_in words)
 
+-- the words after a command that takes no option: names, and those behind `--`
+abbrev pub plain_in : List (List ℕ) → Option (List (List ℕ))
+plain_in words = option_map (λ behind. before_dash words ++ behind) (behind_in (from_dash words))
+
+-- two file names, neither of them empty
+abbrev pub query_of : List (List ℕ) → Option Query
+query_of (r ∷ t ∷ []) = if list_any is_empty (r ∷ t ∷ []) then None else Some (record { rows = r; trace = t })
+query_of names = None
+
+-- the words after `engine`
+abbrev pub engine_in : List (List ℕ) → Option Query
+engine_in words = option_and_then query_of (plain_in words)
+
 -- the words after `generate`: two numbers
 abbrev pub generate_in : List (List ℕ) → Option Asked
 generate_in (start ∷ packets ∷ []) = option_and_then (λ s. option_map (λ n. Generate s n) (number_in 1 1048576 packets)) (number_in 0 2147483647 start)
@@ -114,6 +133,7 @@ abbrev pub asked_by : List ℕ → List (List ℕ) → Option Asked
 asked_by command words =
     if bytes_eq command (codes "forward") then option_map Forward (forward_in words)
     else if bytes_eq command (codes "check") then option_map Check (check_in words)
+    else if bytes_eq command (codes "engine") then option_map Engine (engine_in words)
     else if bytes_eq command (codes "generate") then generate_in words
     else None
 

@@ -2,6 +2,7 @@
 
 use vsw_commandfile::CommandsFault;
 use vsw_config::ConfigFault;
+use vsw_offload::BadRows;
 use vsw_pcap::BadTrace;
 
 /// What is wrong with a report that was to be checked.
@@ -11,6 +12,15 @@ pub enum ReportFault {
     Line { number: u32 },
     /// It has more bytes than a report may have.
     ReportLimit,
+}
+
+/// What is wrong with rows that were to answer a trace.
+#[derive(Clone, Copy, Debug, PartialEq, Eq)]
+pub enum RowsFault {
+    /// They are no rows file: the first part, as they are read, that is at fault.
+    Bad(BadRows),
+    /// They have more bytes than a rows file may have.
+    RowsLimit,
 }
 
 /// How a run ended, with what the complaint names.
@@ -34,6 +44,8 @@ pub enum Ending {
     Records,
     /// The report that was to be checked is refused, or over its limit.
     Report(ReportFault),
+    /// The rows that were to answer the trace are refused, or over their limit.
+    Rows(RowsFault),
     /// The report that was checked isn't that of such a run.
     Illegal,
     /// There was no memory: for the run itself, or for a packet or a command of the report.

@@ -1,5 +1,6 @@
 //! What holds of runs of the program.
 
+ghost use Rattle.vsw_run.specs.Export.{ExportAnswersAsLayers};
 ghost use Rattle.vsw_run.specs.Well.{DoneRanWell};
 ghost use Rattle.vsw_run.specs.Law.{DoneReadsAll, OneRun, OneStatus, OneText};
 ghost use Rattle.vsw_run.specs.Order.{RoundsAreTold};
@@ -23,6 +24,11 @@ pub fn done_laws()
 /// The lines of each port's round stand in the order in which a report is read.
 pub fn order_laws()
     ensures told { RoundsAreTold }
+{}
+
+/// Rows that are exported at a history answer as the layers do there.
+pub fn export_laws()
+    ensures layers { ExportAnswersAsLayers }
 {}
 
 /// The number with which each status ends the process.

@@ -4,7 +4,7 @@ ghost use Rattle.std.specs.Prelude.{◌≡◌, ◌≤◌, length, option_map, sl
 ghost use Rattle.std.specs.List.{position_or_len};
 ghost use Rattle.std.specs.Option.{option_copied};
 ghost use Rattle.vsw_run.specs.Seen.{named_seen, names_seen, option_seen};
-ghost use Rattle.vsw_run.specs.Words.{behind_in, is_dashed, joined_in, named_in, option_in};
+ghost use Rattle.vsw_run.specs.Words.{behind_in, is_dashed, joined_in, named_in, option_in, plain_in};
 
 use crate::numbers::read_number;
 use crate::words::Word;
@@ -104,6 +104,20 @@ pub fn name_at<'a>(named: &Named<'a>, place: usize) -> Option<&'a str>
         return Some(behind[place].text());
     }
     None
+}
+
+/// The names among the words after a command that takes no option.
+pub fn read_plain(words: &[Word]) -> Option<Named<'_>>
+    ensures { option_map names_seen result ≡ plain_in words.now }
+{
+    let (before, rest) = words.split_at(names_before(words));
+    let behind = read_behind(rest)?;
+    Some(Named {
+        workers: 1,
+        before,
+        after: &[],
+        behind,
+    })
 }
 
 /// The names among the words after a command, and the number of workers.

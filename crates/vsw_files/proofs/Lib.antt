@@ -4,3 +4,4 @@ pub mod Reading
 pub mod Opening
 pub mod Wholes
 pub mod Tracing
+pub mod RowsRead

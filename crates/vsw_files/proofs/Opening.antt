@@ -113,6 +113,7 @@ policy_read q old new name got bytes r named reads same j =
     by (Err ending.Records) e = absurd e
     by (Err (ending.Report why)) e = absurd e
     by (Err ending.Illegal) e = absurd e
+    by (Err (ending.Rows why)) e = absurd e
 
 pub policy_fault : (q : Request) (old new : Outside) (name got : List ℕ) → q.policy ≡ name → ReadsFile 4194304 old new name got Fault → EndsEarly q old new ending.ReadFault
 policy_fault q old new name got named reads = by (fault_read 4194304 old new name got reads)
@@ -174,6 +175,7 @@ commands_read q old now new p name got bytes r named h reads same j =
     by (Err ending.Records) e = absurd e
     by (Err (ending.Report why)) e = absurd e
     by (Err ending.Illegal) e = absurd e
+    by (Err (ending.Rows why)) e = absurd e
 
 pub commands_fault : (q : Request) (old now new : Outside) (p : PolicyFile) (name got : List ℕ) → q.commands ≡ name → HasPolicy q old now p → ReadsFile 16777216 now new name got Fault → EndsEarly q old new ending.ReadFault
 commands_fault q old now new p name got named h reads = by (fault_read 16777216 now new name got reads)

@@ -66,6 +66,7 @@ checked_early c old new end e = by end e.why
     by ending.Records w = absurd w
     by (ending.Report why) w = absurd w
     by ending.Illegal w = absurd w
+    by (ending.Rows why) w = absurd w
 
 -- ---- the trace
 
@@ -119,6 +120,7 @@ trace_read c start old new p lines name r named h o = by r o.finds
     by (Err (ending.Commands why)) x = absurd x
     by (Err (ending.Report why)) x = absurd x
     by (Err ending.Illegal) x = absurd x
+    by (Err (ending.Rows why)) x = absurd x
 
 -- ---- the report
 
@@ -208,6 +210,7 @@ report_read c start old new p lines records name got bytes r named h reads same 
     by (Err (ending.Trace bad)) x = absurd x
     by (Err ending.Records) x = absurd x
     by (Err ending.Illegal) x = absurd x
+    by (Err (ending.Rows why)) x = absurd x
 
 pub report_fault : (c : Claim) (start old new : Outside) (p : PolicyFile) (lines : List Line) (records : List Record) (name got : List ℕ) → c.report ≡ name → HasRecords c start old p lines records → ReadsFile 268435456 old new name got Fault → HasChecked c start new ending.ReadFault
 report_fault c start old new p lines records name got named h reads = by (fault_read 268435456 old new name got reads)

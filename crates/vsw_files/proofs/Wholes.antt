@@ -163,3 +163,4 @@ broken_trace old mid new name records end so same later w = by end w
     by (ending.Commands why) w = absurd w
     by (ending.Report why) w = absurd w
     by ending.Illegal w = absurd w
+    by (ending.Rows why) w = absurd w

@@ -1,4 +1,5 @@
 pub mod Opened
 pub mod Early
 pub mod Claimed
+pub mod Answering
 pub mod Private

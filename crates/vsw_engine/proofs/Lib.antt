@@ -1,0 +1,6 @@
+pub mod Lines
+pub mod Answers
+pub mod Parts
+pub mod Sources
+pub mod Batches
+pub mod Beginning

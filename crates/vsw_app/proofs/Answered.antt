@@ -78,6 +78,7 @@ ends_well c old new end g clean r = by end r
     by (ending.Trace bad) r = absurd (never (ending.Trace bad) (λ e. cc e) r)
     by ending.Records r = absurd (never ending.Records (λ e. cc e) r)
     by (ending.Report why) r = absurd (never (ending.Report why) (λ e. cc e) r)
+    by (ending.Rows why) r = absurd r.ends
 
 pub answered_is : (words : List (List ℕ)) (old new : Outside) (s : Status) → IsRun words old new s → IsAnswered words old new s
 answered_is words old new s run c asks good no_read no_put =

@@ -156,6 +156,7 @@ ends_well words q old new ending.WriteFault c same r = absurd (c.no_put r.ends.0
 ends_well words q old new ending.Usage c same r = absurd r.ends
 ends_well words q old new (ending.Report why) c same r = absurd r.ends
 ends_well words q old new ending.Illegal c same r = absurd r.ends
+ends_well words q old new (ending.Rows why) c same r = absurd r.ends
 ends_well words q old new (ending.Policy why) c same r =
     let d = c.admitted in
     absurd (good_policy q old new (ending.Policy why) why d.files d.policy d.setting.policy r d.told (subst (λ k. d.files.files k.policy ≡ Some d.policy) same d.policy_held) d.policy_good r.ends.0)
@@ -191,6 +192,7 @@ generated_well start packets old new (ending.Trace bad) n r = absurd r.ends
 generated_well start packets old new ending.Records n r = absurd r.ends
 generated_well start packets old new (ending.Report why) n r = absurd r.ends
 generated_well start packets old new ending.Illegal n r = absurd r.ends
+generated_well start packets old new (ending.Rows why) n r = absurd r.ends
 
 -- so is one over a workload
 pub complete_alone : (words : List (List ℕ)) (old new : Outside) (s : Status) → IsRun words old new s → IsCompleteAlone words old new s

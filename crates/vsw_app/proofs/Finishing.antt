@@ -9,7 +9,11 @@ use Rattle.vsw_config.specs.declared.file.ConfigFault.{ConfigFault}
 use Rattle.vsw_config.specs.declared.file.ConfigFault.TheVariants as policy
 use Rattle.vsw_run.specs.Checks.{answer_text}
 use Rattle.vsw_run.specs.Checks as checks
-use Rattle.vsw_run.specs.Complaint.{policy_status, commands_status, report_status, status_of, complaint, Complains}
+use Rattle.vsw_run.specs.ByRows as rows
+use Rattle.vsw_offload.specs.declared.fault.BadRows.TheVariants as bad
+use Rattle.vsw_run.specs.declared.ending.RowsFault.{RowsFault}
+use Rattle.vsw_run.specs.declared.ending.RowsFault.TheVariants as fault
+use Rattle.vsw_run.specs.Complaint.{policy_status, commands_status, report_status, rows_status, status_of, complaint, Complains}
 use Rattle.vsw_run.specs.Files.{Opens}
 use Rattle.vsw_run.specs.IsRun.{Ends, EndsByTrace, EndsGenerated, BreaksOff, PutsSummary, TraceRead, RunsBy, IsRun}
 use Rattle.vsw_run.specs.declared.ending.Ending.{Ending}
@@ -18,7 +22,7 @@ use Rattle.vsw_run.specs.declared.ending.ReportFault.{ReportFault}
 use Rattle.vsw_run.specs.declared.ending.ReportFault.TheVariants as report
 use Rattle.vsw_run.specs.declared.ending.Status.{Status}
 use Rattle.vsw_run.specs.declared.ending.Status.TheVariants as status
-use Rattle.vsw_run.specs.Words.{Request, Claim, Asked, Forward, Check, Generate, asked_in}
+use Rattle.vsw_run.specs.Words.{Request, Claim, Query, Asked, Forward, Check, Engine, Generate, asked_in}
 use Rattle.vsw_app.specs.Speaks.{KeepsPut}
 use Rattle.vsw_app.specs.Stages.{HasEndedBy}
 use Rattle.vsw_files.proofs.Growing.{grows_none, grows_as, rose_as}
@@ -63,6 +67,7 @@ ends_later q old b c files ending.Memory l (inr (inr e)) = inr (inr (break_later
 ends_later q old b c files ending.Usage l e = absurd e
 ends_later q old b c files (ending.Report why) l e = absurd e
 ends_later q old b c files ending.Illegal l e = absurd e
+ends_later q old b c files (ending.Rows why) l e = absurd e
 
 -- the same of a run that checks
 checked_later : (k : Claim) (old b c : Outside) (files : List Opened) (end : Ending) → IsLater b c → checks.Ends k old b files end → checks.Ends k old c files end
@@ -78,9 +83,41 @@ checked_later k old b c files ending.WriteFault l e =
     (rose_as old.put_faults b.put_faults old.put_faults c.put_faults refl l.put.put_faults e.0, (e.1.0, e.1.1, e.1.2, grows_later old b c (take e.1.1 (answer_text e.1.0)) l e.1.3))
 checked_later k old b c files ending.Memory l e = grows_later old b c [] l e
 checked_later k old b c files ending.Usage l e = absurd e
+checked_later k old b c files (ending.Rows why) l e = absurd e
 
 check_opens_later : (k : Claim) (old b c : Outside) (files : List Opened) → IsLater b c → checks.Opens old b k files → checks.Opens old c k files
 check_opens_later k old b c files l o = record { since = subst (λ i. TellsSince old.inputs i files) (sym l.inputs.inputs) o.since; held = o.held; within = o.within; in_turn = o.in_turn }
+
+-- the same of a run that answers from rows
+rows_read_later : (q : Query) (old b c : Outside) (files : List Opened) → IsLater b c → rows.ReadsTrace q old b files → rows.ReadsTrace q old c files
+rows_read_later q old b c files l r = record { rows = r.rows; file = r.file; all = r.all; ports = r.ports; are = r.are; trace = r.trace; read = read_as old b old c r.file r.trace (rose_as old.input_faults b.input_faults old.input_faults c.input_faults refl l.inputs.input_faults) r.read }
+
+rows_trace_later : (q : Query) (old b c : Outside) (files : List Opened) (end : Ending) → IsLater b c → rows.EndsByTrace q old b files end → rows.EndsByTrace q old c files end
+unfolding rows_read_later
+rows_trace_later q old b c files end l e = record { reads = rows_read_later q old b c files l e.reads; records = e.records; ends = e.ends; text = e.text; tells = e.tells; puts = grows_later old b c e.text l e.puts }
+
+rows_break_later : (q : Query) (old b c : Outside) (files : List Opened) → IsLater b c → rows.BreaksOff q old b files → rows.BreaksOff q old c files
+unfolding rows_read_later
+rows_break_later q old b c files l e = record { reads = rows_read_later q old b c files l e.reads; records = e.records; first = e.first; text = e.text; tells = e.tells; count = e.count; puts = grows_later old b c (take e.count e.text) l e.puts }
+
+rows_later : (q : Query) (old b c : Outside) (files : List Opened) (end : Ending) → IsLater b c → rows.Ends q old b files end → rows.Ends q old c files end
+rows_later q old b c files ending.Done l e = rows_trace_later q old b c files ending.Done l e
+rows_later q old b c files (ending.Trace bad) l e = rows_trace_later q old b c files (ending.Trace bad) l e
+rows_later q old b c files ending.Records l e = rows_trace_later q old b c files ending.Records l e
+rows_later q old b c files (ending.Rows why) l e = (e.0, grows_later old b c [] l e.1)
+rows_later q old b c files ending.ReadFault l (rose, inl e) = (rose_as old.input_faults b.input_faults old.input_faults c.input_faults refl l.inputs.input_faults rose, inl (e.0, grows_later old b c [] l e.1))
+rows_later q old b c files ending.ReadFault l (rose, inr e) = (rose_as old.input_faults b.input_faults old.input_faults c.input_faults refl l.inputs.input_faults rose, inr (rows_trace_later q old b c files ending.ReadFault l e))
+rows_later q old b c files ending.WriteFault l (rose, e) = (rose_as old.put_faults b.put_faults old.put_faults c.put_faults refl l.put.put_faults rose, rows_break_later q old b c files l e)
+rows_later q old b c files ending.Memory l (inl e) = inl (grows_later old b c [] l e)
+rows_later q old b c files ending.Memory l (inr e) = inr (rows_break_later q old b c files l e)
+rows_later q old b c files ending.Usage l e = absurd e
+rows_later q old b c files (ending.Policy why) l e = absurd e
+rows_later q old b c files (ending.Commands why) l e = absurd e
+rows_later q old b c files (ending.Report why) l e = absurd e
+rows_later q old b c files ending.Illegal l e = absurd e
+
+rows_opens_later : (q : Query) (old b c : Outside) (files : List Opened) → IsLater b c → rows.Opens old b q files → rows.Opens old c q files
+rows_opens_later q old b c files l o = record { since = subst (λ i. TellsSince old.inputs i files) (sym l.inputs.inputs) o.since; held = o.held; within = o.within; in_turn = o.in_turn }
 
 -- words that were complained where nothing had been since
 complains_from : (a b c : Outside) (text : List ℕ) → b.complained ≡ a.complained → b.complain_faults ≡ a.complain_faults → Complains b c text → Complains a c text
@@ -104,6 +141,7 @@ generated_later start packets old b c (ending.Trace bad) l e = absurd e
 generated_later start packets old b c ending.Records l e = absurd e
 generated_later start packets old b c (ending.Report why) l e = absurd e
 generated_later start packets old b c ending.Illegal l e = absurd e
+generated_later start packets old b c (ending.Rows why) l e = absurd e
 
 -- the words ask for a run, which ended and was complained of
 pub run_asked : (words : List (List ℕ)) (a : Asked) (old now new : Outside) (end : Ending) (s : Status) → asked_in words ≡ Some a → HasEndedBy a old now end → s ≡ status_of end → Complains now new (complaint end) → SameInputs now new → KeepsPut now new → IsRun words old new s
@@ -121,6 +159,14 @@ run_asked words (Check k) old now new end s asked h is complains same keeps =
       end = end;
       status_is = is;
       runs = subst (λ o. RunsBy o old new end) (sym asked) (record { files = h.runs.files; opens = check_opens_later k old now new h.runs.files later h.runs.opens; ends = checked_later k old now new h.runs.files end later h.runs.ends });
+      complains = complains_from old now new (complaint end) h.complained h.complain_faults complains;
+    }
+run_asked words (Engine q) old now new end s asked h is complains same keeps =
+    let later : IsLater now new = record { inputs = same; put = keeps } in
+    record {
+      end = end;
+      status_is = is;
+      runs = subst (λ o. RunsBy o old new end) (sym asked) (record { files = h.runs.files; opens = rows_opens_later q old now new h.runs.files later h.runs.opens; ends = rows_later q old now new h.runs.files end later h.runs.ends });
       complains = complains_from old now new (complaint end) h.complained h.complain_faults complains;
     }
 run_asked words (Generate start packets) old now new end s asked h is complains same keeps =
@@ -167,6 +213,18 @@ own_report : (why : ReportFault) → IsOwn (report_status why) (ending.Report wh
 own_report (report.Line number) = tt
 own_report report.ReportLimit = tt
 
+own_rows : (why : RowsFault) → IsOwn (rows_status why) (ending.Rows why)
+own_rows (fault.Bad bad.NotRows) = tt
+own_rows (fault.Bad (bad.Cut at)) = tt
+own_rows (fault.Bad (bad.ManyPorts at)) = tt
+own_rows (fault.Bad (bad.PortTwice at)) = tt
+own_rows (fault.Bad (bad.ManyRows at)) = tt
+own_rows (fault.Bad (bad.BadRow at)) = tt
+own_rows (fault.Bad (bad.Order at)) = tt
+own_rows (fault.Bad (bad.Extra at)) = tt
+own_rows (fault.Bad bad.Memory) = tt
+own_rows fault.RowsLimit = tt
+
 own : (end : Ending) → IsOwn (status_of end) end
 own ending.Done = tt
 own ending.Usage = refl
@@ -178,6 +236,7 @@ own (ending.Trace bad) = tt
 own ending.Records = tt
 own ending.Memory = tt
 own (ending.Report why) = own_report why
+own (ending.Rows why) = own_rows why
 own ending.Illegal = tt
 
 end_of : (words : List (List ℕ)) (old new : Outside) (s t : Status) (r : IsRun words old new s) → s ≡ t → IsOwn t r.end
@@ -188,6 +247,7 @@ usage_by : (o : Option Asked) (old new : Outside) (end : Ending) → RunsBy o ol
 usage_by None old new end r = ((λ e. refl), (λ e. r.usage))
 usage_by (Some (Forward q)) old new end r = ((λ e. absurd (subst (Ends q old new r.files) e r.ends)), (λ e. absurd (cc e)))
 usage_by (Some (Check k)) old new end r = ((λ e. absurd (subst (checks.Ends k old new r.files) e r.ends)), (λ e. absurd (cc e)))
+usage_by (Some (Engine q)) old new end r = ((λ e. absurd (subst (rows.Ends q old new r.files) e r.ends)), (λ e. absurd (cc e)))
 usage_by (Some (Generate start packets)) old new end r = ((λ e. absurd (subst (EndsGenerated start packets old new) e r.ends)), (λ e. absurd (cc e)))
 
 pub usage_is : (words : List (List ℕ)) (old new : Outside) (s : Status) → IsRun words old new s → (s ≡ status.Usage) ↔ (asked_in words ≡ None)
@@ -200,6 +260,7 @@ read_by : (o : Option Asked) (old new : Outside) (end : Ending) → RunsBy o old
 read_by None old new end r e = absurd (let u = r.usage in cc (u, e))
 read_by (Some (Forward q)) old new end r e = (subst (Ends q old new r.files) e r.ends).0
 read_by (Some (Check k)) old new end r e = (subst (checks.Ends k old new r.files) e r.ends).0
+read_by (Some (Engine q)) old new end r e = (subst (rows.Ends q old new r.files) e r.ends).0
 read_by (Some (Generate start packets)) old new end r e = absurd (subst (EndsGenerated start packets old new) e r.ends)
 
 pub read_fault_is : (words : List (List ℕ)) (old new : Outside) (s : Status) → IsRun words old new s → s ≡ status.ReadFault → Rose old.input_faults new.input_faults
@@ -209,6 +270,7 @@ write_by : (o : Option Asked) (old new : Outside) (end : Ending) → RunsBy o ol
 write_by None old new end r e = absurd (let u = r.usage in cc (u, e))
 write_by (Some (Forward q)) old new end r e = (subst (Ends q old new r.files) e r.ends).0
 write_by (Some (Check k)) old new end r e = (subst (checks.Ends k old new r.files) e r.ends).0
+write_by (Some (Engine q)) old new end r e = (subst (rows.Ends q old new r.files) e r.ends).0
 write_by (Some (Generate start packets)) old new end r e = (subst (EndsGenerated start packets old new) e r.ends).0
 
 pub write_fault_is : (words : List (List ℕ)) (old new : Outside) (s : Status) → IsRun words old new s → s ≡ status.WriteFault → Rose old.put_faults new.put_faults

@@ -2,6 +2,7 @@ pub mod Speaking
 pub mod Running
 pub mod Answering
 pub mod Answered
+pub mod ByRows
 pub mod Mustering
 pub mod Drawing
 pub mod Finishing

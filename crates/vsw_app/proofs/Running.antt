@@ -75,6 +75,7 @@ ended_early q old new end e = by end e.why
     by ending.Records w = absurd w
     by (ending.Report why) w = absurd w
     by ending.Illegal w = absurd w
+    by (ending.Rows why) w = absurd w
 
 -- ---- no memory before the trace
 

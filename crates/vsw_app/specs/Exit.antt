@@ -6,7 +6,7 @@ use Rattle.std_io.specs.declared.io.kind.ErrorKind.{ErrorKind}
 use Rattle.std_io.specs.declared.io.kind.ErrorKind.TheVariants.{OutOfMemory}
 use Rattle.vsw_host.specs.Outside.{Outside, Rose}
 use Rattle.vsw_run.specs.Complaint.{number_of}
-use Rattle.vsw_run.specs.IsRun.{IsRun, IsAnswered, IsComplete, IsCompleteAlone}
+use Rattle.vsw_run.specs.IsRun.{IsRun, IsAnswered, IsComplete, IsCompleteAlone, IsCompleteByRows}
 use Rattle.vsw_run.specs.declared.ending.Status.{Status}
 use Rattle.vsw_run.specs.declared.ending.Status.TheVariants.{Usage, ReadFault, WriteFault, Memory}
 use Rattle.vsw_run.specs.Words.{asked_in}
@@ -28,3 +28,4 @@ pub record Exits (words : List (List ℕ)) (old new : Outside) (code : ExitCode)
   pub complete : IsComplete words old new status
   pub alone : IsCompleteAlone words old new status
   pub answered : IsAnswered words old new status
+  pub by_rows : IsCompleteByRows words old new status

@@ -1,10 +1,11 @@
 -- What the stages of a run leave. A stage that ends the run leaves what is promised of the whole run.
 use Rattle.std.specs.Prelude.{◌≡◌, ℕ}
+use Rattle.vsw_files.specs.Answering.{HasAnswered}
 use Rattle.vsw_files.specs.Claimed.{HasChecked}
 use Rattle.vsw_host.specs.Outside.{Outside}
 use Rattle.vsw_run.specs.IsRun.{Runs, RunsGenerated}
 use Rattle.vsw_run.specs.declared.ending.Ending.{Ending}
-use Rattle.vsw_run.specs.Words.{Request, Asked, Forward, Check, Generate}
+use Rattle.vsw_run.specs.Words.{Request, Asked, Forward, Check, Engine, Generate}
 
 -- the run ended, and nothing was complained
 pub record HasEnded (q : Request) (old new : Outside) (end : Ending) : Type 0 where
@@ -22,4 +23,5 @@ pub record HasGenerated (start packets : ℕ) (old new : Outside) (end : Ending)
 abbrev pub HasEndedBy : Asked → Outside → Outside → Ending → Type 0
 HasEndedBy (Forward q) old new end = HasEnded q old new end
 HasEndedBy (Check c) old new end = HasChecked c old new end
+HasEndedBy (Engine q) old new end = HasAnswered q old new end
 HasEndedBy (Generate start packets) old new end = HasGenerated start packets old new end

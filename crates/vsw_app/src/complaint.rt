@@ -3,15 +3,16 @@
 ghost use Rattle.std.specs.Prelude.{◌≡◌, ◌++◌, codes, decimal};
 ghost use Rattle.vsw_config.specs.Path.{step_text, steps_text, path_text};
 ghost use Rattle.vsw_pcap.specs.Fault.{trace_name};
-ghost use Rattle.vsw_run.specs.Complaint.{byte_text, fault_text, policy_text, commands_text, report_text, complaint};
+ghost use Rattle.vsw_run.specs.Complaint.{byte_text, fault_text, place_text, policy_text, commands_text, report_text, rows_text, complaint};
 ghost use Rattle.vsw_app.specs.Speaks.{name_text, Speaks};
 
 use itoa::Buffer;
 use vsw_commandfile::CommandsFault;
 use vsw_config::{ConfigFault, Kind, Step};
 use vsw_host::{Failed, Host};
+use vsw_offload::BadRows;
 use vsw_pcap::BadTrace;
-use vsw_run::{Ending, ReportFault};
+use vsw_run::{Ending, ReportFault, RowsFault};
 
 /// Complains a piece of the words.
 fn say<H: Host>(host: &mut H, words: &[u8]) -> Result<(), Failed>
@@ -237,6 +238,61 @@ fn say_report<H: Host>(host: &mut H, why: &ReportFault) -> Result<(), Failed>
     }
 }
 
+/// Complains a word, and the byte at which something begins.
+fn say_at<H: Host>(host: &mut H, word: &[u8], at: u64) -> Result<(), Failed>
+    ensures { Speaks (H.outside host.old) (H.outside host.new) (word.now ++ decimal at) result }
+{
+    match say(host, word) {
+        Ok(()) => say_number(host, at),
+        Err(failed) => Err(failed),
+    }
+}
+
+/// Complains what is at fault with rows, and where it begins.
+fn say_rows_place<H: Host>(host: &mut H, why: BadRows) -> Result<(), Failed>
+    ensures { Speaks (H.outside host.old) (H.outside host.new) (place_text why) result }
+{
+    match why {
+        BadRows::NotRows => say(host, b"NotRows"),
+        BadRows::Cut { at } => say_at(host, b"Cut ", at),
+        BadRows::ManyPorts { at } => say_at(host, b"ManyPorts ", at),
+        BadRows::PortTwice { at } => say_at(host, b"PortTwice ", at),
+        BadRows::ManyRows { at } => say_at(host, b"ManyRows ", at),
+        BadRows::BadRow { at } => say_at(host, b"BadRow ", at),
+        BadRows::Order { at } => say_at(host, b"Order ", at),
+        BadRows::Extra { at } => say_at(host, b"Extra ", at),
+        BadRows::Memory => say(host, b"Memory"),
+    }
+}
+
+fn say_rows_end<H: Host>(host: &mut H, why: BadRows) -> Result<(), Failed>
+    ensures { Speaks (H.outside host.old) (H.outside host.new) (place_text why ++ codes "\n") result }
+{
+    match say_rows_place(host, why) {
+        Ok(()) => say(host, b"\n"),
+        Err(failed) => Err(failed),
+    }
+}
+
+fn say_bad_rows<H: Host>(host: &mut H, why: BadRows) -> Result<(), Failed>
+    ensures { Speaks (H.outside host.old) (H.outside host.new) (codes "vsw: refused rows " ++ (place_text why ++ codes "\n")) result }
+{
+    match say(host, b"vsw: refused rows ") {
+        Ok(()) => say_rows_end(host, why),
+        Err(failed) => Err(failed),
+    }
+}
+
+/// Complains what is wrong with rows.
+fn say_rows<H: Host>(host: &mut H, why: &RowsFault) -> Result<(), Failed>
+    ensures { Speaks (H.outside host.old) (H.outside host.new) (rows_text why.now) result }
+{
+    match why {
+        RowsFault::Bad(why) => say_bad_rows(host, *why),
+        RowsFault::RowsLimit => say(host, b"vsw: limit rows\n"),
+    }
+}
+
 /// Complains the words of an ending, if it has any.
 pub fn say_ending<H: Host>(host: &mut H, end: &Ending) -> Result<(), Failed>
     ensures { Speaks (H.outside host.old) (H.outside host.new) (complaint end.now) result }
@@ -251,6 +307,7 @@ pub fn say_ending<H: Host>(host: &mut H, end: &Ending) -> Result<(), Failed>
         Ending::Trace(bad) => say_bad_trace(host, *bad),
         Ending::Records => say(host, b"vsw: limit records\n"),
         Ending::Report(why) => say_report(host, why),
+        Ending::Rows(why) => say_rows(host, why),
         Ending::Illegal => say(host, b""),
         Ending::Memory => say(host, b"vsw: memory\n"),
     }

@@ -2,7 +2,7 @@
 
 ghost use Rattle.std.specs.Prelude.{◌≡◌};
 ghost use Rattle.vsw_host.specs.Outside.{SameInputs};
-ghost use Rattle.vsw_run.specs.Complaint.{policy_status, commands_status, report_status, status_of, complaint, Complains};
+ghost use Rattle.vsw_run.specs.Complaint.{policy_status, commands_status, report_status, rows_status, status_of, complaint, Complains};
 ghost use Rattle.vsw_app.specs.Ending.{answered, drawn_ending, ending_of};
 ghost use Rattle.vsw_app.specs.Speaks.{KeepsPut};
 
@@ -10,8 +10,9 @@ use crate::complaint::say_ending;
 use vsw_commandfile::CommandsFault;
 use vsw_config::ConfigFault;
 use vsw_host::Host;
+use vsw_offload::BadRows;
 use vsw_replay::{TraceEnd, WorkloadEnd};
-use vsw_run::{Ending, ReportFault, Status};
+use vsw_run::{Ending, ReportFault, RowsFault, Status};
 
 /// The ending of a run by how its trace ended.
 pub fn ending_of(end: TraceEnd) -> Ending
@@ -81,6 +82,23 @@ fn report_status(why: &ReportFault) -> Status
     }
 }
 
+fn rows_status(why: RowsFault) -> Status
+    ensures { result ≡ rows_status why }
+{
+    match why {
+        RowsFault::Bad(BadRows::Memory) => Status::Memory,
+        RowsFault::Bad(BadRows::NotRows) => Status::Refused,
+        RowsFault::Bad(BadRows::Cut { .. }) => Status::Refused,
+        RowsFault::Bad(BadRows::ManyPorts { .. }) => Status::Refused,
+        RowsFault::Bad(BadRows::PortTwice { .. }) => Status::Refused,
+        RowsFault::Bad(BadRows::ManyRows { .. }) => Status::Refused,
+        RowsFault::Bad(BadRows::BadRow { .. }) => Status::Refused,
+        RowsFault::Bad(BadRows::Order { .. }) => Status::Refused,
+        RowsFault::Bad(BadRows::Extra { .. }) => Status::Refused,
+        RowsFault::RowsLimit => Status::Limit,
+    }
+}
+
 /// The exit status of an ending.
 fn status_of(end: &Ending) -> Status
     ensures { result ≡ status_of end.now }
@@ -95,6 +113,7 @@ fn status_of(end: &Ending) -> Status
         Ending::Trace(_) => Status::Refused,
         Ending::Records => Status::Limit,
         Ending::Report(why) => report_status(why),
+        Ending::Rows(why) => rows_status(*why),
         Ending::Illegal => Status::Illegal,
         Ending::Memory => Status::Memory,
     }

@@ -4,6 +4,7 @@
 mod check;
 mod complaint;
 mod ending;
+mod engine;
 mod open;
 mod process;
 mod run;

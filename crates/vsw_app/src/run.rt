@@ -5,7 +5,7 @@ ghost use Rattle.vsw_host.specs.Outside.{Rose};
 ghost use Rattle.vsw_generate.specs.Policy.{policy_text};
 ghost use Rattle.vsw_config.specs.Good.{IsGoodPolicy};
 ghost use Rattle.vsw_config.specs.Policy.{policy_file_of};
-ghost use Rattle.vsw_run.specs.IsRun.{IsRun, IsAnswered, IsComplete, IsCompleteAlone};
+ghost use Rattle.vsw_run.specs.IsRun.{IsRun, IsAnswered, IsComplete, IsCompleteAlone, IsCompleteByRows};
 ghost use Rattle.vsw_run.specs.Seen.{IsWithin, asked_seen, request_seen};
 ghost use Rattle.vsw_run.specs.Words.{asked_in};
 ghost use Rattle.vsw_replay.specs.WorkloadRuns.{RunsWorkload};
@@ -13,6 +13,7 @@ ghost use Rattle.vsw_app.specs.Stages.{HasEnded, HasEndedBy, HasGenerated};
 
 use crate::check::check;
 use crate::ending::{drawn_ending, ending_of, finish};
+use crate::engine::engine;
 use crate::through::run_through;
 use std::alloc::Global;
 use std::sync::Wait;
@@ -99,6 +100,7 @@ fn run_asked<R: Threads + Wait + Sync, H: Host, G: Gate + Watch + Sync>(
     match asked {
         Asked::Forward(request) => forward(rt, alloc, host, gate, request),
         Asked::Check(claim) => check(alloc, host, claim),
+        Asked::Engine(query) => engine(alloc, host, query),
         Asked::Generate { start, packets } => generate(alloc, host, *start, *packets),
     }
 }
@@ -123,11 +125,11 @@ fn run<R: Threads + Wait + Sync, H: Host, G: Gate + Watch + Sync>(
 }
 
 /// The whole program: reads the words, and the files that they name or the workload that they ask for, puts the
-/// report, the answer of a check or the summary, and complains if it ends otherwise.
+/// report, the answer of a check, the lines of rows or the summary, and complains if it ends otherwise.
 ///
 /// `run` says what was opened, read, put and complained, by the status. `usage` and the two faults
-/// hold of hosts that tell nothing, too. `complete`, `alone` and `answered` say when nothing but want of memory keeps a run
-/// over files, one over a workload, and a check from its end.
+/// hold of hosts that tell nothing, too. `complete`, `alone`, `answered` and `by_rows` say when nothing but want of memory keeps a run
+/// over files, one over a workload, a check, and an answer from rows from its end.
 ///
 /// A run of more than one worker may wait, in calls of the gate too. So all of this is promised if the call returns.
 /// With one worker nothing waits.
@@ -145,6 +147,7 @@ pub fn run_words<R: Threads + Wait + Sync, H: Host, G: Gate + Watch + Sync>(
     ensures complete { IsComplete words.now (H.outside host.old) (H.outside host.new) result }
     ensures alone { IsCompleteAlone words.now (H.outside host.old) (H.outside host.new) result }
     ensures answered { IsAnswered words.now (H.outside host.old) (H.outside host.new) result }
+    ensures by_rows { IsCompleteByRows words.now (H.outside host.old) (H.outside host.new) result }
 {
     run(rt, alloc, words, host, gate)
 }

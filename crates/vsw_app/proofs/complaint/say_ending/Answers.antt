@@ -38,3 +38,6 @@ returns-in-Commands g c = speaks_of Ending complaint _ _ c.args.end.now (variant
 
 pub returns-in-Trace : goal.returns-in-Trace
 returns-in-Trace g c = speaks_of Ending complaint _ _ c.args.end.now (variant.Trace c.in-Trace.bad) _ c.in-Trace.is (speaks_is _ _ _ _ _ (four (codes "vsw: refused trace ") (trace_name c.in-Trace.bad) (byte_text c.in-Trace.bad) (codes "\n")) c.say_bad_trace.ensures)
+
+pub returns-in-Rows : goal.returns-in-Rows
+returns-in-Rows g c = speaks_of Ending complaint _ _ c.args.end.now (variant.Rows c.in-Rows.why) _ c.in-Rows.is c.say_rows.ensures

@@ -2,6 +2,7 @@
 
 mod check_tests;
 mod ending_tests;
+mod engine_tests;
 mod policy_tests;
 mod report_tests;
 mod request_tests;

@@ -24,6 +24,7 @@ fn told(alloc: Global, asked: &Option<Asked<'_>>) -> Result<String, AllocError> 
             "{} of {} workers, {} {} {}",
             c.report, c.run.workers, c.run.policy, c.run.commands, c.run.trace
         ),
+        Some(Asked::Engine(q)) => format!(in alloc; "{} by {}", q.trace, q.rows),
         Some(Asked::Generate { start, packets }) => format!(in alloc;
             "{} packets from {}",
             packets, start
@@ -119,6 +120,31 @@ const CHECKS: [(&str, &str); 18] = [
 #[test]
 fn lines_of_a_check_name_four_files(rt: HostRuntime) -> Result<(), Fail> {
     let wrong = first_wrong(rt.alloc(), &CHECKS)?;
+    assert!(rt; wrong.is_none(), "{wrong:?}");
+    Ok(())
+}
+
+/// Lines that ask for answers from rows.
+const ENGINES: [(&str, &str); 14] = [
+    ("vsw engine R T", "T by R"),
+    ("vsw engine - -", "- by -"),
+    ("vsw engine R -- -T", "-T by R"),
+    ("vsw engine -- --workers -x", "-x by --workers"),
+    ("vsw engine R T --", "T by R"),
+    ("vsw engine engine T", "T by engine"),
+    ("vsw engine", "refused"),
+    ("vsw engine R", "refused"),
+    ("vsw engine R T U", "refused"),
+    ("vsw engine R ", "refused"),
+    ("vsw engine -R T", "refused"),
+    ("vsw engine --workers 1 R T", "refused"),
+    ("vsw engine --workers=1 R T", "refused"),
+    ("vsw Engine R T", "refused"),
+];
+
+#[test]
+fn lines_of_an_engine_name_two_files(rt: HostRuntime) -> Result<(), Fail> {
+    let wrong = first_wrong(rt.alloc(), &ENGINES)?;
     assert!(rt; wrong.is_none(), "{wrong:?}");
     Ok(())
 }

@@ -112,6 +112,31 @@ pub fn host_of_claim(
     }
 }
 
+/// The files of a run that answers from rows: the first bytes of a rows file, and bytes behind them, and a trace.
+fn held_rows(
+    alloc: Global,
+    rows: &[&[u8]],
+    trace: &[&[u8]],
+) -> Result<Vec<MemoryFile>, AllocError> {
+    let mut held = Vec::new(alloc);
+    held.push(file(alloc, "rows", joined(alloc, rows)?)?)?;
+    held.push(file(alloc, "trace", joined(alloc, trace)?)?)?;
+    Ok(held)
+}
+
+/// A host of these rows and of this trace, of whose calls these fail.
+pub fn host_of_rows(
+    alloc: Global,
+    rows: &[&[u8]],
+    trace: &[&[u8]],
+    failing: &[u64],
+) -> Result<MemoryHost, Wrong> {
+    match held_rows(alloc, rows, trace) {
+        Ok(held) => holding(alloc, held, ROOM, failing),
+        Err(_) => Err(Wrong::Start),
+    }
+}
+
 fn held_policy(alloc: Global, policy: &[&[u8]]) -> Result<Vec<MemoryFile>, AllocError> {
     let mut held = Vec::new(alloc);
     held.push(file(alloc, "policy", joined(alloc, policy)?)?)?;

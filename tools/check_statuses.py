@@ -14,7 +14,9 @@ FRONT = [os.path.join(TOP, "vsw"), *sys.argv[1:]]
 EXAMPLE = os.path.join(TOP, "examples", "first")
 POLICY, COMMANDS, TRACE = (os.path.join(EXAMPLE, name) for name in ("policy.json", "commands.jsonl", "trace.pcap"))
 REPORT = os.path.join(EXAMPLE, "report.txt")
+ROWS = os.path.join(EXAMPLE, "rows")
 RECORDS = 1_048_576
+MOST_ROWS = 160_000_000
 MOST_REPORT = 268_435_456
 
 
@@ -103,6 +105,35 @@ def check_cases(file, folder):
         yield f"check {words}", ["check", *words], 2, b"vsw: usage\n"
 
 
+def engine_cases(file, folder):
+    """The same as `cases`, of a hardware's answers."""
+    with open(ROWS, "rb") as source:
+        rows = source.read()
+    missing = os.path.join(folder, "missing")
+    yield "answers", ["engine", ROWS, TRACE], 0, b""
+    for name, data, complaint in [
+        ("none", b"", b"NotRows"),
+        ("a cut head", rows[:11], b"Cut 8"),
+        ("another form", b"VSWROWS2" + rows[8:], b"NotRows"),
+        ("a byte more", rows + b"\0", b"Extra %d" % len(rows)),
+        ("a cut row", rows[:-1], b"Cut 30"),
+    ]:
+        yield f"rows with {name}", ["engine", file("rows", data), TRACE], 5, b"vsw: refused rows %s\n" % complaint
+        # they are judged before the trace is opened
+        yield f"rows with {name} and no trace", ["engine", file("rows", data), missing], 5, b"vsw: refused rows %s\n" % complaint
+    large = file("large rows", b"")
+    os.truncate(large, MOST_ROWS + 1)
+    yield "large rows", ["engine", large, TRACE], 6, b"vsw: limit rows\n"
+    yield "missing rows", ["engine", missing, TRACE], 3, b"vsw: read fault\n"
+    yield "a missing trace of answers", ["engine", ROWS, missing], 3, b"vsw: read fault\n"
+    yield "answers of a trace that is none", ["engine", ROWS, file("none", bytes(24))], 5, b"vsw: refused trace NotPcap\n"
+    yield "answers of a trace that is cut", ["engine", ROWS, file("cut", head() + record(9, 9))], 5, b"vsw: refused trace Cut 24\n"
+    many = file("many", head() + record(0, 1) * (RECORDS + 1))
+    yield "answers of many records", ["engine", ROWS, many], 6, b"vsw: limit records\n"
+    for words in [ROWS], [ROWS, TRACE, TRACE], ["--workers=2", ROWS, TRACE], ["-x", TRACE]:
+        yield f"engine {words}", ["engine", *words], 2, b"vsw: usage\n"
+
+
 def cases(folder):
     """Of each: what it is, the words, the status and what is complained."""
     def file(name, data):
@@ -143,6 +174,7 @@ def cases(folder):
     for name, data, status, complaint in bad_commands():
         yield name, ["forward", POLICY, file(name, data), TRACE], status, complaint
     yield from check_cases(file, folder)
+    yield from engine_cases(file, folder)
 
 
 def main():
@@ -171,6 +203,7 @@ def main():
     with open("/dev/full", "wb") as full:
         look("a full disk for a summary", run(FRONT, ["generate", "1", "2"], full), 4, b"vsw: write fault\n")
         look("a full disk for an answer", run(FRONT, ["check", POLICY, COMMANDS, TRACE, REPORT], full), 4, b"vsw: write fault\n")
+        look("a full disk for answers", run(FRONT, ["engine", ROWS, TRACE], full), 4, b"vsw: write fault\n")
         look("a full disk", run(FRONT, ["forward", POLICY, COMMANDS, TRACE], full), 4, b"vsw: write fault\n")
     sys.exit(1 if wrong else print("each status came, with its words") or 0)
 

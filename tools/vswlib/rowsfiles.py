@@ -178,3 +178,13 @@ def row_text(port: int, words: Sequence[int]) -> str:
     """A row as a line: its port, its identity, the verdict, what is edited, and until when it answers."""
     edits = edits_text(words)
     return f"port {port} {identity_text(words[:16])}: {verdict_text(words)}{', ' + edits if edits else ''}, {until_text(words[17])}"
+
+
+def write_rows(ports: Sequence[PortRows]) -> bytes:
+    """The rows file of these ports, each port's rows in the order of their keys."""
+    parts = [HEAD, struct.pack("<I", len(ports))]
+    for port in ports:
+        rows = sorted(port.rows)
+        parts.append(struct.pack("<I", port.port) + bytes.fromhex(port.mac.replace(":", "")) + struct.pack("<II", port.entries, len(rows)))
+        parts += [struct.pack(f"<{ROW_WORDS}Q", *row) for row in rows]
+    return b"".join(parts)

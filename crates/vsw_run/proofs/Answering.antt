@@ -82,7 +82,7 @@ IsWrong (rows.Bad why) bytes = (length bytes ≤ most_rows) × IsBadRows bytes w
 
 -- how a run ends by its files, and what it puts
 pub data ByRows (files : Held) (q : Query) (e : Ending) (text : List ℕ) : Type 0 where
-  BadRows : (bytes : List ℕ) (why : RowsFault) → files q.rows ≡ Some bytes → e ≡ ending.Rows why → IsWrong why bytes → text ≡ [] → ByRows files q e text
+  WrongRows : (bytes : List ℕ) (why : RowsFault) → files q.rows ≡ Some bytes → e ≡ ending.Rows why → IsWrong why bytes → text ≡ [] → ByRows files q e text
   GoodRows : (ports : List PortRows) (trace : List ℕ) (records : List Record) → files q.rows ≡ Some (rows_bytes ports) → AreRows ports → length (rows_bytes ports) ≤ most_rows → files q.trace ≡ Some trace → Says trace e records → Texts ports e records text → ByRows files q e text
 
 refused : (why : BadRows) → why ≢ bad.Memory → rows_status (rows.Bad why) ≡ status.Refused
@@ -131,10 +131,10 @@ one_text ports e records text other are a b = by e a b
     by ending.Memory a b = told a b
 
 pub same_rows : (q : Query) (files : Held) (e f : Ending) (text other : List ℕ) → ByRows files q e text → ByRows files q f other → (status_of e ≡ status_of f) × (text ≡ other)
-same_rows q files e f text other (BadRows a why h i w t) (BadRows b how k j v u) =
+same_rows q files e f text other (WrongRows a why h i w t) (WrongRows b how k j v u) =
     (ap status_of i ∙ (same_wrong why how a w (subst (IsWrong how) (one_held files q.rows b a k h) v) ∙ sym (ap status_of j)), t ∙ sym u)
-same_rows q files e f text other (BadRows a why h i w t) (GoodRows ps tr rs k are few l s x) = absurd (not_wrong why ps are few (subst (IsWrong why) (one_held files q.rows a (rows_bytes ps) h k) w))
-same_rows q files e f text other (GoodRows ps tr rs k are few l s x) (BadRows a why h i w t) = absurd (not_wrong why ps are few (subst (IsWrong why) (one_held files q.rows a (rows_bytes ps) h k) w))
+same_rows q files e f text other (WrongRows a why h i w t) (GoodRows ps tr rs k are few l s x) = absurd (not_wrong why ps are few (subst (IsWrong why) (one_held files q.rows a (rows_bytes ps) h k) w))
+same_rows q files e f text other (GoodRows ps tr rs k are few l s x) (WrongRows a why h i w t) = absurd (not_wrong why ps are few (subst (IsWrong why) (one_held files q.rows a (rows_bytes ps) h k) w))
 same_rows q files e f text other (GoodRows ps tr rs h are few l s x) (GoodRows qs us vs k too some m r y) =
     let ports : ps ≡ qs = files_tell ps qs are too (one_held files q.rows (rows_bytes ps) (rows_bytes qs) h k) in
     let trace : tr ≡ us = one_held files q.trace tr us l m in
@@ -250,7 +250,7 @@ wrong_of (rows.Bad why) f within s = (s.1, s.2, s.3)
 found_bad : (q : Query) (old new : Outside) (a : Inputs) (why : RowsFault) (r : RunsByRows q old new (ending.Rows why)) → old.inputs ≡ Some a → HasBadRows r.files why → Grows old.put new.put [] → FoundRows a.files q old.put new.put (ending.Rows why)
 found_bad q old new a why r told b puts =
     let o : Opens a q (b.rows ∷ []) = opens_of q old new (ending.Rows why) a (b.rows ∷ []) r told b.only in
-    record { text = []; found = BadRows b.rows.bytes why (named a b.rows q.rows o.turn o.held.0) refl (wrong_of why b.rows o.within.0 b.shown) refl; puts = puts }
+    record { text = []; found = WrongRows b.rows.bytes why (named a b.rows q.rows o.turn o.held.0) refl (wrong_of why b.rows o.within.0 b.shown) refl; puts = puts }
 
 -- a run that wasn't ended by a fault or want of memory ended by what it found
 pub found_rows : (q : Query) (old new : Outside) (a : Inputs) (e : Ending) → old.inputs ≡ Some a → HasNoFault old new → (e ≡ ending.Memory → ⊥) → RunsByRows q old new e → FoundRows a.files q old.put new.put e

@@ -1,5 +1,5 @@
 -- A batch is read, and its lines are put.
-use Rattle.std.proofs.Common.{◌≡◌, ◌<◌, ◌≤◌, ◌+◌, ◌-◌, ◌*◌, inl, inr, ℕ, suc, Some, Ok, Err, Result, List, [], ◌++◌, length, take, take_all, drop, refl, sym, ◌∙◌, ap, subst, arith, append-nil, append_assoc, length-append, length-drop}
+use Rattle.std.proofs.Common.{◌≡◌, ◌<◌, ◌≤◌, ◌+◌, ◌-◌, ◌*◌, inl, inr, ℕ, zero, suc, Some, Ok, Err, Result, List, [], ◌++◌, length, take, take_all, drop, refl, sym, ◌∙◌, ap, subst, arith, append-nil, append_assoc, length-append, length-drop}
 use Rattle.std.specs.Bool.{⊤}
 use Rattle.vsw_base.specs.declared.fault.NoMemory.{NoMemory}
 use Rattle.vsw_host.specs.Outside.{Outside, Grows, SameInputs, SameOutputs, DoesPut}
@@ -159,7 +159,7 @@ pub room_for : (first k : ℕ) → first ≡ 256 * k → first ≤ 1048576 → (
 room_for first k is few other = by (first + 256 - most_records) refl
   where
     by : (over : ℕ) → first + 256 - most_records ≡ over → first + 256 ≤ most_records
-    by 0 e = omega (arith, e)
+    by zero e = omega (arith, e)
     by (suc n) e = absurd (omega (arith, e, is, few, other))
 
 filled : (ports : List PortRows) (start old now : Outside) (name : List ℕ) (first : ℕ) (st : Stop) (q r : Reading) (bytes : List ℕ) → (b : IsBetween ports start old name q first) → SameOutputs old now → IsReading start now name r.source.file bytes → IsPassed bytes (b.given ++ r.batch)

@@ -1,5 +1,5 @@
 -- Lines one after the other.
-use Rattle.std.proofs.Common.{◌≡◌, ◌<◌, ◌≤◌, ◌+◌, ℕ, suc, List, [], ◌∷◌, ◌++◌, length, take, Option, Some, None, Result, Ok, Err, refl, ap, sym, ◌∙◌, subst, arith, append-nil, append_assoc}
+use Rattle.std.proofs.Common.{◌≡◌, ◌<◌, ◌≤◌, ◌+◌, ℕ, zero, suc, List, [], ◌∷◌, ◌++◌, length, take, Option, Some, None, Result, Ok, Err, refl, ap, sym, ◌∙◌, subst, arith, append-nil, append_assoc}
 use Rattle.std.proofs.lemmas.List.{length-take-le}
 use Rattle.std.specs.List.{slice_get}
 use Rattle.vsw_base.specs.declared.flow.Place.{Place}
@@ -30,7 +30,7 @@ added ports n moment (Err why) old new h = (loose_text (record { packet = n; cau
 -- the records up to one more
 take_more : (place : ℕ) (rs : List Record) (r : Record) → slice_get rs place ≡ Some r → take (place + 1) rs ≡ take place rs ++ r ∷ []
 take_more place [] r e = absurd (cc e)
-take_more 0 (q ∷ rs) r e = let same : q ≡ r = cc e in ap (λ (x : Record). x ∷ []) same
+take_more zero (q ∷ rs) r e = let same : q ≡ r = cc e in ap (λ (x : Record). x ∷ []) same
 take_more (suc k) (q ∷ rs) r e = ap (λ (xs : List Record). q ∷ xs) (take_more k rs r e)
 
 -- one line more of a batch

@@ -20,5 +20,5 @@ returns-in-Ok-open g c =
 pub returns-in-Err-Fault : goal.returns-in-Err-Fault
 returns-in-Err-Fault g c = unopened_fault c.args.rows.now (g.H.Host.outside c.args.host.now) (g.H.Host.outside c.open.new.host) c.args.name.now c.in-Err-Fault.field-0 c.in-Err-Fault.field-0-is c.in-Err-Fault.ensures
 
-pub returns-in-Err-Memory : goal.returns-in-Err-Memory
-returns-in-Err-Memory g c = unopened_memory c.args.rows.now (g.H.Host.outside c.args.host.now) (g.H.Host.outside c.open.new.host) c.args.name.now c.in-Err-Memory.field-0 c.in-Err-Memory.field-0-is c.in-Err-Memory.ensures
+pub returns : goal.returns
+returns g c = unopened_memory c.args.rows.now (g.H.Host.outside c.args.host.now) (g.H.Host.outside c.open.new.host) c.args.name.now c.in-Err-Memory.field-0 c.in-Err-Memory.field-0-is c.in-Err-Memory.ensures

@@ -19,7 +19,7 @@ use Rattle.vsw_run.specs.declared.ending.Ending.{Ending}
 use Rattle.vsw_run.specs.declared.ending.Ending.TheVariants as ending
 use Rattle.vsw_run.specs.declared.ending.Status.{Status}
 use Rattle.vsw_run.specs.declared.ending.Status.TheVariants as status
-use Rattle.vsw_run.proofs.Answering.{BadRows, ByRows, GoodRows, found_rows}
+use Rattle.vsw_run.proofs.Answering.{ByRows, GoodRows, WrongRows, found_rows}
 use Rattle.vsw_run.proofs.Answering as answering
 use Rattle.vsw_run.proofs.Checking.{one_held}
 use Rattle.vsw_run.proofs.Endings.{Says, one_ending}
@@ -102,7 +102,7 @@ answered q old now new ports end h r = by end r.ends
 -- ---- good files are answered
 
 is_done : (q : Query) (old : Outside) (g : AreGood q old.inputs) (end : Ending) (text : List ℕ) → ByRows g.files.files q end text → end ≡ ending.Done
-is_done q old g end text (BadRows bytes why held is wrong none) = absurd (answering.not_wrong why g.ports g.are g.few (subst (answering.IsWrong why) (one_held g.files.files q.rows bytes (rows_bytes g.ports) held g.rows_held) wrong))
+is_done q old g end text (WrongRows bytes why held is wrong none) = absurd (answering.not_wrong why g.ports g.are g.few (subst (answering.IsWrong why) (one_held g.files.files q.rows bytes (rows_bytes g.ports) held g.rows_held) wrong))
 is_done q old g end text (GoodRows ports trace records held are few trace_held says texts) =
     let file = one_held g.files.files q.trace trace g.trace trace_held g.trace_held in
     (one_ending g.trace end ending.Done records g.records (subst (λ w. Says w end records) file says) (g.trace_good, g.short)).0

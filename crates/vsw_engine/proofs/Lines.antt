@@ -28,7 +28,7 @@ added ports n moment (Ok a) old new h = h
 added ports n moment (Err why) old new h = (loose_text (record { packet = n; cause = why }), h, refl)
 
 -- the records up to one more
-take_more : (place : ℕ) (rs : List Record) (r : Record) → slice_get rs place ≡ Some r → take (place + 1) rs ≡ take place rs ++ r ∷ []
+take_more : (place : ℕ) (rs : List Record) (r : Record) → slice_get rs place ≡ Some r → take (suc place) rs ≡ take place rs ++ r ∷ []
 take_more place [] r e = absurd (cc e)
 take_more zero (q ∷ rs) r e = let same : q ≡ r = cc e in ap (λ (x : Record). x ∷ []) same
 take_more (suc k) (q ∷ rs) r e = ap (λ (xs : List Record). q ∷ xs) (take_more k rs r e)
@@ -38,6 +38,8 @@ pub lines_more : (ports : List PortRows) (first place : ℕ) (batch : List Recor
     → AreEngineLines ports first (take (place + 1) batch) new
 lines_more ports first place batch r old new below at lines adds =
     let (line, is, says) = added ports (first + place) r.moment (aim_of (macs_of ports) r) old new adds in
+    let further : place + 1 ≡ suc place = omega arith in
+    let more : take (place + 1) batch ≡ take place batch ++ r ∷ [] = ap (λ k. take k batch) further ∙ take_more place batch r at in
     let long : place ≡ length (take place batch) = sym (length-take-le place batch (omega (arith, below))) in
     let one : AreEngineLines ports (first + length (take place batch)) (r ∷ []) line = (line, [], sym (append-nil line), subst (λ k. IsEngineLine ports (first + k) r.moment (aim_of (macs_of ports) r) line) long says, refl) in
-    subst (λ rs. AreEngineLines ports first rs new) (sym (take_more place batch r at)) (subst (λ t. AreEngineLines ports first (take place batch ++ r ∷ []) t) (sym is) (lines_join ports first (take place batch) (r ∷ []) old line lines one))
+    subst (λ rs. AreEngineLines ports first rs new) (sym more) (subst (λ t. AreEngineLines ports first (take place batch ++ r ∷ []) t) (sym is) (lines_join ports first (take place batch) (r ∷ []) old line lines one))

@@ -1,5 +1,5 @@
 -- A trace was answered from rows.
-use Rattle.std.proofs.Common.{◌≡◌, ◌≤◌, ◌⊎◌, inl, inr, ℕ, List, [], ◌∷◌, ◌++◌, Option, Some, None, take, refl, sym, ◌∙◌, subst, arith}
+use Rattle.std.proofs.Common.{◌≡◌, ◌≤◌, ◌⊎◌, ◌+◌, inl, inr, ℕ, List, [], ◌∷◌, ◌++◌, Option, Some, None, take, refl, sym, ◌∙◌, subst, arith}
 use Rattle.vsw_engine.specs.Runs as engine
 use Rattle.vsw_engine.specs.Runs.{AnswersTrace, Reads}
 use Rattle.vsw_files.specs.Answering.{HasAnswered, HasRows}
@@ -33,8 +33,8 @@ two q old now ports h f = h.file ∷ f ∷ []
 opens_trace : (q : Query) (old now new : Outside) (ports : List PortRows) (h : HasRows q old now ports) (t : Trace) (r : Reads now new q.trace t) → Opens old new q (two q old now ports h r.file)
 opens_trace q old now new ports h t r = record {
   since = TellsSince-trans old.inputs now.inputs new.inputs (h.file ∷ []) (r.file ∷ []) h.opens.since r.since;
-  held = (h.opens.held.0, TellsHeld-before old.inputs now.inputs (h.file ∷ []) r.file.name r.file.bytes h.opens.since r.held, tt);
-  within = (h.opens.within.0, r.within, tt);
+  held = (h.opens.held.0, (TellsHeld-before old.inputs now.inputs (h.file ∷ []) r.file.name r.file.bytes h.opens.since r.held, tt));
+  within = (h.opens.within.0, (r.within, tt));
   in_turn = (ports, h.is, r.named);
 }
 

@@ -1,5 +1,5 @@
 -- Two runs that answer the same trace from the same rows put the same.
-use Rattle.std.proofs.Common.{◌≡◌, ◌≢◌, ◌<◌, ◌≤◌, ◌⊎◌, ◌+◌, ℕ, zero, suc, List, [], ◌∷◌, ◌++◌, length, take, drop, get_or, Option, Some, None, Result, Ok, Err, refl, ap, sym, ◌∙◌, subst, arith, length-append}
+use Rattle.std.proofs.Common.{◌≡◌, ◌≢◌, ◌<◌, ◌≤◌, ℕ, zero, suc, List, [], ◌∷◌, ◌++◌, length, take, drop, get_or, Option, Some, None, Result, Ok, Err, refl, ap, sym, ◌∙◌, subst, arith, length-append}
 use Rattle.std.specs.Prelude.{IsSome, codes, decimal}
 use Rattle.vsw_base.specs.declared.fate.Fate.{Fate}
 use Rattle.vsw_base.specs.declared.flow.Place.{Place}
@@ -19,7 +19,6 @@ use Rattle.vsw_pcap.proofs.Format.{accepted-append}
 use Rattle.vsw_pcap.specs.Capture.{header_of, IsCapture, Splits, Stops}
 use Rattle.vsw_pcap.specs.declared.capture.Front.TheVariants.{Oversize}
 use Rattle.vsw_pcap.specs.declared.capture.Record.{Record}
-use Rattle.vsw_pcap.specs.declared.fault.BadTrace.{BadTrace}
 use Rattle.vsw_pcap.specs.declared.fault.BadTrace.TheVariants.{NotPcap, Version, LinkType, Cut, Huge}
 use Rattle.vsw_policy.specs.Sound.{Each}
 use Rattle.vsw_promise.proofs.PortRounds.{take_whole}
@@ -35,7 +34,7 @@ use Rattle.vsw_run.specs.declared.ending.Status.TheVariants as status
 use Rattle.vsw_run.specs.Engine.{AreEngineLines, IsAnswerLine, IsEngineLine, answer_text, engine_head}
 use Rattle.vsw_run.specs.Files.{Reaches}
 use Rattle.vsw_run.specs.Law.{HasNoFault}
-use Rattle.vsw_run.specs.Trace.{All, Trace, most_records}
+use Rattle.vsw_run.specs.Trace.{All, Trace}
 use Rattle.vsw_run.specs.Words.{Query}
 use Rattle.vsw_run.proofs.Checking.{Held, one_held}
 use Rattle.vsw_run.proofs.Endings.{IsOfFile, Says, header_longer, huge_longer, longer, one_ending}

@@ -1,10 +1,9 @@
 -- A run that ended well read each of its files to the end.
-use Rattle.std.proofs.Common.{◌≡◌, List, [], ◌∷◌, sym, subst}
-use Rattle.vsw_host.specs.Outside.{Opened, Outside}
+use Rattle.std.proofs.Common.{[], ◌∷◌, sym, subst}
 use Rattle.vsw_policy.specs.Sound.{Each}
 use Rattle.vsw_run.specs.declared.ending.Ending.TheVariants.{Done}
 use Rattle.vsw_run.specs.Files.{IsWhole, InTurn, Reaches}
-use Rattle.vsw_run.specs.IsRun.{Runs, EndsByTrace}
+use Rattle.vsw_run.specs.IsRun.{EndsByTrace}
 use Rattle.vsw_run.specs.Law.{DoneReadsAll}
 
 pub done_reads_all : DoneReadsAll

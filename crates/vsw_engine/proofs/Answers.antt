@@ -1,7 +1,6 @@
 -- What rows answer, with its bytes in a room.
-use Rattle.std.proofs.Common.{◌≡◌, ◌<◌, ◌≤◌, ℕ, List, [], ◌∷◌, ◌++◌, Bool, true, false, nat_lt, length, take, if◌then◌else◌, Option, Some, None, Result, Ok, Err, refl, ap, sym, ◌∙◌, subst, arith, length-take}
-use Rattle.std.specs.Prelude.{IfSome, codes, decimal, get_or}
-use Rattle.vsw_base.specs.declared.fate.Cause.TheVariants as cause
+use Rattle.std.proofs.Common.{◌≡◌, ◌≤◌, ℕ, List, ◌++◌, Bool, true, false, nat_lt, length, take, if◌then◌else◌, Option, Some, None, Ok, Err, refl, ap, arith, length-take}
+use Rattle.std.specs.Prelude.{IfSome, get_or}
 use Rattle.vsw_base.specs.declared.fate.Fate.{Fate}
 use Rattle.vsw_base.specs.declared.fate.Fate.TheVariants.{Pass, Drop}
 use Rattle.vsw_base.specs.declared.fate.Verdict.{Verdict}
@@ -9,16 +8,15 @@ use Rattle.vsw_base.specs.declared.fate.Verdict.TheVariants as verdict
 use Rattle.vsw_base.specs.declared.flow.Crossing.{Crossing}
 use Rattle.vsw_base.specs.declared.flow.Place.{Place}
 use Rattle.vsw_base.specs.Frame.{Parts}
-use Rattle.vsw_frame.specs.Bytes.{answer, outer_total, outgoing}
-use Rattle.vsw_offload.specs.Answered.{Answered, IsPacketOf, bytes_by, bytes_left, fate_by, passed, rows_at}
+use Rattle.vsw_frame.specs.Bytes.{outer_total, outgoing}
+use Rattle.vsw_offload.specs.Answered.{Answered, IsPacketOf, bytes_left, fate_by, passed, rows_at}
 use Rattle.vsw_offload.specs.Rows.{numbers_of}
 use Rattle.vsw_offload.specs.declared.port_rows.PortRows.{PortRows}
 use Rattle.vsw_promise.specs.Jobs.{crossing_by}
 use Rattle.vsw_transpose.specs.Apply.{apply}
 use Rattle.vsw_transpose.specs.Fits.{kept}
 use Rattle.vsw_transpose.specs.declared.act.Act.{Act}
-use Rattle.vsw_engine.specs.Private.Lines.{AddsAnswer, front_text, len_of, line_text}
-use Rattle.vsw_run.specs.Engine.{IsAnswerLine, answer_text}
+use Rattle.vsw_engine.specs.Private.Lines.{AddsAnswer, len_of, line_text}
 
 -- packet n at a place and a moment is of its frame
 pub is_packet : (n : ℕ) (place : Place) (moment : ℕ) (p : Parts) → IsPacketOf (crossing_by 0 n place moment p) place p moment

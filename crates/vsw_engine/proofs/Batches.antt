@@ -1,8 +1,8 @@
 -- A batch is read, and its lines are put.
-use Rattle.std.proofs.Common.{◌≡◌, ◌<◌, ◌≤◌, ◌+◌, ◌-◌, ◌*◌, inl, inr, ℕ, zero, suc, Some, Ok, Err, Result, List, [], ◌++◌, length, take, take_all, drop, refl, sym, ◌∙◌, ap, subst, arith, append-nil, append_assoc, length-append, length-drop}
+use Rattle.std.proofs.Common.{◌≡◌, ◌<◌, ◌≤◌, ◌+◌, ◌-◌, ◌*◌, inl, inr, ℕ, zero, suc, Some, Ok, Err, List, [], ◌++◌, length, take, take_all, drop, refl, sym, ◌∙◌, ap, subst, arith, append-nil, append_assoc, length-append, length-drop}
 use Rattle.std.specs.Bool.{⊤}
 use Rattle.vsw_base.specs.declared.fault.NoMemory.{NoMemory}
-use Rattle.vsw_host.specs.Outside.{Outside, Grows, SameInputs, SameOutputs, DoesPut}
+use Rattle.vsw_host.specs.Outside.{Outside, SameInputs, SameOutputs, DoesPut}
 use Rattle.vsw_host.specs.Source.{IsReading}
 use Rattle.vsw_host.specs.declared.host.Failed.{Failed}
 use Rattle.vsw_offload.specs.declared.port_rows.PortRows.{PortRows}
@@ -15,19 +15,19 @@ use Rattle.vsw_pcap.specs.declared.fault.BadTrace.TheVariants.{NotPcap, Version,
 use Rattle.vsw_pcap.proofs.Format.{accepted_long}
 use Rattle.vsw_files.proofs.Growing.{front_then, grows_is, grows_then}
 use Rattle.vsw_reading.specs.Passed.{IsPassed}
-use Rattle.vsw_reading.specs.Reads.{IsBehind, IsOpen, IsRead, Peeks, Says, StopsSo}
+use Rattle.vsw_reading.specs.Reads.{IsOpen, IsRead, Peeks, Says, StopsSo}
 use Rattle.vsw_reading.specs.declared.reading.Reading.{Reading}
 use Rattle.vsw_reading.specs.declared.reading.Stop.{Stop}
 use Rattle.vsw_reading.specs.declared.reading.Stop.TheVariants as stop
 use Rattle.vsw_reading.proofs.Open.{FillsSo, PeeksSo, cleared, holds_cleared}
 use Rattle.vsw_reading.proofs.Passing.{header_more, passed_first, passed_more, passed_read, splits_more}
 use Rattle.vsw_reading.proofs.Splitting.{Passed, splits_shorter, stands_passed, stops_at}
-use Rattle.vsw_reading.proofs.Staying.{open_put, reading_put}
-use Rattle.vsw_engine.specs.Private.Going.{CanRead, GoesOn, IsAt, IsBetween, IsFilled, IsNear, IsPut, IsTold, PutsBatch, ShowsStop, Since}
-use Rattle.vsw_engine.specs.Runs.{AnswersTrace, BreaksOff, EndsSo, Reads}
+use Rattle.vsw_reading.proofs.Staying.{reading_put}
+use Rattle.vsw_engine.specs.Private.Going.{CanRead, IsBetween, IsFilled, IsNear, IsPut, IsTold, ShowsStop}
+use Rattle.vsw_engine.specs.Runs.{AnswersTrace, EndsSo, Reads}
 use Rattle.vsw_engine.proofs.Lines.{lines_join}
 use Rattle.vsw_engine.proofs.Sources.{answers_so, near_put, read_to, reads_fault, reads_stopped, reads_whole, shows_put, since_put, told_read}
-use Rattle.vsw_run.specs.ByRows.{EndsBehind, HasFirst, HasMore, Pauses}
+use Rattle.vsw_run.specs.ByRows.{EndsBehind, HasFirst, Pauses}
 use Rattle.vsw_run.specs.Engine.{AreEngineLines, engine_head}
 use Rattle.vsw_run.specs.Trace.{All, Fault, Stopped, Trace, most_records}
 use Rattle.vsw_run.specs.declared.ending.Ending.{Ending}

@@ -1,5 +1,5 @@
 -- The head of what is put, and traces of which no header was accepted.
-use Rattle.std.proofs.Common.{◌≡◌, ◌<◌, ◌≤◌, ◌⊎◌, ◌+◌, ◌*◌, inl, inr, ℕ, Bool, true, false, nat_lt, if◌then◌else◌, Option, Some, None, Ok, Err, List, [], ◌++◌, length, take, min, refl, sym, ◌∙◌, ap, subst, arith, append-nil}
+use Rattle.std.proofs.Common.{◌≡◌, ◌<◌, ◌≤◌, ◌⊎◌, inl, inr, ℕ, Bool, true, false, nat_lt, if◌then◌else◌, Some, None, Ok, Err, List, [], ◌++◌, length, take, min, refl, sym, ◌∙◌, ap, subst, arith, append-nil}
 use Rattle.std.specs.Bool.{⊤}
 use Rattle.std.proofs.lemmas.Grind.{common_steps}
 use Rattle.vsw_base.specs.declared.fault.NoMemory.{NoMemory}
@@ -25,13 +25,13 @@ use Rattle.vsw_reading.specs.declared.reading.Stop.TheVariants as stop
 use Rattle.vsw_reading.proofs.Open.{FillsSo}
 use Rattle.vsw_reading.proofs.Passing.{passed_read, waits_passed}
 use Rattle.vsw_reading.proofs.Staying.{reading_put}
-use Rattle.vsw_engine.specs.Private.Going.{IsFilled, IsFirst, IsNear, IsOpened, Since, unheaded_of}
+use Rattle.vsw_engine.specs.Private.Going.{IsFilled, IsFirst, IsOpened, Since, unheaded_of}
 use Rattle.vsw_engine.specs.Runs.{AnswersTrace, EndsSo, Reads}
-use Rattle.vsw_engine.proofs.Batches.{has_first, near_filled, shows_of}
+use Rattle.vsw_engine.proofs.Batches.{shows_of}
 use Rattle.vsw_engine.proofs.Sources.{answers_so, grows_read, read_to, reads_fault, reads_stopped, reads_whole, shows_put, since_put, since_read}
-use Rattle.vsw_run.specs.ByRows.{EndsBehind, HasBadHeader}
+use Rattle.vsw_run.specs.ByRows.{EndsBehind}
 use Rattle.vsw_run.specs.Engine.{engine_head}
-use Rattle.vsw_run.specs.Trace.{All, Fault, Stopped, Trace, most_records}
+use Rattle.vsw_run.specs.Trace.{All, Fault, Stopped, Trace}
 use Rattle.vsw_run.specs.declared.ending.Ending.{Ending}
 use Rattle.vsw_run.specs.declared.ending.Ending.TheVariants as ending
 

@@ -1,5 +1,5 @@
 -- The end of a report's line.
-use Rattle.std.proofs.Common.{◌≡◌, ℕ, List, [], ◌++◌, false, drop, Result, Ok, Err, refl, ap, ◌∙◌}
+use Rattle.std.proofs.Common.{◌≡◌, ℕ, List, [], ◌++◌, false, drop, Result, Ok, Err, ap, ◌∙◌}
 use Rattle.std.specs.Fmt.{digits}
 use Rattle.std.specs.Prelude.{OnOk, codes}
 use Rattle.vsw_base.specs.declared.fate.Fate.{Fate}

@@ -1,5 +1,5 @@
 -- What was read and put, as the run goes on.
-use Rattle.std.proofs.Common.{◌≡◌, ◌≤◌, ℕ, Result, List, [], ◌++◌, length, take, take_all, refl, sym, ◌∙◌, ap, subst, arith, length-take}
+use Rattle.std.proofs.Common.{◌≡◌, ◌≤◌, ℕ, Result, List, ◌++◌, length, take, take_all, refl, sym, ◌∙◌, ap, subst, arith, length-take}
 use Rattle.vsw_host.specs.Outside.{Outside, Grows, Rose, SameInputs, SameOutputs, DoesPut}
 use Rattle.vsw_host.specs.Source.{IsReading}
 use Rattle.vsw_host.specs.Told.{ReadsAll}
@@ -8,7 +8,7 @@ use Rattle.vsw_offload.specs.declared.port_rows.PortRows.{PortRows}
 use Rattle.vsw_reading.specs.declared.reading.Reading.{Reading}
 use Rattle.vsw_reading.specs.declared.reading.Stop.{Stop}
 use Rattle.vsw_reading.specs.declared.reading.Stop.TheVariants as stop
-use Rattle.vsw_reading.proofs.Staying.{open_put, reading_put, read_put, rose_put, whole_put}
+use Rattle.vsw_reading.proofs.Staying.{open_put, read_put, rose_put, whole_put}
 use Rattle.vsw_engine.specs.Private.Going.{IsNear, IsTold, ShowsStop, Since}
 use Rattle.vsw_engine.specs.Runs.{AnswersTrace, Ends, Reads}
 use Rattle.vsw_run.specs.Engine.{engine_head}

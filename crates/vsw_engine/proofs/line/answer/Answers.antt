@@ -1,4 +1,4 @@
-use Rattle.std.proofs.Common.{◌≤◌, length, arith}
+use Rattle.std.proofs.Common.{arith}
 use Rattle.vsw_frame.specs.Frame.{parts}
 use Rattle.vsw_offload.specs.Answered.{rows_at}
 use Rattle.vsw_promise.specs.Jobs.{crossing_by}

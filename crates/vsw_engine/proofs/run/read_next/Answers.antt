@@ -1,4 +1,4 @@
-use Rattle.std.proofs.Common.{◌≡◌, Ok, Err, ◌∙◌}
+use Rattle.std.proofs.Common.{Ok, Err, ◌∙◌}
 use Rattle.vsw_reading.specs.declared.reading.Stop.TheVariants.{Full}
 use Rattle.vsw_reading.proofs.Open.{cleared, fills_with, open_cleared, open_with, peeks_with}
 use Rattle.vsw_engine.proofs.Batches.{near_filled, near_none, next_filled, next_more, next_none, next_unfilled, room_for}

@@ -1,4 +1,4 @@
-use Rattle.std.proofs.Common.{◌+◌, subst}
+use Rattle.std.proofs.Common.{subst}
 use Rattle.vsw_engine.specs.Private.Going.{IsPut}
 use Rattle.vsw_engine.proofs.Batches.{open_next, put_bad, put_end, put_fault, put_full}
 use Rattle.vsw_engine.proofs.run.run_batch.Goals as goal

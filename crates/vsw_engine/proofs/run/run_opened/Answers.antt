@@ -1,4 +1,4 @@
-use Rattle.std.proofs.Common.{refl, arith}
+use Rattle.std.proofs.Common.{arith}
 use Rattle.vsw_engine.proofs.Batches.{near_filled}
 use Rattle.vsw_engine.proofs.Beginning.{first_filled, first_unfilled}
 use Rattle.vsw_engine.proofs.run.run_opened.Goals as goal

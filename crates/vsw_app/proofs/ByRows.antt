@@ -1,11 +1,11 @@
 -- A trace was answered from rows.
-use Rattle.std.proofs.Common.{◌≡◌, ◌≤◌, ◌⊎◌, ◌+◌, inl, inr, ℕ, List, [], ◌∷◌, ◌++◌, Option, Some, None, take, refl, sym, ◌∙◌, subst, arith}
+use Rattle.std.proofs.Common.{◌≡◌, ◌≤◌, ◌⊎◌, ◌+◌, inl, inr, ℕ, List, [], ◌∷◌, Some, take, refl, sym, ◌∙◌, subst, arith}
 use Rattle.vsw_engine.specs.Runs as engine
 use Rattle.vsw_engine.specs.Runs.{AnswersTrace, Reads}
 use Rattle.vsw_files.specs.Answering.{HasAnswered, HasRows}
 use Rattle.vsw_files.proofs.Growing.{grows_as, rose_as, rose_from}
 use Rattle.vsw_host.specs.Outside.{Opened, Outside, Grows}
-use Rattle.vsw_host.specs.Told.{TellsHeld, TellsSince}
+use Rattle.vsw_host.specs.Told.{TellsSince}
 use Rattle.vsw_host.proofs.CallerLemmas.{TellsHeld-before, TellsSince-trans}
 use Rattle.vsw_offload.specs.Rows.{rows_bytes}
 use Rattle.vsw_offload.specs.declared.port_rows.PortRows.{PortRows}

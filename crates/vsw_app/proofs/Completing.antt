@@ -1,5 +1,5 @@
 -- A run over good files ends well, but for faults and want of memory.
-use Rattle.std.proofs.Common.{◌≡◌, ◌<◌, ◌≤◌, ◌⊎◌, inl, inr, ℕ, zero, suc, ◌+◌, List, [], ◌∷◌, ◌++◌, length, take, drop, Option, Some, None, Result, Ok, Err, refl, ap, sym, ◌∙◌, subst, arith}
+use Rattle.std.proofs.Common.{◌≡◌, ◌<◌, ◌≤◌, ◌⊎◌, inl, inr, ℕ, ◌+◌, List, [], ◌∷◌, ◌++◌, length, take, drop, Option, Some, None, Result, Ok, Err, refl, ap, sym, ◌∙◌, subst, arith}
 use Rattle.std.proofs.Math.Seq.{take-length}
 use Rattle.std.proofs.lemmas.List.{length-append, drop-append-le, take-append-drop}
 use Rattle.vsw_commandfile.specs.Commands.{commands_file_of}
@@ -7,7 +7,7 @@ use Rattle.vsw_commandfile.specs.declared.fault.CommandsFault.{CommandsFault}
 use Rattle.vsw_commandfile.specs.declared.line.Line.{Line}
 use Rattle.vsw_host.specs.Outside.{Inputs, Opened, Outside, Rose}
 use Rattle.vsw_host.specs.Told.{TellsHeld}
-use Rattle.vsw_pcap.specs.Capture.{header_of, front_of, Splits, Stops, IsCapture}
+use Rattle.vsw_pcap.specs.Capture.{header_of, Splits, Stops, IsCapture}
 use Rattle.vsw_pcap.specs.declared.capture.Form.{Form}
 use Rattle.vsw_pcap.specs.declared.capture.Front.TheVariants.{Oversize}
 use Rattle.vsw_pcap.specs.declared.capture.Record.{Record}
@@ -23,7 +23,7 @@ use Rattle.vsw_run.specs.Complaint.{status_of}
 use Rattle.vsw_run.specs.Files.{InTurn, HasBadPolicy, HasBadCommands, Reaches}
 use Rattle.vsw_run.specs.IsRun.{AreAdmitted, EndsByTrace, IsComplete, IsCompleteAlone, IsRun, Runs, RunsBy, RunsGenerated, TraceRead}
 use Rattle.vsw_promise.specs.Jobs.{Setting}
-use Rattle.vsw_run.specs.Trace.{All, Trace, IsRefused, HasBadHeader, HasBadRecord, HasMore, most_records}
+use Rattle.vsw_run.specs.Trace.{All, Trace, IsRefused, HasMore, most_records}
 use Rattle.vsw_run.specs.declared.ending.Ending.{Ending}
 use Rattle.vsw_run.specs.declared.ending.Ending.TheVariants as ending
 use Rattle.vsw_run.specs.declared.ending.Status.{Status}

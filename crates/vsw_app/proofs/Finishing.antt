@@ -1,5 +1,5 @@
 -- The whole run: what is left behind its complaint, and what its status shows.
-use Rattle.std.proofs.Common.{◌≡◌, ◌⊎◌, ◌↔◌, ℕ, inl, inr, Bool, true, false, List, [], Option, Some, None, take, refl, sym, ◌∙◌, ap, subst}
+use Rattle.std.proofs.Common.{◌≡◌, ◌↔◌, ℕ, inl, inr, Bool, true, false, List, [], Option, Some, None, take, refl, sym, ◌∙◌, ap, subst}
 use Rattle.vsw_commandfile.specs.declared.fault.CommandsFault.{CommandsFault}
 use Rattle.vsw_commandfile.specs.declared.fault.CommandsFault.TheVariants as commands
 use Rattle.vsw_host.specs.Outside.{Opened, Outside, Grows, Rose, SameInputs}

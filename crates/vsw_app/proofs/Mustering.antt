@@ -1,22 +1,19 @@
 -- Before its first round a crew stands where a run begins.
-use Rattle.std.proofs.Common.{◌≡◌, ◌≤◌, ◌<◌, ℕ, suc, true, List, [], ◌∷◌, length, map, All, refl, sym, ◌∙◌, ap, subst, arith, false}
+use Rattle.std.proofs.Common.{◌≡◌, ◌≤◌, ℕ, true, List, [], ◌∷◌, map, All, refl, sym, ◌∙◌, ap, arith, false}
 use Rattle.vsw_commandfile.specs.declared.line.Line.{Line}
 use Rattle.vsw_commandfile.specs.Good.{CanAsk}
 use Rattle.vsw_replay.specs.Crew.{AreReady, CrewSeen, IsOfSome, crew_now, ports_now, switch_now}
 use Rattle.vsw_harbour.proofs.Dealing.{all_know}
-use Rattle.vsw_harbour.specs.Docks.{port_in}
-use Rattle.vsw_harbour.specs.Harbour.{AreLike, HarbourSeen, IsOfRun, MayAsk}
+use Rattle.vsw_harbour.specs.Harbour.{AreLike, HarbourSeen, IsOfRun}
 use Rattle.vsw_harbour.specs.Lane.{Lane}
 use Rattle.vsw_harbour.specs.Seen.{DockSeen, StationSeen}
 use Rattle.vsw_port.specs.Order.{ascending, counted}
 use Rattle.vsw_port.specs.declared.event.Event.{Event}
-use Rattle.vsw_harbour.specs.Mustered.{IsMustered, IsServed, no_entries}
+use Rattle.vsw_harbour.specs.Mustered.{IsMustered, no_entries}
 use Rattle.vsw_policy.specs.Obey.{rules_given}
 use Rattle.vsw_policy.specs.Sound.{Each, IsGoodRule, is_listed}
 use Rattle.vsw_config.specs.declared.file.PolicyFile.{PolicyFile}
 use Rattle.vsw_promise.specs.Ports.{PortSeen, ports_of}
-use Rattle.vsw_promise.specs.Jobs.{Setting}
-use Rattle.vsw_promise.specs.Rounds.{opening_of}
 use Rattle.vsw_replay.specs.Switch.{AllStandAt, AreServed, IsAt, SwitchNow}
 use Rattle.vsw_app.proofs.Running.{all_listed, all_ports, all_rules}
 

@@ -1,7 +1,6 @@
 -- The run of the trace, behind its files.
-use Rattle.std.proofs.Common.{◌≡◌, ◌≤◌, ◌⊎◌, ◌==◌, ℕ, suc, inl, inr, List, [], ◌∷◌, length, take, map, Bool, true, false, All, refl, sym, ◌∙◌, ap, subst, arith, ◌||◌, ne_eqb}
+use Rattle.std.proofs.Common.{◌≡◌, ◌==◌, ℕ, suc, inl, inr, List, [], ◌∷◌, take, map, true, false, All, refl, sym, ◌∙◌, ap, subst, arith, ◌||◌, ne_eqb}
 use native.Mathlib.Decide.{ℕ_discrete}
-use Rattle.std.specs.List.{list_any}
 use Rattle.vsw_commandfile.specs.Line.{is_port}
 use Rattle.vsw_commandfile.specs.declared.line.Line.{Line}
 use Rattle.vsw_commandfile.specs.Good.{CanAsk}
@@ -13,10 +12,10 @@ use Rattle.vsw_policy.specs.Sound.{Each, IsGoodRule, is_listed}
 use Rattle.vsw_config.specs.declared.file.PolicyFile.{PolicyFile}
 use Rattle.vsw_config.specs.declared.file.PortFile.{PortFile}
 use Rattle.vsw_promise.specs.Ports.{port_of, ports_of}
-use Rattle.vsw_run.specs.Files.{HasTrace, InTurn, IsReadOf, Opens, Reaches}
+use Rattle.vsw_run.specs.Files.{IsReadOf, Opens, Reaches}
 use Rattle.vsw_run.specs.IsRun.{Ends, EndsByTrace, BreaksOff, TraceRead}
 use Rattle.vsw_promise.specs.Jobs.{Setting}
-use Rattle.vsw_run.specs.Trace.{Reach, All as Whole, Fault, Stopped, Trace, Tells, MayTell}
+use Rattle.vsw_run.specs.Trace.{Reach, All as Whole, Fault, Stopped, Trace}
 use Rattle.vsw_run.specs.declared.ending.Ending.{Ending}
 use Rattle.vsw_run.specs.declared.ending.Ending.TheVariants as ending
 use Rattle.vsw_replay.specs.Runs.{Reads, OpensNothing, EndsSo, RunsTrace}

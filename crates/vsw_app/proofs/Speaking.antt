@@ -1,7 +1,7 @@
 -- Words that are complained piece by piece.
 use Rattle.std.proofs.Common.{refl, ◌≡◌, ◌+◌, ◌≤◌, inl, inr, List, ℕ, ◌++◌, Result, Ok, Err, length, min, sym, ◌∙◌, subst, arith, append_assoc}
 use Rattle.std.specs.Prelude.{⊤, codes}
-use Rattle.vsw_host.specs.Outside.{Outside, Grows, Rose, SameInputs}
+use Rattle.vsw_host.specs.Outside.{Outside, Grows, SameInputs}
 use Rattle.vsw_host.specs.declared.host.Failed.{Failed}
 use Rattle.vsw_config.specs.Path.{step_text}
 use Rattle.vsw_config.specs.declared.fault.Step.{Step}

@@ -1,4 +1,4 @@
-use Rattle.std.proofs.Common.{◌≡◌, [], List, map, refl, subst, sym, false}
+use Rattle.std.proofs.Common.{[], map, refl, subst, sym, false}
 use Rattle.vsw_promise.specs.Ports.{ports_of}
 use Rattle.vsw_promise.specs.Jobs.{Setting}
 use Rattle.vsw_replay.specs.Switch.{AreServed, IsAt, SwitchNow}

@@ -12,13 +12,13 @@ ghost use Rattle.vsw_answer.specs.Transit.{IsOfFrame};
 ghost use Rattle.vsw_audit.specs.Private.Lines.{Judges};
 
 use std::alloc::Global;
+use vsw_answer::{Room, bytes_of, leave};
 use vsw_base::{
     Cause, Control, Crossing, Dir, Fate, Moment, NoMemory, Place, Sizes, Stack, Ufid, Verdict,
 };
 use vsw_frame::Frame;
 use vsw_policy::Policy;
 use vsw_port::{Ledger, Outcome, judge};
-use vsw_answer::{Room, bytes_of, leave};
 use vsw_walk::{Scratch, Walked, Wanted, walk};
 
 /// The rooms in which packet after packet is replayed. Each is written over by the next one.

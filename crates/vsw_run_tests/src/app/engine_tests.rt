@@ -97,7 +97,8 @@ const TRACES: [(&[&[u8]], &[u8], Status, &[u8]); 8] = [
 #[test]
 fn other_packets_need_the_layers(rt: HostRuntime) -> Result<(), Wrong> {
     for (place, (trace, lines, status, complaint)) in TRACES.iter().enumerate() {
-        let wanted = (*status, [HEAD, *lines].as_slice(), *complaint);
+        let put = [HEAD, *lines];
+        let wanted = (*status, put.as_slice(), *complaint);
         if answer(&rt, rt.alloc(), ROWS, trace, &[], wanted).is_err() {
             return Err(Wrong::Run(place));
         }

@@ -264,7 +264,7 @@ ROWS = [
     (greatest, "frames of 65,549 bytes", "times", 400),
     (commands, "a command each 1,000 packets", "times", 4),
     (often, "a command each 16 packets", "times", 80),
-    (often_by_four, "the same by four workers", "times", 60),
+    (often_by_four, "the same by four workers", "times", 80),
     (rules, "commands on a group of 1,000 rules", "times", 400),
     (line_memory, "a commands line of 16 MiB", "MB", 3500),
     (policy_memory, "a policy of 4 MiB of nested objects", "MB", 900),

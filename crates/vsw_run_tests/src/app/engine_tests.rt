@@ -136,12 +136,15 @@ fn a_trace_with_a_bad_header_puts_nothing(rt: HostRuntime) -> Result<(), Wrong> 
     answer(&rt, rt.alloc(), ROWS, &[b"no trace"], &[], wanted)
 }
 
-/// Calls of the host that fail before anything is put: the rows are opened by call 1 and read by 2 and 3, then the trace is opened by 4 and read by 5.
-const FAULTS: [(u64, &[&[u8]], Status, &[u8]); 4] = [
+/// Calls of the host that fail, with what was put: the rows are opened by call 1 and read by 2 and 3, the trace is opened by 4, and read by 5 and 6; then the
+/// head is put by 7, and the lines by 8.
+const FAULTS: [(u64, &[&[u8]], Status, &[u8]); 6] = [
     (1, &[], Status::ReadFault, b"vsw: read fault\n"),
     (2, &[], Status::ReadFault, b"vsw: read fault\n"),
     (4, &[], Status::ReadFault, b"vsw: read fault\n"),
     (5, &[], Status::ReadFault, b"vsw: read fault\n"),
+    (7, &[], Status::WriteFault, b"vsw: write fault\n"),
+    (8, &[HEAD], Status::WriteFault, b"vsw: write fault\n"),
 ];
 
 #[test]

@@ -1,19 +1,24 @@
 -- Rows that a command doesn't spare fall.
-use Rattle.std.proofs.Common.{◌≡◌, ◌+◌, ◌<◌, ◌≤◌, ◌==◌, ℕ, zero, suc, Bool, true, false, not, ◌&&◌, ◌||◌, List, [], ◌∷◌, length, map, get_or, refl, sym, ap, subst, ◌∙◌, arith, true≢false}
-use Rattle.std.specs.List.{list_all}
+use Rattle.std.proofs.Common.{◌≡◌, ◌≢◌, ◌+◌, ◌<◌, ◌≤◌, ◌==◌, ℕ, zero, suc, Bool, true, false, not, ◌&&◌, ◌||◌, List, [], ◌∷◌, length, map, get_or, slice_set, get_or-set_same, get_or-set_other, length-set, refl, sym, ap, subst, ◌∙◌, arith, true≢false}
+use native.Mathlib.Decide.{ℕ_discrete}
+use mathlib.Core.Logic.{dite}
+use Rattle.std.specs.Prelude.{Option, Some, None, slice_index_or}
+use Rattle.std.specs.List.{list_all, slice_get}
 use Rattle.vsw_policy.specs.declared.command.Command.{Command}
 use Rattle.vsw_policy.specs.declared.command.Command.TheVariants.{PutMany, PutRules}
 use Rattle.vsw_policy.specs.declared.command.Part.{Part}
 use Rattle.vsw_policy.specs.Layer.{LayerSeen}
 use Rattle.vsw_rule.specs.declared.rule.Rule.{Rule}
 use Rattle.vsw_walk.specs.declared.scratch.Looked.{Looked}
-use Rattle.vsw_spares.specs.Spared.{as_put, is_within, singles, spares, spares_one}
+use Rattle.vsw_spares.specs.Spared.{as_put, is_within, leaves, leaves_in, names, singles, spares, spares_one}
 use Rattle.vsw_table.specs.Rules.{stamp_at}
 use Rattle.vsw_flows.specs.Flows.{Any, Falls, IsCurrent, Writing}
 use Rattle.vsw_flows.specs.Leant.{Leant, kept_at}
-use Rattle.vsw_flows.specs.Obeying.{AllLeft, AllSparedBy, leaves_all}
-use Rattle.vsw_flows.specs.Standing.{Fell, Thins}
-use Rattle.vsw_flows.proofs.Thinned.{fell_thins, thins_none, thins_then, thins_weaker, was_current}
+use Rattle.vsw_flows.specs.Obeying.{AllLeft, AllSparedBy, IsNaming, is_named_at, leaves_all, named_in}
+use Rattle.vsw_flows.specs.Spots.{stands}
+use Rattle.vsw_flows.specs.Standing.{Fell, Lessens}
+use Rattle.vsw_flows.proofs.Settled.{kept_stands}
+use Rattle.vsw_flows.proofs.Thinned.{falls_none, falls_then, falls_weaker, fell_thins, was_current}
 
 -- no stamp is kept of a row that isn't there
 pub beyond : (ns : List ℕ) (k : ℕ) → length ns ≤ k → get_or ns k 0 ≡ 0
@@ -50,28 +55,52 @@ row_left ls c m kept row qs is h = ap (leaves_all ls c m) (sym is) ∙ h
 pub row_fell : (ls : List LayerSeen) (c : ℕ) (m : Command) (kept : List (List Looked)) (v w : Writing) (l n : Leant) (row : ℕ) → Fell (row + 1) v w l n → IsCurrent w row → leaves_all ls c m (kept_at kept row) ≡ true
 row_fell ls c m kept v w l n row f current = absurd (f.gone row refl current)
 
-pub fell_any : (mark : ℕ) (v w : Writing) (l m : Leant) → Fell mark v w l m → Thins Any v w l m
-fell_any mark v w l m f = thins_weaker (λ place. place + 1 ≡ mark) Any v w l m (λ place h. tt) (fell_thins mark v w l m f)
+-- a row that isn't current is forgotten
+pub lessens_none : (v : Writing) (l : Leant) → Lessens v v l l
+lessens_none v l = record { falls = falls_none Any v; kept = λ place c. refl; stands = λ ls s. s }
+
+pub lessens_then : (v w x : Writing) (l m n : Leant) → Lessens v w l m → Lessens w x m n → Lessens v x l n
+lessens_then v w x l m n f g = record {
+  falls = falls_then Any v w x f.falls g.falls;
+  kept = λ place c. g.kept place c ∙ f.kept place (was_current Any w x place (g.falls.each place) c);
+  stands = λ ls s. g.stands ls (f.stands ls s);
+}
+
+pub forgot : (row : ℕ) (v w : Writing) (l m n : Leant) → Fell (row + 1) v w l m → ((place : ℕ) → place ≢ row → kept_at n.kept place ≡ kept_at m.kept place) → n.spots ≡ m.spots → Lessens v w l n
+forgot row v w l m n f others spots = record {
+  falls = falls_weaker (λ place. place + 1 ≡ row + 1) Any v w (λ place h. tt) f.falls;
+  kept = λ place c. dite (ℕ_discrete place row)
+      (λ e. absurd (gone (subst (IsCurrent w) e c)))
+      (λ ne. others place ne ∙ ap (λ ks. kept_at ks place) f.kept);
+  stands = λ ls s. kept_stands row w m n gone others (λ t place ne h. ap (λ es. stands es t place) spots ∙ h) ls ((fell_thins (row + 1) v w l m f).stands ls s);
+}
+  where
+    gone : IsCurrent w row → ⊥
+    gone = f.gone row refl
 
 -- of the first n rows those that are current are left
 pub record Tried (ls : List LayerSeen) (c : ℕ) (m : Command) (n : ℕ) (v w : Writing) (l k : Leant) : Type 0 where
-  pub thins : Thins Any v w l k
+  pub lessens : Lessens v w l k
   pub left : (place : ℕ) → place < n → IsCurrent w place → leaves_all ls c m (kept_at l.kept place) ≡ true
 
 pub tried_none : (ls : List LayerSeen) (c : ℕ) (m : Command) (v : Writing) (l : Leant) → Tried ls c m 0 v v l l
-tried_none ls c m v l = record { thins = thins_none Any v l; left = λ place lt current. absurd (omega (arith, lt)) }
+tried_none ls c m v l = record { lessens = lessens_none v l; left = λ place lt current. absurd (omega (arith, lt)) }
 
-pub tried_more : (ls : List LayerSeen) (c : ℕ) (m : Command) (n : ℕ) (v w x : Writing) (l k j : Leant) → Tried ls c m n v w l k → Thins Any w x k j → (IsCurrent x n → leaves_all ls c m (kept_at k.kept n) ≡ true) → Tried ls c m (n + 1) v x l j
-tried_more ls c m n v w x l k j t thins here = record {
-  thins = thins_then Any v w x l k j t.thins thins;
+pub tried_more : (ls : List LayerSeen) (c : ℕ) (m : Command) (n : ℕ) (v w x : Writing) (l k j : Leant) → Tried ls c m n v w l k → Lessens w x k j → (IsCurrent x n → leaves_all ls c m (kept_at k.kept n) ≡ true) → Tried ls c m (n + 1) v x l j
+tried_more ls c m n v w x l k j t lessens here = record {
+  lessens = lessens_then v w x l k j t.lessens lessens;
   left = λ place lt current. by place lt current (place == n) refl;
 }
   where
+    before : (place : ℕ) → IsCurrent x place → IsCurrent w place
+    before place current = was_current Any w x place (lessens.falls.each place) current
+
     by : (place : ℕ) → place < n + 1 → IsCurrent x place → (b : Bool) → (place == n) ≡ b → leaves_all ls c m (kept_at l.kept place) ≡ true
     by place lt current true e =
         let same : place ≡ n = grind (arith, e) in
-        ap (λ p. leaves_all ls c m (kept_at l.kept p)) same ∙ (ap (λ ks. leaves_all ls c m (kept_at ks n)) (sym t.thins.kept) ∙ here (subst (IsCurrent x) same current))
-    by place lt current false e = t.left place (grind (arith, lt, e)) (was_current Any w x place (thins.falls.each place) current)
+        let there : IsCurrent x n = subst (IsCurrent x) same current in
+        ap (λ p. leaves_all ls c m (kept_at l.kept p)) same ∙ (ap (leaves_all ls c m) (sym (t.lessens.kept n (before n there))) ∙ here there)
+    by place lt current false e = t.left place (grind (arith, lt, e)) (before place current)
 
 -- and so of all
 pub tried_all : (ls : List LayerSeen) (c : ℕ) (m : Command) (n : ℕ) (v w : Writing) (l k : Leant) → length v.view.stamps ≤ n → Tried ls c m n v w l k → AllLeft ls c m l.kept w
@@ -99,7 +128,7 @@ tried_all ls c m n v w l k le t place current = by (nat_less place n) refl
     by true e = t.left place (less place n e) current
     by false e =
         let far : n ≤ place = more place n e in
-        absurd (was_current Any v w place (t.thins.falls.each place) current (beyond v.view.stamps place (omega (arith, far, le))))
+        absurd (was_current Any v w place (t.lessens.falls.each place) current (beyond v.view.stamps place (omega (arith, far, le))))
 
 -- a command of one layer
 pub spared_alone : (ls : List LayerSeen) (c : ℕ) (m : Command) (qs : List Looked) → singles m ≡ m ∷ [] → is_within m ≡ true → leaves_all ls c m qs ≡ true → spares ls c m qs ≡ true
@@ -109,11 +138,12 @@ spared_alone ls c m qs alone within h = ap (list_all (λ n. spares_one ls c n qs
 pub parts_none : (ls : List LayerSeen) (c : ℕ) (ps : List Part) (kept : List (List Looked)) (v : Writing) → ps ≡ [] → AllSparedBy ls c (map as_put ps) kept v
 parts_none ls c ps kept v is place current = ap (λ us. list_all (λ m. spares_one ls c m (kept_at kept place)) (map as_put us)) is
 
-pub parts_more : (ls : List LayerSeen) (c : ℕ) (ps : List Part) (p : Part) (rest : List Part) (v w x : Writing) (l k j : Leant) → ps ≡ p ∷ rest → Thins Any v w l k → AllLeft ls c (as_put p) l.kept w → Thins Any w x k j → AllSparedBy ls c (map as_put rest) k.kept x → AllSparedBy ls c (map as_put ps) l.kept x
+pub parts_more : (ls : List LayerSeen) (c : ℕ) (ps : List Part) (p : Part) (rest : List Part) (v w x : Writing) (l k j : Leant) → ps ≡ p ∷ rest → Lessens v w l k → AllLeft ls c (as_put p) l.kept w → Lessens w x k j → AllSparedBy ls c (map as_put rest) k.kept x → AllSparedBy ls c (map as_put ps) l.kept x
 parts_more ls c ps p rest v w x l k j is f here g later place current =
+    let before : IsCurrent w place = was_current Any w x place (g.falls.each place) current in
     ap (λ us. list_all (λ m. spares_one ls c m (kept_at l.kept place)) (map as_put us)) is
-    ∙ (ap (λ b. b && list_all (λ m. spares_one ls c m (kept_at l.kept place)) (map as_put rest)) (here place (was_current Any w x place (g.falls.each place) current))
-    ∙ (ap (λ ks. list_all (λ m. spares_one ls c m (kept_at ks place)) (map as_put rest)) (sym f.kept) ∙ later place current))
+    ∙ (ap (λ b. b && list_all (λ m. spares_one ls c m (kept_at l.kept place)) (map as_put rest)) (here place before)
+    ∙ (ap (λ qs. list_all (λ m. spares_one ls c m qs) (map as_put rest)) (sym (f.kept place before)) ∙ later place current))
 
 pub spared_put : (ls : List LayerSeen) (c : ℕ) (m : Command) (n g : ℕ) (rs : List Rule) (qs : List Looked) → m ≡ PutRules n g rs → leaves_all ls c (PutRules n g rs) qs ≡ true → spares ls c m qs ≡ true
 spared_put ls c m n g rs qs is h = subst (λ k. spares ls c k qs ≡ true) (sym is) (spared_alone ls c (PutRules n g rs) qs refl refl h)
@@ -122,5 +152,55 @@ pub spared_many : (ls : List LayerSeen) (c : ℕ) (m : Command) (ps : List Part)
 spared_many ls c m ps qs is h = subst (λ k. spares ls c k qs ≡ true) (sym is) h
 
 -- where all fall
-pub all_thins : (v w : Writing) (l m : Leant) → Falls Any v w → ((place : ℕ) → IsCurrent w place → ⊥) → m.kept ≡ l.kept → Thins Any v w l m
-all_thins v w l m f none kept = record { falls = f; kept = kept; stands = λ ls s place current. absurd (none place current) }
+pub all_lessens : (v w : Writing) (l m : Leant) → Falls Any v w → ((place : ℕ) → IsCurrent w place → ⊥) → Lessens v w l m
+all_lessens v w l m f none = record { falls = f; kept = λ place c. absurd (none place c); stands = λ ls s place current. absurd (none place current) }
+
+-- a look in a layer that isn't named
+pub isnt : (a b : Bool) → b ≡ not a → b ≡ true → a ≡ false
+isnt true b e f = absurd (true≢false (sym f ∙ e))
+isnt false b e f = refl
+
+pub unnamed_leaves : (ls : List LayerSeen) (c : ℕ) (m : Command) (named : List Bool) (q : Looked) → IsNaming ls c m named → is_named_at named q.layer ≡ false → leaves_in c m (slice_get ls q.layer) q ≡ true
+unnamed_leaves ls c m named q h e = by (slice_get ls q.layer) (h q.layer e)
+  where
+    by : (o : Option LayerSeen) → named_in c m o ≡ false → leaves_in c m o q ≡ true
+    by None i = refl
+    by (Some l) i = unnamed (names c m l) (leaves m l q) i
+
+-- the names of the first n layers are told
+pub record Names (ls : List LayerSeen) (c : ℕ) (m : Command) (n : ℕ) (named : List Bool) : Type 0 where
+  pub long : length named ≡ 128
+  pub below : (place : ℕ) → place < n → is_named_at named place ≡ false → named_in c m (slice_get ls place) ≡ false
+
+pub named_none : (ls : List LayerSeen) (c : ℕ) (m : Command) (named : List Bool) → length named ≡ 128 → Names ls c m 0 named
+named_none ls c m named long = record { long = long; below = λ place lt e. absurd (omega (arith, lt)) }
+
+pub named_more : (ls : List LayerSeen) (c : ℕ) (m : Command) (n : ℕ) (named : List Bool) (b : Bool) → n < 128 → b ≡ named_in c m (slice_get ls n) → Names ls c m n named → Names ls c m (n + 1) (slice_set named n b)
+named_more ls c m n named b lt is h = record {
+  long = length-set named n b ∙ h.long;
+  below = λ place less e. by place less e (place == n) refl;
+}
+  where
+    there : n < length named
+    there = let long = h.long in omega (arith, lt, long)
+
+    differ : (place : ℕ) → place ≡ n → (place == n) ≡ false → ⊥
+    differ place e i = absurd (grind (arith, e, i))
+
+    by : (place : ℕ) → place < n + 1 → is_named_at (slice_set named n b) place ≡ false → (s : Bool) → (place == n) ≡ s → named_in c m (slice_get ls place) ≡ false
+    by place less e true i =
+        let same : place ≡ n = grind (arith, i) in
+        ap (λ k. named_in c m (slice_get ls k)) same ∙ (sym is ∙ (sym (get_or-set_same named n b true there) ∙ (ap (λ k. is_named_at (slice_set named n b) k) (sym same) ∙ e)))
+    by place less e false i =
+        h.below place (grind (arith, less, i)) (sym (get_or-set_other named n place b true (λ same. absurd (differ place same i))) ∙ e)
+
+pub named_all : (ls : List LayerSeen) (c : ℕ) (m : Command) (named : List Bool) → Names ls c m 128 named → IsNaming ls c m named
+named_all ls c m named h place e = h.below place (here named place e (ap (λ n. n) h.long)) e
+  where
+    here : (xs : List Bool) (k : ℕ) → slice_index_or xs k true ≡ false → length xs ≡ 128 → k < 128
+    here xs k f long = let below = within xs k f in omega (arith, below, long)
+      where
+        within : (ys : List Bool) (j : ℕ) → slice_index_or ys j true ≡ false → j < length ys
+        within [] j g = absurd (true≢false g)
+        within (y ∷ ys) zero g = omega arith
+        within (y ∷ ys) (suc j) g = let ih = within ys j g in omega (arith, ih)

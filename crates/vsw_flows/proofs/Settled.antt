@@ -42,7 +42,7 @@ pub stands_none : (m : Leant) (row : ℕ) (qs : List Looked) → qs ≡ [] → S
 stands_none m row qs is = subst (StandsAll m row) (sym is) tt
 
 -- the looks of a row that isn't current are others, and so are its spots
-kept_stands : (row : ℕ) (v : Writing) (l m : Leant) → (IsCurrent v row → ⊥) → ((place : ℕ) → place ≢ row → kept_at m.kept place ≡ kept_at l.kept place) → ((s : Spot) (place : ℕ) → place ≢ row → stands l.spots s place ≡ true → stands m.spots s place ≡ true) → (ls : List LayerSeen) → Stand ls v l → Stand ls v m
+pub kept_stands : (row : ℕ) (v : Writing) (l m : Leant) → (IsCurrent v row → ⊥) → ((place : ℕ) → place ≢ row → kept_at m.kept place ≡ kept_at l.kept place) → ((s : Spot) (place : ℕ) → place ≢ row → stands l.spots s place ≡ true → stands m.spots s place ≡ true) → (ls : List LayerSeen) → Stand ls v l → Stand ls v m
 kept_stands row v l m gone kept spots ls s place c = dite (ℕ_discrete place row)
     (λ e. absurd (gone (subst (IsCurrent v) e c)))
     (λ ne. stays_at ls v v l m place refl (kept place ne) (λ t h. spots t place ne h) (s place c))

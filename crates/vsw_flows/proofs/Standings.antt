@@ -19,7 +19,7 @@ use Rattle.vsw_walk.specs.declared.scratch.Wanted.{Wanted}
 use Rattle.vsw_flows.specs.Flows.{AllSpared, Any, Falls, IsCurrent, NoneShaken, OrFell, OthersStay, Spares, Writing}
 use Rattle.vsw_flows.specs.Leant.{Leant, kept_at}
 use Rattle.vsw_flows.specs.Shaking.{IsShaken, NoneLeft}
-use Rattle.vsw_flows.specs.Standing.{AreFormed, AreStanding, Stand, StandsAt, Thins}
+use Rattle.vsw_flows.specs.Standing.{AreFormed, AreStanding, Lessens, Stand, StandsAt, Thins}
 use Rattle.vsw_flows.proofs.Thinned.{stays_at}
 
 -- rows that fell leave what stands
@@ -32,6 +32,9 @@ fallen P v w l m f keeps s p opens =
 
 pub thinned : (P : ℕ → Type 0) (v w : Writing) (l m : Leant) → Thins P v w l m → AreStanding v l → AreStanding w m
 thinned P v w l m t s = fallen P v w l m t.falls t.stands s
+
+pub lessened : (v w : Writing) (l m : Leant) → Lessens v w l m → AreStanding v l → AreStanding w m
+lessened v w l m t s = fallen Any v w l m t.falls t.stands s
 
 -- where no row is current, none need stand
 pub none_stand : (v : Writing) (l : Leant) → ((place : ℕ) → IsCurrent v place → ⊥) → AreFormed v → AreStanding v l
@@ -72,11 +75,11 @@ others_stay p ws v w l m t opens s place r one calm = by (t.falls.each place)
         absurd (true≢false (sym h.1 ∙ (ap (shake ls ws) (kept_looks ls v l place r at one.says) ∙ calm)))
 
 -- a command spares each row that is left
-pub all_spared : (p : PolicySeen) (c : ℕ) (command : Command) (v w : Writing) (l m : Leant) → Thins Any v w l m → ((place : ℕ) → IsCurrent w place → spares (layers_after p v.view.history) c command (kept_at l.kept place) ≡ true) → v.view.opening ≡ Some p → AreStanding v l → AllSpared (layers_after p v.view.history) c command w
+pub all_spared : (p : PolicySeen) (c : ℕ) (command : Command) (v w : Writing) (l m : Leant) → Lessens v w l m → ((place : ℕ) → IsCurrent w place → spares (layers_after p v.view.history) c command (kept_at l.kept place) ≡ true) → v.view.opening ≡ Some p → AreStanding v l → AllSpared (layers_after p v.view.history) c command w
 all_spared p c command v w l m t spared opens s place r one =
     let ls = layers_after p v.view.history in
     let at = t.stands ls (s p opens).0 place one.current in
-    ap (spares ls c command) (sym (ap (λ ks. kept_at ks place) (sym t.kept) ∙ kept_looks ls w m place r at one.says)) ∙ spared place one.current
+    ap (spares ls c command) (sym (sym (t.kept place one.current) ∙ kept_looks ls w m place r at one.says)) ∙ spared place one.current
 
 -- an entry that shakes no current row leaves them good
 still_good : EntrySpares → (p : PolicySeen) (e : Event) (v : Writing) (l : Leant) → history.IsRight p.controllers (layers_after p v.view.history) e → Spares (layers_after p v.view.history) e v → v.view.opening ≡ Some p → AreStanding v l → (place : ℕ) → IsCurrent v place → StandsAt (layers_after p (v.view.history ++ e ∷ [])) v l place

@@ -6,4 +6,4 @@ pub mod Shaking
 pub mod Leant
 pub mod Spots
 pub mod Leaners
-pub mod Hashed
+pub mod Mixing

@@ -1,14 +1,22 @@
 -- What a test of rows leaves: of those that lean on a spot, none that the change shakes.
-use Rattle.std.specs.Prelude.{◌≡◌, ◌+◌, ℕ, List, true, false}
+use Rattle.std.specs.Prelude.{◌≡◌, ◌+◌, ℕ, List, [], ◌∷◌, Bool, true, false}
 use Rattle.std.specs.List.{list_any}
 use Rattle.vsw_policy.specs.Layer.{LayerSeen}
 use Rattle.vsw_rows.specs.Shaken.{shake, shakes_one}
 use Rattle.vsw_walk.specs.declared.scratch.Looked.{Looked}
 use Rattle.vsw_walk.specs.declared.scratch.Wanted.{Wanted}
+use Rattle.vsw_walk.specs.declared.scratch.Wanted.TheVariants.{Make, Touch, Leave}
 use Rattle.vsw_flows.specs.declared.spot.Spot.{Spot}
 use Rattle.vsw_flows.specs.Flows.{IsCurrent, Writing}
 use Rattle.vsw_flows.specs.Leant.{kept_at}
 use Rattle.vsw_flows.specs.Spots.{same_spot, spot_of}
+
+-- changes that make pairs and take some away, and move none
+abbrev pub moves_none : List Wanted → Bool
+moves_none [] = true
+moves_none (Make place p ∷ ws) = moves_none ws
+moves_none (Touch place number state last ∷ ws) = false
+moves_none (Leave place number ∷ ws) = moves_none ws
 
 -- the changes shake a look of the row at a place
 abbrev pub IsShaken : List LayerSeen → List Wanted → List (List Looked) → ℕ → Type 0

@@ -52,6 +52,12 @@ pub record Thins (P : ℕ → Type 0) (v w : Writing) (l m : Leant) : Type 0 whe
   pub kept : m.kept ≡ l.kept
   pub stands : (ls : List LayerSeen) → Stand ls v l → Stand ls w m
 
+-- rows fell; those that are left stand as they did, and have their looks
+pub record Lessens (v w : Writing) (l m : Leant) : Type 0 where
+  pub falls : Falls Any v w
+  pub kept : (place : ℕ) → IsCurrent w place → kept_at m.kept place ≡ kept_at l.kept place
+  pub stands : (ls : List LayerSeen) → Stand ls v l → Stand ls w m
+
 -- others may have given way to a row, which stands where it did
 pub record Enters (row : ℕ) (v w : Writing) (l m : Leant) : Type 0 where
   pub thins : Thins Any v w l m

@@ -64,15 +64,21 @@ pub fn fall(
     }
 }
 
-/// All rows fall.
-pub fn fall_all(lookup: &Lookup<PortStory>, writer: &mut Writer<PortStory>, leaning: &mut Leaning)
+/// All rows fall. Afterwards they may lean on this many layers.
+pub fn fall_all(
+    lookup: &Lookup<PortStory>,
+    writer: &mut Writer<PortStory>,
+    leaning: &mut Leaning,
+    layers: usize,
+)
     requires table { writer.old.table ≡ lookup.now.0 }
     ensures falls { Falls Any writer.old writer.new }
     ensures none { (place : ℕ) → IsCurrent writer.new place → ⊥ }
     ensures kept { leaning.new.kept ≡ leaning.old.kept }
 {
-    for row in 0..rows_of(lookup, writer) {
+    let rows = rows_of(lookup, writer);
+    for row in 0..rows {
         writer.shake(lookup, row);
     }
-    leaning.clear();
+    leaning.grow(rows, layers);
 }

@@ -3,23 +3,23 @@
 ghost use Rattle.std.specs.Prelude.{◌≡◌, ◌≢◌, ◌<◌, ◌+◌, ℕ, true};
 ghost use Rattle.vsw_flows.specs.Leant.{kept_at};
 ghost use Rattle.vsw_flows.specs.declared.spot.Spot.{Spot};
-ghost use Rattle.vsw_flows.specs.Spots.{leaners_in, spot_of, stands};
+ghost use Rattle.vsw_flows.specs.Spots.{SpreadSeen, leaners_in, spot_of, stands};
 
 use crate::leaners::Leaners;
-use crate::looks::{Looks, looks_at, set_looks};
-use crate::spot::{Entered, Spot, enter_at, leaners_at, leave_at, spot_of};
-use indexmap::IndexMap;
+use crate::looks::{Looks, drop_looks, looks_at, set_looks};
+use crate::spot::{Spot, spot_of};
+use crate::spread::{Entered, Spread};
 use std::alloc::Global;
 use std::marker::Model;
 use vsw_base::NoMemory;
-use vsw_layerflow::{HashSeed, Seeded};
+use vsw_layerflow::HashSeed;
 use vsw_walk::Looked;
 
 /// At each spot the rows that stand there, and of each row its looks. A row may be told at a spot on which it leans no
 /// more: it then falls without need, which costs a walk. One that isn't told where it leans would outlive a change.
 #[derive(Drop)]
 pub struct Leaning {
-    spots: IndexMap<Spot, Leaners, Seeded>,
+    spots: Spread,
     kept: Vec<Looks>,
 }
 
@@ -28,18 +28,18 @@ impl Model for Leaning {
 
     ghost Value = { Leant };
 
-    ghost view = { λ s. record { spots = s.spots.entries; kept = s.kept.items } };
+    ghost view = { λ s. record { spots = s.spots; kept = s.kept.items } };
 }
 
 /// The row leaves the spots of these looks.
-fn leave_all(spots: &mut IndexMap<Spot, Leaners, Seeded>, row: u32, looks: &[Looked])
+fn leave_all(spots: &mut Spread, row: u32, looks: &[Looked])
     requires row { row < 4294967295 }
-    ensures others { (s : Spot) (r : ℕ) → r ≢ row → stands spots.old.entries s r ≡ true → stands spots.new.entries s r ≡ true }
+    ensures others { (s : Spot) (r : ℕ) → r ≢ row → stands spots.old s r ≡ true → stands spots.new s r ≡ true }
 {
     let Some((look, rest)) = looks.split_first() else {
         return;
     };
-    leave_at(spots, spot_of(look), row);
+    spots.leave(&spot_of(look), row);
     leave_all(spots, row, rest);
 }
 
@@ -55,44 +55,38 @@ fn no_looks(alloc: Global, rows: u32) -> Result<Vec<Looks>, NoMemory> {
 }
 
 impl Leaning {
-    /// Nothing is leant on. There is room for one look of each row in each of so many layers; spots are hashed from the seed.
+    /// Nothing is leant on. There is room for one look of each row in each of so many layers; the seed tells where rows stand.
     pub fn open(
         alloc: Global,
         rows: u32,
         layers: usize,
         seed: &HashSeed,
     ) -> Result<Leaning, NoMemory> {
-        let mut leaning = Leaning {
-            spots: IndexMap::with_hasher(alloc, seed.seeded()),
+        Ok(Leaning {
+            spots: Spread::open(alloc, rows, layers, seed)?,
             kept: no_looks(alloc, rows)?,
-        };
-        leaning.reserve(rows, layers)?;
-        Ok(leaning)
+        })
     }
 
     /// Takes room for one look of each row in each of so many layers.
     pub fn reserve(&mut self, rows: u32, layers: usize) -> Result<(), NoMemory>
         ensures same { self.new ≡ self.old }
     {
-        let looks = (rows as usize).saturating_mul(layers);
-        match self.spots.reserve(looks.saturating_sub(self.spots.len())) {
-            Ok(()) => Ok(()),
-            Err(_) => Err(NoMemory),
-        }
+        self.spots.reserve(rows, layers)
     }
 
-    /// No row stands anywhere. The room stays.
-    pub fn clear(&mut self)
+    /// The room is used from now on for one look of each row in each of so many layers. No row that leans is known to stand then.
+    pub fn grow(&mut self, rows: u32, layers: usize)
         ensures kept { self.new.kept ≡ self.old.kept }
     {
-        self.spots.truncate(0);
+        self.spots.grow(rows, layers);
     }
 
     /// The rows that stand at a spot.
     pub fn at(&self, spot: &Spot) -> Leaners
         ensures { result ≡ leaners_in self.now.spots spot.now }
     {
-        leaners_at(&self.spots, spot)
+        self.spots.at(spot)
     }
 
     /// The looks of a row.
@@ -111,7 +105,15 @@ impl Leaning {
         set_looks(&mut self.kept, row, looks)
     }
 
-    /// The row stands at the spot of the look, too, unless memory is wanting (`enter_at`).
+    /// Nothing is kept of the looks of a row any more.
+    pub fn forget(&mut self, row: u32)
+        ensures others { (place : ℕ) → place ≢ row → kept_at self.new.kept place ≡ kept_at self.old.kept place }
+        ensures spots { self.new.spots ≡ self.old.spots }
+    {
+        drop_looks(&mut self.kept, row);
+    }
+
+    /// The row stands at the spot of the look, too, unless there is no place for it (`Spread::enter`).
     pub fn enter(&mut self, row: u32, look: &Looked) -> Entered
         requires row { row < 4294967295 }
         ensures there { result.done ≡ true → stands self.new.spots (spot_of look.now) row ≡ true }
@@ -119,7 +121,7 @@ impl Leaning {
         ensures way { result.way ≢ row + 1 }
         ensures kept { self.new.kept ≡ self.old.kept }
     {
-        enter_at(&mut self.spots, spot_of(look), row)
+        self.spots.enter(&spot_of(look), row)
     }
 
     /// The row leaves the spots of its looks.

@@ -38,6 +38,11 @@ impl Looks {
         &self.items
     }
 
+    /// None any more. The room stays.
+    pub fn clear(&mut self) {
+        self.items.clear();
+    }
+
     /// They are these, unless memory is wanting.
     pub fn set(&mut self, looks: &[Looked]) -> bool
         ensures { result ≡ true → self.new ≡ looks.now }
@@ -66,4 +71,13 @@ pub fn set_looks(kept: &mut Vec<Looks>, row: u32, looks: &[Looked]) -> bool
         return false;
     }
     kept[row as usize].set(looks)
+}
+
+/// The row at a place has no looks any more.
+pub fn drop_looks(kept: &mut [Looks], row: u32)
+    ensures others { (place : ℕ) → place ≢ row → kept_at kept.new place ≡ kept_at kept.old place }
+{
+    if (row as usize) < kept.len() {
+        kept[row as usize].clear();
+    }
 }

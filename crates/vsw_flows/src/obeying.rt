@@ -1,19 +1,19 @@
 //! Rows that a command doesn't spare fall.
 
-ghost use Rattle.std.specs.Prelude.{◌≡◌, ◌<◌, ◌∷◌, [], ℕ, Some, map, true, false};
+ghost use Rattle.std.specs.Prelude.{◌≡◌, ◌<◌, ◌∷◌, [], ℕ, Some, map, not, true, false};
 ghost use Rattle.std.specs.List.{slice_get};
 ghost use Rattle.vsw_policy.specs.Groups.{rules_in};
 ghost use Rattle.vsw_policy.specs.Layer.{LayerSeen, seen};
 ghost use Rattle.vsw_policy.specs.Layers as layers_of;
 ghost use Rattle.vsw_policy.specs.declared.command.Command.TheVariants.{PutRules};
 ghost use Rattle.vsw_spares.specs.Spared as spec;
-ghost use Rattle.vsw_flows.specs.Flows.{Any, IsCurrent};
+ghost use Rattle.vsw_flows.specs.Flows.{IsCurrent};
 ghost use Rattle.vsw_flows.specs.Leant.{kept_at};
 ghost use Rattle.vsw_flows.specs.Obeying as obeying;
-ghost use Rattle.vsw_flows.specs.Obeying.{AllLeft, AllSparedBy, IsDiffering};
-ghost use Rattle.vsw_flows.specs.Standing.{Thins};
+ghost use Rattle.vsw_flows.specs.Obeying.{AllLeft, AllSparedBy, IsDiffering, IsNaming, is_named_at};
+ghost use Rattle.vsw_flows.specs.Standing.{Lessens};
 
-use crate::falling::{fall, fall_all, is_current, rows_of};
+use crate::falling::{fall, fall_all, rows_of};
 use crate::leaning::Leaning;
 use crate::story::PortStory;
 use vsw_base::Items;
@@ -81,77 +81,139 @@ fn leaves(layer: &Layer, look: &Looked, command: &Command) -> bool
     }
 }
 
-/// The same, where the command may name another layer.
-fn leaves_in(layer: &Layer, look: &Looked, controller: u16, command: &Command) -> bool
-    ensures { result ≡ true → spec.leaves_in controller command.now (Some (seen layer.now)) look.now ≡ true }
+/// Whether a command names the layer at a place.
+fn names_at(layers: &[Layer], controller: u16, command: &Command, place: u32) -> bool
+    ensures { result ≡ obeying.named_in controller command.now (slice_get (map seen layers.now) place) }
 {
-    if names(controller, command, layer) {
-        return leaves(layer, look, command);
+    match layers.get(place as usize) {
+        None => false,
+        Some(layer) => names(controller, command, layer),
     }
-    true
 }
 
-fn leaves_look(layers: &[Layer], controller: u16, command: &Command, look: &Looked) -> bool
+/// Which layers a command names.
+#[tactic(auto, using(crate::proofs::Obeyed::named_none, crate::proofs::Obeyed::named_all))]
+fn named_of(layers: &[Layer], controller: u16, command: &Command) -> [bool; 128]
+    ensures { IsNaming (map seen layers.now) controller command.now result }
+{
+    let mut named = [false; 128];
+    for place in 0..128u32 {
+        named[place as usize] = names_at(layers, controller, command, place);
+    }
+    named
+}
+
+/// Whether the layer at a place is known not to be named.
+#[inline(always)]
+fn is_unnamed(named: &[bool; 128], place: u32) -> bool
+    ensures { result ≡ not (is_named_at named.now place) }
+{
+    match named.get(place as usize) {
+        Some(named) => !*named,
+        None => false,
+    }
+}
+
+/// Whether a command is known to leave what the look is told. Most looks are in layers that the command doesn't name.
+fn leaves_look(
+    layers: &[Layer],
+    named: &[bool; 128],
+    controller: u16,
+    command: &Command,
+    look: &Looked,
+) -> bool
+    requires naming { IsNaming (map seen layers.now) controller command.now named.now }
     ensures { result ≡ true → spec.leaves_in controller command.now (slice_get (map seen layers.now) look.now.layer) look.now ≡ true }
 {
+    if is_unnamed(named, look.layer) {
+        return true;
+    }
     match layers.get(look.layer as usize) {
         None => true,
-        Some(layer) => leaves_in(layer, look, controller, command),
+        Some(layer) => leaves(layer, look, command),
     }
 }
 
 /// Whether a command is known to leave what these looks are told.
-fn leaves_all(layers: &[Layer], controller: u16, command: &Command, looks: &[Looked]) -> bool
+fn leaves_all(
+    layers: &[Layer],
+    named: &[bool; 128],
+    controller: u16,
+    command: &Command,
+    looks: &[Looked],
+) -> bool
+    requires naming { IsNaming (map seen layers.now) controller command.now named.now }
     ensures { result ≡ true → obeying.leaves_all (map seen layers.now) controller command.now looks.now ≡ true }
 {
     let Some((look, rest)) = looks.split_first() else {
         return true;
     };
-    if leaves_look(layers, controller, command, look) {
-        return leaves_all(layers, controller, command, rest);
+    if leaves_look(layers, named, controller, command, look) {
+        return leaves_all(layers, named, controller, command, rest);
     }
     false
 }
 
-/// A row falls, unless the command is known to leave what its looks are told.
+/// Whether one more row may be asked, which takes one of so many.
+fn may_ask(asks: &mut u32) -> bool {
+    if *asks == 0 {
+        return false;
+    }
+    *asks -= 1;
+    true
+}
+
+/// A row falls, unless it may be asked, and the command is known to leave what its looks are told. Nothing is kept of it then, so
+/// that the next command passes over it. Its stamp is read only then: that would cost more than all else.
 fn spare_row(
     lookup: &Lookup<PortStory>,
     writer: &mut Writer<PortStory>,
     leaning: &mut Leaning,
+    asks: &mut u32,
     layers: &[Layer],
+    named: &[bool; 128],
     controller: u16,
     command: &Command,
     row: u32,
 )
     requires table { (writer.old.table ≡ lookup.now.0) × (row < lookup.now.2) }
     requires few { row < 4294967295 }
-    ensures thins { Thins Any writer.old writer.new leaning.old leaning.new }
+    requires naming { IsNaming (map seen layers.now) controller command.now named.now }
+    ensures lessens { Lessens writer.old writer.new leaning.old leaning.new }
     ensures left { IsCurrent writer.new row → obeying.leaves_all (map seen layers.now) controller command.now (kept_at leaning.old.kept row) ≡ true }
 {
-    if is_current(lookup, writer, row) {
-        if leaves_all(layers, controller, command, leaning.looks_of(row)) {
+    if leaning.looks_of(row).is_empty() {
+        return;
+    }
+    if may_ask(asks) {
+        if leaves_all(layers, named, controller, command, leaning.looks_of(row)) {
             return;
         }
-        fall(lookup, writer, leaning, row + 1);
     }
+    fall(lookup, writer, leaning, row + 1);
+    leaning.forget(row);
 }
 
-/// All rows fall but those whose looks the command is known to leave what they are told.
+/// All rows fall but those that may be asked, and whose looks the command is known to leave what they are told.
 #[tactic(auto, using(crate::proofs::Obeyed::tried_none, crate::proofs::Obeyed::tried_all))]
 fn spare_rows(
     lookup: &Lookup<PortStory>,
     writer: &mut Writer<PortStory>,
     leaning: &mut Leaning,
+    asks: &mut u32,
     layers: &[Layer],
     controller: u16,
     command: &Command,
 )
     requires table { writer.old.table ≡ lookup.now.0 }
-    ensures thins { Thins Any writer.old writer.new leaning.old leaning.new }
+    ensures lessens { Lessens writer.old writer.new leaning.old leaning.new }
     ensures left { AllLeft (map seen layers.now) controller command.now leaning.old.kept writer.new }
 {
+    let named = named_of(layers, controller, command);
     for row in 0..rows_of(lookup, writer) {
-        spare_row(lookup, writer, leaning, layers, controller, command, row);
+        spare_row(
+            lookup, writer, leaning, asks, layers, &named, controller, command, row,
+        );
     }
 }
 
@@ -240,11 +302,12 @@ fn put_leaves_all(layers: &[Layer], controller: u16, put: &Put<'_>, looks: &[Loo
     false
 }
 
-/// A row falls, unless other rules are known to leave what its looks are told.
+/// A row falls, unless it may be asked, and other rules are known to leave what its looks are told (`spare_row`).
 fn spare_row_put(
     lookup: &Lookup<PortStory>,
     writer: &mut Writer<PortStory>,
     leaning: &mut Leaning,
+    asks: &mut u32,
     layers: &[Layer],
     controller: u16,
     put: &Put<'_>,
@@ -253,34 +316,39 @@ fn spare_row_put(
     requires table { (writer.old.table ≡ lookup.now.0) × (row < lookup.now.2) }
     requires few { row < 4294967295 }
     requires differs { IsDiffering (map seen layers.now) put.now.place put.now.group put.now.rules.now put.now.between.old.now put.now.between.new.now }
-    ensures thins { Thins Any writer.old writer.new leaning.old leaning.new }
+    ensures lessens { Lessens writer.old writer.new leaning.old leaning.new }
     ensures left { IsCurrent writer.new row → obeying.leaves_all (map seen layers.now) controller (PutRules put.now.layer put.now.group put.now.rules.now) (kept_at leaning.old.kept row) ≡ true }
 {
-    if is_current(lookup, writer, row) {
+    if leaning.looks_of(row).is_empty() {
+        return;
+    }
+    if may_ask(asks) {
         if put_leaves_all(layers, controller, put, leaning.looks_of(row)) {
             return;
         }
-        fall(lookup, writer, leaning, row + 1);
     }
+    fall(lookup, writer, leaning, row + 1);
+    leaning.forget(row);
 }
 
-/// All rows fall but those whose looks other rules are known to leave what they are told.
+/// All rows fall but those that may be asked, and whose looks other rules are known to leave what they are told.
 #[tactic(auto, using(crate::proofs::Obeyed::tried_none, crate::proofs::Obeyed::tried_all))]
 fn spare_rows_put(
     lookup: &Lookup<PortStory>,
     writer: &mut Writer<PortStory>,
     leaning: &mut Leaning,
+    asks: &mut u32,
     layers: &[Layer],
     controller: u16,
     put: &Put<'_>,
 )
     requires table { writer.old.table ≡ lookup.now.0 }
     requires differs { IsDiffering (map seen layers.now) put.now.place put.now.group put.now.rules.now put.now.between.old.now put.now.between.new.now }
-    ensures thins { Thins Any writer.old writer.new leaning.old leaning.new }
+    ensures lessens { Lessens writer.old writer.new leaning.old leaning.new }
     ensures left { AllLeft (map seen layers.now) controller (PutRules put.now.layer put.now.group put.now.rules.now) leaning.old.kept writer.new }
 {
     for row in 0..rows_of(lookup, writer) {
-        spare_row_put(lookup, writer, leaning, layers, controller, put, row);
+        spare_row_put(lookup, writer, leaning, asks, layers, controller, put, row);
     }
 }
 
@@ -289,6 +357,7 @@ fn obey_put(
     lookup: &Lookup<PortStory>,
     writer: &mut Writer<PortStory>,
     leaning: &mut Leaning,
+    asks: &mut u32,
     layers: &[Layer],
     controller: u16,
     layer: u16,
@@ -296,11 +365,11 @@ fn obey_put(
     rules: &Items<Rule>,
 )
     requires table { writer.old.table ≡ lookup.now.0 }
-    ensures thins { Thins Any writer.old writer.new leaning.old leaning.new }
+    ensures lessens { Lessens writer.old writer.new leaning.old leaning.new }
     ensures left { AllLeft (map seen layers.now) controller (PutRules layer group rules.now) leaning.old.kept writer.new }
 {
     let put = put_of(layers, controller, layer, group, rules);
-    spare_rows_put(lookup, writer, leaning, layers, controller, &put);
+    spare_rows_put(lookup, writer, leaning, asks, layers, controller, &put);
 }
 
 /// The rows fall that other rules for several groups don't spare, each asked at the layers before them all.
@@ -309,12 +378,13 @@ fn obey_parts(
     lookup: &Lookup<PortStory>,
     writer: &mut Writer<PortStory>,
     leaning: &mut Leaning,
+    asks: &mut u32,
     layers: &[Layer],
     controller: u16,
     parts: &[Part],
 )
     requires table { writer.old.table ≡ lookup.now.0 }
-    ensures thins { Thins Any writer.old writer.new leaning.old leaning.new }
+    ensures lessens { Lessens writer.old writer.new leaning.old leaning.new }
     ensures left { AllSparedBy (map seen layers.now) controller (map spec.as_put parts.now) leaning.old.kept writer.new }
 {
     let Some((part, rest)) = parts.split_first() else {
@@ -324,13 +394,14 @@ fn obey_parts(
         lookup,
         writer,
         leaning,
+        asks,
         layers,
         controller,
         part.layer,
         part.group,
         &part.rules,
     );
-    obey_parts(lookup, writer, leaning, layers, controller, rest);
+    obey_parts(lookup, writer, leaning, asks, layers, controller, rest);
 }
 
 /// Whether the command changes one layer, and is no put.
@@ -351,22 +422,24 @@ fn is_alone(command: &Command) -> bool
     }
 }
 
-/// The rows fall that a command of the controller isn't known to spare. The layers are those before it is obeyed.
-#[tactic(auto, using(crate::proofs::Obeyed::all_thins))]
+/// The rows fall that a command of the controller isn't known to spare. No more are asked than `asks` tells, which falls by as
+/// many; where it is 0 the others fall unasked. The layers are those before the command is obeyed.
+#[tactic(auto, using(crate::proofs::Obeyed::all_lessens))]
 pub fn obey(
     lookup: &Lookup<PortStory>,
     writer: &mut Writer<PortStory>,
     leaning: &mut Leaning,
+    asks: &mut u32,
     layers: &[Layer],
     controller: u16,
     command: &Command,
 )
     requires table { writer.old.table ≡ lookup.now.0 }
-    ensures thins { Thins Any writer.old writer.new leaning.old leaning.new }
+    ensures lessens { Lessens writer.old writer.new leaning.old leaning.new }
     ensures spared { (place : ℕ) → IsCurrent writer.new place → spec.spares (map seen layers.now) controller command.now (kept_at leaning.old.kept place) ≡ true }
 {
     if is_alone(command) {
-        spare_rows(lookup, writer, leaning, layers, controller, command);
+        spare_rows(lookup, writer, leaning, asks, layers, controller, command);
         return;
     }
     match command {
@@ -375,18 +448,19 @@ pub fn obey(
             group,
             rules,
         } => obey_put(
-            lookup, writer, leaning, layers, controller, *layer, *group, rules,
+            lookup, writer, leaning, asks, layers, controller, *layer, *group, rules,
         ),
         Command::PutMany { parts } => {
             obey_parts(
                 lookup,
                 writer,
                 leaning,
+                asks,
                 layers,
                 controller,
                 parts.as_slice(),
             );
         }
-        _ => fall_all(lookup, writer, leaning),
+        _ => fall_all(lookup, writer, leaning, layers.len() + 1),
     }
 }

@@ -11,7 +11,8 @@ ghost use Rattle.vsw_rows.specs.Rows.{IsEmpty, IsFormed, IsFresh, layers_after};
 ghost use Rattle.vsw_table.specs.Held.{Meets, after_entry, passed};
 ghost use Rattle.vsw_table.specs.Rules.{counted_record, permits_of, row_at, stamp_at};
 ghost use Rattle.vsw_flows.specs.Finding.{IsFound};
-ghost use Rattle.vsw_flows.specs.Flows.{AllSpared, Any, Falls, NoneShaken, OthersStay, Puts, Spares};
+ghost use Rattle.vsw_flows.specs.Shaking.{moves_none};
+ghost use Rattle.vsw_flows.specs.Flows.{AllSpared, Any, Falls, IsCurrent, NoneShaken, OthersStay, Puts, Spares};
 ghost use Rattle.vsw_flows.specs.declared.places.Found.TheVariants.{Own};
 
 use crate::falling::rows_of;
@@ -29,12 +30,30 @@ use vsw_port::Event;
 use vsw_table::{Lookup, Pass, Writer};
 use vsw_walk::{Looked, Wanted};
 
+/// How many rows commands may ask for each row that is put. So what they ask costs no more than a few times what it costs to
+/// put the rows, however often they come.
+const ASKS: u32 = 64;
+
+/// How many they may ask at most: each of the most rows so often.
+const MOST_ASKS: u32 = 0x10_0000;
+
+/// How many more commands may ask once a row was put.
+fn more_asks(asks: u32) -> u32 {
+    let more = asks.saturating_add(ASKS);
+    if more > MOST_ASKS {
+        return MOST_ASKS;
+    }
+    more
+}
+
 /// The rows of a port under their writer. Each current row is good at the layers that the history leaves, and stands at
 /// the spots on which it leans, so an entry takes the stamps away of exactly those rows that it shakes.
 #[derive(Drop)]
 pub struct Rows {
     leaning: Leaning,
     writer: Writer<PortStory>,
+    /// How many rows commands may ask whether they are spared, before others fall unasked.
+    asks: u32,
 }
 
 impl Model for Rows {
@@ -62,7 +81,11 @@ impl Rows {
         ensures writer { IfOk result (λ rows. rows ≡ writer) }
     {
         let leaning = Leaning::open(alloc, writer.rows(), layers, seed)?;
-        Ok(Rows { leaning, writer })
+        Ok(Rows {
+            leaning,
+            writer,
+            asks: 0,
+        })
     }
 
     /// Takes room for one look of each row in each of so many layers. Where it isn't there, rows are left without a stamp.
@@ -97,7 +120,19 @@ impl Rows {
         shake(lookup, &mut self.writer, &mut self.leaning, layers, changes);
     }
 
-    /// The rows fall that a command of the controller doesn't spare. The layers are those that the history leaves, before the
+    /// The rows fall that changes shake which make pairs and take some away, and move none, and no others. Such changes shake the
+    /// same rows whatever the layers are.
+    pub fn shake_made(&mut self, lookup: &Lookup<PortStory>, changes: &[Wanted])
+        requires table { self.old.table ≡ lookup.now.0 }
+        requires moves { moves_none changes.now ≡ true }
+        ensures falls { Falls Any self.old self.new }
+        ensures none { (o : PolicySeen) → self.old.view.opening ≡ Some o → NoneShaken (layers_after o self.old.view.history) changes.now self.new }
+        ensures others { (o : PolicySeen) → self.old.view.opening ≡ Some o → OthersStay (layers_after o self.old.view.history) changes.now self.old self.new }
+    {
+        shake(lookup, &mut self.writer, &mut self.leaning, &[], changes);
+    }
+
+    /// The rows fall that a command of the controller doesn't spare, or that it may not ask. The layers are those that the history leaves, before the
     /// command is obeyed. Afterwards its entry may be added.
     pub fn obey(
         &mut self,
@@ -114,6 +149,7 @@ impl Rows {
             lookup,
             &mut self.writer,
             &mut self.leaning,
+            &mut self.asks,
             layers,
             controller,
             command,
@@ -156,6 +192,7 @@ impl Rows {
         }
         let _ = rows_of(lookup, &self.writer);
         self.writer.put(lookup, row, words);
+        self.asks = more_asks(self.asks);
         true
     }
 
@@ -164,6 +201,7 @@ impl Rows {
         requires table { (self.old.table ≡ lookup.now.0) × (row < lookup.now.2) }
         ensures same { self.new ≡ self.old }
         ensures current { result ≡ not (stamp_at self.old.view.stamps row == 0) }
+        ensures short { length self.old.view.history < 4294967295 }
     {
         self.writer.is_current(lookup, row)
     }
@@ -192,13 +230,14 @@ impl Rows {
         }
     }
 
-    /// The words of a row, current or not.
+    /// The words of a row, current or not. Those of a current one are good.
     pub fn words(&mut self, lookup: &Lookup<PortStory>, row: u32, out: &mut [u64; 73])
         requires table { (self.old.table ≡ lookup.now.0) × (row < lookup.now.2) }
         requires opens { self.old.view.opening ≡ Some lookup.now.1 }
         ensures same { self.new ≡ self.old }
         ensures words { out.new ≡ row_at self.old.view.rows row }
         ensures formed { IsFormed out.new }
+        ensures good { IsCurrent self.old row → IsGoodRow (opening_of lookup.now.1) self.old.view.history out.new }
     {
         read_words(&mut self.writer, lookup, row, out);
     }

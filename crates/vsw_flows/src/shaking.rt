@@ -4,7 +4,7 @@ ghost use Rattle.std.specs.Prelude.{◌≡◌, List, map, false};
 ghost use Rattle.vsw_policy.specs.Layer.{LayerSeen, seen};
 ghost use Rattle.vsw_rows.specs.Shaken as spec;
 ghost use Rattle.vsw_walk.specs.declared.scratch.Looked.{Looked};
-ghost use Rattle.vsw_flows.specs.Shaking.{IsShaken, IsShakenBy, NoneLeft, NoneLeftBy, Past, Tested};
+ghost use Rattle.vsw_flows.specs.Shaking.{IsShaken, IsShakenBy, NoneLeft, NoneLeftBy, Past, Tested, moves_none};
 ghost use Rattle.vsw_flows.specs.Standing.{Stand, Thins};
 
 use crate::falling::fall;
@@ -15,6 +15,20 @@ use vsw_policy::Layer;
 use vsw_rows::shakes;
 use vsw_table::{Lookup, Writer};
 use vsw_walk::{Looked, Wanted};
+
+/// Whether the changes make pairs and take some away, and move none: no pair that stays gets another state or last use.
+pub fn moves_none(changes: &[Wanted]) -> bool
+    ensures { result ≡ moves_none changes.now }
+{
+    let Some((change, rest)) = changes.split_first() else {
+        return true;
+    };
+    match change {
+        Wanted::Make { .. } => moves_none(rest),
+        Wanted::Touch { .. } => false,
+        Wanted::Leave { .. } => moves_none(rest),
+    }
+}
 
 /// Whether the change shakes one of the looks.
 fn shakes_one(layers: &[Layer], change: &Wanted, looks: &[Looked]) -> bool

@@ -299,11 +299,12 @@ impl<S: Story> Writer<S> {
         self.rows
     }
 
-    /// Whether the row has a stamp.
+    /// Whether the row has a stamp. What is loaded tells as well that the history is short.
     pub fn is_current(&mut self, lookup: &Lookup<S>, row: u32) -> bool
         requires table { (self.old.table ≡ lookup.now.0) × (row < lookup.now.2) }
         ensures same { self.new ≡ self.old }
         ensures current { result ≡ not (stamp_at self.old.view.stamps row == 0) }
+        ensures short { length self.old.view.history < 4294967295 }
     {
         stamp_of(
             &lookup.table.shared,

@@ -36,6 +36,7 @@ pub(crate) fn stamp_of<S: Story>(
     requires writer { (writer.old.me.0.writes ≡ true) × (writer.old.me.1 ≡ []) × HasRows rows writer.old.me.0.stamps writer.old.me.0.rows }
     ensures seat { (writer.new.table_id ≡ writer.old.table_id) × (writer.new.me ≡ writer.old.me) }
     ensures stamp { result ≡ stamp_at writer.old.me.0.stamps row }
+    ensures short { length writer.old.me.0.history < 4294967295 }
 {
     find(shared, writer, stamp_place(rows, row))
 }

@@ -16,5 +16,5 @@ invariant_of-self-2 c =
     let p = c.args.lookup.now.1 in
     let given : Fresh p c.args.words.now c.args.looks.now c.self.inside.writer = subst (Fresh p c.args.words.now c.args.looks.now) (sym c.self.view_is) (record { opens = c.requires.opens; fresh = c.requires.fresh }) in
     let done : c.settle.result ≡ true = grind (arith, c.if-not-settle.false) in
-    let there : c.args.row < length c.settle.new.writer.view.rows = omega (arith, c.requires.table.1, c.rows_of-2.ensures.rows, c.rows_of-2.ensures.words) in
+    let there : c.args.row < length c.settle.new.writer.view.rows = omega (arith, c.requires.table.1, c.rows_of-self-inside-2.ensures.rows, c.rows_of-self-inside-2.ensures.words) in
     put_stands p c.args.row c.args.words.now c.args.looks.now c.self.inside.writer c.settle.new.writer c.put.new.self c.self.inside.leaning c.settle.new.leaning given there c.settle.ensures.settles (c.settle.ensures.there done) c.put.ensures c.self.invariant

@@ -71,7 +71,7 @@ all_made ls x h free = ap (λ stop. made_after (walk_of ls x).verdict stop (walk
     by (Default controller layer dir) ws e = absurd (true≢false (sym e))
 
 -- no row falls where nothing is changed
-shakes_nothing : (ls : List LayerSeen) (ws : List Wanted) (v : Writing) → ws ≡ [] → Shakes ls ws v v
+pub shakes_nothing : (ls : List LayerSeen) (ws : List Wanted) (v : Writing) → ws ≡ [] → Shakes ls ws v v
 shakes_nothing ls ws v e = record {
   falls = record { same = refl; each = λ place. inl refl };
   none = λ place r one. ap (λ us. shake ls us (looks ls r.id)) e;

@@ -3,6 +3,8 @@ pub mod Permits
 pub mod Commands
 pub mod Walked
 pub mod Entered
+pub mod Around
 pub mod Published
 pub mod Compared
 pub mod Counted
+pub mod CurrentRows

@@ -5,7 +5,7 @@ ghost use Rattle.vsw_base.specs.Frame.{Parts};
 ghost use Rattle.vsw_base.specs.declared.packet.Control.TheVariants as control;
 ghost use Rattle.vsw_core.specs.Calls.{FallsBy, called, grown};
 ghost use Rattle.vsw_core.specs.Core.{IsOwned};
-ghost use Rattle.vsw_core.specs.Private.Steps.{Publishes, Shakes, Steps, advanced, passing, wants_change};
+ghost use Rattle.vsw_core.specs.Private.Steps.{Publishes, Shakes, Steps, advanced, is_tried, passing, wants_change};
 ghost use Rattle.vsw_core.specs.Publishing.{IsSettled, Leaves, NoneStands, StandsUntil};
 ghost use Rattle.vsw_core.specs.Walks.{IsWholeWalk};
 ghost use Rattle.vsw_port.specs.Calls.{Carried};
@@ -14,6 +14,7 @@ ghost use Rattle.vsw_port.specs.Next.{IsDone};
 ghost use Rattle.vsw_port.specs.declared.event.Event.{Event};
 ghost use Rattle.vsw_port.specs.declared.event.Event.TheVariants as event;
 ghost use Rattle.vsw_flows.specs.Flows.{IsOf, Spares};
+ghost use Rattle.vsw_flows.specs.Shaking.{moves_none};
 ghost use Rattle.vsw_table.specs.Rules.{permits_of};
 ghost use Rattle.vsw_policy.specs.Layers.{PolicySeen};
 ghost use Rattle.vsw_port.specs.Cross.{made_by};
@@ -29,8 +30,8 @@ use crate::commanding::last_of;
 use crate::counting::is_current;
 use crate::rooms::Rooms;
 use crate::writing::write_row;
-use vsw_base::{Control, Crossing, Moment, Verdict};
-use vsw_flows::{Found, PortStory, Rows};
+use vsw_base::{Cause, Control, Crossing, Fate, Moment, Verdict};
+use vsw_flows::{Found, PortStory, Rows, moves_none};
 use vsw_port::{Ledger, Outcome, judge};
 use vsw_table::{Lookup, Pass};
 use vsw_walk::{Scratch, Walked, walk};
@@ -72,6 +73,59 @@ fn shake(
         return;
     };
     rows.shake(lookup, policy.layers(), scratch.changes());
+}
+
+/// The same before the packet is settled, where its changes move a pair: which rows that shakes the layers before tell.
+fn shake_before(
+    lookup: &Lookup<PortStory>,
+    crossing: &Crossing,
+    walked: &Walked,
+    scratch: &Scratch,
+    ledger: &Ledger,
+    rows: &mut Rows,
+)
+    requires table { rows.old.table ≡ lookup.now.0 }
+    requires walk { IsWholeWalk (layers_in ledger.now) crossing.now walked.now scratch.now }
+    ensures moves { moves_none scratch.now.changes ≡ false → (p : PolicySeen) → rows.old.view.opening ≡ Some p → layers_in ledger.now ≡ layers_after p rows.old.view.history → Shakes (layers_in ledger.now) (made_by (layers_in ledger.now) crossing.now) rows.old rows.new }
+    ensures none { moves_none scratch.now.changes ≡ true → rows.new ≡ rows.old }
+{
+    if moves_none(scratch.changes()) {
+        return;
+    }
+    shake(lookup, crossing, walked, scratch, ledger, rows);
+}
+
+/// Whether the packet was dropped since memory was wanting.
+fn is_short(fate: Fate) -> bool
+    ensures { result ≡ is_short fate }
+{
+    match fate {
+        Fate::Drop(Cause::Memory) => true,
+        _ => false,
+    }
+}
+
+/// Whether the packet changed the layers, or would have, had there been memory for a pair.
+fn is_tried(outcome: Outcome) -> bool
+    ensures { result ≡ is_tried outcome }
+{
+    outcome.entry || is_short(outcome.fate)
+}
+
+/// The same once the packet is settled, where its changes move no pair: so it is judged once. The rows fall also where memory for
+/// the pair was wanting, as in the other case.
+fn shake_behind(lookup: &Lookup<PortStory>, scratch: &Scratch, outcome: Outcome, rows: &mut Rows)
+    requires table { rows.old.table ≡ lookup.now.0 }
+    ensures falls { moves_none scratch.now.changes ≡ true → is_tried outcome ≡ true → (p : PolicySeen) → rows.old.view.opening ≡ Some p → Shakes (layers_after p rows.old.view.history) scratch.now.changes rows.old rows.new }
+    ensures moves { moves_none scratch.now.changes ≡ false → rows.new ≡ rows.old }
+    ensures none { is_tried outcome ≡ false → rows.new ≡ rows.old }
+{
+    if !is_tried(outcome) {
+        return;
+    }
+    if moves_none(scratch.changes()) {
+        rows.shake_made(lookup, scratch.changes());
+    }
 }
 
 /// The packet's entry, where it is one, is added to the history.
@@ -141,8 +195,9 @@ fn enter(
     pass.bound();
     rows.meet(lookup, pass, 0);
     let walked = walk_now(ledger, crossing, scratch);
-    shake(lookup, crossing, &walked, scratch, ledger, rows);
+    shake_before(lookup, crossing, &walked, scratch, ledger, rows);
     let outcome = ledger.settle(crossing, &walked, scratch);
+    shake_behind(lookup, scratch, outcome, rows);
     follow(lookup, pass, crossing, outcome, ledger, rows);
     spend(permits, outcome.entry);
     Entered { walked, outcome }

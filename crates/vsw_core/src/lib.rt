@@ -4,6 +4,7 @@
 mod commanding;
 mod counting;
 mod crossing;
+mod exporting;
 mod granting;
 mod light;
 mod owner;
@@ -11,4 +12,5 @@ mod reconciling;
 mod rooms;
 mod writing;
 
+pub use exporting::Exported;
 pub use owner::{Core, Reconciled};

@@ -6,7 +6,8 @@ ghost use Rattle.vsw_base.specs.Frame.{Parts};
 ghost use Rattle.vsw_base.specs.declared.packet.Control.TheVariants as control;
 ghost use Rattle.vsw_commandfile.specs.declared.line.Line.{Line};
 ghost use Rattle.vsw_core.specs.Calls.{FallsBy, FallsOver, called, grown};
-ghost use Rattle.vsw_core.specs.Core.{Begins, current_among, layers_of};
+ghost use Rattle.vsw_core.specs.Core.{Begins, current_among, history_of, layers_of};
+ghost use Rattle.vsw_core.specs.Exporting.{AreGoodAt, current_rows};
 ghost use Rattle.vsw_core.specs.Publishing.{IsSettled, Leaves, NoneStands, StandsUntil};
 ghost use Rattle.vsw_core.specs.Reconciling.{OthersStay, Reconciles};
 ghost use Rattle.vsw_port.specs.declared.event.Event.TheVariants as event;
@@ -26,6 +27,7 @@ ghost use Rattle.vsw_rows.specs.GoodRows.{opening_of};
 
 use crate::counting::count_current;
 use crate::crossing::{cross, cross_only};
+use crate::exporting::{Exported, export};
 use crate::light::is_light;
 use crate::rooms::{Former, Rooms};
 use crate::{commanding, granting, reconciling};
@@ -309,5 +311,21 @@ impl Core {
         ensures count { result ≡ current_among lookup.now.2 self.old.writer }
     {
         count_current(lookup, &mut self.rows)
+    }
+
+    /// The rows that are current, in the order of their places, and after how many entries they are good. Nothing is
+    /// changed, also where memory is wanting.
+    pub fn export(
+        &mut self,
+        alloc: Global,
+        lookup: &Lookup<PortStory>,
+    ) -> Result<Exported, NoMemory>
+        requires core { IsOf lookup.now self.old.writer }
+        ensures same { self.new ≡ self.old }
+        ensures rows { IfOk result (λ exported. exported.rows ≡ current_rows lookup.now.2 self.old.writer) }
+        ensures good { IfOk result (AreGoodAt (opening_of lookup.now.1) (history_of self.old)) }
+        ensures few { IfOk result (λ exported. length exported.rows ≤ lookup.now.2) }
+    {
+        export(alloc, lookup, &self.ledger, &mut self.rows)
     }
 }

@@ -1,15 +1,19 @@
 //! A port whose lock is held.
 
-ghost use Rattle.std.specs.Prelude.{◌≡◌, ◌≤◌, ◌<◌, ◌+◌, length, IsOk, OnErr, OnOk};
+ghost use Rattle.std.specs.Prelude.{◌≡◌, ◌≤◌, ◌<◌, ◌+◌, length, IfOk, IsOk, OnErr, OnOk};
+ghost use Rattle.vsw_core.specs.Exporting.{AreGoodAt};
 ghost use Rattle.vsw_flows.specs.Flows.{IsOf};
 ghost use Rattle.vsw_live.specs.Meeting.{AllMeet, AreOf, IsRightAt, Meets};
 ghost use Rattle.vsw_live.specs.Calls.{KeepsLook};
+ghost use Rattle.vsw_rows.specs.GoodRows.{opening_of};
 
 use crate::locked::Locked;
 use crate::naming::Naming;
+use std::alloc::Global;
 use std::marker::Model;
 use std::sync::MutexGuard;
 use vsw_base::NoMemory;
+use vsw_core::Exported;
 use vsw_flows::PortStory;
 use vsw_port::Event;
 use vsw_table::{Lookup, Pass};
@@ -73,6 +77,15 @@ impl<'a, J: Naming> Held<'a, J> {
         ensures same { self.new ≡ self.old }
     {
         self.core.reconcile(self.lookup, row);
+    }
+
+    /// The rows that are current, in the order of their places, and after how many entries they are good.
+    pub fn export(&mut self, alloc: Global) -> Result<Exported, NoMemory>
+        ensures same { self.new ≡ self.old }
+        ensures good { IfOk result (AreGoodAt (opening_of self.old.port.looking.1) self.old.history) }
+        ensures few { IfOk result (λ exported. length exported.rows ≤ self.old.port.looking.2) }
+    {
+        self.core.export(alloc, self.lookup)
     }
 
     /// How many rows are left to be compared since a command was done.

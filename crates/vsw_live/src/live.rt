@@ -1,8 +1,9 @@
 //! The port that threads share.
 
-ghost use Rattle.std.specs.Prelude.{◌≡◌, ◌<◌, ◌≤◌, ◌+◌, ℕ, List, length, Some, true, OnErr, OnOk};
+ghost use Rattle.std.specs.Prelude.{◌≡◌, ◌<◌, ◌≤◌, ◌+◌, ℕ, List, length, Some, true, IfOk, OnErr, OnOk};
 ghost use mathlib.Core.List.{IsPrefix};
 ghost use Rattle.vsw_commandfile.specs.declared.line.Line.{Line};
+ghost use Rattle.vsw_core.specs.Exporting.{AreGoodAt};
 ghost use Rattle.vsw_flows.specs.Flows.{IsOf};
 ghost use Rattle.vsw_port.specs.declared.event.Event.{Event};
 ghost use Rattle.vsw_port.specs.Calls.{controller_at};
@@ -21,11 +22,13 @@ use crate::leaving::leave;
 use crate::locked::{Locked, ROWS_AT_ONCE};
 use crate::naming::Naming;
 use crate::unit::Unit;
+use std::alloc::Global;
 use std::marker::Model;
 use std::sync::atomic::{AtomicU64, Ordering};
 use std::sync::{Mutex, MutexGuard, Wait};
 use vsw_answer::{Answer, Desk, Room, RowAnswer, Why, answer_by_row};
 use vsw_base::{Crossing, NoMemory};
+use vsw_core::Exported;
 use vsw_flows::PortStory;
 use vsw_policy::Command;
 use vsw_port::Outcome;
@@ -234,6 +237,28 @@ impl<J: Naming> LivePort<J> {
         let mut held = self.hold(rt);
         held.reconcile(row);
         self.stale.store(u64::from(held.stale()), Ordering::SeqCst);
+    }
+
+    /// The rows that are current, in the order of their places, as `Core::export` gives them under one hold of the lock. Each is good
+    /// after what the pass then has seen. That these are all current rows can't be said: nothing is known of what lies under a
+    /// lock once that is free.
+    pub fn export<R: Wait>(
+        &self,
+        rt: &R,
+        alloc: Global,
+        pass: &mut Pass<PortStory>,
+    ) -> Result<Exported, NoMemory>
+        requires pass { IsOf self.now.looking pass.old }
+        ensures meets { OnOk result ((h : List Event) × Meets (record { port = self.now; history = h }) 0 pass.old pass.new) }
+        ensures good { IfOk result (AreGoodAt (opening_of self.now.looking.1) pass.new.view.front) }
+        ensures few { IfOk result (λ exported. length exported.rows ≤ self.now.looking.2) }
+        ensures look { OnOk result (KeepsLook pass.old.view pass.new.view) }
+        ensures refused { OnErr result (pass.new ≡ pass.old) }
+    {
+        let mut held = self.hold(rt);
+        let exported = held.export(alloc)?;
+        held.meet(pass);
+        Ok(exported)
     }
 
     /// What the pass has seen, to be handed to another.

@@ -1,8 +1,9 @@
 //! What lies under a port's lock.
 
-ghost use Rattle.std.specs.Prelude.{◌≡◌, ◌<◌, ◌≤◌, ◌+◌, ℕ, List, length, not, true, IsOk, OnErr, OnOk};
+ghost use Rattle.std.specs.Prelude.{◌≡◌, ◌<◌, ◌≤◌, ◌+◌, ℕ, List, length, not, true, IfOk, IsOk, OnErr, OnOk};
 ghost use mathlib.Core.List.{IsPrefix};
 ghost use Rattle.vsw_commandfile.specs.declared.line.Line.{Line};
+ghost use Rattle.vsw_core.specs.Exporting.{AreGoodAt, current_rows};
 ghost use Rattle.vsw_flows.specs.Flows.{IsOf};
 ghost use Rattle.vsw_port.specs.Calls.{controller_at};
 ghost use Rattle.vsw_port.specs.History.{AllRight};
@@ -19,10 +20,11 @@ ghost use Rattle.vsw_rows.specs.GoodRows.{opening_of};
 
 use crate::answer::Told;
 use crate::naming::Naming;
+use std::alloc::Global;
 use std::marker::{Model, PhantomData};
 use vsw_answer::Desk;
 use vsw_base::{Crossing, NoMemory};
-use vsw_core::Core;
+use vsw_core::{Core, Exported};
 use vsw_flows::PortStory;
 use vsw_policy::{Command, Refusal, Reply};
 use vsw_port::{Event, Outcome};
@@ -170,6 +172,21 @@ impl<J: Naming> Locked<J> {
         let end = lookup.rows().min(row + ROWS_AT_ONCE);
         self.stale = self.stale.saturating_sub(end - row);
         reconcile_all(&mut self.core, lookup, row, end);
+    }
+
+    /// The rows that are current, in the order of their places, and after how many entries they are good.
+    pub(crate) fn export(
+        &mut self,
+        alloc: Global,
+        lookup: &Lookup<PortStory>,
+    ) -> Result<Exported, NoMemory>
+        requires port { HasLookup J.ports self.old.0 lookup.now }
+        ensures same { self.new ≡ self.old }
+        ensures rows { IfOk result (λ exported. exported.rows ≡ current_rows lookup.now.2 self.old.1.writer) }
+        ensures good { IfOk result (AreGoodAt (opening_of lookup.now.1) self.old.1.writer.view.history) }
+        ensures few { IfOk result (λ exported. length exported.rows ≤ lookup.now.2) }
+    {
+        self.core.export(alloc, lookup)
     }
 }
 

@@ -21,4 +21,4 @@ pub use id::id_of;
 pub use law::{file_laws, laws};
 pub use port_rows::PortRows;
 pub use rows::Rows;
-pub use writing::write_rows;
+pub use writing::{begin_rows, write_port, write_rows};

@@ -4,7 +4,7 @@ ghost use Rattle.std.specs.Prelude.{◌≡◌, ◌<◌, ◌≤◌, ◌+◌, ◌*
 ghost use Rattle.std.specs.List.{flat_map};
 ghost use Rattle.byteorder.specs.Endian.{big_bytes, little_bytes};
 ghost use Rattle.vsw_offload.specs.Private.Writing.{AreBelow, placed};
-ghost use Rattle.vsw_offload.specs.Rows.{all_rows_bytes, ordered, port_bytes, row_bytes, rows_bytes};
+ghost use Rattle.vsw_offload.specs.Rows.{all_rows_bytes, head, ordered, port_bytes, row_bytes, rows_bytes};
 ghost use Rattle.vsw_policy.specs.Sound.{Each};
 
 use crate::placing::{at_place, places_in_order};
@@ -73,8 +73,8 @@ fn write_placed(rows: &[[u64; 73]], places: &[u32], out: &mut Vec<u8>) -> Result
     Ok(())
 }
 
-/// A port, its rows in the order of their keys.
-fn write_port(alloc: Global, port: &PortRows, out: &mut Vec<u8>) -> Result<(), NoMemory>
+/// Appends a port of a rows file, its rows in the order of their keys, of each key the first.
+pub fn write_port(alloc: Global, port: &PortRows, out: &mut Vec<u8>) -> Result<(), NoMemory>
     requires { length port.now.rows ≤ 16384 }
     ensures { OnOk result (out.new.items ≡ out.old.items ++ port_bytes (ordered port.now)) }
 {
@@ -98,6 +98,16 @@ fn write_ports(alloc: Global, ports: &[PortRows], out: &mut Vec<u8>) -> Result<(
             write_ports(alloc, rest, out)
         }
     }
+}
+
+/// The front of the rows file of so many ports, behind which one is written after the other (`write_port`).
+pub fn begin_rows(alloc: Global, ports: u32) -> Result<Vec<u8>, NoMemory>
+    ensures { IfOk result (λ file. file.items ≡ head ++ little_bytes 4 ports) }
+{
+    let mut out = Vec::new(alloc);
+    append(&mut out, &HEAD)?;
+    write_number(ports, &mut out)?;
+    Ok(out)
 }
 
 /// At most so many bytes are written for ports.

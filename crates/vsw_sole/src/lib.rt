@@ -2,9 +2,11 @@
 #![tactic(auto)]
 
 mod caller;
+mod keeping;
 mod open;
 mod passing;
 mod port;
 
+pub use keeping::Keeping;
 pub use passing::transit;
 pub use port::SolePort;

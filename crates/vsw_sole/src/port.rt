@@ -4,6 +4,7 @@ ghost use Rattle.std.specs.Prelude.{◌≡◌, ◌≤◌, ◌<◌, ◌+◌, ◌-
 ghost use Rattle.vsw_base.specs.Frame.{Parts};
 ghost use Rattle.vsw_answer.specs.declared.told.Why.TheVariants as why;
 ghost use Rattle.vsw_commandfile.specs.declared.line.Line.{Line};
+ghost use Rattle.vsw_core.specs.Exporting.{AreGoodAt};
 ghost use Rattle.vsw_flows.specs.Flows.{IsOf};
 ghost use Rattle.vsw_port.specs.declared.event.Event.TheVariants as event;
 ghost use Rattle.vsw_port.specs.Calls.{Asked, Carried};
@@ -18,12 +19,13 @@ ghost use Rattle.vsw_sole.specs.Callers.{IsCaller, Numbered, one_if};
 ghost use Rattle.vsw_sole.specs.Sole.{IsWhy, layers_of};
 
 use crate::caller::{Caller, ask, carry, refill};
+use crate::keeping::{Keeping, is_light};
 use crate::open::{callers, copied};
 use std::alloc::Global;
 use std::marker::Model;
 use vsw_answer::{Desk, Why};
 use vsw_base::{Crossing, NoMemory, Stack};
-use vsw_core::Core;
+use vsw_core::{Core, Exported};
 use vsw_flows::PortStory;
 use vsw_policy::{Command, Policy, Refusal};
 use vsw_port::{Event, Outcome};
@@ -48,7 +50,8 @@ pub struct SolePort {
     desk: Desk,
     /// Why no row answered the last packet, if none did.
     why: Option<Why>,
-    /// Whether the layers are light, as `Core::is_light` tells: no rows are looked for then.
+    keeping: Keeping,
+    /// Whether the layers are light, as `Core::is_light` tells, and rows aren't kept all the same: none are looked for then.
     light: bool,
     /// The next row to be reconciled.
     next: u32,
@@ -93,8 +96,12 @@ fn stale_after(stale: u32, answer: Result<(), Refusal>, rows: u32) -> u32 {
 }
 
 /// Whether the layers are light after a call: asked anew where it is an entry, since it changed them.
-fn light_after(light: bool, entry: bool, core: &Core) -> bool {
-    if entry { core.is_light() } else { light }
+fn light_after(light: bool, entry: bool, keeping: Keeping, core: &Core) -> bool {
+    if entry {
+        is_light(keeping, core)
+    } else {
+        light
+    }
 }
 
 /// Whether an answer is an entry of the history.
@@ -149,12 +156,13 @@ fn refill_all(
 
 impl SolePort {
     /// A port that begins with this policy, none of whose layers has made a pair, with this many rows. Its packets are
-    /// brought by workers of numbers below `workers`.
+    /// brought by workers of numbers below `workers`. With light layers it has rows where they are always kept.
     pub fn open(
         alloc: Global,
         policy: Policy,
         rows: u32,
         workers: u32,
+        keeping: Keeping,
     ) -> Result<SolePort, NoMemory>
         requires fresh { AreAtMost 0 policy.layers }
         requires rows { (8 ≤ rows) × (rows ≤ 16384) }
@@ -169,7 +177,7 @@ impl SolePort {
         let Opened { lookup, mut writer } = Lookup::open(alloc, rows, &policy)?;
         let callers = callers(alloc, &lookup, &mut writer, 16 + controllers.len())?;
         let core = Core::open(alloc, policy, writer)?;
-        let light = core.is_light();
+        let light = is_light(keeping, &core);
         Ok(SolePort {
             core,
             lookup,
@@ -179,6 +187,7 @@ impl SolePort {
             room: 0,
             desk: Desk::new(),
             why: Some(Why::Light),
+            keeping,
             light,
             next: 0,
             stale: 0,
@@ -276,7 +285,7 @@ impl SolePort {
             &mut self.why,
             self.light,
         );
-        self.light = light_after(self.light, outcome.entry, &self.core);
+        self.light = light_after(self.light, outcome.entry, self.keeping, &self.core);
         self.room = left(self.room, outcome.entry);
         outcome
     }
@@ -305,7 +314,7 @@ impl SolePort {
             command,
         );
         let entry = is_entry(answer);
-        self.light = light_after(self.light, entry, &self.core);
+        self.light = light_after(self.light, entry, self.keeping, &self.core);
         self.room = left(self.room, entry);
         self.stale = stale_after(self.stale, answer, self.lookup.rows());
         answer
@@ -322,6 +331,19 @@ impl SolePort {
             return;
         }
         reconcile_from(&mut self.core, &self.lookup, &mut self.next, rows);
+    }
+
+    /// Compares each row with the layers of now, once, and then gives those that are current, in the order of their places,
+    /// with the number of entries after which they are good.
+    pub fn export(&mut self, alloc: Global) -> Result<Exported, NoMemory>
+        ensures same { self.new ≡ self.old }
+        ensures good { IfOk result (AreGoodAt self.old.opening self.old.journal) }
+        ensures few { IfOk result (λ exported. length exported.rows ≤ 16384) }
+    {
+        self.stale = 0;
+        let rows = self.lookup.rows();
+        reconcile_from(&mut self.core, &self.lookup, &mut self.next, rows);
+        self.core.export(alloc, &self.lookup)
     }
 }
 

@@ -1,5 +1,5 @@
 -- The steps of a packet's call: the rows fall that its entry shakes, the entry follows the history, if it is one, and then it leaves a row.
-use Rattle.std.specs.Prelude.{◌≡◌, ℕ, List, [], ◌∷◌, Bool, true, false, not}
+use Rattle.std.specs.Prelude.{◌≡◌, ℕ, List, [], ◌∷◌, ◌||◌, Bool, true, false, not}
 use mathlib.Core.List.{IsPrefix}
 use Rattle.vsw_base.specs.declared.fate.Verdict.{Verdict}
 use Rattle.vsw_base.specs.declared.fate.Verdict.TheVariants.{Pass}
@@ -7,6 +7,8 @@ use Rattle.vsw_base.specs.declared.flow.Crossing.{Crossing}
 use Rattle.vsw_base.specs.declared.packet.Control.TheVariants as control
 use Rattle.vsw_core.specs.Calls.{FallsBy, called, grown}
 use Rattle.vsw_core.specs.Publishing.{IsSettled, NoneStands, StandsUntil, WritesOne}
+use Rattle.vsw_port.specs.Crossed.{is_short}
+use Rattle.vsw_port.specs.declared.crossing.Outcome.{Outcome}
 use Rattle.vsw_port.specs.declared.event.Event.{Event}
 use Rattle.vsw_policy.specs.Layer.{LayerSeen}
 use Rattle.vsw_policy.specs.Layers.{PolicySeen}
@@ -37,6 +39,10 @@ pub record Steps (ls : List LayerSeen) (e : Event) (es : List Event) (v w s t : 
   pub pass : t ≡ record s { view = called s.view w.view.history es }
   pub falls : FallsBy ls e v w
   pub seen : IsPrefix s.view.front v.view.history
+
+-- a packet changes the layers, or would have, had there been memory
+abbrev pub is_tried : Outcome → Bool
+is_tried o = o.entry || is_short o.fate
 
 -- a packet that passes its walk wants something changed. One that is dropped changes nothing, whatever it wanted
 abbrev pub wants_change : Verdict → List Wanted → Bool

@@ -88,6 +88,11 @@ enum Step {
     },
     /// The last frame left as it came.
     Leaves,
+    /// An export gives so many rows, good after so many entries.
+    Exports {
+        rows: usize,
+        count: u32,
+    },
 }
 
 /// Whether a packet was answered so.
@@ -161,7 +166,15 @@ fn is_told(answered: &Option<Answered>, step: &Step) -> bool {
 }
 
 /// Whether what the worker does comes out as a step says.
-fn comes_out<J: Naming, R: Wait>(rt: &R, worker: &mut Worker<'_, J>, step: &Step) -> bool {
+fn comes_out<J: Naming, R: Wait>(
+    rt: &R,
+    alloc: Global,
+    worker: &mut Worker<'_, J>,
+    step: &Step,
+) -> bool {
+    if let Step::Exports { rows, count } = *step {
+        return worker.export(rt, alloc) == Some((rows, count));
+    }
     match packet(step) {
         Some(packet) => is_told(&worker.send(rt, by_of(step), &packet), step),
         None => worker.left_as_it_came(),
@@ -234,7 +247,7 @@ fn first_wrong<J: Naming, R: Wait>(
         let is_right = if is_order(step) {
             is_obeyed(rt, alloc, controller, step)
         } else {
-            comes_out(rt, worker, step)
+            comes_out(rt, alloc, worker, step)
         };
         if !is_right {
             return Some(place);
@@ -349,6 +362,37 @@ const ANSWERS: [Step; 9] = [
 #[test]
 fn a_packet_leaves_a_row_that_answers_the_next_ones(rt: HostRuntime) {
     assert!(&rt; tried(&rt, rt.alloc(), &ANSWERS) == Some(None));
+}
+
+/// A command takes the row away, and a packet leaves it anew.
+const EXPORTED: [Step; 9] = [
+    Step::SetUp { stateful: false },
+    Step::Exports { rows: 0, count: 3 },
+    Step::Beside {
+        moment: 0,
+        count: 3,
+        entry: false,
+        why: Some(Why::Miss),
+    },
+    Step::Exports { rows: 1, count: 3 },
+    Step::Drops,
+    Step::Exports { rows: 0, count: 4 },
+    Step::Reconciles,
+    Step::Exports { rows: 1, count: 4 },
+    Step::Layers {
+        dir: Dir::Out,
+        control: Control::None,
+        moment: 3_000,
+        fate: BY_RULE,
+        count: 4,
+        entry: false,
+        why: Why::Miss,
+    },
+];
+
+#[test]
+fn an_export_gives_the_rows_that_are_current(rt: HostRuntime) {
+    assert!(&rt; tried(&rt, rt.alloc(), &EXPORTED) == Some(None));
 }
 
 const HELD: [Step; 4] = [

@@ -1,6 +1,6 @@
 //! A worker, which remembers what it was answered.
 
-ghost use Rattle.std.specs.Prelude.{◌≡◌, ◌<◌, IfSome};
+ghost use Rattle.std.specs.Prelude.{◌≡◌, ◌<◌, false, IfSome};
 ghost use Rattle.vsw_flows.specs.Flows.{IsOf};
 ghost use Rattle.vsw_live.specs.Ports.{AreNewPasses};
 ghost use Rattle.vsw_live_tests.specs.Trials.{Calls};
@@ -142,6 +142,22 @@ fn cross<J: Naming, R: Wait>(
     }
 }
 
+/// How many rows an export gives, and after how many entries they are good.
+fn exported<J: Naming, R: Wait>(
+    rt: &R,
+    alloc: Global,
+    port: &LivePort<J>,
+    pass: &mut Pass<PortStory>,
+) -> Option<(usize, u32)>
+    requires pass { IsOf port.now.looking pass.old }
+    ensures calls { Calls false pass.old pass.new }
+{
+    match port.export(rt, alloc, pass) {
+        Ok(exported) => Some((exported.rows.len(), exported.count)),
+        Err(_) => None,
+    }
+}
+
 /// Whether a frame left with the bytes with which it came.
 fn is_as_it_came(answered: &Answered, frame: &Frame<'_>, room: &Room) -> bool {
     match answered.fate {
@@ -275,6 +291,11 @@ impl<'a, J: Naming> Worker<'a, J> {
         stages.reach(LEFT);
         self.go_by(rt, By::Stages(stages), false);
         stages.reach(ASKED);
+    }
+
+    /// How many rows an export of the port gives, and after how many entries they are good.
+    pub fn export<R: Wait>(&mut self, rt: &R, alloc: Global) -> Option<(usize, u32)> {
+        exported(rt, alloc, self.port, &mut self.pass)
     }
 
     pub fn number(&self) -> u32 {

@@ -9,7 +9,7 @@ use vsw_answer::Why;
 use vsw_base::{Crossing, Dir};
 use vsw_policy::{Command, Policy};
 use vsw_rule::Action;
-use vsw_sole::SolePort;
+use vsw_sole::{Keeping, SolePort};
 
 /// How many rows the port has.
 const ROWS: u32 = 64;
@@ -37,14 +37,16 @@ enum Step {
     Scans(u16),
     /// So many rows are reconciled.
     Reconciles(u32),
+    /// An export gives so many rows, good after so many entries.
+    Exports(u32, usize),
 }
 
 /// A port of controller 1, at first without layers, with workers 0 and 1.
-fn port(alloc: Global) -> Option<SolePort> {
+fn port(alloc: Global, keeping: Keeping) -> Option<SolePort> {
     let Ok(policy) = Policy::new(alloc, &[1]) else {
         return None;
     };
-    match SolePort::open(alloc, policy, ROWS, 2) {
+    match SolePort::open(alloc, policy, ROWS, 2, keeping) {
         Ok(port) => Some(port),
         Err(_) => None,
     }
@@ -101,6 +103,14 @@ fn scans(port: &mut SolePort, flows: u16) -> bool {
     true
 }
 
+/// Whether an export gives so many rows, good after so many entries.
+fn exports(alloc: Global, port: &mut SolePort, entries: u32, rows: usize) -> bool {
+    match port.export(alloc) {
+        Ok(exported) => exported.count == entries && exported.rows.len() == rows,
+        Err(_) => false,
+    }
+}
+
 /// Whether what is done comes out as the step says.
 fn comes_out(alloc: Global, port: &mut SolePort, step: &Step) -> bool {
     match *step {
@@ -112,6 +122,7 @@ fn comes_out(alloc: Global, port: &mut SolePort, step: &Step) -> bool {
             port.reconcile(rows);
             true
         }
+        Step::Exports(entries, rows) => exports(alloc, port, entries, rows),
     }
 }
 
@@ -154,7 +165,17 @@ const PAIRED: [Step; 3] = [
 
 /// The same of these steps at a new port, and then of those.
 fn tried(alloc: Global, first: &[Step], steps: &[Step]) -> Option<Option<usize>> {
-    let mut port = port(alloc)?;
+    tried_at(alloc, Keeping::WhereCheaper, first, steps)
+}
+
+/// The same at one that keeps rows so.
+fn tried_at(
+    alloc: Global,
+    keeping: Keeping,
+    first: &[Step],
+    steps: &[Step],
+) -> Option<Option<usize>> {
+    let mut port = port(alloc, keeping)?;
     if first_wrong(alloc, &mut port, first).is_some() {
         return None;
     }
@@ -163,7 +184,7 @@ fn tried(alloc: Global, first: &[Step], steps: &[Step]) -> Option<Option<usize>>
 
 /// The same with the nine layers between.
 fn tried_at_nine(alloc: Global, first: &[Step], steps: &[Step]) -> Option<Option<usize>> {
-    let mut port = port(alloc)?;
+    let mut port = port(alloc, Keeping::WhereCheaper)?;
     if first_wrong(alloc, &mut port, first).is_some()
         || first_wrong(alloc, &mut port, &HEAVY).is_some()
     {
@@ -195,6 +216,48 @@ const FEW: [Step; 2] = [
 #[test]
 fn no_row_is_looked_for_where_layers_are_light(rt: HostRuntime) {
     assert!(&rt; tried(rt.alloc(), &[Step::Opens(31)], &FEW) == Some(None));
+}
+
+const KEPT: [Step; 2] = [
+    Step::Sends(0, 3, Dir::Out, By::Walk(Why::Miss)),
+    Step::Sends(0, 3, Dir::Out, By::Row),
+];
+
+#[test]
+fn a_port_that_always_keeps_rows_has_some_where_layers_are_light(rt: HostRuntime) {
+    assert!(&rt; tried_at(rt.alloc(), Keeping::Always, &[Step::Opens(31)], &KEPT) == Some(None));
+}
+
+/// An added layer takes all stamps away, and the export reconciles what packets of flows 3 and 4 left. Flow 3 makes a pair in a layer that is added
+/// then, so that no row of it is left until its next packet.
+const EXPORTED: [Step; 13] = [
+    Step::Exports(1, 0),
+    Step::Sends(0, 3, Dir::Out, By::Walk(Why::Miss)),
+    Step::Exports(1, 1),
+    Step::Sends(0, 4, Dir::Out, By::Walk(Why::Miss)),
+    Step::Opens(32),
+    Step::Exports(2, 2),
+    Step::Sends(0, 3, Dir::Out, By::Row),
+    Step::Asks(Asked::AddOutLayer { layer: 10 }),
+    Step::Asks(Asked::AddGroup {
+        layer: 10,
+        group: 1,
+    }),
+    Step::Asks(Asked::PutRule {
+        layer: 10,
+        action: Action::Allow,
+        stateful: true,
+    }),
+    Step::Exports(5, 0),
+    Step::Sends(1, 3, Dir::Out, By::Entry(Why::Miss)),
+    Step::Exports(6, 1),
+];
+
+#[test]
+fn an_export_gives_the_rows_that_are_current_once_all_were_reconciled(rt: HostRuntime) {
+    assert!(&rt;
+        tried_at(rt.alloc(), Keeping::Always, &[Step::Opens(31)], &EXPORTED) == Some(None)
+    );
 }
 
 const SHAKEN: [Step; 13] = [

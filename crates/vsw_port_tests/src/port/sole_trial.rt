@@ -9,7 +9,7 @@ use std::alloc::Global;
 use vsw_base::{Crossing, Fate};
 use vsw_policy::{Command, Policy, Reply};
 use vsw_port::{Core, Event};
-use vsw_sole::SolePort;
+use vsw_sole::{Keeping, SolePort};
 
 /// Whether two entries are one: the same packet with the same fate, or the same line with the same reply.
 fn is_same(one: &Event, other: &Event) -> bool {
@@ -54,7 +54,7 @@ fn port(alloc: Global, rows: u32) -> Option<SolePort>
     let Ok(policy) = Policy::new(alloc, &[1, 2]) else {
         return None;
     };
-    match SolePort::open(alloc, policy, rows, 2) {
+    match SolePort::open(alloc, policy, rows, 2, Keeping::WhereCheaper) {
         Ok(port) => Some(port),
         Err(_) => None,
     }

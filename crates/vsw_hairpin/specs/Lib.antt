@@ -1,0 +1,4 @@
+pub mod Handing
+pub mod Hops
+pub mod Law
+pub mod Exist

@@ -1,8 +1,13 @@
 -- The lanes of an actor, one a port.
-use Rattle.std.specs.Prelude.{◌≡◌, ◌≤◌, ◌<◌, ℕ, suc, List, [], ◌∷◌, length, take}
+use Rattle.std.specs.Prelude.{◌≡◌, ◌≢◌, ◌≤◌, ◌<◌, ◌+◌, ℕ, suc, List, [], ◌∷◌, length, take}
 use Rattle.vsw_port.specs.declared.event.Event.{Event}
 use Rattle.vsw_port.specs.Calls.{Job, Call, job_doer, entries_naming}
+use Rattle.vsw_port.specs.History.{Opening}
+use Rattle.vsw_promise.specs.Jobs.{Placed}
 use Rattle.vsw_promise.specs.Ports.{PortSeen}
+use Rattle.vsw_promise.specs.Rounds.{opening_of}
+use Rattle.vsw_hairpin.specs.Handing.{handed_by}
+use Rattle.vsw_many.specs.Actors.{Moves}
 use Rattle.vsw_many.specs.Passes.{PassNow}
 use Rattle.vsw_many.specs.Phases.{Track}
 use Rattle.vsw_actors.specs.declared.lane.Lane.{Lane}
@@ -32,6 +37,32 @@ AreTold port_in pass_in tells [] [] [] = Unit {0}
 AreTold port_in pass_in tells (p ∷ ps) (l ∷ ls) (t ∷ ts) = IsTold pass_in tells (port_in p).controllers l t × AreTold port_in pass_in tells ps ls ts
 AreTold port_in pass_in tells _ _ _ = ⊥
 
+-- ---- what a job does
+
+-- one more job on a track of a port at this place, whose call hands this on to ports of these addresses
+pub record MovesOn (o : Opening) (macs : List ℕ) (place : ℕ) (j : Job) (hops : List Placed) (t u : Track) : Type 0 where
+  pub moves : Moves o j t u
+  pub hands : handed_by macs place moves.call.deed ≡ hops
+
+-- at the port at this place, where the first has the place `at`, a track is led on so, and at the others nothing is done
+abbrev pub Leads : {P : Type 0} → (P → Track → Track → Type 0) → ℕ → ℕ → List P → List Track → List Track → Type 0
+Leads on at place [] [] [] = Unit {0}
+Leads on at place (p ∷ ps) (t ∷ ts) (u ∷ us) = ((at ≡ place) → on p t u) × ((at ≢ place) → u ≡ t) × Leads on (suc at) place ps ts us
+Leads on at place _ _ _ = ⊥
+
+-- a job is done at the port at its place
+abbrev pub DoesAt : {P : Type 0} → (P → PortSeen) → ℕ → ℕ → Job → List P → List Track → List Track → Type 0
+DoesAt port_in at place j = Leads (λ p. Moves (opening_of (port_in p)) j) at place
+
+-- and its call hands this on
+abbrev pub DoesOn : {P : Type 0} → (P → PortSeen) → (P → List ℕ) → ℕ → ℕ → Job → List Placed → List P → List Track → List Track → Type 0
+DoesOn port_in locals at place j hops = Leads (λ p. MovesOn (opening_of (port_in p)) (locals p) place j hops) at place
+
+-- what a job at this place handed on: the job of the same caller at another place
+pub record IsHop (place : ℕ) (j : Job) (h : Placed) : Type 0 where
+  pub other : h.0 ≢ place
+  pub doer : (cs : List ℕ) → job_doer cs h.1 ≡ job_doer cs j
+
 -- ---- what a lane may do
 
 -- a lane of actor k at a port, with room for so many entries more
@@ -46,23 +77,31 @@ AreFit pass_in is_of permits k more [] [] = Unit {0}
 AreFit pass_in is_of permits k more (p ∷ ps) (l ∷ ls) = IsFit pass_in is_of permits k more p l × AreFit pass_in is_of permits k more ps ls
 AreFit pass_in is_of permits k more _ _ = ⊥
 
+-- the same, with room for one more yet, but in the lane at this place, where the first has the place `at`
+abbrev pub AreFitBut : {P S : Type 0} → (S → PassNow) → (P → S → Type 0) → (S → ℕ) → ℕ → ℕ → ℕ → ℕ → List P → List (Lane S) → Type 0
+AreFitBut pass_in is_of permits k more at place [] [] = Unit {0}
+AreFitBut pass_in is_of permits k more at place (p ∷ ps) (l ∷ ls) =
+    IsFit pass_in is_of permits k more p l × ((at ≢ place) → IsFit pass_in is_of permits k (more + 1) p l) × AreFitBut pass_in is_of permits k more (suc at) place ps ls
+AreFitBut pass_in is_of permits k more at place _ _ = ⊥
+
 -- a lane that may do this job at a port
-pub record IsUsable {J P S : Type 0} (port_in : P → PortSeen) (pass_in : S → PassNow) (job_in : J → Job) (is_of : P → S → Type 0) (permits : S → ℕ) (j : J) (p : P) (l : Lane S) : Type 0 where
+pub record IsUsable {P S : Type 0} (port_in : P → PortSeen) (pass_in : S → PassNow) (is_of : P → S → Type 0) (permits : S → ℕ) (j : Job) (p : P) (l : Lane S) : Type 0 where
   pub station : is_of p l.station
-  pub own : job_doer (port_in p).controllers (job_in j) ≡ (pass_in l.station).number
+  pub own : job_doer (port_in p).controllers j ≡ (pass_in l.station).number
   pub based : l.base ≤ length (pass_in l.station).front
   pub permit : 0 < permits l.station
 
-abbrev pub IsReady : {J P S : Type 0} → (P → PortSeen) → (S → PassNow) → (J → Job) → (P → S → Type 0) → (S → ℕ) → J → List P → List (Lane S) → Type 0
-IsReady port_in pass_in job_in is_of permits j (p ∷ ps) (l ∷ ls) = IsUsable port_in pass_in job_in is_of permits j p l × IsReady port_in pass_in job_in is_of permits j ps ls
-IsReady port_in pass_in job_in is_of permits j _ _ = Unit {0}
+-- the lane at this place, if it is among these, from the place `at` on, may
+abbrev pub IsReady : {P S : Type 0} → (P → PortSeen) → (S → PassNow) → (P → S → Type 0) → (S → ℕ) → ℕ → ℕ → Job → List P → List (Lane S) → Type 0
+IsReady port_in pass_in is_of permits at place j (p ∷ ps) (l ∷ ls) = ((at ≡ place) → IsUsable port_in pass_in is_of permits j p l) × IsReady port_in pass_in is_of permits (suc at) place j ps ls
+IsReady port_in pass_in is_of permits at place j _ _ = Unit {0}
 
--- the port at this place, if it is among these, from that place on, takes the job
-abbrev pub IsTaken : {J P : Type 0} → (P → J → Type 0) → ℕ → ℕ → J → List P → Type 0
+-- the port at this place, if it is among these, from the place `at` on, takes the job
+abbrev pub IsTaken : {J P : Type 0} → (P → ℕ → J → Type 0) → ℕ → ℕ → J → List P → Type 0
 IsTaken takes at place j [] = Unit {0}
-IsTaken takes at place j (p ∷ ps) = ((at ≡ place) → takes p j) × IsTaken takes (suc at) place j ps
+IsTaken takes at place j (p ∷ ps) = ((at ≡ place) → takes p place j) × IsTaken takes (suc at) place j ps
 
 -- the job is the actor's, at whatever port
-abbrev pub IsOwn : {J P : Type 0} → (P → PortSeen) → (J → Job) → ℕ → J → List P → Type 0
-IsOwn port_in job_in k j [] = Unit {0}
-IsOwn port_in job_in k j (p ∷ ps) = (job_doer (port_in p).controllers (job_in j) ≡ k) × IsOwn port_in job_in k j ps
+abbrev pub IsOwn : {P : Type 0} → (P → PortSeen) → Job → ℕ → List P → Type 0
+IsOwn port_in j k [] = Unit {0}
+IsOwn port_in j k (p ∷ ps) = (job_doer (port_in p).controllers j ≡ k) × IsOwn port_in j k ps

@@ -9,3 +9,4 @@ pub use Rattle.vsw_many.specs.Actors as ManyActors
 pub use Rattle.vsw_many.specs.Passes
 pub use Rattle.vsw_many.specs.Phases
 pub use Rattle.vsw_many.specs.Rounds
+pub use Rattle.vsw_history_law.specs.Plain

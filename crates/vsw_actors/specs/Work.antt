@@ -28,6 +28,11 @@ abbrev pub MayDo : List ℕ → Work → Type 0
 MayDo cs (work.Packet p) = (p.worker < 16) × (parts : Parts) × (frame_of p.bytes.now ≡ Ok parts)
 MayDo cs (work.Line l) = (is_listed cs l.now.controller ≡ true) × Each IsGoodRule (rules_given l.now.command)
 
+-- a packet's place is that of its port
+abbrev pub IsPlaced : ℕ → Work → Type 0
+IsPlaced place (work.Packet p) = p.place.port ≡ place
+IsPlaced place (work.Line l) = Unit {0}
+
 -- it may be done, at the place of one of so many ports
 abbrev pub IsWork : ℕ → List ℕ → Placed Work → Type 0
-IsWork ports cs a = (a.place < ports) × MayDo cs a.job
+IsWork ports cs a = (a.place < ports) × IsPlaced a.place a.job × MayDo cs a.job

@@ -1,11 +1,11 @@
 //! An actor of a round: what it has to do, over all ports, and how far it is.
 
-ghost use Rattle.std.specs.Prelude.{◌≡◌, ◌<◌, ◌≤◌, ◌+◌, ◌-◌, ◌++◌, ℕ, List, [], length, map};
+ghost use Rattle.std.specs.Prelude.{◌≡◌, ◌<◌, ◌≤◌, ◌+◌, ◌-◌, ◌++◌, ℕ, List, [], length};
 ghost use Rattle.vsw_many.specs.Phases.{Track};
-ghost use Rattle.vsw_many.specs.Actors.{Does};
-ghost use Rattle.vsw_actors.specs.Lanes.{AreFit, AreTold, IsReady, IsTaken, fronts_of};
-ghost use Rattle.vsw_actors.specs.Actors.{AreMine, Begins, HasDone};
+ghost use Rattle.vsw_actors.specs.Lanes.{AreFit, AreTold, IsOwn, IsTaken, fronts_of};
+ghost use Rattle.vsw_actors.specs.Actors.{AreAlike, AreMine, Begins, DoesAll, HasDone, IsRoomy};
 
+use crate::hop::receive_at;
 use crate::lane::{Lane, step_at};
 use crate::port::Port;
 use std::alloc::Global;
@@ -29,7 +29,8 @@ pub struct Begun<P> {
     pub histories: LinkedList<LinkedList<Event>>,
 }
 
-/// A worker or a controller in a round: the ports with its lanes, and its jobs, the first `next` of which are done.
+/// A worker or a controller in a round: the ports with its lanes, its jobs, the first `next` of which are done, and room for a packet that is
+/// handed on.
 #[derive(Drop)]
 pub struct Actor<'a, J, P: Port<J>> {
     number: u64,
@@ -37,6 +38,7 @@ pub struct Actor<'a, J, P: Port<J>> {
     lanes: Vec<Lane<P::Station>>,
     jobs: Vec<Placed<J>>,
     next: usize,
+    parcel: P::Parcel,
 }
 
 impl<'a, J, P: Port<J>> Model for Actor<'a, J, P> {
@@ -44,7 +46,7 @@ impl<'a, J, P: Port<J>> Model for Actor<'a, J, P> {
     ghost use Rattle.vsw_actors.specs.declared.actor.Begun.{Begun};
     ghost use Rattle.vsw_actors.specs.declared.actor.Placed.{Placed};
     ghost use Rattle.vsw_actors.specs.Lanes.{AreFit, fronts_of};
-    ghost use Rattle.vsw_actors.specs.Actors.{AreMine, HasDone};
+    ghost use Rattle.vsw_actors.specs.Actors.{AreAlike, AreMine, HasDone, IsRoomy};
 
     ghost Value = { Begun P × List (Placed J) × List (Placed J) };
 
@@ -53,7 +55,8 @@ impl<'a, J, P: Port<J>> Model for Actor<'a, J, P> {
     ghost invariant = { λ a. (length a.ports.now ≡ length a.lanes.items) × (length a.ports.now < 65536) × (a.next ≤ length a.jobs.items) × (length a.jobs.items < 4294967296)
         × AreFit P.pass_in P.is_of P.permits a.number (length (drop a.next a.jobs.items)) a.ports.now a.lanes.items
         × AreMine P.port_in P.job_in P.takes a.number a.ports.now (drop a.next a.jobs.items)
-        × HasDone P.port_in P.pass_in P.job_in P.tells a.number a.ports.now (fronts_of P.pass_in a.lanes.items) a.lanes.items (take a.next a.jobs.items) };
+        × HasDone P.port_in P.locals P.pass_in P.job_in P.tells a.number a.ports.now (fronts_of P.pass_in a.lanes.items) a.lanes.items (take a.next a.jobs.items)
+        × AreAlike P.locals a.ports.now × IsRoomy P.fits a.ports.now a.parcel };
 }
 
 impl<'a, J, P: Port<J>> Actor<'a, J, P> {
@@ -63,12 +66,15 @@ impl<'a, J, P: Port<J>> Actor<'a, J, P> {
         ports: &'a [P],
         lanes: Vec<Lane<P::Station>>,
         jobs: Vec<Placed<J>>,
+        parcel: P::Parcel,
     ) -> Actor<'a, J, P>
         requires ports { (length ports.now ≡ length lanes.items) × (length ports.now < 65536) }
         requires few { length jobs.items < 4294967296 }
         requires begins { Begins P.port_in P.pass_in P.tells number ports.now lanes.items }
         requires fit { AreFit P.pass_in P.is_of P.permits number (length jobs.items) ports.now lanes.items }
         requires mine { AreMine P.port_in P.job_in P.takes number ports.now jobs.items }
+        requires alike { AreAlike P.locals ports.now }
+        requires roomy { IsRoomy P.fits ports.now parcel }
         ensures { result ≡ (record { number = number; ports = ports.now; histories = fronts_of P.pass_in lanes.items }, [], jobs.items) }
     {
         Actor {
@@ -77,13 +83,16 @@ impl<'a, J, P: Port<J>> Actor<'a, J, P> {
             lanes,
             jobs,
             next: 0,
+            parcel,
         }
     }
 
     /// Its lanes at the end of a round, and its jobs, whose rooms serve again.
     pub fn end(self) -> (Vec<Lane<P::Station>>, Vec<Placed<J>>)
+    where
+        P::Parcel: Drop,
         ensures fit { AreFit P.pass_in P.is_of P.permits self.entry.0.number (length self.entry.2) self.entry.0.ports result.0.items }
-        ensures done { HasDone P.port_in P.pass_in P.job_in P.tells self.entry.0.number self.entry.0.ports self.entry.0.histories result.0.items self.entry.1 }
+        ensures done { HasDone P.port_in P.locals P.pass_in P.job_in P.tells self.entry.0.number self.entry.0.ports self.entry.0.histories result.0.items self.entry.1 }
         ensures jobs { result.1.items ≡ self.entry.1 ++ self.entry.2 }
     {
         let Actor { lanes, jobs, .. } = self;
@@ -114,6 +123,7 @@ impl<'a, J, P: Port<J>> Forwarder for Actor<'a, J, P> {
             &mut self.lanes,
             placed.place,
             &placed.job,
+            &mut self.parcel,
         );
         self.next += 1;
         true
@@ -124,7 +134,35 @@ impl<'a, J, P: Port<J>> Forwarder for Actor<'a, J, P> {
     }
 }
 
-/// Does a job of an actor at the port at its place.
+/// Does a job of an actor at the port at its place, and what its call handed on at the port to which that goes. A packet has at most one
+/// call at a port, so each lane needs one permit.
+fn step_all<J, P: Port<J>, R: Wait>(
+    rt: &R,
+    alloc: Global,
+    ports: &[P],
+    lanes: &mut [Lane<P::Station>],
+    place: usize,
+    job: &J,
+    parcel: &mut P::Parcel,
+)
+    requires same { length ports.now ≡ length lanes.old }
+    requires small { length ports.now < 65536 }
+    requires own { (k : ℕ) × IsOwn P.port_in (P.job_in job.now) k ports.now × AreFit P.pass_in P.is_of P.permits k 1 ports.now lanes.old }
+    requires taken { IsTaken P.takes 0 place job.now ports.now }
+    requires within { place < length ports.now }
+    requires roomy { IsRoomy P.fits ports.now parcel.old }
+    ensures does { (ts : List Track) → AreTold P.port_in P.pass_in P.tells ports.now lanes.old ts → (us : List Track) × AreTold P.port_in P.pass_in P.tells ports.now lanes.new us × DoesAll P.port_in P.locals place (P.job_in job.now) ports.now ts us }
+    ensures fit { (k : ℕ) (more : ℕ) → AreFit P.pass_in P.is_of P.permits k (more + 1) ports.now lanes.old → AreFit P.pass_in P.is_of P.permits k more ports.now lanes.new }
+    ensures fronts { fronts_of P.pass_in lanes.new ≡ fronts_of P.pass_in lanes.old }
+    ensures roomy { IsRoomy P.fits ports.now parcel.new }
+{
+    if step_at(rt, alloc, ports, lanes, 0, place, job, parcel) {
+        let next = P::place(parcel);
+        receive_at(rt, alloc, ports, lanes, 0, next, parcel);
+    }
+}
+
+/// The same of lanes in their room.
 fn step_in<J, P: Port<J>, R: Wait>(
     rt: &R,
     alloc: Global,
@@ -132,15 +170,19 @@ fn step_in<J, P: Port<J>, R: Wait>(
     lanes: &mut Vec<Lane<P::Station>>,
     place: usize,
     job: &J,
+    parcel: &mut P::Parcel,
 )
     requires same { length ports.now ≡ length lanes.old.items }
     requires small { length ports.now < 65536 }
-    requires ready { IsReady P.port_in P.pass_in P.job_in P.is_of P.permits job.now ports.now lanes.old.items }
+    requires own { (k : ℕ) × IsOwn P.port_in (P.job_in job.now) k ports.now × AreFit P.pass_in P.is_of P.permits k 1 ports.now lanes.old.items }
     requires taken { IsTaken P.takes 0 place job.now ports.now }
+    requires within { place < length ports.now }
+    requires roomy { IsRoomy P.fits ports.now parcel.old }
     ensures same { length lanes.new.items ≡ length lanes.old.items }
-    ensures does { (ts : List Track) → AreTold P.port_in P.pass_in P.tells ports.now lanes.old.items ts → (us : List Track) × AreTold P.port_in P.pass_in P.tells ports.now lanes.new.items us × Does 0 place (P.job_in job.now) (map P.port_in ports.now) ts us }
+    ensures does { (ts : List Track) → AreTold P.port_in P.pass_in P.tells ports.now lanes.old.items ts → (us : List Track) × AreTold P.port_in P.pass_in P.tells ports.now lanes.new.items us × DoesAll P.port_in P.locals place (P.job_in job.now) ports.now ts us }
     ensures fit { (k : ℕ) (more : ℕ) → AreFit P.pass_in P.is_of P.permits k (more + 1) ports.now lanes.old.items → AreFit P.pass_in P.is_of P.permits k more ports.now lanes.new.items }
     ensures fronts { fronts_of P.pass_in lanes.new.items ≡ fronts_of P.pass_in lanes.old.items }
+    ensures roomy { IsRoomy P.fits ports.now parcel.new }
 {
-    step_at(rt, alloc, ports, lanes.as_mut_slice(), 0, place, job);
+    step_all(rt, alloc, ports, lanes.as_mut_slice(), place, job, parcel);
 }

@@ -1,10 +1,11 @@
 //! An actor's station in the midst of a round.
 
-ghost use Rattle.std.specs.Prelude.{◌≡◌, ◌<◌, ◌+◌, ℕ, List, length, map};
-ghost use Rattle.vsw_many.specs.Actors.{Moves, Does};
+ghost use Rattle.std.specs.Prelude.{◌≡◌, ◌<◌, ◌+◌, ℕ, List, length, true};
 ghost use Rattle.vsw_many.specs.Phases.{Track};
+ghost use Rattle.vsw_policy.specs.Sound.{Each};
 ghost use Rattle.vsw_promise.specs.Rounds.{opening_of};
-ghost use Rattle.vsw_actors.specs.Lanes.{AreFit, AreTold, IsFit, IsReady, IsTaken, IsTold, IsUsable, front_of, fronts_of};
+ghost use Rattle.vsw_actors.specs.Actors.{handed};
+ghost use Rattle.vsw_actors.specs.Lanes.{AreFit, AreFitBut, AreTold, DoesOn, IsFit, IsHop, IsReady, IsTaken, IsTold, IsUsable, MovesOn, front_of, fronts_of};
 
 use crate::port::Port;
 use std::alloc::Global;
@@ -17,21 +18,26 @@ pub struct Lane<S> {
     pub base: usize,
 }
 
-/// Does a job at a port.
+/// Does a job at a port, which has this place. Answers whether its call handed a packet on, which the parcel then holds.
 pub fn step<J, P: Port<J>, R: Wait>(
     rt: &R,
     alloc: Global,
     port: &P,
     lane: &mut Lane<P::Station>,
+    place: usize,
     job: &J,
-)
-    requires usable { IsUsable P.port_in P.pass_in P.job_in P.is_of P.permits job.now port.now lane.old }
-    requires taken { P.takes port.now job.now }
-    ensures moves { (t : Track) → IsTold P.pass_in P.tells (P.port_in port.now).controllers lane.old t → (u : Track) × IsTold P.pass_in P.tells (P.port_in port.now).controllers lane.new u × Moves (opening_of (P.port_in port.now)) (P.job_in job.now) t u }
+    parcel: &mut P::Parcel,
+) -> bool
+    requires usable { IsUsable P.port_in P.pass_in P.is_of P.permits (P.job_in job.now) port.now lane.old }
+    requires taken { P.takes port.now place job.now }
+    requires fits { P.fits port.now job.now parcel.old }
+    ensures moves { (t : Track) → IsTold P.pass_in P.tells (P.port_in port.now).controllers lane.old t → (u : Track) × IsTold P.pass_in P.tells (P.port_in port.now).controllers lane.new u × MovesOn (opening_of (P.port_in port.now)) (P.locals port.now) place (P.job_in job.now) (handed result (P.parcel_in parcel.new)) t u }
     ensures fit { (k : ℕ) (more : ℕ) → IsFit P.pass_in P.is_of P.permits k (more + 1) port.now lane.old → IsFit P.pass_in P.is_of P.permits k more port.now lane.new }
     ensures front { front_of P.pass_in lane.new ≡ front_of P.pass_in lane.old }
+    ensures holds { result ≡ true → P.holds parcel.new × IsHop place (P.job_in job.now) (P.parcel_in parcel.new) }
+    ensures fits { (p : P) (j : J) → P.fits p j parcel.old → P.fits p j parcel.new }
 {
-    port.work(rt, alloc, &mut lane.station, job);
+    port.work(rt, alloc, &mut lane.station, place, job, parcel)
 }
 
 /// Does a job at the port at this place, where the first port here has the place `at`.
@@ -43,22 +49,27 @@ pub fn step_at<J, P: Port<J>, R: Wait>(
     at: usize,
     place: usize,
     job: &J,
-)
+    parcel: &mut P::Parcel,
+) -> bool
     requires same { length ports.now ≡ length lanes.old }
     requires small { at + length ports.now < 65536 }
-    requires ready { IsReady P.port_in P.pass_in P.job_in P.is_of P.permits job.now ports.now lanes.old }
+    requires ready { IsReady P.port_in P.pass_in P.is_of P.permits at place (P.job_in job.now) ports.now lanes.old }
     requires taken { IsTaken P.takes at place job.now ports.now }
-    ensures does { (ts : List Track) → AreTold P.port_in P.pass_in P.tells ports.now lanes.old ts → (us : List Track) × AreTold P.port_in P.pass_in P.tells ports.now lanes.new us × Does at place (P.job_in job.now) (map P.port_in ports.now) ts us }
-    ensures fit { (k : ℕ) (more : ℕ) → AreFit P.pass_in P.is_of P.permits k (more + 1) ports.now lanes.old → AreFit P.pass_in P.is_of P.permits k more ports.now lanes.new }
+    requires fits { Each (λ p. P.fits p job.now parcel.old) ports.now }
+    ensures does { (ts : List Track) → AreTold P.port_in P.pass_in P.tells ports.now lanes.old ts → (us : List Track) × AreTold P.port_in P.pass_in P.tells ports.now lanes.new us × DoesOn P.port_in P.locals at place (P.job_in job.now) (handed result (P.parcel_in parcel.new)) ports.now ts us }
+    ensures fit { (k : ℕ) (more : ℕ) → AreFit P.pass_in P.is_of P.permits k (more + 1) ports.now lanes.old → AreFitBut P.pass_in P.is_of P.permits k more at place ports.now lanes.new }
     ensures fronts { fronts_of P.pass_in lanes.new ≡ fronts_of P.pass_in lanes.old }
+    ensures holds { result ≡ true → P.holds parcel.new × IsHop place (P.job_in job.now) (P.parcel_in parcel.new) }
+    ensures fits { (p : P) (j : J) → P.fits p j parcel.old → P.fits p j parcel.new }
 {
     if let Some((port, others)) = ports.split_first() {
         if let Some((lane, rest)) = lanes.split_first_mut() {
-            if at == place {
-                step(rt, alloc, port, lane, job);
+            return if at == place {
+                step(rt, alloc, port, lane, place, job, parcel)
             } else {
-                step_at(rt, alloc, others, rest, at + 1, place, job);
-            }
+                step_at(rt, alloc, others, rest, at + 1, place, job, parcel)
+            };
         }
     }
+    false
 }

@@ -3,6 +3,7 @@
 
 mod actor;
 mod aim;
+mod hop;
 mod lane;
 mod law;
 mod numbering;

@@ -38,8 +38,9 @@ pub fn run_rows<
 ) -> Result<Vec<Vec<Lane<P::Station>>>, NoMemory>
 where
     P::Station: Send + Drop,
-    requires begin { MayBegin P.port_in P.pass_in P.job_in P.tells P.is_of P.permits P.takes 0 ports.now rows.items shares.items }
-    ensures done { IfOk result (λ after. HaveDone P.port_in P.pass_in P.job_in P.tells P.is_of P.permits 0 ports.now rows.items shares.items after.items) }
+    P::Parcel: Send + Drop,
+    requires begin { MayBegin P.port_in P.locals P.pass_in P.job_in P.tells P.is_of P.permits P.takes 0 ports.now rows.items shares.items }
+    ensures done { IfOk result (λ after. HaveDone P.port_in P.locals P.pass_in P.job_in P.tells P.is_of P.permits 0 ports.now rows.items shares.items after.items) }
 {
     let actors = begin_all(alloc, ports, rows, shares)?;
     let actors = run_all(rt, alloc, ports, actors, lineup, gate)?;
@@ -63,6 +64,7 @@ fn run_all<
 ) -> Result<Vec<Actor<'a, J, P>>, NoMemory>
 where
     P::Station: Send + Drop,
+    P::Parcel: Send + Drop,
     ensures { IfOk result (λ v. AllFinish (λ a. a.0) (λ a. a.1) (λ a. a.2) actors.entry.items v.items) }
 {
     let reconciler = Reconciler::begin(ports, lineup.round);
@@ -81,7 +83,8 @@ fn begin_all<'a, J: Drop, P: Port<J>>(
 ) -> Result<Vec<Actor<'a, J, P>>, NoMemory>
 where
     P::Station: Drop,
-    requires begin { MayBegin P.port_in P.pass_in P.job_in P.tells P.is_of P.permits P.takes 0 ports.now rows.items shares.items }
+    P::Parcel: Drop,
+    requires begin { MayBegin P.port_in P.locals P.pass_in P.job_in P.tells P.is_of P.permits P.takes 0 ports.now rows.items shares.items }
     ensures { IfOk result (λ v. v.items ≡ begun_rows P.pass_in 0 ports.now rows.items shares.items) }
 {
     let mut rows = rows;
@@ -91,7 +94,11 @@ where
         let number = actors.len() as u64;
         let lanes = first(&mut rows);
         let jobs = first(&mut shares);
-        put(&mut actors, Actor::begin(number, ports, lanes, jobs))?;
+        let parcel = P::parcel(alloc, ports)?;
+        put(
+            &mut actors,
+            Actor::begin(number, ports, lanes, jobs, parcel),
+        )?;
     }
     Ok(actors)
 }
@@ -104,6 +111,7 @@ fn seat_all<'a, J: Drop, P: Port<J>>(
 ) -> Result<Vec<Seat<'a, J, P>>, NoMemory>
 where
     P::Station: Drop,
+    P::Parcel: Drop,
     ensures { IfOk result (λ v. v.items ≡ seats_of actors.entry.items reconciler.entry) }
 {
     let mut seats = Vec::new(alloc);
@@ -121,6 +129,7 @@ fn callers_of<'a, J: Drop, P: Port<J>>(
 ) -> Result<Vec<Actor<'a, J, P>>, NoMemory>
 where
     P::Station: Drop,
+    P::Parcel: Drop,
     ensures { IfOk result (λ v. v.items ≡ callers_in seats.entry.items) }
 {
     let mut actors = Vec::new(alloc);
@@ -137,6 +146,7 @@ fn put_caller<'a, J: Drop, P: Port<J>>(
 ) -> Result<(), NoMemory>
 where
     P::Station: Drop,
+    P::Parcel: Drop,
     ensures { OnOk result (actors.new.items ≡ actors.old.items ++ callers_in (seat.entry ∷ [])) }
 {
     match seat {
@@ -152,7 +162,8 @@ fn end_all<'a, J: Drop, P: Port<J>>(
 ) -> Result<Vec<Vec<Lane<P::Station>>>, NoMemory>
 where
     P::Station: Drop,
-    ensures { IfOk result (λ v. AllEnd P.port_in P.pass_in P.job_in P.tells P.is_of P.permits actors.entry.items v.items) }
+    P::Parcel: Drop,
+    ensures { IfOk result (λ v. AllEnd P.port_in P.locals P.pass_in P.job_in P.tells P.is_of P.permits actors.entry.items v.items) }
 {
     let mut actors = actors;
     let mut rows = Vec::new(alloc);

@@ -1,5 +1,5 @@
 -- A run over good files ends well, but for faults and want of memory.
-use Rattle.std.proofs.Common.{◌≡◌, ◌<◌, ◌≤◌, ◌⊎◌, inl, inr, ℕ, ◌+◌, List, [], ◌∷◌, ◌++◌, length, take, drop, Option, Some, None, Result, Ok, Err, refl, ap, sym, ◌∙◌, subst, arith}
+use Rattle.std.proofs.Common.{◌≡◌, ◌<◌, ◌≤◌, ◌⊎◌, inl, inr, ℕ, ◌+◌, Bool, List, [], ◌∷◌, ◌++◌, length, take, drop, Option, Some, None, Result, Ok, Err, refl, ap, sym, ◌∙◌, subst, arith}
 use Rattle.std.proofs.Math.Seq.{take-length}
 use Rattle.std.proofs.lemmas.List.{length-append, drop-append-le, take-append-drop}
 use Rattle.vsw_commandfile.specs.Commands.{commands_file_of}
@@ -19,6 +19,7 @@ use Rattle.vsw_policy.specs.Sound.{Each}
 use Rattle.vsw_config.specs.Policy.{policy_file_of}
 use Rattle.vsw_config.specs.declared.file.ConfigFault.{ConfigFault}
 use Rattle.vsw_config.specs.declared.file.PolicyFile.{PolicyFile}
+use Rattle.vsw_run.proofs.Runs.{runs_over}
 use Rattle.vsw_run.specs.Complaint.{status_of}
 use Rattle.vsw_run.specs.Files.{InTurn, HasBadPolicy, HasBadCommands, Reaches}
 use Rattle.vsw_run.specs.IsRun.{AreAdmitted, EndsByTrace, IsComplete, IsCompleteAlone, IsRun, Runs, RunsBy, RunsGenerated, TraceRead}
@@ -28,7 +29,7 @@ use Rattle.vsw_run.specs.declared.ending.Ending.{Ending}
 use Rattle.vsw_run.specs.declared.ending.Ending.TheVariants as ending
 use Rattle.vsw_run.specs.declared.ending.Status.{Status}
 use Rattle.vsw_run.specs.declared.ending.Status.TheVariants as status
-use Rattle.vsw_run.specs.Words.{Request, Forward, Generate}
+use Rattle.vsw_run.specs.Words.{Request, Generate}
 
 -- ---- a file that is a capture, of which a trace was read
 
@@ -114,15 +115,15 @@ record IsClean (words : List (List ℕ)) (old new : Outside) : Type 0 where
 found : (inputs : Option Inputs) (a : Inputs) (name other bytes held : List ℕ) → inputs ≡ Some a → name ≡ other → TellsHeld inputs name bytes → a.files other ≡ Some held → bytes ≡ held
 found inputs a name other bytes held e n t h = some_is bytes held (a.files other) (ap a.files (sym n) ∙ subst (λ i. TellsHeld i name bytes) e t) h
 
-good_policy : (q : Request) (old new : Outside) (end : Ending) (why : ConfigFault) (a : Inputs) (bytes : List ℕ) (p : PolicyFile) (r : Runs q old new end) → old.inputs ≡ Some a → a.files q.policy ≡ Some bytes → policy_file_of bytes ≡ Ok p → HasBadPolicy r.files why → ⊥
-good_policy q old new end why a bytes p r told held good b =
+good_policy : (local : Bool) (q : Request) (old new : Outside) (end : Ending) (why : ConfigFault) (a : Inputs) (bytes : List ℕ) (p : PolicyFile) (r : Runs local q old new end) → old.inputs ≡ Some a → a.files q.policy ≡ Some bytes → policy_file_of bytes ≡ Ok p → HasBadPolicy r.files why → ⊥
+good_policy local q old new end why a bytes p r told held good b =
     let turn : InTurn q (b.policy ∷ []) = subst (InTurn q) b.only r.opens.in_turn in
     let holds : Each (λ f. TellsHeld old.inputs f.name f.bytes) (b.policy ∷ []) = subst (Each (λ f. TellsHeld old.inputs f.name f.bytes)) b.only r.opens.held in
     let same = found old.inputs a b.policy.name q.policy b.policy.bytes bytes told turn holds.0 held in
     not_both p why (policy_file_of bytes) good (subst (λ w. policy_file_of w ≡ Err why) same b.bad)
 
-good_commands : (q : Request) (old new : Outside) (end : Ending) (why : CommandsFault) (a : Inputs) (bytes text : List ℕ) (p : PolicyFile) (lines : List Line) (r : Runs q old new end) → old.inputs ≡ Some a → a.files q.policy ≡ Some bytes → policy_file_of bytes ≡ Ok p → a.files q.commands ≡ Some text → commands_file_of p text ≡ Ok lines → HasBadCommands r.files why → ⊥
-good_commands q old new end why a bytes text p lines r told held good holding right b =
+good_commands : (local : Bool) (q : Request) (old new : Outside) (end : Ending) (why : CommandsFault) (a : Inputs) (bytes text : List ℕ) (p : PolicyFile) (lines : List Line) (r : Runs local q old new end) → old.inputs ≡ Some a → a.files q.policy ≡ Some bytes → policy_file_of bytes ≡ Ok p → a.files q.commands ≡ Some text → commands_file_of p text ≡ Ok lines → HasBadCommands r.files why → ⊥
+good_commands local q old new end why a bytes text p lines r told held good holding right b =
     let turn : InTurn q (b.policy ∷ b.commands ∷ []) = subst (InTurn q) b.only r.opens.in_turn in
     let holds : Each (λ f. TellsHeld old.inputs f.name f.bytes) (b.policy ∷ b.commands ∷ []) = subst (Each (λ f. TellsHeld old.inputs f.name f.bytes)) b.only r.opens.held in
     let same = found old.inputs a b.policy.name q.policy b.policy.bytes bytes told turn.1.named holds.0 held in
@@ -131,54 +132,54 @@ good_commands q old new end why a bytes text p lines r told held good holding ri
     not_both lines why (commands_file_of p text) right (subst (λ g. commands_file_of g text ≡ Err why) given (subst (λ w. commands_file_of b.given w ≡ Err why) alike b.bad))
 
 -- the trace that was read is of the file that the host holds
-of_file : (q : Request) (old new : Outside) (files : List Opened) (file : List ℕ) (r : TraceRead q old new files) → r.file.bytes ≡ file → IsOf file r.trace
-of_file q old new files file r same = subst (λ w. IsOf w r.trace) same (record {
+of_file : (local : Bool) (q : Request) (old new : Outside) (files : List Opened) (file : List ℕ) (r : TraceRead local q old new files) → r.file.bytes ≡ file → IsOf file r.trace
+of_file local q old new files file r same = subst (λ w. IsOf w r.trace) same (record {
   more = drop r.file.read r.file.bytes;
   is = sym (take-append-drop r.file.read r.file.bytes) ∙ ap (λ w. w ++ drop r.file.read r.file.bytes) (sym r.read.bytes);
   all = λ e. sym (r.read.bytes ∙ (ap (λ n. take n r.file.bytes) (subst (Reaches old new r.file) e r.read.reaches) ∙ take-length r.file.bytes));
 })
 
-trace_found : (q : Request) (old new : Outside) (end e : Ending) (a : Inputs) (file : List ℕ) (r : Runs q old new end) (ends : EndsByTrace q old new r.files e) → old.inputs ≡ Some a → a.files q.trace ≡ Some file → IsOf file ends.reads.trace
-trace_found q old new end e a file r ends told held =
+trace_found : (local : Bool) (q : Request) (old new : Outside) (end e : Ending) (a : Inputs) (file : List ℕ) (r : Runs local q old new end) (ends : EndsByTrace local q old new r.files e) → old.inputs ≡ Some a → a.files q.trace ≡ Some file → IsOf file ends.reads.trace
+trace_found local q old new end e a file r ends told held =
     let o = ends.reads.opened in
     let three = o.policy ∷ o.commands ∷ ends.reads.file ∷ [] in
     let turn : InTurn q three = subst (InTurn q) o.all r.opens.in_turn in
     let holds : Each (λ f. TellsHeld old.inputs f.name f.bytes) three = subst (Each (λ f. TellsHeld old.inputs f.name f.bytes)) o.all r.opens.held in
-    of_file q old new r.files file ends.reads (found old.inputs a ends.reads.file.name q.trace ends.reads.file.bytes file told turn.4 holds.1.1.0 held)
+    of_file local q old new r.files file ends.reads (found old.inputs a ends.reads.file.name q.trace ends.reads.file.bytes file told turn.4 holds.1.1.0 held)
 
 -- ---- the run
 
-ends_well : (words : List (List ℕ)) (q : Request) (old new : Outside) (end : Ending) (c : IsClean words old new) → c.admitted.request ≡ q → Runs q old new end → (status_of end ≡ status.Done) ⊎ (status_of end ≡ status.Memory)
-ends_well words q old new ending.Done c same r = inl refl
-ends_well words q old new ending.Memory c same r = inr refl
-ends_well words q old new ending.ReadFault c same r = absurd (c.no_read r.ends.0)
-ends_well words q old new ending.WriteFault c same r = absurd (c.no_put r.ends.0)
-ends_well words q old new ending.Usage c same r = absurd r.ends
-ends_well words q old new (ending.Report why) c same r = absurd r.ends
-ends_well words q old new ending.Illegal c same r = absurd r.ends
-ends_well words q old new (ending.Rows why) c same r = absurd r.ends
-ends_well words q old new (ending.Policy why) c same r =
+ends_well : (words : List (List ℕ)) (local : Bool) (q : Request) (old new : Outside) (end : Ending) (c : IsClean words old new) → c.admitted.request ≡ q → Runs local q old new end → (status_of end ≡ status.Done) ⊎ (status_of end ≡ status.Memory)
+ends_well words local q old new ending.Done c same r = inl refl
+ends_well words local q old new ending.Memory c same r = inr refl
+ends_well words local q old new ending.ReadFault c same r = absurd (c.no_read r.ends.0)
+ends_well words local q old new ending.WriteFault c same r = absurd (c.no_put r.ends.0)
+ends_well words local q old new ending.Usage c same r = absurd r.ends
+ends_well words local q old new (ending.Report why) c same r = absurd r.ends
+ends_well words local q old new ending.Illegal c same r = absurd r.ends
+ends_well words local q old new (ending.Rows why) c same r = absurd r.ends
+ends_well words local q old new (ending.Policy why) c same r =
     let d = c.admitted in
-    absurd (good_policy q old new (ending.Policy why) why d.files d.policy d.setting.policy r d.told (subst (λ k. d.files.files k.policy ≡ Some d.policy) same d.policy_held) d.policy_good r.ends.0)
-ends_well words q old new (ending.Commands why) c same r =
+    absurd (good_policy local q old new (ending.Policy why) why d.files d.policy d.setting.policy r d.told (subst (λ k. d.files.files k.policy ≡ Some d.policy) same d.policy_held) d.policy_good r.ends.0)
+ends_well words local q old new (ending.Commands why) c same r =
     let d = c.admitted in
-    absurd (good_commands q old new (ending.Commands why) why d.files d.policy d.commands d.setting.policy d.setting.commands r d.told (subst (λ k. d.files.files k.policy ≡ Some d.policy) same d.policy_held) d.policy_good (subst (λ k. d.files.files k.commands ≡ Some d.commands) same d.commands_held) d.commands_good r.ends.0)
-ends_well words q old new (ending.Trace bad) c same r =
+    absurd (good_commands local q old new (ending.Commands why) why d.files d.policy d.commands d.setting.policy d.setting.commands r d.told (subst (λ k. d.files.files k.policy ≡ Some d.policy) same d.policy_held) d.policy_good (subst (λ k. d.files.files k.commands ≡ Some d.commands) same d.commands_held) d.commands_good r.ends.0)
+ends_well words local q old new (ending.Trace bad) c same r =
     let d = c.admitted in
-    let ends : EndsByTrace q old new r.files (ending.Trace bad) = r.ends in
-    let of = trace_found q old new (ending.Trace bad) (ending.Trace bad) d.files d.trace r ends d.told (subst (λ k. d.files.files k.trace ≡ Some d.trace) same d.trace_held) in
+    let ends : EndsByTrace local q old new r.files (ending.Trace bad) = r.ends in
+    let of = trace_found local q old new (ending.Trace bad) (ending.Trace bad) d.files d.trace r ends d.told (subst (λ k. d.files.files k.trace ≡ Some d.trace) same d.trace_held) in
     absurd (not_refused ends.reads.setting d.trace d.records ends.reads.trace bad ends.text d.trace_good of ends.tells)
-ends_well words q old new ending.Records c same r =
+ends_well words local q old new ending.Records c same r =
     let d = c.admitted in
-    let ends : EndsByTrace q old new r.files ending.Records = r.ends in
-    let of = trace_found q old new ending.Records ending.Records d.files d.trace r ends d.told (subst (λ k. d.files.files k.trace ≡ Some d.trace) same d.trace_held) in
+    let ends : EndsByTrace local q old new r.files ending.Records = r.ends in
+    let of = trace_found local q old new ending.Records ending.Records d.files d.trace r ends d.told (subst (λ k. d.files.files k.trace ≡ Some d.trace) same d.trace_held) in
     absurd (not_over ends.reads.setting d.trace d.records ends.reads.trace ends.text d.trace_good d.few of ends.tells)
 
 -- a run is complete
 pub complete_is : (words : List (List ℕ)) (old new : Outside) (s : Status) → IsRun words old new s → IsComplete words old new s
 complete_is words old new s run admitted n m =
-    let asked : RunsBy (Some (Forward admitted.request)) old new run.end = subst (λ o. RunsBy o old new run.end) admitted.asked run.runs in
-    subst (λ t. (t ≡ status.Done) ⊎ (t ≡ status.Memory)) (sym run.status_is) (ends_well words admitted.request old new run.end (record { admitted = admitted; no_read = n; no_put = m }) refl asked)
+    let asked : Runs admitted.local admitted.request old new run.end = runs_over words admitted.local admitted.request old new s run admitted.asked in
+    subst (λ t. (t ≡ status.Done) ⊎ (t ≡ status.Memory)) (sym run.status_is) (ends_well words admitted.local admitted.request old new run.end (record { admitted = admitted; no_read = n; no_put = m }) refl asked)
 
 generated_well : (start packets : ℕ) (old new : Outside) (end : Ending) → ¬ (Rose old.put_faults new.put_faults) → RunsGenerated start packets old new end → (status_of end ≡ status.Done) ⊎ (status_of end ≡ status.Memory)
 generated_well start packets old new ending.Done n r = inl refl

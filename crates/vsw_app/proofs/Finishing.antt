@@ -15,16 +15,16 @@ use Rattle.vsw_run.specs.declared.ending.RowsFault.{RowsFault}
 use Rattle.vsw_run.specs.declared.ending.RowsFault.TheVariants as fault
 use Rattle.vsw_run.specs.Complaint.{policy_status, commands_status, report_status, rows_status, status_of, complaint, Complains}
 use Rattle.vsw_run.specs.Files.{Opens}
-use Rattle.vsw_run.specs.IsRun.{Ends, EndsByTrace, EndsGenerated, BreaksOff, PutsSummary, TraceRead, RunsBy, IsRun}
+use Rattle.vsw_run.specs.IsRun.{Ends, EndsByTrace, EndsGenerated, BreaksOff, PutsSummary, TraceRead, Runs, RunsBy, IsRun}
 use Rattle.vsw_run.specs.declared.ending.Ending.{Ending}
 use Rattle.vsw_run.specs.declared.ending.Ending.TheVariants as ending
 use Rattle.vsw_run.specs.declared.ending.ReportFault.{ReportFault}
 use Rattle.vsw_run.specs.declared.ending.ReportFault.TheVariants as report
 use Rattle.vsw_run.specs.declared.ending.Status.{Status}
 use Rattle.vsw_run.specs.declared.ending.Status.TheVariants as status
-use Rattle.vsw_run.specs.Words.{Request, Claim, Query, Asked, Forward, Check, Engine, Generate, asked_in}
+use Rattle.vsw_run.specs.Words.{Request, Claim, Query, Asked, Forward, Deliver, Check, Engine, Generate, asked_in, run_over}
 use Rattle.vsw_app.specs.Speaks.{KeepsPut}
-use Rattle.vsw_app.specs.Stages.{HasEndedBy}
+use Rattle.vsw_app.specs.Stages.{HasEnded, HasEndedBy}
 use Rattle.vsw_files.proofs.Growing.{grows_none, grows_as, rose_as}
 use Rattle.vsw_app.proofs.Running.{read_as}
 
@@ -38,36 +38,36 @@ record IsLater (b c : Outside) : Type 0 where
 opens_later : (q : Request) (old b c : Outside) (files : List Opened) → IsLater b c → Opens old b q files → Opens old c q files
 opens_later q old b c files l o = record { since = subst (λ i. TellsSince old.inputs i files) (sym l.inputs.inputs) o.since; held = o.held; within = o.within; in_turn = o.in_turn }
 
-read_later : (q : Request) (old b c : Outside) (files : List Opened) → IsLater b c → TraceRead q old b files → TraceRead q old c files
-read_later q old b c files l r = record { setting = r.setting; file = r.file; opened = r.opened; trace = r.trace; read = read_as old b old c r.file r.trace (rose_as old.input_faults b.input_faults old.input_faults c.input_faults refl l.inputs.input_faults) r.read }
+read_later : (local : Bool) (q : Request) (old b c : Outside) (files : List Opened) → IsLater b c → TraceRead local q old b files → TraceRead local q old c files
+read_later local q old b c files l r = record { setting = r.setting; file = r.file; opened = r.opened; trace = r.trace; read = read_as old b old c r.file r.trace (rose_as old.input_faults b.input_faults old.input_faults c.input_faults refl l.inputs.input_faults) r.read }
 
 grows_later : (old b c : Outside) (text : List ℕ) → IsLater b c → Grows old.put b.put text → Grows old.put c.put text
 grows_later old b c text l g = grows_as old.put b.put old.put c.put text refl l.put.put g
 
-by_trace_later : (q : Request) (old b c : Outside) (files : List Opened) (end : Ending) → IsLater b c → EndsByTrace q old b files end → EndsByTrace q old c files end
+by_trace_later : (local : Bool) (q : Request) (old b c : Outside) (files : List Opened) (end : Ending) → IsLater b c → EndsByTrace local q old b files end → EndsByTrace local q old c files end
 unfolding read_later
-by_trace_later q old b c files end l e = record { reads = read_later q old b c files l e.reads; text = e.text; tells = e.tells; puts = grows_later old b c e.text l e.puts }
+by_trace_later local q old b c files end l e = record { reads = read_later local q old b c files l e.reads; text = e.text; tells = e.tells; puts = grows_later old b c e.text l e.puts }
 
-break_later : (q : Request) (old b c : Outside) (files : List Opened) → IsLater b c → BreaksOff q old b files → BreaksOff q old c files
+break_later : (local : Bool) (q : Request) (old b c : Outside) (files : List Opened) → IsLater b c → BreaksOff local q old b files → BreaksOff local q old c files
 unfolding read_later
-break_later q old b c files l e = record { reads = read_later q old b c files l e.reads; text = e.text; tells = e.tells; puts = (e.puts.0, grows_later old b c (take e.puts.0 e.text) l e.puts.1) }
+break_later local q old b c files l e = record { reads = read_later local q old b c files l e.reads; text = e.text; tells = e.tells; puts = (e.puts.0, grows_later old b c (take e.puts.0 e.text) l e.puts.1) }
 
-ends_later : (q : Request) (old b c : Outside) (files : List Opened) (end : Ending) → IsLater b c → Ends q old b files end → Ends q old c files end
-ends_later q old b c files (ending.Policy why) l e = (e.0, grows_later old b c [] l e.1)
-ends_later q old b c files (ending.Commands why) l e = (e.0, grows_later old b c [] l e.1)
-ends_later q old b c files (ending.Trace bad) l e = by_trace_later q old b c files (ending.Trace bad) l e
-ends_later q old b c files ending.Records l e = by_trace_later q old b c files ending.Records l e
-ends_later q old b c files ending.Done l e = by_trace_later q old b c files ending.Done l e
-ends_later q old b c files ending.ReadFault l (rose, inl e) = (rose_as old.input_faults b.input_faults old.input_faults c.input_faults refl l.inputs.input_faults rose, inl (e.0, grows_later old b c [] l e.1))
-ends_later q old b c files ending.ReadFault l (rose, inr e) = (rose_as old.input_faults b.input_faults old.input_faults c.input_faults refl l.inputs.input_faults rose, inr (by_trace_later q old b c files ending.ReadFault l e))
-ends_later q old b c files ending.WriteFault l (rose, e) = (rose_as old.put_faults b.put_faults old.put_faults c.put_faults refl l.put.put_faults rose, break_later q old b c files l e)
-ends_later q old b c files ending.Memory l (inl e) = inl (grows_later old b c [] l e)
-ends_later q old b c files ending.Memory l (inr (inl e)) = inr (inl (by_trace_later q old b c files ending.Memory l e))
-ends_later q old b c files ending.Memory l (inr (inr e)) = inr (inr (break_later q old b c files l e))
-ends_later q old b c files ending.Usage l e = absurd e
-ends_later q old b c files (ending.Report why) l e = absurd e
-ends_later q old b c files ending.Illegal l e = absurd e
-ends_later q old b c files (ending.Rows why) l e = absurd e
+ends_later : (local : Bool) (q : Request) (old b c : Outside) (files : List Opened) (end : Ending) → IsLater b c → Ends local q old b files end → Ends local q old c files end
+ends_later local q old b c files (ending.Policy why) l e = (e.0, grows_later old b c [] l e.1)
+ends_later local q old b c files (ending.Commands why) l e = (e.0, grows_later old b c [] l e.1)
+ends_later local q old b c files (ending.Trace bad) l e = by_trace_later local q old b c files (ending.Trace bad) l e
+ends_later local q old b c files ending.Records l e = by_trace_later local q old b c files ending.Records l e
+ends_later local q old b c files ending.Done l e = by_trace_later local q old b c files ending.Done l e
+ends_later local q old b c files ending.ReadFault l (rose, inl e) = (rose_as old.input_faults b.input_faults old.input_faults c.input_faults refl l.inputs.input_faults rose, inl (e.0, grows_later old b c [] l e.1))
+ends_later local q old b c files ending.ReadFault l (rose, inr e) = (rose_as old.input_faults b.input_faults old.input_faults c.input_faults refl l.inputs.input_faults rose, inr (by_trace_later local q old b c files ending.ReadFault l e))
+ends_later local q old b c files ending.WriteFault l (rose, e) = (rose_as old.put_faults b.put_faults old.put_faults c.put_faults refl l.put.put_faults rose, break_later local q old b c files l e)
+ends_later local q old b c files ending.Memory l (inl e) = inl (grows_later old b c [] l e)
+ends_later local q old b c files ending.Memory l (inr (inl e)) = inr (inl (by_trace_later local q old b c files ending.Memory l e))
+ends_later local q old b c files ending.Memory l (inr (inr e)) = inr (inr (break_later local q old b c files l e))
+ends_later local q old b c files ending.Usage l e = absurd e
+ends_later local q old b c files (ending.Report why) l e = absurd e
+ends_later local q old b c files ending.Illegal l e = absurd e
+ends_later local q old b c files (ending.Rows why) l e = absurd e
 
 -- the same of a run that checks
 checked_later : (k : Claim) (old b c : Outside) (files : List Opened) (end : Ending) → IsLater b c → checks.Ends k old b files end → checks.Ends k old c files end
@@ -143,16 +143,26 @@ generated_later start packets old b c (ending.Report why) l e = absurd e
 generated_later start packets old b c ending.Illegal l e = absurd e
 generated_later start packets old b c (ending.Rows why) l e = absurd e
 
--- the words ask for a run, which ended and was complained of
-pub run_asked : (words : List (List ℕ)) (a : Asked) (old now new : Outside) (end : Ending) (s : Status) → asked_in words ≡ Some a → HasEndedBy a old now end → s ≡ status_of end → Complains now new (complaint end) → SameInputs now new → KeepsPut now new → IsRun words old new s
-run_asked words (Forward q) old now new end s asked h is complains same keeps =
+-- a run over files, which ended and was complained of
+run_over_files : (words : List (List ℕ)) (local : Bool) (q : Request) (old now new : Outside) (end : Ending) (s : Status) → asked_in words ≡ Some (run_over local q) → HasEnded local q old now end → s ≡ status_of end → Complains now new (complaint end) → SameInputs now new → KeepsPut now new → IsRun words old new s
+run_over_files words local q old now new end s asked h is complains same keeps =
     let later : IsLater now new = record { inputs = same; put = keeps } in
+    let runs : Runs local q old new end = record { files = h.runs.files; opens = opens_later q old now new h.runs.files later h.runs.opens; ends = ends_later local q old now new h.runs.files end later h.runs.ends } in
     record {
       end = end;
       status_is = is;
-      runs = subst (λ o. RunsBy o old new end) (sym asked) (record { files = h.runs.files; opens = opens_later q old now new h.runs.files later h.runs.opens; ends = ends_later q old now new h.runs.files end later h.runs.ends });
+      runs = subst (λ o. RunsBy o old new end) (sym asked) (by local q runs);
       complains = complains_from old now new (complaint end) h.complained h.complain_faults complains;
     }
+  where
+    by : (local : Bool) (q : Request) → Runs local q old new end → RunsBy (Some (run_over local q)) old new end
+    by false q r = r
+    by true q r = r
+
+-- the words ask for a run, which ended and was complained of
+pub run_asked : (words : List (List ℕ)) (a : Asked) (old now new : Outside) (end : Ending) (s : Status) → asked_in words ≡ Some a → HasEndedBy a old now end → s ≡ status_of end → Complains now new (complaint end) → SameInputs now new → KeepsPut now new → IsRun words old new s
+run_asked words (Forward q) old now new end s asked h is complains same keeps = run_over_files words false q old now new end s asked h is complains same keeps
+run_asked words (Deliver q) old now new end s asked h is complains same keeps = run_over_files words true q old now new end s asked h is complains same keeps
 run_asked words (Check k) old now new end s asked h is complains same keeps =
     let later : IsLater now new = record { inputs = same; put = keeps } in
     record {
@@ -245,7 +255,8 @@ end_of words old new s t r e = subst (λ u. IsOwn u r.end) (sym r.status_is ∙ 
 -- words outside the grammar have no other status
 usage_by : (o : Option Asked) (old new : Outside) (end : Ending) → RunsBy o old new end → (end ≡ ending.Usage) ↔ (o ≡ None)
 usage_by None old new end r = ((λ e. refl), (λ e. r.usage))
-usage_by (Some (Forward q)) old new end r = ((λ e. absurd (subst (Ends q old new r.files) e r.ends)), (λ e. absurd (cc e)))
+usage_by (Some (Forward q)) old new end r = ((λ e. absurd (subst (Ends false q old new r.files) e r.ends)), (λ e. absurd (cc e)))
+usage_by (Some (Deliver q)) old new end r = ((λ e. absurd (subst (Ends true q old new r.files) e r.ends)), (λ e. absurd (cc e)))
 usage_by (Some (Check k)) old new end r = ((λ e. absurd (subst (checks.Ends k old new r.files) e r.ends)), (λ e. absurd (cc e)))
 usage_by (Some (Engine q)) old new end r = ((λ e. absurd (subst (rows.Ends q old new r.files) e r.ends)), (λ e. absurd (cc e)))
 usage_by (Some (Generate start packets)) old new end r = ((λ e. absurd (subst (EndsGenerated start packets old new) e r.ends)), (λ e. absurd (cc e)))
@@ -258,7 +269,8 @@ usage_is words old new s r =
 -- a fault has its cause
 read_by : (o : Option Asked) (old new : Outside) (end : Ending) → RunsBy o old new end → end ≡ ending.ReadFault → Rose old.input_faults new.input_faults
 read_by None old new end r e = absurd (let u = r.usage in cc (u, e))
-read_by (Some (Forward q)) old new end r e = (subst (Ends q old new r.files) e r.ends).0
+read_by (Some (Forward q)) old new end r e = (subst (Ends false q old new r.files) e r.ends).0
+read_by (Some (Deliver q)) old new end r e = (subst (Ends true q old new r.files) e r.ends).0
 read_by (Some (Check k)) old new end r e = (subst (checks.Ends k old new r.files) e r.ends).0
 read_by (Some (Engine q)) old new end r e = (subst (rows.Ends q old new r.files) e r.ends).0
 read_by (Some (Generate start packets)) old new end r e = absurd (subst (EndsGenerated start packets old new) e r.ends)
@@ -268,7 +280,8 @@ read_fault_is words old new s r e = read_by (asked_in words) old new r.end r.run
 
 write_by : (o : Option Asked) (old new : Outside) (end : Ending) → RunsBy o old new end → end ≡ ending.WriteFault → Rose old.put_faults new.put_faults
 write_by None old new end r e = absurd (let u = r.usage in cc (u, e))
-write_by (Some (Forward q)) old new end r e = (subst (Ends q old new r.files) e r.ends).0
+write_by (Some (Forward q)) old new end r e = (subst (Ends false q old new r.files) e r.ends).0
+write_by (Some (Deliver q)) old new end r e = (subst (Ends true q old new r.files) e r.ends).0
 write_by (Some (Check k)) old new end r e = (subst (checks.Ends k old new r.files) e r.ends).0
 write_by (Some (Engine q)) old new end r e = (subst (rows.Ends q old new r.files) e r.ends).0
 write_by (Some (Generate start packets)) old new end r e = (subst (EndsGenerated start packets old new) e r.ends).0

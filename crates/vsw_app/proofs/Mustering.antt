@@ -1,5 +1,5 @@
 -- Before its first round a crew stands where a run begins.
-use Rattle.std.proofs.Common.{◌≡◌, ◌≤◌, ℕ, true, List, [], ◌∷◌, map, All, refl, sym, ◌∙◌, ap, arith, false}
+use Rattle.std.proofs.Common.{◌≡◌, ◌≤◌, ℕ, true, List, [], ◌∷◌, map, All, refl, sym, ◌∙◌, ap, Bool, arith}
 use Rattle.vsw_commandfile.specs.declared.line.Line.{Line}
 use Rattle.vsw_commandfile.specs.Good.{CanAsk}
 use Rattle.vsw_replay.specs.Crew.{AreReady, CrewSeen, IsOfSome, crew_now, ports_now, switch_now}
@@ -19,11 +19,11 @@ use Rattle.vsw_app.proofs.Running.{all_listed, all_ports, all_rules}
 
 -- ---- the callers are ready
 
-pub ready : (workers : ℕ) (file : PolicyFile) (h : HarbourSeen) (rows : List (List (Lane StationSeen))) → IsMustered workers file h rows → AreReady h (no_entries h.docks) rows
-ready workers file h rows m = record { size = m.size; stand = m.stand; journals = m.journals }
+pub ready : (workers : ℕ) (file : PolicyFile) (local : Bool) (h : HarbourSeen) (rows : List (List (Lane StationSeen))) → IsMustered workers file local h rows → AreReady h (no_entries h.docks) rows
+ready workers file local h rows m = record { size = m.size; stand = m.stand; journals = m.journals }
 
-pub of_some : (workers : ℕ) (file : PolicyFile) (h : HarbourSeen) (rows : List (List (Lane StationSeen))) → IsMustered workers file h rows → IsOfSome h
-of_some workers file h rows m = record { run = record { workers = workers; policy = file; commands = []; local = false }; is = m.run [] }
+pub of_some : (workers : ℕ) (file : PolicyFile) (local : Bool) (h : HarbourSeen) (rows : List (List (Lane StationSeen))) → IsMustered workers file local h rows → IsOfSome h
+of_some workers file local h rows m = record { run = record { workers = workers; policy = file; commands = []; local = local }; is = m.run [] }
 
 -- ---- the ports stand at their beginning
 
@@ -46,15 +46,15 @@ stand_first h workers cs (p ∷ ps) (d ∷ ds) w c k a = (
 stand_first h workers cs [] (d ∷ ds) w c k a = absurd a
 stand_first h workers cs (p ∷ ps) [] w c k a = absurd a
 
-pub first_at : (workers : ℕ) (file : PolicyFile) (commands : List Line) (h : HarbourSeen) (rows : List (List (Lane StationSeen))) → 2 ≤ workers → workers ≤ 16 → IsMustered workers file h rows
-    → IsAt (record { workers = workers; policy = file; commands = commands; local = false }) (map (λ p. []) (ports_of file)) (switch_now h (no_entries h.docks))
-first_at workers file commands h rows more most m =
+pub first_at : (workers : ℕ) (file : PolicyFile) (local : Bool) (commands : List Line) (h : HarbourSeen) (rows : List (List (Lane StationSeen))) → 2 ≤ workers → workers ≤ 16 → IsMustered workers file local h rows
+    → IsAt (record { workers = workers; policy = file; commands = commands; local = local }) (map (λ p. []) (ports_of file)) (switch_now h (no_entries h.docks))
+first_at workers file local commands h rows more most m =
     let run = m.run commands in
     record {
       workers = sym run.workers;
       some = omega (arith, more);
       few = most;
-      apart = run.apart;
+      locals = run.locals;
       ports = stand_first h workers file.controllers (ports_of file) h.docks (sym run.workers) (sym run.controllers) (all_know file.controllers file.ports) run.ports;
       loose = refl;
     }
@@ -73,24 +73,24 @@ numbers_first h (p ∷ ps) (d ∷ ds) a = (λ i. (sym a.0.number) i ∷ numbers_
 numbers_first h [] (d ∷ ds) a = absurd a
 numbers_first h (p ∷ ps) [] a = absurd a
 
-all_served : (workers : ℕ) (file : PolicyFile) (h : HarbourSeen) (lines : List Line) → IsOfRun h (record { workers = workers; policy = file; commands = []; local = false })
+all_served : (workers : ℕ) (file : PolicyFile) (local : Bool) (h : HarbourSeen) (lines : List Line) → IsOfRun h (record { workers = workers; policy = file; commands = []; local = local })
     → Each (λ l. is_listed file.controllers l.controller ≡ true) lines → Each (λ l. is_listed (map (λ p. p.number) (ports_of file)) l.port ≡ true) lines → Each (λ l. Each IsGoodRule (rules_given l.command)) lines
     → AreServed (switch_now h (no_entries h.docks)) lines
-all_served workers file h [] run a b c = tt
-all_served workers file h (l ∷ lines) run a b c = (
+all_served workers file local h [] run a b c = tt
+all_served workers file local h (l ∷ lines) run a b c = (
   record {
     port = ap (λ (ns : List ℕ). is_listed ns l.port) (numbers_first h (ports_of file) h.docks run.ports) ∙ b.0;
     controller = each_knows h file.controllers l.controller (ports_of file) h.docks a.0 (all_know file.controllers file.ports) run.ports;
     rules = c.0;
   },
-  all_served workers file h lines run a.1 b.1 c.1,
+  all_served workers file local h lines run a.1 b.1 c.1,
 )
 
-pub first_served : (workers : ℕ) (file : PolicyFile) (h : HarbourSeen) (rows : List (List (Lane StationSeen))) (lines : List Line) → IsMustered workers file h rows → All (CanAsk file) lines → AreServed (switch_now h (no_entries h.docks)) lines
-first_served workers file h rows lines m asked = all_served workers file h lines (m.run []) (all_listed file lines asked) (all_ports file lines asked) (all_rules file lines asked)
+pub first_served : (workers : ℕ) (file : PolicyFile) (local : Bool) (h : HarbourSeen) (rows : List (List (Lane StationSeen))) (lines : List Line) → IsMustered workers file local h rows → All (CanAsk file) lines → AreServed (switch_now h (no_entries h.docks)) lines
+first_served workers file local h rows lines m asked = all_served workers file local h lines (m.run []) (all_listed file lines asked) (all_ports file lines asked) (all_rules file lines asked)
 
 -- ---- the crew that is made of them
 
-pub crew_first : (workers : ℕ) (file : PolicyFile) (h : HarbourSeen) (rows : List (List (Lane StationSeen))) (crew : CrewSeen) (now : SwitchNow) → IsMustered workers file h rows
+pub crew_first : (workers : ℕ) (file : PolicyFile) (local : Bool) (h : HarbourSeen) (rows : List (List (Lane StationSeen))) (crew : CrewSeen) (now : SwitchNow) → IsMustered workers file local h rows
     → ((hs : List (List Event)) → AreReady h hs rows → crew ≡ record { harbour = h; histories = hs }) → now ≡ crew_now crew → now ≡ switch_now h (no_entries h.docks)
-crew_first workers file h rows crew now m made is = is ∙ ap crew_now (made (no_entries h.docks) (ready workers file h rows m))
+crew_first workers file local h rows crew now m made is = is ∙ ap crew_now (made (no_entries h.docks) (ready workers file local h rows m))

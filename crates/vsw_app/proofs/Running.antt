@@ -1,5 +1,5 @@
 -- The run of the trace, behind its files.
-use Rattle.std.proofs.Common.{◌≡◌, ◌==◌, ℕ, suc, inl, inr, List, [], ◌∷◌, take, map, true, false, All, refl, sym, ◌∙◌, ap, subst, arith, ◌||◌, ne_eqb}
+use Rattle.std.proofs.Common.{◌≡◌, ◌==◌, ℕ, suc, inl, inr, List, [], ◌∷◌, take, map, Bool, true, All, refl, sym, ◌∙◌, ap, subst, arith, ◌||◌, ne_eqb}
 use native.Mathlib.Decide.{ℕ_discrete}
 use Rattle.vsw_commandfile.specs.Line.{is_port}
 use Rattle.vsw_commandfile.specs.declared.line.Line.{Line}
@@ -53,16 +53,16 @@ all_rules p (l ∷ ls) h = ((h 0 l (omega arith)).2, all_rules p ls (λ i d lt. 
 
 -- ---- a run that ended before its trace
 
-pub ended_early : (q : Request) (old new : Outside) (end : Ending) → EndsEarly q old new end → HasEnded q old new end
-ended_early q old new end e = by end e.why
+pub ended_early : (local : Bool) (q : Request) (old new : Outside) (end : Ending) → EndsEarly q old new end → HasEnded local q old new end
+ended_early local q old new end e = by end e.why
   where
     none : Grows old.put new.put []
     none = grows_same old.put new.put e.outputs.put
 
-    so : (end : Ending) → Ends q old new e.files end → HasEnded q old new end
+    so : (end : Ending) → Ends local q old new e.files end → HasEnded local q old new end
     so end ends = record { runs = record { files = e.files; opens = e.opens; ends = ends }; complained = e.outputs.complained; complain_faults = e.outputs.complain_faults }
 
-    by : (end : Ending) → IsEarly old new e.files end → HasEnded q old new end
+    by : (end : Ending) → IsEarly old new e.files end → HasEnded local q old new end
     by (ending.Policy why) w = so (ending.Policy why) (w, none)
     by (ending.Commands why) w = so (ending.Commands why) (w, none)
     by ending.ReadFault w = so ending.ReadFault (w.0, inl (w.1, none))
@@ -93,8 +93,8 @@ pub read_as : (a b c d : Outside) (f : Opened) (t : Trace) → (Rose a.input_fau
 read_as a b c d f t later r = record { bytes = r.bytes; reaches = reaches_as a b c d f t.reach later r.reaches }
 
 -- the setting of the files that were read
-abbrev setting_of : Request → PolicyFile → List Line → Setting
-setting_of q p lines = record { workers = q.workers; policy = p; commands = lines; local = false }
+abbrev setting_of : (local : Bool) → Request → PolicyFile → List Line → Setting
+setting_of local q p lines = record { workers = q.workers; policy = p; commands = lines; local = local }
 
 abbrev files_with : (q : Request) (old now : Outside) (p : PolicyFile) (lines : List Line) → HasCommands q old now p lines → Opened → List Opened
 files_with q old now p lines h f = h.policy_file ∷ h.file ∷ f ∷ []
@@ -105,11 +105,11 @@ opens_trace q old now new p lines h t r =
     (record { named = r.named; since = r.since; held = subst (λ n. TellsHeld now.inputs n r.file.bytes) (sym r.named) r.held; within = r.within })
     (p, lines, h.policy_is, h.are, r.named)
 
-reads_trace : (q : Request) (old now new : Outside) (p : PolicyFile) (lines : List Line) (h : HasCommands q old now p lines) (t : Trace) (r : Reads now new q.trace t) → TraceRead q old new (files_with q old now p lines h r.file)
-reads_trace q old now new p lines h t r = record {
-  setting = setting_of q p lines;
+reads_trace : (local : Bool) (q : Request) (old now new : Outside) (p : PolicyFile) (lines : List Line) (h : HasCommands q old now p lines) (t : Trace) (r : Reads now new q.trace t) → TraceRead local q old new (files_with q old now p lines h r.file)
+reads_trace local q old now new p lines h t r = record {
+  setting = setting_of local q p lines;
   file = r.file;
-  opened = record { policy = h.policy_file; commands = h.file; all = refl; workers = refl; apart = refl; policy_good = h.policy_is.good; commands_good = h.are.good };
+  opened = record { policy = h.policy_file; commands = h.file; all = refl; workers = refl; hands_on = refl; policy_good = h.policy_is.good; commands_good = h.are.good };
   trace = t;
   read = read_as now new old new r.file t (rose_from old.input_faults now.input_faults new.input_faults h.read.later) r.read;
 }
@@ -120,28 +120,28 @@ record IsBehind (q : Request) (old now new : Outside) (p : PolicyFile) (lines : 
   complained : new.complained ≡ now.complained
   complain_faults : new.complain_faults ≡ now.complain_faults
 
-finished : (q : Request) (old now new : Outside) (p : PolicyFile) (lines : List Line) (b : IsBehind q old now new p lines) (end : Ending) (files : List Opened) → Opens old new q files → Ends q old new files end → HasEnded q old new end
-finished q old now new p lines b end files opens ends = record {
+finished : (local : Bool) (q : Request) (old now new : Outside) (p : PolicyFile) (lines : List Line) (b : IsBehind q old now new p lines) (end : Ending) (files : List Opened) → Opens old new q files → Ends local q old new files end → HasEnded local q old new end
+finished local q old now new p lines b end files opens ends = record {
   runs = record { files = files; opens = opens; ends = ends };
   complained = b.complained ∙ b.files.read.outputs.complained;
   complain_faults = b.complain_faults ∙ b.files.read.outputs.complain_faults;
 }
 
 -- the trace gave the ending
-by_trace : (q : Request) (old now new : Outside) (p : PolicyFile) (lines : List Line) (h : HasCommands q old now p lines) (end : Ending) (e : EndsSo (setting_of q p lines) now new q.trace end) → EndsByTrace q old new (files_with q old now p lines h e.reads.file) end
+by_trace : (local : Bool) (q : Request) (old now new : Outside) (p : PolicyFile) (lines : List Line) (h : HasCommands q old now p lines) (end : Ending) (e : EndsSo (setting_of local q p lines) now new q.trace end) → EndsByTrace local q old new (files_with q old now p lines h e.reads.file) end
 unfolding reads_trace
-by_trace q old now new p lines h end e = record {
-  reads = reads_trace q old now new p lines h e.trace e.reads;
+by_trace local q old now new p lines h end e = record {
+  reads = reads_trace local q old now new p lines h e.trace e.reads;
   text = e.text;
   tells = e.tells;
   puts = grows_as now.put new.put old.put new.put e.text (sym h.read.outputs.put) refl e.puts;
 }
 
 -- or the run broke off
-by_break : (q : Request) (old now new : Outside) (p : PolicyFile) (lines : List Line) (h : HasCommands q old now p lines) (e : runs.BreaksOff (setting_of q p lines) now new q.trace) → BreaksOff q old new (files_with q old now p lines h e.reads.file)
+by_break : (local : Bool) (q : Request) (old now new : Outside) (p : PolicyFile) (lines : List Line) (h : HasCommands q old now p lines) (e : runs.BreaksOff (setting_of local q p lines) now new q.trace) → BreaksOff local q old new (files_with q old now p lines h e.reads.file)
 unfolding reads_trace
-by_break q old now new p lines h e = record {
-  reads = reads_trace q old now new p lines h e.trace e.reads;
+by_break local q old now new p lines h e = record {
+  reads = reads_trace local q old now new p lines h e.trace e.reads;
   text = e.text;
   tells = e.tells;
   puts = (e.count, grows_as now.put new.put old.put new.put (take e.count e.text) (sym h.read.outputs.put) refl e.puts);
@@ -155,25 +155,25 @@ nothing_put : (q : Request) (old now new : Outside) (p : PolicyFile) (lines : Li
 nothing_put q old now new p lines h o = grows_as now.put new.put old.put new.put [] (sym h.read.outputs.put) refl o.nothing
 
 -- the run ends as its trace did
-pub traced : (q : Request) (old now new : Outside) (p : PolicyFile) (lines : List Line) (e : TraceEnd) → HasCommands q old now p lines → RunsTrace (setting_of q p lines) now new q.trace e → HasEnded q old new (ending_of e)
-traced q old now new p lines e h r = by e r.ends
+pub traced : (local : Bool) (q : Request) (old now new : Outside) (p : PolicyFile) (lines : List Line) (e : TraceEnd) → HasCommands q old now p lines → RunsTrace (setting_of local q p lines) now new q.trace e → HasEnded local q old new (ending_of e)
+traced local q old now new p lines e h r = by e r.ends
   where
     b : IsBehind q old now new p lines
     b = record { files = h; complained = r.complained; complain_faults = r.complain_faults }
 
-    by : (e : TraceEnd) → runs.Ends (setting_of q p lines) now new q.trace e → HasEnded q old new (ending_of e)
-    by end.Done d = finished q old now new p lines b ending.Done _ (opens_trace q old now new p lines h d.trace d.reads) (by_trace q old now new p lines h ending.Done d)
-    by (end.Refused bad) d = finished q old now new p lines b (ending.Trace bad) _ (opens_trace q old now new p lines h d.trace d.reads) (by_trace q old now new p lines h (ending.Trace bad) d)
-    by end.Records d = finished q old now new p lines b ending.Records _ (opens_trace q old now new p lines h d.trace d.reads) (by_trace q old now new p lines h ending.Records d)
-    by end.ReadFault (rose, inl none) = finished q old now new p lines b ending.ReadFault (h.policy_file ∷ h.file ∷ []) (opens_behind q old now new p lines h none)
+    by : (e : TraceEnd) → runs.Ends (setting_of local q p lines) now new q.trace e → HasEnded local q old new (ending_of e)
+    by end.Done d = finished local q old now new p lines b ending.Done _ (opens_trace q old now new p lines h d.trace d.reads) (by_trace local q old now new p lines h ending.Done d)
+    by (end.Refused bad) d = finished local q old now new p lines b (ending.Trace bad) _ (opens_trace q old now new p lines h d.trace d.reads) (by_trace local q old now new p lines h (ending.Trace bad) d)
+    by end.Records d = finished local q old now new p lines b ending.Records _ (opens_trace q old now new p lines h d.trace d.reads) (by_trace local q old now new p lines h ending.Records d)
+    by end.ReadFault (rose, inl none) = finished local q old now new p lines b ending.ReadFault (h.policy_file ∷ h.file ∷ []) (opens_behind q old now new p lines h none)
         (rose_from old.input_faults now.input_faults new.input_faults h.read.later rose, inl (record { few = omega arith; cut_short = h.read.short }, nothing_put q old now new p lines h none))
-    by end.ReadFault (rose, inr d) = finished q old now new p lines b ending.ReadFault _ (opens_trace q old now new p lines h d.trace d.reads)
-        (rose_from old.input_faults now.input_faults new.input_faults h.read.later rose, inr (by_trace q old now new p lines h ending.ReadFault d))
-    by end.WriteFault (rose, d) = finished q old now new p lines b ending.WriteFault _ (opens_trace q old now new p lines h d.trace d.reads)
-        (rose_as now.put_faults new.put_faults old.put_faults new.put_faults (sym h.read.outputs.put_faults) refl rose, by_break q old now new p lines h d)
-    by end.Memory (inl none) = finished q old now new p lines b ending.Memory (h.policy_file ∷ h.file ∷ []) (opens_behind q old now new p lines h none) (inl (nothing_put q old now new p lines h none))
-    by end.Memory (inr (inl d)) = finished q old now new p lines b ending.Memory _ (opens_trace q old now new p lines h d.trace d.reads) (inr (inl (by_trace q old now new p lines h ending.Memory d)))
-    by end.Memory (inr (inr d)) = finished q old now new p lines b ending.Memory _ (opens_trace q old now new p lines h d.trace d.reads) (inr (inr (by_break q old now new p lines h d)))
+    by end.ReadFault (rose, inr d) = finished local q old now new p lines b ending.ReadFault _ (opens_trace q old now new p lines h d.trace d.reads)
+        (rose_from old.input_faults now.input_faults new.input_faults h.read.later rose, inr (by_trace local q old now new p lines h ending.ReadFault d))
+    by end.WriteFault (rose, d) = finished local q old now new p lines b ending.WriteFault _ (opens_trace q old now new p lines h d.trace d.reads)
+        (rose_as now.put_faults new.put_faults old.put_faults new.put_faults (sym h.read.outputs.put_faults) refl rose, by_break local q old now new p lines h d)
+    by end.Memory (inl none) = finished local q old now new p lines b ending.Memory (h.policy_file ∷ h.file ∷ []) (opens_behind q old now new p lines h none) (inl (nothing_put q old now new p lines h none))
+    by end.Memory (inr (inl d)) = finished local q old now new p lines b ending.Memory _ (opens_trace q old now new p lines h d.trace d.reads) (inr (inl (by_trace local q old now new p lines h ending.Memory d)))
+    by end.Memory (inr (inr d)) = finished local q old now new p lines b ending.Memory _ (opens_trace q old now new p lines h d.trace d.reads) (inr (inr (by_break local q old now new p lines h d)))
 
-pub traced_as : (q : Request) (old now new : Outside) (p : PolicyFile) (lines : List Line) (e : TraceEnd) (end : Ending) → HasCommands q old now p lines → RunsTrace (setting_of q p lines) now new q.trace e → end ≡ ending_of e → HasEnded q old new end
-traced_as q old now new p lines e end h r is = subst (HasEnded q old new) (sym is) (traced q old now new p lines e h r)
+pub traced_as : (local : Bool) (q : Request) (old now new : Outside) (p : PolicyFile) (lines : List Line) (e : TraceEnd) (end : Ending) → HasCommands q old now p lines → RunsTrace (setting_of local q p lines) now new q.trace e → end ≡ ending_of e → HasEnded local q old new end
+traced_as local q old now new p lines e end h r is = subst (HasEnded local q old new) (sym is) (traced local q old now new p lines e h r)

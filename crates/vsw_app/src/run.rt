@@ -26,17 +26,18 @@ use vsw_replay::{Switch, Watch, WorkloadEnd, run_workload};
 use vsw_run::{Asked, Ending, Request, Status, Word, read_words};
 use vsw_workers::Gate;
 
-/// Runs over the files that the words name, each read and judged before the next is opened.
+/// Runs over the files that the words name, each read and judged before the next is opened. A local run hands packets on between the ports.
 fn forward<R: Threads + Wait + Sync, H: Host, G: Gate + Watch + Sync>(
     rt: &R,
     alloc: Global,
     host: &mut H,
     gate: &G,
+    local: bool,
     request: &Request<'_>,
 ) -> Ending
     requires some { 0 < request.now.workers }
     requires few { request.now.workers ≤ 16 }
-    ensures { HasEnded (request_seen request.now) (H.outside host.old) (H.outside host.new) result }
+    ensures { HasEnded local (request_seen request.now) (H.outside host.old) (H.outside host.new) result }
 {
     let policy = match open_policy(alloc, host, request.policy) {
         Ok(policy) => policy,
@@ -48,7 +49,7 @@ fn forward<R: Threads + Wait + Sync, H: Host, G: Gate + Watch + Sync>(
     };
     let workers = request.workers;
     let trace = request.trace;
-    ending_of(run_through(rt, alloc, host, gate, workers, &policy, lines, trace))
+    ending_of(run_through(rt, alloc, host, gate, workers, local, &policy, lines, trace))
 }
 
 /// Makes the switch of the workload's policy, and runs so many packets, drawn from this number, through it.
@@ -66,7 +67,7 @@ fn run_drawn<H: Host>(
     requires good { IsGoodPolicy policy.now }
     ensures { RunsWorkload start packets (H.outside host.old) (H.outside host.new) result }
 {
-    let Ok(mut switch) = Switch::open(alloc, 1, policy) else {
+    let Ok(mut switch) = Switch::open(alloc, 1, policy, false) else {
         return WorkloadEnd::Memory;
     };
     run_workload(alloc, host, &mut switch, start, packets)
@@ -98,7 +99,8 @@ fn run_asked<R: Threads + Wait + Sync, H: Host, G: Gate + Watch + Sync>(
     ensures { HasEndedBy (asked_seen asked.now) (H.outside host.old) (H.outside host.new) result }
 {
     match asked {
-        Asked::Forward(request) => forward(rt, alloc, host, gate, request),
+        Asked::Forward(request) => forward(rt, alloc, host, gate, false, request),
+        Asked::Deliver(request) => forward(rt, alloc, host, gate, true, request),
         Asked::Check(claim) => check(alloc, host, claim),
         Asked::Engine(query) => engine(alloc, host, query),
         Asked::Generate { start, packets } => generate(alloc, host, *start, *packets),

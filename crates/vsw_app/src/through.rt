@@ -1,6 +1,6 @@
 //! The trace, run through the ports of a policy.
 
-ghost use Rattle.std.specs.Prelude.{◌≡◌, ◌<◌, ◌≤◌, All, length, false};
+ghost use Rattle.std.specs.Prelude.{◌≡◌, ◌<◌, ◌≤◌, All, length};
 ghost use Rattle.vsw_commandfile.specs.Good.{CanAsk};
 ghost use Rattle.vsw_harbour.specs.Ports as live;
 ghost use Rattle.vsw_harbour.specs.Opening.{IsOpenFor};
@@ -20,13 +20,15 @@ use vsw_promise::Schedule;
 use vsw_replay::{Crew, Naming, Runner, Switch, TraceEnd, Watch, run_trace};
 use vsw_workers::Gate;
 
-/// Runs the trace of this name in one thread, which does the work of all workers and waits for nobody.
+/// Runs the trace of this name in one thread, which does the work of all workers and waits for nobody. A local run hands packets on
+/// between the ports.
 fn run_alone<R: Threads + Wait + Sync, H: Host, G: Gate + Watch + Sync>(
     rt: &R,
     alloc: Global,
     host: &mut H,
     gate: &G,
     workers: u32,
+    local: bool,
     policy: &PolicyFile,
     schedule: &Schedule,
     trace: &str,
@@ -35,9 +37,9 @@ fn run_alone<R: Threads + Wait + Sync, H: Host, G: Gate + Watch + Sync>(
     requires few { workers ≤ 16 }
     requires good { IsGoodPolicy policy.now }
     requires asked { All (CanAsk policy.now) schedule.now }
-    ensures { RunsTrace (record { workers = workers; policy = policy.now; commands = schedule.now; local = false }) (H.outside host.old) (H.outside host.new) trace.now result }
+    ensures { RunsTrace (record { workers = workers; policy = policy.now; commands = schedule.now; local = local }) (H.outside host.old) (H.outside host.new) trace.now result }
 {
-    let Ok(switch) = Switch::open(alloc, workers, policy) else {
+    let Ok(switch) = Switch::open(alloc, workers, policy, local) else {
         return TraceEnd::Memory;
     };
     let mut runner = Runner::<Brand, G>::alone(switch, gate);
@@ -57,15 +59,16 @@ fn run_named<J: Naming + Send + Sync, R: Threads + Wait + Sync, H: Host, G: Gate
     host: &mut H,
     gate: &G,
     workers: u32,
+    local: bool,
     policy: &PolicyFile,
     opened: OpenHarbour,
     schedule: &Schedule,
     name: &TraceName<'_>,
 ) -> TraceEnd
     requires named { J.ports ≡ live.ports_of opened.ports }
-    requires opened { IsOpenFor workers policy.now opened }
+    requires opened { IsOpenFor workers policy.now local opened }
     requires asked { All (CanAsk policy.now) schedule.now }
-    ensures { RunsTrace (record { workers = workers; policy = policy.now; commands = schedule.now; local = false }) (H.outside host.old) (H.outside host.new) name.now.trace.now result }
+    ensures { RunsTrace (record { workers = workers; policy = policy.now; commands = schedule.now; local = local }) (H.outside host.old) (H.outside host.new) name.now.trace.now result }
 {
     let Ok((harbour, rows)) = opened.named::<J, G>(alloc, gate) else {
         return TraceEnd::Memory;
@@ -81,6 +84,7 @@ fn run_beside<R: Threads + Wait + Sync, H: Host, G: Gate + Watch + Sync>(
     host: &mut H,
     gate: &G,
     workers: u32,
+    local: bool,
     policy: &PolicyFile,
     schedule: &Schedule,
     trace: &str,
@@ -90,14 +94,14 @@ fn run_beside<R: Threads + Wait + Sync, H: Host, G: Gate + Watch + Sync>(
     requires good { IsGoodPolicy policy.now }
     requires some { 0 < length policy.now.ports }
     requires asked { All (CanAsk policy.now) schedule.now }
-    ensures { RunsTrace (record { workers = workers; policy = policy.now; commands = schedule.now; local = false }) (H.outside host.old) (H.outside host.new) trace.now result }
+    ensures { RunsTrace (record { workers = workers; policy = policy.now; commands = schedule.now; local = local }) (H.outside host.old) (H.outside host.new) trace.now result }
 {
-    let Ok(opened) = OpenHarbour::open(alloc, workers, policy) else {
+    let Ok(opened) = OpenHarbour::open(alloc, workers, policy, local) else {
         return TraceEnd::Memory;
     };
     let name = TraceName { trace };
     run_named::<Brand, _, _, _>(
-        rt, alloc, host, gate, workers, policy, opened, schedule, &name,
+        rt, alloc, host, gate, workers, local, policy, opened, schedule, &name,
     )
 }
 
@@ -108,6 +112,7 @@ fn run_scheduled<R: Threads + Wait + Sync, H: Host, G: Gate + Watch + Sync>(
     host: &mut H,
     gate: &G,
     workers: u32,
+    local: bool,
     policy: &PolicyFile,
     schedule: &Schedule,
     trace: &str,
@@ -116,12 +121,16 @@ fn run_scheduled<R: Threads + Wait + Sync, H: Host, G: Gate + Watch + Sync>(
     requires few { workers ≤ 16 }
     requires good { IsGoodPolicy policy.now }
     requires asked { All (CanAsk policy.now) schedule.now }
-    ensures { RunsTrace (record { workers = workers; policy = policy.now; commands = schedule.now; local = false }) (H.outside host.old) (H.outside host.new) trace.now result }
+    ensures { RunsTrace (record { workers = workers; policy = policy.now; commands = schedule.now; local = local }) (H.outside host.old) (H.outside host.new) trace.now result }
 {
     if workers == 1 || policy.ports.is_empty() {
-        run_alone(rt, alloc, host, gate, workers, policy, schedule, trace)
+        run_alone(
+            rt, alloc, host, gate, workers, local, policy, schedule, trace,
+        )
     } else {
-        run_beside(rt, alloc, host, gate, workers, policy, schedule, trace)
+        run_beside(
+            rt, alloc, host, gate, workers, local, policy, schedule, trace,
+        )
     }
 }
 
@@ -132,6 +141,7 @@ pub(crate) fn run_through<R: Threads + Wait + Sync, H: Host, G: Gate + Watch + S
     host: &mut H,
     gate: &G,
     workers: u32,
+    local: bool,
     policy: &PolicyFile,
     lines: Items<Line>,
     trace: &str,
@@ -140,10 +150,12 @@ pub(crate) fn run_through<R: Threads + Wait + Sync, H: Host, G: Gate + Watch + S
     requires few { workers ≤ 16 }
     requires good { IsGoodPolicy policy.now }
     requires asked { All (CanAsk policy.now) lines }
-    ensures { RunsTrace (record { workers = workers; policy = policy.now; commands = lines; local = false }) (H.outside host.old) (H.outside host.new) trace.now result }
+    ensures { RunsTrace (record { workers = workers; policy = policy.now; commands = lines; local = local }) (H.outside host.old) (H.outside host.new) trace.now result }
 {
     let Ok(schedule) = Schedule::new(alloc, lines) else {
         return TraceEnd::Memory;
     };
-    run_scheduled(rt, alloc, host, gate, workers, policy, &schedule, trace)
+    run_scheduled(
+        rt, alloc, host, gate, workers, local, policy, &schedule, trace,
+    )
 }

@@ -106,7 +106,7 @@ is_here : (h : HarbourSeen) (numbers macs listed asks : List ℕ) (s : Setting) 
 is_here h numbers macs listed asks s hs rows i r a =
     let t = is_there h s.workers (callers h) (ports_of s.policy) h.docks hs (seen_by rows) r.journals a.ports in
     record {
-      run = record { workers = sym a.workers; ports = t.like; controllers = controllers_so s.policy.controllers h.controllers (ports_of s.policy) h.docks i.some t.like (all_know s.policy.controllers s.policy.ports) i.controllers_are; apart = a.apart };
+      run = record { workers = sym a.workers; ports = t.like; controllers = controllers_so s.policy.controllers h.controllers (ports_of s.policy) h.docks i.some t.like (all_know s.policy.controllers s.policy.ports) i.controllers_are; locals = a.locals };
       seen = t.same;
     }
 
@@ -128,7 +128,7 @@ stand_next h workers n (p ∷ ps) [] hs ks [] j r a = absurd r
 stand_next h workers n (p ∷ ps) [] hs ks (g ∷ gs) j r a = absurd j
 
 at_next : (h : HarbourSeen) (s : Setting) (hs ks gs : List (List Event)) → AreJournals (callers h) (ports_in h.docks) gs gs → AreHistories (ports_of s.policy) gs → IsAt s hs (switch_now h ks) → IsAt s gs (switch_now h gs)
-at_next h s hs ks gs j r a = record { workers = a.workers; some = a.some; few = a.few; apart = a.apart; ports = stand_next h s.workers (callers h) (ports_of s.policy) h.docks hs ks gs j r a.ports; loose = refl }
+at_next h s hs ks gs j r a = record { workers = a.workers; some = a.some; few = a.few; locals = a.locals; ports = stand_next h s.workers (callers h) (ports_of s.policy) h.docks hs ks gs j r a.ports; loose = refl }
 
 -- ---- the round
 

@@ -2,16 +2,16 @@
 use Rattle.std.proofs.Common.{◌≡◌, ℕ, zero, suc, List, [], ◌∷◌, length, map, take, ◌==◌, Bool, true, false, subst, refl, ap, sym, ◌∙◌, arith, if◌then◌else◌, Vec}
 use Rattle.vsw_harbour.specs.Placed.{Placed}
 use Rattle.vsw_harbour.specs.Lane.{Lane}
-use Rattle.vsw_harbour.specs.Actors.{AreMine, Begins, HasDone, placed_of}
+use Rattle.vsw_harbour.specs.Actors.{AreMine, AtWorkOn, Begins, HasDone, placed_of}
 use Rattle.vsw_harbour.specs.Lanes.{AreFit, AreTold, fronts_of}
 use Rattle.vsw_harbour.specs.Rows.{HaveDone, MayBegin}
 use Rattle.vsw_harbour.specs.Deal.{AreFew, AreWork, dealt, shared}
 use Rattle.vsw_harbour.specs.Work.{IsWork, job_in}
 use Rattle.vsw_harbour.specs.DealWork.{Work}
-use Rattle.vsw_harbour.specs.Docks.{is_of, pass_in, permits, port_in, takes, tells}
+use Rattle.vsw_harbour.specs.Docks.{is_of, locals, pass_in, permits, port_in, takes, tells}
 use Rattle.vsw_harbour.specs.HarbourOpening.{rows_in}
 use Rattle.vsw_harbour.specs.Seen.{DockSeen, StationSeen}
-use Rattle.vsw_harbour.specs.Harbour.{HarbourSeen, IsHarbour, callers, ports_in}
+use Rattle.vsw_harbour.specs.Harbour.{HarbourSeen, IsHarbour, callers, locals_in, ports_in}
 use Rattle.vsw_harbour.specs.Meeting.{AllMeet, AreLanesAt}
 use Rattle.vsw_harbour.specs.Standing.{RowStands, RowsMay, RowsStand, no_calls}
 use Rattle.vsw_harbour.specs.Steps.{Did}
@@ -23,7 +23,6 @@ use Rattle.vsw_port.specs.Calls.{job_doer}
 use Rattle.vsw_port.specs.Order.{counted}
 use Rattle.vsw_port.specs.declared.event.Event.{Event}
 use Rattle.vsw_history_law.proofs.Callers.{eqb_is}
-use Rattle.vsw_harbour.specs.ManyActors.{AtWork}
 use Rattle.vsw_harbour.specs.Passes.{AtRest}
 use Rattle.vsw_harbour.specs.Phases.{Track}
 use Rattle.vsw_policy.specs.Sound.{Each}
@@ -74,10 +73,12 @@ dealt_own cs k (t ∷ js) = by (job_doer cs t.1 == k) refl (dealt_own cs k js)
     by true e rest = (eqb_is (job_doer cs t.1) k e, rest)
     by false e rest = rest
 
-mine : (h : HarbourSeen) (numbers macs listed asks : List ℕ) (k ports : ℕ) (share : List (Placed Work)) → IsHarbour h numbers macs listed asks → Each (λ t. job_doer h.controllers t.1 ≡ k) (map (placed_of job_in) share) → Each (IsWork ports h.controllers) share → AreMine port_in job_in takes k h.docks share
-mine h numbers macs listed asks k ports [] i o w = tt
-mine h numbers macs listed asks k ports (a ∷ as_) i o w =
-    ((harbour_own h numbers macs listed asks h.docks k a.job i refl (sym o.0), harbour_takes h numbers macs listed asks h.docks a.place a.job i refl w.0.1), mine h numbers macs listed asks k ports as_ i o.1 w.1)
+mine : (h : HarbourSeen) (numbers macs listed asks : List ℕ) (k : ℕ) (share : List (Placed Work)) → IsHarbour h numbers macs listed asks → Each (λ t. job_doer h.controllers t.1 ≡ k) (map (placed_of job_in) share) → Each (IsWork (length h.docks) h.controllers) share → AreMine port_in job_in takes k h.docks share
+mine h numbers macs listed asks k [] i o w = tt
+mine h numbers macs listed asks k (a ∷ as_) i o w = (
+  (harbour_own h numbers macs listed asks h.docks k (job_in a.job) i refl (sym o.0), harbour_takes h numbers macs listed asks h.docks a.place a.job i refl w.0.1 w.0.2, w.0.0),
+  mine h numbers macs listed asks k as_ i o.1 w.1,
+)
 
 -- ---- a row that has done its share
 
@@ -91,11 +92,11 @@ worked_lanes k (d ∷ ds) [] [] a f = absurd a
 worked_lanes k (d ∷ ds) [] (l ∷ ls) a f = absurd a
 worked_lanes k (d ∷ ds) (t ∷ ts) [] a f = absurd f
 
-row_worked : (k : ℕ) (ds : List DockSeen) (hs : List (List Event)) (row after : List (Lane StationSeen)) (share : List (Placed Work)) → RowStands k ds hs (no_calls ds) row → AreFit pass_in is_of permits k 0 ds after → HasDone port_in pass_in job_in tells k ds (fronts_of pass_in row) after share
+row_worked : (k : ℕ) (ds : List DockSeen) (hs : List (List Event)) (row after : List (Lane StationSeen)) (share : List (Placed Work)) → RowStands k ds hs (no_calls ds) row → AreFit pass_in is_of permits k 0 ds after → HasDone port_in locals pass_in job_in tells k ds (fronts_of pass_in row) after share
     → RowWorks k ds hs (no_calls ds) after (map (placed_of job_in) share)
 row_worked k ds hs row after share s f d = record {
   tracks = d.0;
-  work = subst (λ g. AtWork 0 k (ports_in ds) g d.0 (map (placed_of job_in) share)) (fronts_are k ds hs row s) d.2;
+  work = subst (λ g. AtWorkOn (locals_in ds) k (ports_in ds) g d.0 (map (placed_of job_in) share)) (fronts_are k ds hs row s) d.2;
   lanes = worked_lanes k ds d.0 after d.1 f;
 }
 
@@ -114,18 +115,19 @@ shares_of cs k n js s ss e =
     (head_is (map (placed_of job_in) s.items) (jobs.deal cs k js) (shared ss) (map (λ i. jobs.deal cs i js) (counted (suc k) n)) e, tail_is (map (placed_of job_in) s.items) (jobs.deal cs k js) (shared ss) (map (λ i. jobs.deal cs i js) (counted (suc k) n)) e)
 
 rows_begin : {F G : Type 0} (h : HarbourSeen) (numbers macs listed asks : List ℕ) (k n : ℕ) (hs : List (List Event)) (js : List jobs.Placed) (rows : List (Vec (Lane StationSeen) F)) (ss : List (Vec (Placed Work) G)) → IsHarbour h numbers macs listed asks → length rows ≡ n
-    → shared ss ≡ map (λ i. jobs.deal h.controllers i js) (counted k n) → AreWork (length h.docks) h.controllers ss → AreFew ss → RowsStand k h.docks hs (no_calls h.docks) (rows_in rows) → RowsMay (needs_in ss) (rows_in rows) → MayBegin port_in pass_in job_in tells is_of permits takes k h.docks rows ss
+    → shared ss ≡ map (λ i. jobs.deal h.controllers i js) (counted k n) → AreWork (length h.docks) h.controllers ss → AreFew ss → RowsStand k h.docks hs (no_calls h.docks) (rows_in rows) → RowsMay (needs_in ss) (rows_in rows) → MayBegin port_in locals pass_in job_in tells is_of permits takes k h.docks rows ss
 rows_begin h numbers macs listed asks k zero hs js [] [] i size e w f s m = tt
 rows_begin h numbers macs listed asks k (suc n) hs js (r ∷ rs) (s ∷ ss) i size e w f x m =
     let share = shares_of h.controllers k n js s ss e in
     let own : Each (λ t. job_doer h.controllers t.1 ≡ k) (map (placed_of job_in) s.items) = subst (Each (λ t. job_doer h.controllers t.1 ≡ k)) (sym share.0) (dealt_own h.controllers k js) in (
       record {
+        alike = i.alike;
         same = as_long k h.docks hs r.items x.0;
         small = omega (arith, i.few);
         few = f.0;
         begins = row_begins k h.docks hs r.items x.0;
         fit = are_fit k (length s.items) h.docks hs (no_calls h.docks) r.items x.0 m.0;
-        mine = mine h numbers macs listed asks k (length h.docks) s.items i own w.0;
+        mine = mine h numbers macs listed asks k s.items i own w.0;
       },
       rows_begin h numbers macs listed asks (suc k) n hs js rs ss i (omega (arith, size)) share.1 w.1 f.1 x.1 m.1,
     )
@@ -135,7 +137,7 @@ rows_begin h numbers macs listed asks k (suc n) hs js [] [] i size e w f x m = a
 rows_begin h numbers macs listed asks k zero hs js (r ∷ rs) (s ∷ ss) i size e w f x m = absurd (omega (arith, size))
 
 rows_worked : {F G H : Type 0} (cs : List ℕ) (k n : ℕ) (ds : List DockSeen) (hs : List (List Event)) (js : List jobs.Placed) (rows : List (Vec (Lane StationSeen) F)) (ss : List (Vec (Placed Work) G)) (afters : List (Vec (Lane StationSeen) H)) → length rows ≡ n
-    → shared ss ≡ map (λ i. jobs.deal cs i js) (counted k n) → RowsStand k ds hs (no_calls ds) (rows_in rows) → HaveDone port_in pass_in job_in tells is_of permits k ds rows ss afters → RowsWork cs k ds hs (no_calls ds) js (rows_in afters)
+    → shared ss ≡ map (λ i. jobs.deal cs i js) (counted k n) → RowsStand k ds hs (no_calls ds) (rows_in rows) → HaveDone port_in locals pass_in job_in tells is_of permits k ds rows ss afters → RowsWork cs k ds hs (no_calls ds) js (rows_in afters)
 rows_worked cs k n ds hs js [] [] [] size e s d = tt
 rows_worked cs k (suc n) ds hs js (r ∷ rs) (s ∷ ss) (t ∷ ts) size e x d =
     let share = shares_of cs k n js s ss e in
@@ -146,7 +148,7 @@ rows_worked cs k n ds hs js (r ∷ rs) [] ts size e x d = absurd d
 rows_worked cs k n ds hs js (r ∷ rs) (s ∷ ss) [] size e x d = absurd d
 rows_worked cs k zero ds hs js (r ∷ rs) (s ∷ ss) (t ∷ ts) size e x d = absurd (omega (arith, size))
 
-done_many : {F G H : Type 0} (k : ℕ) (ds : List DockSeen) (rows : List (Vec (Lane StationSeen) F)) (ss : List (Vec (Placed Work) G)) (afters : List (Vec (Lane StationSeen) H)) → HaveDone port_in pass_in job_in tells is_of permits k ds rows ss afters → length (rows_in afters) ≡ length (rows_in rows)
+done_many : {F G H : Type 0} (k : ℕ) (ds : List DockSeen) (rows : List (Vec (Lane StationSeen) F)) (ss : List (Vec (Placed Work) G)) (afters : List (Vec (Lane StationSeen) H)) → HaveDone port_in locals pass_in job_in tells is_of permits k ds rows ss afters → length (rows_in afters) ≡ length (rows_in rows)
 done_many k ds [] [] [] d = refl
 done_many k ds (r ∷ rs) (s ∷ ss) (t ∷ ts) d = ap suc (done_many (suc k) ds rs ss ts d.2)
 done_many k ds [] [] (t ∷ ts) d = absurd d
@@ -157,7 +159,7 @@ done_many k ds (r ∷ rs) (s ∷ ss) [] d = absurd d
 -- ---- between two meetings
 
 pub may_work : {F G : Type 0} (h : HarbourSeen) (numbers macs listed asks : List ℕ) (hs : List (List Event)) (js : List jobs.Placed) (rows mids : List (Vec (Lane StationSeen) F)) (ss : List (Vec (Placed Work) G)) → IsHarbour h numbers macs listed asks → length (rows_in rows) ≡ callers h
-    → RowsStand 0 h.docks hs (no_calls h.docks) (rows_in rows) → shared ss ≡ dealt h.controllers js → AreWork (length h.docks) h.controllers ss → AreFew ss → AllMeet h.docks (needs_in ss) (rows_in rows) (rows_in mids) → MayBegin port_in pass_in job_in tells is_of permits takes 0 h.docks mids ss
+    → RowsStand 0 h.docks hs (no_calls h.docks) (rows_in rows) → shared ss ≡ dealt h.controllers js → AreWork (length h.docks) h.controllers ss → AreFew ss → AllMeet h.docks (needs_in ss) (rows_in rows) (rows_in mids) → MayBegin port_in locals pass_in job_in tells is_of permits takes 0 h.docks mids ss
 may_work h numbers macs listed asks hs js rows mids ss i size s e w f m =
     let a = all_met h (needs_in ss) hs (no_calls h.docks) (rows_in rows) (rows_in mids) size s m in
     rows_begin h numbers macs listed asks 0 (callers h) a.histories js mids ss i (sym (as_many mids) ∙ a.size) e w f a.stand a.may
@@ -169,7 +171,7 @@ record SinceMet (h : HarbourSeen) (hs : List (List Event)) (js : List jobs.Place
   size : length afters ≡ callers h
 
 since_met : {F G H : Type 0} (h : HarbourSeen) (numbers macs listed asks : List ℕ) (hs : List (List Event)) (js : List jobs.Placed) (rows mids : List (Vec (Lane StationSeen) F)) (ss : List (Vec (Placed Work) G)) (afters : List (Vec (Lane StationSeen) H)) → IsHarbour h numbers macs listed asks → length (rows_in rows) ≡ callers h
-    → RowsStand 0 h.docks hs (no_calls h.docks) (rows_in rows) → shared ss ≡ dealt h.controllers js → AllMeet h.docks (needs_in ss) (rows_in rows) (rows_in mids) → HaveDone port_in pass_in job_in tells is_of permits 0 h.docks mids ss afters → SinceMet h hs js (rows_in mids) (rows_in afters)
+    → RowsStand 0 h.docks hs (no_calls h.docks) (rows_in rows) → shared ss ≡ dealt h.controllers js → AllMeet h.docks (needs_in ss) (rows_in rows) (rows_in mids) → HaveDone port_in locals pass_in job_in tells is_of permits 0 h.docks mids ss afters → SinceMet h hs js (rows_in mids) (rows_in afters)
 since_met h numbers macs listed asks hs js rows mids ss afters i size s e m d =
     let quiet : Did h hs (no_calls h.docks) [] (rows_in mids) = only_met h numbers macs listed asks (needs_in ss) hs (no_calls h.docks) (rows_in rows) (rows_in mids) i size s m in
     let a = all_met h (needs_in ss) hs (no_calls h.docks) (rows_in rows) (rows_in mids) size s m in
@@ -181,14 +183,14 @@ since_met h numbers macs listed asks hs js rows mids ss afters i size s e m d =
     }
 
 pub may_meet : {F G H : Type 0} (h : HarbourSeen) (numbers macs listed asks : List ℕ) (hs : List (List Event)) (js : List jobs.Placed) (rows mids : List (Vec (Lane StationSeen) F)) (ss : List (Vec (Placed Work) G)) (afters : List (Vec (Lane StationSeen) H)) → IsHarbour h numbers macs listed asks → length (rows_in rows) ≡ callers h
-    → RowsStand 0 h.docks hs (no_calls h.docks) (rows_in rows) → shared ss ≡ dealt h.controllers js → AllMeet h.docks (needs_in ss) (rows_in rows) (rows_in mids) → HaveDone port_in pass_in job_in tells is_of permits 0 h.docks mids ss afters
+    → RowsStand 0 h.docks hs (no_calls h.docks) (rows_in rows) → shared ss ≡ dealt h.controllers js → AllMeet h.docks (needs_in ss) (rows_in rows) (rows_in mids) → HaveDone port_in locals pass_in job_in tells is_of permits 0 h.docks mids ss afters
     → Each (AreLanesAt h.docks) (rows_in afters) × (length (rows_in afters) ≡ callers h)
 may_meet h numbers macs listed asks hs js rows mids ss afters i size s e m d =
     let x = since_met h numbers macs listed asks hs js rows mids ss afters i size s e m d in
     (rows_at h.controllers 0 h.docks x.quiet.histories (no_calls h.docks) js (rows_in afters) x.works, x.size)
 
 pub did_beside : {F G H : Type 0} (h : HarbourSeen) (numbers macs listed asks needs : List ℕ) (hs : List (List Event)) (js : List jobs.Placed) (rows mids : List (Vec (Lane StationSeen) F)) (ss : List (Vec (Placed Work) G)) (afters lasts : List (Vec (Lane StationSeen) H)) → IsHarbour h numbers macs listed asks
-    → length (rows_in rows) ≡ callers h → RowsStand 0 h.docks hs (no_calls h.docks) (rows_in rows) → shared ss ≡ dealt h.controllers js → AllMeet h.docks (needs_in ss) (rows_in rows) (rows_in mids) → HaveDone port_in pass_in job_in tells is_of permits 0 h.docks mids ss afters
+    → length (rows_in rows) ≡ callers h → RowsStand 0 h.docks hs (no_calls h.docks) (rows_in rows) → shared ss ≡ dealt h.controllers js → AllMeet h.docks (needs_in ss) (rows_in rows) (rows_in mids) → HaveDone port_in locals pass_in job_in tells is_of permits 0 h.docks mids ss afters
     → AllMeet h.docks needs (rows_in afters) (rows_in lasts) → DidBeside h hs js (rows_in lasts)
 did_beside h numbers macs listed asks needs hs js rows mids ss afters lasts i size s e m d n =
     let x = since_met h numbers macs listed asks hs js rows mids ss afters i size s e m d in record {

@@ -5,9 +5,10 @@ use Rattle.vsw_harbour.specs.Crew.{callers_in}
 use Rattle.vsw_harbour.specs.Turns.{PlacedTurns, append_each}
 use Rattle.vsw_harbour.proofs.Turns.{quiet_turns}
 use Rattle.vsw_harbour.specs.Seen.{DockSeen, StationSeen}
-use Rattle.vsw_harbour.specs.Harbour.{AreLike, HarbourSeen, IsOfRun, callers}
+use Rattle.vsw_harbour.specs.Harbour.{AreLike, HarbourSeen, IsOfRun, callers, locals_in, ports_in}
 use Rattle.vsw_harbour.specs.Standing.{RowsStand, no_calls}
 use Rattle.vsw_harbour.specs.Steps.{Did}
+use Rattle.vsw_hairpin.specs.Handing.{AreHandedRows}
 use Rattle.vsw_harbour.proofs.Likes.{journals_like, rows_like}
 use Rattle.vsw_port.specs.Calls.{Call}
 use Rattle.vsw_port.specs.declared.event.Event.{Event}
@@ -24,14 +25,20 @@ use Rattle.vsw_crew.proofs.Taking.{seen_are}
 pub callers_are : (h : HarbourSeen) (s : Setting) → IsOfRun h s → callers h ≡ callers_in s
 callers_are h s run = ap (λ c. 16 + length c) (sym run.controllers)
 
-pub rows_done : (h : HarbourSeen) (s : Setting) (jobs : List Placed) (hs gs : List (List Event)) (rows : List (List many.Lane)) → IsOfRun h s → AreRows h.controllers jobs 0 0 (map (λ d. record { number = d.number; mac = d.mac; rows = d.live.looking.2; controllers = d.live.looking.1.controllers; layers = d.live.looking.1.layers }) h.docks) hs gs rows
+rows_done : (h : HarbourSeen) (s : Setting) (jobs : List Placed) (hs gs : List (List Event)) (rows : List (List many.Lane)) → IsOfRun h s → AreRows h.controllers jobs 0 0 (map (λ d. record { number = d.number; mac = d.mac; rows = d.live.looking.2; controllers = d.live.looking.1.controllers; layers = d.live.looking.1.layers }) h.docks) hs gs rows
     → AreRows s.policy.controllers jobs 0 0 (ports_of s.policy) hs gs rows
 rows_done h s jobs hs gs rows run d = subst (λ c. AreRows c jobs 0 0 (ports_of s.policy) hs gs rows) (sym run.controllers) (rows_like h.controllers jobs 0 (ports_of s.policy) h.docks hs gs rows run.ports d)
+
+-- no job hands nothing on
+none_done : (macs cs : List ℕ) (k : ℕ) (ps : List PortSeen) (hs gs : List (List Event)) (rows : List (List many.Lane)) (hops : List (List (List Placed))) → AreHandedRows macs cs [] k ps hs gs rows hops → AreRows cs [] 0 k ps hs gs rows
+none_done macs cs k ps hs gs [] hops d = tt
+none_done macs cs k ps hs gs (row ∷ rows) (h ∷ hops) d = (d.0, none_done macs cs (suc k) ps hs gs rows hops d.2)
+none_done macs cs k ps hs gs (row ∷ rows) [] d = absurd d
 
 pub quiet_placed : (h : HarbourSeen) (s : Setting) (hs : List (List Event)) (calls : List (List Call)) (met : List (List (Lane StationSeen))) → IsOfRun h s → (d : Did h hs calls [] met) → PlacedTurns 0 (ports_of s.policy) [] hs d.histories (map (λ p. []) (ports_of s.policy))
 quiet_placed h s hs calls met run d =
     let journals : AreJournals (callers_in s) (ports_of s.policy) hs d.histories = subst (λ n. AreJournals n (ports_of s.policy) hs d.histories) (callers_are h s run) (journals_like (callers h) (ports_of s.policy) h.docks hs d.histories run.ports d.journals) in
-    (quiet_turns s hs d.histories d.rows (d.size ∙ callers_are h s run) (rows_done h s [] hs d.histories d.rows run d.done) journals).turns
+    (quiet_turns s hs d.histories d.rows (d.size ∙ callers_are h s run) (rows_done h s [] hs d.histories d.rows run (none_done (locals_in h.docks) h.controllers 0 (ports_in h.docks) hs d.histories d.rows d.hops d.done)) journals).turns
 
 -- ---- no calls before others, or behind them
 

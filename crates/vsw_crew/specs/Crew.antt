@@ -10,7 +10,7 @@ use Rattle.vsw_promise.specs.Jobs.{Setting}
 use Rattle.vsw_promise.specs.Rounds.{opening_of}
 use Rattle.vsw_switch.specs.Switch.{PortNow, SwitchNow}
 use Rattle.vsw_switch.specs.Tally.{none}
-use Rattle.vsw_harbour.specs.Harbour.{HarbourSeen, IsOfRun, callers, ports_in}
+use Rattle.vsw_harbour.specs.Harbour.{HarbourSeen, IsOfRun, callers, locals_in, ports_in}
 use Rattle.vsw_harbour.specs.Standing.{RowsStand, no_calls}
 
 -- what does not change, and the history of each port
@@ -60,7 +60,7 @@ ports_now h (d ∷ ds) (g ∷ gs) = port_now h d g ∷ ports_now h ds gs
 
 -- the ports between two rounds, at these histories
 abbrev pub switch_now : HarbourSeen → List (List Event) → SwitchNow
-switch_now h gs = record { workers = h.workers; ports = ports_now h h.docks gs; loose = [] }
+switch_now h gs = record { workers = h.workers; locals = locals_in h.docks; ports = ports_now h h.docks gs; loose = [] }
 
 abbrev pub crew_now : CrewSeen → SwitchNow
 crew_now c = switch_now c.harbour c.histories

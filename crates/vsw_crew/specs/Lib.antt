@@ -5,5 +5,6 @@ pub mod Told
 pub use Rattle.vsw_switch.specs.Round
 pub use Rattle.vsw_switch.specs.Close
 pub use Rattle.vsw_switch.specs.Switch
+pub use Rattle.vsw_switch.specs.Export
 pub use Rattle.vsw_switch.specs.Tally
 pub use Rattle.vsw_switch.specs.declared.tally.Tally as SwitchTally

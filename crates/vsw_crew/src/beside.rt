@@ -6,7 +6,7 @@ ghost use Rattle.vsw_crew.specs.Private.Round.{DidBeside};
 ghost use Rattle.vsw_crew.specs.Private.Rows.{needs_in};
 ghost use Rattle.vsw_harbour.specs.Deal.{AreFew, AreWork, dealt, shared};
 ghost use Rattle.vsw_harbour.specs.Work.{job_in};
-ghost use Rattle.vsw_harbour.specs.Docks.{is_of, pass_in, permits, port_in, takes, tells};
+ghost use Rattle.vsw_harbour.specs.Docks.{is_of, locals, pass_in, permits, port_in, takes, tells};
 ghost use Rattle.vsw_harbour.specs.HarbourOpening.{rows_in};
 ghost use Rattle.vsw_harbour.specs.Harbour.{asks_of, callers};
 ghost use Rattle.vsw_harbour.specs.Meeting.{AllMeet, AreLanesAt};
@@ -102,8 +102,8 @@ fn work<'g, 'w, J: Naming + Send + Sync, G: Gate + Watch + Sync, R: Threads + Wa
     rows: Vec<Vec<Lane<Station>>>,
     shares: Vec<Vec<Placed<Work<'w>>>>,
 ) -> Result<Vec<Vec<Lane<Station>>>, NoMemory>
-    requires begin { MayBegin port_in pass_in job_in tells is_of permits takes 0 harbour.now.docks rows.items shares.items }
-    ensures done { IfOk result (λ after. HaveDone port_in pass_in job_in tells is_of permits 0 harbour.now.docks rows.items shares.entry.items after.items) }
+    requires begin { MayBegin port_in locals pass_in job_in tells is_of permits takes 0 harbour.now.docks rows.items shares.items }
+    ensures done { IfOk result (λ after. HaveDone port_in locals pass_in job_in tells is_of permits 0 harbour.now.docks rows.items shares.entry.items after.items) }
 {
     let lineup = Lineup {
         workers,

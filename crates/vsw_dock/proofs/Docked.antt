@@ -16,8 +16,8 @@ Given n k [] [] = Unit {0}
 Given n k (d ∷ ds) (ps ∷ pss) = (length ps ≡ n) × AreNewPasses d.live.looking k ps × Given n k ds pss
 Given n k _ _ = ⊥
 
-abbrev docks_for : List Port → List OpenSeen → List DockSeen
-docks_for made os = docks_of (map (λ p. p.number) made) (map (λ p. p.mac) made) (ports_of os)
+abbrev docks_for : List ℕ → List Port → List OpenSeen → List DockSeen
+docks_for locals made os = docks_of locals (map (λ p. p.number) made) (map (λ p. p.mac) made) (ports_of os)
 
 first_new : (n k : ℕ) (ds : List DockSeen) (pss : List (List Writing)) → Given (suc n) k ds pss → IsNewRow k ds (first_lanes pss)
 first_new n k [] [] g = tt
@@ -43,20 +43,20 @@ rows_many : (n : ℕ) (pss : List (List Writing)) → length (rows_from n pss) �
 rows_many zero pss = refl
 rows_many (suc n) pss = ap suc (rows_many n (later_passes pss))
 
-opened_given : (count : ℕ) (made : List Port) (os : List OpenSeen) → AreOpened count made os → Given count 0 (docks_for made os) (passes_of os)
-opened_given count [] [] a = tt
-opened_given count (p ∷ made) (o ∷ os) a = (a.0.many, a.0.new, opened_given count made os a.1)
-opened_given count [] (o ∷ os) a = absurd a
-opened_given count (p ∷ made) [] a = absurd a
+opened_given : (count : ℕ) (locals : List ℕ) (made : List Port) (os : List OpenSeen) → AreOpened count made os → Given count 0 (docks_for locals made os) (passes_of os)
+opened_given count locals [] [] a = tt
+opened_given count locals (p ∷ made) (o ∷ os) a = (a.0.many, a.0.new, opened_given count locals made os a.1)
+opened_given count locals [] (o ∷ os) a = absurd a
+opened_given count locals (p ∷ made) [] a = absurd a
 
-one_dock : (count : ℕ) (p : Port) (o : OpenSeen) → IsOpened count p o → port_in (record { number = p.number; mac = p.mac; live = o.port }) ≡ port_seen p
-one_dock count p o x = λ i. record { number = p.number; mac = p.mac; rows = x.rows i; controllers = (x.begins i).controllers; layers = (x.begins i).layers }
+one_dock : (count : ℕ) (locals : List ℕ) (p : Port) (o : OpenSeen) → IsOpened count p o → port_in (record { number = p.number; mac = p.mac; locals = locals; live = o.port }) ≡ port_seen p
+one_dock count locals p o x = λ i. record { number = p.number; mac = p.mac; rows = x.rows i; controllers = (x.begins i).controllers; layers = (x.begins i).layers }
 
-docks_are : (count : ℕ) (made : List Port) (os : List OpenSeen) → AreOpened count made os → map port_in (docks_for made os) ≡ map port_seen made
-docks_are count [] [] a = refl
-docks_are count (p ∷ made) (o ∷ os) a = let first = one_dock count p o a.0 in let later = docks_are count made os a.1 in λ i. first i ∷ later i
-docks_are count [] (o ∷ os) a = absurd a
-docks_are count (p ∷ made) [] a = absurd a
+docks_are : (count : ℕ) (locals : List ℕ) (made : List Port) (os : List OpenSeen) → AreOpened count made os → map port_in (docks_for locals made os) ≡ map port_seen made
+docks_are count locals [] [] a = refl
+docks_are count locals (p ∷ made) (o ∷ os) a = let first = one_dock count locals p o a.0 in let later = docks_are count locals made os a.1 in λ i. first i ∷ later i
+docks_are count locals [] (o ∷ os) a = absurd a
+docks_are count locals (p ∷ made) [] a = absurd a
 
 each_idle : (l : Looking) (k : ℕ) (ps : List Writing) → AreNewPasses l k ps → Each IsIdle ps
 each_idle l k [] a = tt
@@ -68,11 +68,18 @@ all_idle count (p ∷ made) (o ∷ os) a = (each_idle o.port.looking 0 o.passes 
 all_idle count [] (o ∷ os) a = absurd a
 all_idle count (p ∷ made) [] a = absurd a
 
-pub docked : (count : ℕ) (made : List Port) (os : List OpenSeen) → AreOpened count made os → AreDocked count made os (docks_for made os)
-docked count made os a = record {
-  ports = docks_are count made os a;
+locals_are : (count : ℕ) (locals : List ℕ) (made : List Port) (os : List OpenSeen) → AreOpened count made os → Each (λ d. d.locals ≡ locals) (docks_for locals made os)
+locals_are count locals [] [] a = tt
+locals_are count locals (p ∷ made) (o ∷ os) a = (refl, locals_are count locals made os a.1)
+locals_are count locals [] (o ∷ os) a = absurd a
+locals_are count locals (p ∷ made) [] a = absurd a
+
+pub docked : (count : ℕ) (locals : List ℕ) (made : List Port) (os : List OpenSeen) → AreOpened count made os → AreDocked count locals made os (docks_for locals made os)
+docked count locals made os a = record {
+  ports = docks_are count locals made os a;
+  locals_are = locals_are count locals made os a;
   idle = all_idle count made os a;
-  rows = rows_new count 0 (docks_for made os) (passes_of os) (opened_given count made os a);
+  rows = rows_new count 0 (docks_for locals made os) (passes_of os) (opened_given count locals made os a);
   many = rows_many count (passes_of os);
 }
 

@@ -7,6 +7,7 @@ use Rattle.vsw_actors.specs.Lanes.{AreFit}
 use Rattle.vsw_live.specs.Meeting.{HeldSeen}
 use Rattle.vsw_live.specs.Ports.{OpenSeen, passes_of}
 use Rattle.vsw_actors.specs.ManyActors.{AllRest}
+use Rattle.vsw_policy.specs.Sound.{Each}
 use Rattle.vsw_promise.specs.declared.port.Port.{Port}
 use Rattle.vsw_promise.specs.Ports.{port_seen}
 use Rattle.vsw_dock.specs.Docks.{is_of, pass_in, permits, port_in, tells}
@@ -33,8 +34,9 @@ pub record NewRests (k : ℕ) (ds : List DockSeen) (ls : List (Lane StationSeen)
   pub lines : HaveNoLines ls
 
 -- ports of the policy, opened and docked: the docks are the policy's ports, and their rows are new
-pub record AreDocked (count : ℕ) (made : List Port) (os : List OpenSeen) (ds : List DockSeen) : Type 0 where
+pub record AreDocked (count : ℕ) (locals : List ℕ) (made : List Port) (os : List OpenSeen) (ds : List DockSeen) : Type 0 where
   pub ports : map port_in ds ≡ map port_seen made
+  pub locals_are : Each (λ d. d.locals ≡ locals) ds
   pub idle : AreIdle (passes_of os)
   pub rows : AreNewRows 0 ds (rows_from count (passes_of os))
   pub many : length (rows_from count (passes_of os)) ≡ count

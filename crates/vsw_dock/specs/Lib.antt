@@ -18,3 +18,5 @@ pub use Rattle.vsw_actors.specs.Deal
 pub use Rattle.vsw_actors.specs.Actors as ActorsDone
 pub use Rattle.vsw_actors.specs.Rows
 pub use Rattle.vsw_actors.specs.declared.actor.Placed
+pub use Rattle.vsw_hairpin.specs.Handing
+pub use Rattle.vsw_actors.specs.Plain

@@ -27,10 +27,10 @@ AreOpened count [] [] = Unit {0}
 AreOpened count (p ∷ ps) (o ∷ os) = IsOpened count p o × AreOpened count ps os
 AreOpened count _ _ = ⊥
 
--- docks with these numbers, addresses and ports
-abbrev pub docks_of : List ℕ → List ℕ → List live.PortSeen → List DockSeen
-docks_of (n ∷ ns) (m ∷ ms) (p ∷ ps) = record { number = n; mac = m; live = p } ∷ docks_of ns ms ps
-docks_of _ _ _ = []
+-- docks with these numbers, addresses and ports, which hand packets on to the ports of some addresses
+abbrev pub docks_of : List ℕ → List ℕ → List ℕ → List live.PortSeen → List DockSeen
+docks_of locals (n ∷ ns) (m ∷ ms) (p ∷ ps) = record { number = n; mac = m; locals = locals; live = p } ∷ docks_of locals ns ms ps
+docks_of locals _ _ _ = []
 
 -- a lane whose station has only its pass, which has seen nothing
 abbrev pub new_lane : Writing → Lane StationSeen

@@ -14,7 +14,7 @@ ghost use Rattle.vsw_promise.specs.declared.port.Port.{Port};
 
 /// Rows are opened, do their jobs, meet the ports, and then rest, so that the next round may begin.
 pub fn laws()
-    ensures docked { (count : ℕ) (made : List Port) (os : List OpenSeen) → AreOpened count made os → AreDocked count made os (docks_of (map (λ p. p.number) made) (map (λ p. p.mac) made) (ports_of os)) }
+    ensures docked { (count : ℕ) (locals : List ℕ) (made : List Port) (os : List OpenSeen) → AreOpened count made os → AreDocked count locals made os (docks_of locals (map (λ p. p.number) made) (map (λ p. p.mac) made) (ports_of os)) }
     ensures new { (k : ℕ) (ds : List DockSeen) (ls : List (Lane StationSeen)) → IsNewRow k ds ls → NewRests k ds ls }
     ensures fit { (k more : ℕ) (ds : List DockSeen) (hs : List HeldSeen) (ls : List (Lane StationSeen)) → AreFit pass_in is_of permits k more ds ls → AreHeld ds hs → MayMeet k hs ls }
     ensures rests { (k more : ℕ) (ds : List DockSeen) (hs : List HeldSeen) (ls ms : List (Lane StationSeen)) → AreHeld ds hs → AreOfCaller k ls → RowMeets more hs ls ms → RowRests more k ds hs ls ms }

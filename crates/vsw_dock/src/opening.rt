@@ -95,40 +95,57 @@ fn first_port<J: Naming>(ports: &mut Vec<LivePort<J>>) -> LivePort<J>
     ports.remove(0)
 }
 
+/// The same addresses once more.
+fn copied(alloc: Global, macs: &[Mac]) -> Result<Vec<Mac>, NoMemory>
+    ensures { IfOk result (λ copy. copy.items ≡ macs.now) }
+{
+    let mut copy = Vec::new(alloc);
+    match copy.extend_from_slice(macs) {
+        Ok(()) => Ok(copy),
+        Err(_) => Err(NoMemory),
+    }
+}
+
 fn add_docks<'g, J: Naming, G>(
+    alloc: Global,
     numbers: &[u16],
     macs: &[Mac],
+    locals: &[Mac],
     left: &mut Vec<LivePort<J>>,
     watch: &'g G,
     docks: &mut Vec<Dock<'g, J, G>>,
 ) -> Result<(), NoMemory>
-    ensures { OnOk result (docks.new.items ≡ docks.old.items ++ docks_of numbers.now macs.now left.old.items) }
+    requires few { length locals.now ≤ 16 }
+    ensures { OnOk result (docks.new.items ≡ docks.old.items ++ docks_of locals.now numbers.now macs.now left.old.items) }
 {
     if let Some((number, later_numbers)) = numbers.split_first() {
         if let Some((mac, later_macs)) = macs.split_first() {
             if !left.is_empty() {
                 let port = first_port(left);
-                put(docks, Dock::new(*number, *mac, port, watch))?;
-                add_docks(later_numbers, later_macs, left, watch, docks)?;
+                let copy = copied(alloc, locals)?;
+                put(docks, Dock::new(*number, *mac, copy, port, watch))?;
+                add_docks(alloc, later_numbers, later_macs, locals, left, watch, docks)?;
             }
         }
     }
     Ok(())
 }
 
-/// The docks of these ports, in order.
+/// The docks of these ports, in order, each of which hands packets on to the ports of these addresses.
 pub fn dock_all<'g, J: Naming, G>(
     alloc: Global,
     numbers: &[u16],
     macs: &[Mac],
+    locals: &[Mac],
     ports: Vec<LivePort<J>>,
     watch: &'g G,
 ) -> Result<Vec<Dock<'g, J, G>>, NoMemory>
-    ensures { IfOk result (λ docks. docks.items ≡ docks_of numbers.now macs.now ports.items) }
+    requires few { length locals.now ≤ 16 }
+    ensures { IfOk result (λ docks. docks.items ≡ docks_of locals.now numbers.now macs.now ports.items) }
 {
     let mut docks = Vec::new(alloc);
     let mut left = ports;
-    add_docks(numbers, macs, &mut left, watch, &mut docks)?;
+    add_docks(alloc, numbers, macs, locals, &mut left, watch, &mut docks)?;
     Ok(docks)
 }
 

@@ -3,7 +3,9 @@
 ghost use Rattle.std.specs.Prelude.{◌≡◌, ◌≤◌, ◌<◌, ◌+◌, nat_lt, [], true, length, IfOk, IsOk, OnErr, OnOk};
 ghost use Rattle.vsw_flows.specs.Flows.{IsOf};
 ghost use Rattle.vsw_dock.specs.Meeting.{StationMeets};
-ghost use Rattle.vsw_dock.specs.Private.Does.{Does, Tells};
+ghost use Rattle.vsw_actors.specs.Actors.{handed};
+ghost use Rattle.vsw_dock.specs.Docks.{HasRoom, holds, parcel_in};
+ghost use Rattle.vsw_dock.specs.Private.Does.{Does, HandsOn, Tells};
 ghost use Rattle.vsw_frame.specs.Frame.{parts};
 ghost use Rattle.vsw_port.specs.Calls.{Ask, Carry, controller_at};
 ghost use Rattle.vsw_live.specs.Calls.{Crosses, FitsRoom, call_of, one_if};
@@ -16,13 +18,15 @@ ghost use Rattle.vsw_report.specs.declared.told.What.TheVariants as what;
 ghost use Rattle.vsw_rows.specs.GoodRows.{opening_of};
 ghost use Rattle.vsw_answer.specs.Transit.{IsOfFrame, bytes_in};
 
+use crate::handing::hand;
+use crate::parcel::Parcel;
 use std::alloc::Global;
 use std::marker::Model;
 use std::mem::replace;
 use std::sync::Wait;
 use vsw_actors::Packet;
 use vsw_answer::{Answer, Desk, Room, bytes_of};
-use vsw_base::{Control, Crossing, Dir, Moment, NoMemory, Sizes, Stack, Ufid};
+use vsw_base::{Control, Crossing, Dir, Mac, Moment, NoMemory, Sizes, Stack, Ufid};
 use vsw_commandfile::Line;
 use vsw_flows::PortStory;
 use vsw_frame::Frame;
@@ -221,18 +225,24 @@ impl Station {
         self.whole = true;
     }
 
-    /// A packet is carried by its worker, and told.
+    /// A packet is carried by its worker, and told. Answers, too, whether it left for another of these ports: then the parcel holds it.
     pub(crate) fn carry<J: Naming, R: Wait>(
         &mut self,
         rt: &R,
         port: &LivePort<J>,
         packet: &Packet<'_>,
         frame: &Frame<'_>,
-    ) -> Answer
+        locals: &[Mac],
+        parcel: &mut Parcel,
+    ) -> (Answer, bool)
         requires of { IsOf port.now.looking self.old.pass }
         requires worker { packet.now.worker ≡ self.old.pass.view.number }
         requires permit { 0 < self.old.pass.view.permits }
-        ensures does { Does (opening_of port.now.looking.1) (Carry (crossing_by packet.now.worker packet.now.number packet.now.place packet.now.micros (parts frame.now)) (parts frame.now)) self.old self.new }
+        requires few { length locals.now ≤ 16 }
+        requires room { HasRoom locals.now parcel.old }
+        ensures does { HandsOn (opening_of port.now.looking.1) locals.now packet.now.place.port (Carry (crossing_by packet.now.worker packet.now.number packet.now.place packet.now.micros (parts frame.now)) (parts frame.now)) (handed result.1 (parcel_in parcel.new)) self.old self.new }
+        ensures holds { result.1 ≡ true → holds parcel.new }
+        ensures room { parcel.old.room ≤ parcel.new.room }
     {
         bring(&mut self.crossing, packet, frame);
         let answer = cross(
@@ -253,7 +263,8 @@ impl Station {
             frame,
             &self.room,
         );
-        answer
+        let handed = hand(locals, packet, &answer, frame, &self.room, parcel);
+        (answer, handed)
     }
 
     /// A line of the commands file is asked by its controller, and told.

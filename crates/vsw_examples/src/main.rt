@@ -11,7 +11,7 @@ use vsw_base::{Items, Text};
 use vsw_host::{Host, MemoryFile, MemoryHost, ReadEnd, RealHost, are_distinct, read_file};
 use vsw_run::Word;
 
-/// The files of each run: a folder, with its trace, and in it a policy and commands.
+/// The files of each run of `forward`: a folder, with its trace, and in it a policy and commands.
 const RUNS: &[[&str; 3]] = &[
     ["first", "policy.json", "commands.jsonl"],
     ["1-addresses", "policy.json", "commands.jsonl"],
@@ -23,6 +23,7 @@ const RUNS: &[[&str; 3]] = &[
     ["7-commands", "policy.json", "commands.jsonl"],
     ["10-ipv6", "policy.json", "commands.jsonl"],
     ["11-roll-out", "policy.json", "commands.jsonl"],
+    ["14-two-machines", "policy.json", "commands.jsonl"],
     ["8-bad-files", "bad-address.json", "commands.jsonl"],
     ["8-bad-files", "bad-range.json", "commands.jsonl"],
     ["8-bad-files", "comma.json", "commands.jsonl"],
@@ -39,6 +40,9 @@ const RUNS: &[[&str; 3]] = &[
     ["8-bad-files", "policy.json", "unknown-word.jsonl"],
     ["8-bad-files", "wrong-controller.json", "commands.jsonl"],
 ];
+
+/// The files of the run of `deliver`.
+const DELIVERED: [&str; 3] = ["14-two-machines", "policy.json", "commands.jsonl"];
 
 /// Bytes of a file, at most.
 const LIMIT: u64 = 1_048_576;
@@ -84,23 +88,24 @@ fn host_of(alloc: Global, host: &mut RealHost, run: &[&str; 3]) -> Option<Memory
     MemoryHost::new(alloc, files, ROOM, Vec::new(alloc)).ok()
 }
 
-fn words(alloc: Global) -> Option<Vec<Word>> {
+fn words(alloc: Global, command: &str) -> Option<Vec<Word>> {
     let mut words = Vec::new(alloc);
-    for text in ["vsw", "forward", "policy", "commands", "trace"] {
+    for text in ["vsw", command, "policy", "commands", "trace"] {
         words.push(Word::of(text.to_string(alloc).ok()?)).ok()?;
     }
     Some(words)
 }
 
-/// Runs over these files, and puts what that puts and complains.
+/// Runs over these files by a command, and puts what that puts and complains.
 fn show<R: Threads + Wait + Sync>(
     rt: &R,
     alloc: Global,
     host: &mut RealHost,
+    command: &str,
     run: &[&str; 3],
 ) -> Option<()> {
     let mut inner = host_of(alloc, host, run)?;
-    run_words(rt, alloc, &words(alloc)?, &mut inner, &Open);
+    run_words(rt, alloc, &words(alloc, command)?, &mut inner, &Open);
     host.put(inner.written()).ok()?;
     host.put(inner.complained()).ok()
 }
@@ -109,9 +114,12 @@ fn main(rt: HostRuntime) -> ExitCode {
     let alloc = rt.alloc();
     let mut host = RealHost::new(alloc, rt);
     for run in RUNS {
-        if show(&rt, alloc, &mut host, run).is_none() {
+        if show(&rt, alloc, &mut host, "forward", run).is_none() {
             return ExitCode::from(1);
         }
     }
-    ExitCode::from(0)
+    match show(&rt, alloc, &mut host, "deliver", &DELIVERED) {
+        None => ExitCode::from(1),
+        Some(()) => ExitCode::from(0),
+    }
 }

@@ -1,20 +1,22 @@
 -- A command is asked by its controller, and all callers meet the ports.
-use Rattle.std.proofs.Common.{◌≡◌, ◌≤◌, ℕ, zero, suc, List, [], ◌∷◌, ◌++◌, length, replicate, ◌+◌, Vec, subst, refl, ap, sym, ◌∙◌, arith, length-append}
-use Rattle.std.proofs.lemmas.List.{length-replicate}
+use Rattle.std.proofs.Common.{◌≡◌, ◌≤◌, ◌<◌, ℕ, zero, suc, true, map, List, [], ◌∷◌, ◌++◌, length, replicate, ◌+◌, Vec, subst, refl, ap, sym, ◌∙◌, arith, length-append}
+use Rattle.std.proofs.lemmas.List.{length-map, length-replicate}
 use Rattle.vsw_dock.specs.Lane.{Lane}
 use Rattle.vsw_dock.specs.Lanes.{AreFit, IsOwn, IsTaken}
 use Rattle.vsw_many.specs.Turns.{append_each}
-use Rattle.vsw_dock.specs.Work.{MayDo, job_in}
+use Rattle.vsw_dock.specs.Work.{IsPlaced, MayDo}
+use Rattle.vsw_dock.specs.ActorsDone.{AreAlike}
+use Rattle.vsw_dock.proofs.Steps.{place_within}
 use Rattle.vsw_dock.specs.DealWork.{Work}
-use Rattle.vsw_dock.specs.Docks.{is_of, pass_in, permits, port_in, takes}
+use Rattle.vsw_dock.specs.Docks.{is_of, locals, pass_in, permits, port_in, takes}
 use Rattle.vsw_dock.specs.Opening.{rows_in}
 use Rattle.vsw_dock.specs.Seen.{DockSeen, StationSeen}
-use Rattle.vsw_port.specs.Calls.{Call, job_doer, controller_at}
+use Rattle.vsw_port.specs.Calls.{Call, Job, job_doer, controller_at}
 use Rattle.vsw_port.specs.declared.event.Event.{Event}
 use Rattle.vsw_dock.specs.Phases.{Track}
 use Rattle.vsw_dock.specs.Rounds.{calls_by_port}
 use Rattle.vsw_policy.specs.Layers.{place_of}
-use Rattle.vsw_policy.specs.Sound.{Each}
+use Rattle.vsw_policy.specs.Sound.{Each, is_listed}
 use Rattle.vsw_promise.specs.Jobs.{Placed}
 use Rattle.vsw_harbour.specs.Able.{IsAble}
 use Rattle.vsw_harbour.specs.Harbour.{HarbourSeen, IsHarbour, asks_of, callers, ports_in}
@@ -58,24 +60,35 @@ may_ask h docks c caller rows e f m =
     let low : 16 ≤ caller = omega (arith, f) in
     subst (λ (ds : List DockSeen). IsAble 0 caller ds rows) (sym e) (able 0 caller (asks_of h) h.docks m.histories m.calls rows (asks_ones h caller low) m.stand m.may)
 
-own_all : (cs : List ℕ) (k : ℕ) (w : Work) (ds : List DockSeen) → Each (λ d. d.live.looking.1.controllers ≡ cs) ds → job_doer cs (job_in w) ≡ k → IsOwn port_in job_in k w ds
-own_all cs k w [] c e = tt
-own_all cs k w (d ∷ ds) c e = (ap (λ v. job_doer v (job_in w)) c.0 ∙ e, own_all cs k w ds c.1 e)
+own_all : (cs : List ℕ) (k : ℕ) (j : Job) (ds : List DockSeen) → Each (λ d. d.live.looking.1.controllers ≡ cs) ds → job_doer cs j ≡ k → IsOwn port_in j k ds
+own_all cs k j [] c e = tt
+own_all cs k j (d ∷ ds) c e = (ap (λ v. job_doer v j) c.0 ∙ e, own_all cs k j ds c.1 e)
 
-taken_all : (cs : List ℕ) (at place : ℕ) (w : Work) (ds : List DockSeen) → Each (λ d. d.live.looking.1.controllers ≡ cs) ds → MayDo cs w → IsTaken takes at place w ds
-taken_all cs at place w [] c m = tt
-taken_all cs at place w (d ∷ ds) c m = ((λ e. subst (λ v. MayDo v w) (sym c.0) m), taken_all cs (suc at) place w ds c.1 m)
+taken_all : (cs : List ℕ) (at place : ℕ) (w : Work) (ds : List DockSeen) → Each (λ d. d.live.looking.1.controllers ≡ cs) ds → IsPlaced place w → MayDo cs w → IsTaken takes at place w ds
+taken_all cs at place w [] c p m = tt
+taken_all cs at place w (d ∷ ds) c p m = ((λ e. (p, subst (λ v. MayDo v w) (sym c.0) m)), taken_all cs (suc at) place w ds c.1 p m)
 
 -- the number of a controller among the callers
 pub caller_is : (h g : HarbourSeen) (controllers : List ℕ) (c place : ℕ) → h ≡ g → controllers ≡ h.controllers → place ≡ place_of c controllers → 16 + place ≡ controller_at g.controllers c
 caller_is h g controllers c place e f is = ap (λ n. 16 + n) (is ∙ ap (place_of c) (f ∙ ap (λ (w : HarbourSeen). w.controllers) e))
 
 -- a caller may do its job at each port
-pub harbour_own : (h : HarbourSeen) (numbers macs listed asks : List ℕ) (docks : List DockSeen) (k : ℕ) (w : Work) → IsHarbour h numbers macs listed asks → docks ≡ h.docks → k ≡ job_doer h.controllers (job_in w) → IsOwn port_in job_in k w docks
-harbour_own h numbers macs listed asks docks k w i e f = subst (λ (ds : List DockSeen). IsOwn port_in job_in k w ds) (sym e) (own_all h.controllers k w h.docks i.controllers_are (sym f))
+pub harbour_own : (h : HarbourSeen) (numbers macs listed asks : List ℕ) (docks : List DockSeen) (k : ℕ) (j : Job) → IsHarbour h numbers macs listed asks → docks ≡ h.docks → k ≡ job_doer h.controllers j → IsOwn port_in j k docks
+harbour_own h numbers macs listed asks docks k j i e f = subst (λ (ds : List DockSeen). IsOwn port_in j k ds) (sym e) (own_all h.controllers k j h.docks i.controllers_are (sym f))
 
-pub harbour_takes : (h : HarbourSeen) (numbers macs listed asks : List ℕ) (docks : List DockSeen) (place : ℕ) (w : Work) → IsHarbour h numbers macs listed asks → docks ≡ h.docks → MayDo h.controllers w → IsTaken takes 0 place w docks
-harbour_takes h numbers macs listed asks docks place w i e m = subst (λ (ds : List DockSeen). IsTaken takes 0 place w ds) (sym e) (taken_all h.controllers 0 place w h.docks i.controllers_are m)
+pub harbour_takes : (h : HarbourSeen) (numbers macs listed asks : List ℕ) (docks : List DockSeen) (place : ℕ) (w : Work) → IsHarbour h numbers macs listed asks → docks ≡ h.docks → IsPlaced place w → MayDo h.controllers w → IsTaken takes 0 place w docks
+harbour_takes h numbers macs listed asks docks place w i e p m = subst (λ (ds : List DockSeen). IsTaken takes 0 place w ds) (sym e) (taken_all h.controllers 0 place w h.docks i.controllers_are p m)
+
+-- all docks hand packets on to the same ports
+pub harbour_alike : (h : HarbourSeen) (numbers macs listed asks : List ℕ) (docks : List DockSeen) → IsHarbour h numbers macs listed asks → docks ≡ h.docks → AreAlike locals docks
+harbour_alike h numbers macs listed asks docks i e = subst (λ (ds : List DockSeen). AreAlike locals ds) (sym e) i.alike
+
+-- a port that a line names is here
+pub harbour_within : (h : HarbourSeen) (numbers macs listed asks given : List ℕ) (docks : List DockSeen) (port place : ℕ) → IsHarbour h numbers macs listed asks → given ≡ numbers → docks ≡ h.docks → place ≡ place_of port given → is_listed (map (λ d. d.number) h.docks) port ≡ true → place < length docks
+harbour_within h numbers macs listed asks given docks port place i n e at is =
+    let here : place_of port given ≡ place_of port (map (λ d. d.number) h.docks) = ap (place_of port) (n ∙ i.numbers_are) in
+    let many : length (map (λ (d : DockSeen). d.number) h.docks) ≡ length h.docks = length-map h.docks (λ (d : DockSeen). d.number) in
+    omega (arith, at, here, many, ap length e, place_within (map (λ d. d.number) h.docks) port is)
 
 -- few rows, so that their numbers fit
 pub rows_few : {G : Type 0} (h : HarbourSeen) (numbers macs listed asks needs : List ℕ) (rows : List (Vec (Lane StationSeen) G)) → IsHarbour h numbers macs listed asks → MayGo h needs (rows_in rows) → 0 + length rows ≤ 65536

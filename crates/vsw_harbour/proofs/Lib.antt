@@ -3,6 +3,7 @@ pub mod Held
 pub mod Together
 pub mod Gathering
 pub mod Likes
+pub mod Pool
 pub mod Rows
 pub mod Asking
 pub mod Turning

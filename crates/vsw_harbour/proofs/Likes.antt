@@ -12,7 +12,7 @@ use Rattle.vsw_promise.specs.Ports.{PortSeen}
 use Rattle.vsw_promise.specs.Jobs.{Placed, deal}
 use Rattle.vsw_harbour.specs.Harbour.{AreLike, ports_in}
 
-worked_like : (place k : ℕ) (ps : List PortSeen) (ds : List DockSeen) (hs gs : List (List Event)) (ls : List Lane) (done : List Placed) → AreLike ps ds → HasWorked place k (ports_in ds) hs gs ls done → HasWorked place k ps hs gs ls done
+pub worked_like : (place k : ℕ) (ps : List PortSeen) (ds : List DockSeen) (hs gs : List (List Event)) (ls : List Lane) (done : List Placed) → AreLike ps ds → HasWorked place k (ports_in ds) hs gs ls done → HasWorked place k ps hs gs ls done
 worked_like place k [] [] [] [] [] done a w = tt
 worked_like place k (p ∷ ps) (d ∷ ds) (h ∷ hs) (g ∷ gs) (l ∷ ls) done a w = (subst (λ o. IsLane o h g k l) (sym a.0.opening) w.0, w.1, worked_like (suc place) k ps ds hs gs ls done a.1 w.2)
 worked_like place k [] [] [] [] (l ∷ ls) done a w = absurd w

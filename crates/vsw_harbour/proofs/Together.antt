@@ -1,5 +1,5 @@
 -- All callers meet the ports.
-use Rattle.std.proofs.Common.{◌≡◌, ◌<◌, ℕ, suc, List, [], ◌∷◌, ◌++◌, length, Some, slice_get, ◌+◌, ◌==◌, subst, refl, ap, sym, ◌∙◌, arith, append_assoc}
+use Rattle.std.proofs.Common.{◌≡◌, ◌<◌, ℕ, suc, List, [], ◌∷◌, ◌++◌, length, Some, map, slice_get, ◌+◌, ◌==◌, subst, refl, ap, sym, ◌∙◌, arith, append_assoc}
 use mathlib.Core.List.{IsPrefix}
 use Rattle.vsw_dock.specs.Lane.{Lane}
 use Rattle.vsw_flows.specs.Flows.{IsOf}
@@ -13,6 +13,8 @@ use Rattle.vsw_port.proofs.Fronts.{prefix_trans}
 use Rattle.vsw_dock.specs.LiveMeeting.{HeldSeen}
 use Rattle.vsw_dock.specs.Ports as live
 use Rattle.vsw_dock.specs.Actors.{AllMeet, AllRest, AreRows, HasWorked, lanes_of}
+use Rattle.vsw_dock.specs.Handing.{AreHandedRows, HaveHanded, with_hops}
+use Rattle.vsw_dock.proofs.Ending.{calls_met}
 use Rattle.vsw_dock.specs.Passes.{AtRest, Meets, PassNow}
 use Rattle.vsw_dock.specs.Phases as many
 use Rattle.vsw_dock.specs.Phases.{Track}
@@ -23,7 +25,8 @@ use Rattle.vsw_promise.specs.Jobs.{Placed, deal}
 use Rattle.vsw_promise.specs.Rounds.{opening_of}
 use Rattle.vsw_many.proofs.Turns.{rows_are_own}
 use Rattle.vsw_many.specs.Turns.{AreOwn, append_each}
-use Rattle.vsw_harbour.specs.Harbour.{HarbourSeen, callers, ports_in}
+use Rattle.vsw_harbour.proofs.Pool.{pooled}
+use Rattle.vsw_harbour.specs.Harbour.{HarbourSeen, callers, locals_in, ports_in}
 use Rattle.vsw_harbour.specs.Meeting.{RowsMeet}
 use Rattle.vsw_harbour.specs.Standing.{RowStands, RowsStand}
 use Rattle.vsw_harbour.specs.Steps.{Did}
@@ -45,7 +48,9 @@ HaveMet k _ _ _ _ _ = ⊥
 
 record RowMet (k : ℕ) (ds : List DockSeen) (hs gs : List (List Event)) (calls : List (List Call)) (ms : List (Lane StationSeen)) (done : List Placed) : Type 0 where
   lanes : List many.Lane
-  worked : HasWorked 0 k (ports_in ds) hs gs lanes done
+  hops : List (List Placed)
+  worked : HasWorked 0 k (ports_in ds) hs gs lanes (with_hops done hops)
+  handed : HaveHanded (locals_in ds) (map (λ l. l.track.calls) lanes) done hops
   met : HaveMet k ds gs calls lanes ms
 
 tells_still : (l m : Lane StationSeen) (calls : List Call) → m.station.lines ≡ l.station.lines → m.station.whole ≡ l.station.whole → tells l.station calls → tells m.station calls
@@ -92,9 +97,12 @@ have_met n k (d ∷ ds) (h ∷ helds) (c ∷ cs) (t ∷ ts) (l ∷ ls) [] a w r 
 
 row_met : (n k : ℕ) (ds : List DockSeen) (helds : List HeldSeen) (hs : List (List Event)) (calls : List (List Call)) (ls ms : List (Lane StationSeen)) (done : List Placed) → AreHeld ds helds → RowWorks k ds hs calls ls done → RowMeets n helds ls ms → RowMet k ds hs (histories_of helds) calls ms done
 row_met n k ds helds hs calls ls ms done a w r =
-    let ends = actor_ends 0 k (ports_in ds) hs (histories_of helds) w.tracks (passes_in ms) done w.work (all_meet n k ds helds calls w.tracks ls ms a w.lanes r) in record {
+    let meet = all_meet n k ds helds calls w.tracks ls ms a w.lanes r in
+    let ends = actor_ends 0 k (ports_in ds) hs (histories_of helds) w.tracks (passes_in ms) (with_hops done w.work.hops) w.work.work meet in record {
       lanes = lanes_of w.tracks (passes_in ms);
+      hops = w.work.hops;
       worked = ends.0;
+      handed = subst (λ cs. HaveHanded (locals_in ds) cs done w.work.hops) (calls_met (ports_in ds) (histories_of helds) w.tracks (passes_in ms) meet) w.work.handed;
       met = have_met n k ds helds calls w.tracks ls ms a w.lanes r ends.1;
     }
 
@@ -107,17 +115,18 @@ AllHaveMet k ds gs calls _ _ = ⊥
 
 record RowsMet (cs : List ℕ) (k : ℕ) (ds : List DockSeen) (hs gs : List (List Event)) (calls : List (List Call)) (jobs : List Placed) (ms : List (List (Lane StationSeen))) : Type 0 where
   rows : List (List many.Lane)
+  hops : List (List (List Placed))
   size : length rows ≡ length ms
-  done : AreRows cs jobs 0 k (ports_in ds) hs gs rows
+  done : AreHandedRows (locals_in ds) cs jobs k (ports_in ds) hs gs rows hops
   met : AllHaveMet k ds gs calls rows ms
 
 rows_met : (cs : List ℕ) (k : ℕ) (needs : List ℕ) (ds : List DockSeen) (helds : List HeldSeen) (hs : List (List Event)) (calls : List (List Call)) (jobs : List Placed) (ls ms : List (List (Lane StationSeen))) → AreHeld ds helds → RowsWork cs k ds hs calls jobs ls → RowsMeet needs helds ls ms
     → RowsMet cs k ds hs (histories_of helds) calls jobs ms
-rows_met cs k [] ds helds hs calls jobs [] [] a w r = record { rows = []; size = refl; done = tt; met = tt }
+rows_met cs k [] ds helds hs calls jobs [] [] a w r = record { rows = []; hops = []; size = refl; done = tt; met = tt }
 rows_met cs k (n ∷ needs) ds helds hs calls jobs (l ∷ ls) (m ∷ ms) a w r =
     let one = row_met n k ds helds hs calls l m (deal cs k jobs) a w.0 r.0 in
     let rest = rows_met cs (suc k) needs ds helds hs calls jobs ls ms a w.1 r.1 in
-    record { rows = one.lanes ∷ rest.rows; size = ap suc rest.size; done = (one.worked, rest.done); met = (one.met, rest.met) }
+    record { rows = one.lanes ∷ rest.rows; hops = one.hops ∷ rest.hops; size = ap suc rest.size; done = (one.worked, one.handed, rest.done); met = (one.met, rest.met) }
 rows_met cs k [] ds helds hs calls jobs [] (m ∷ ms) a w r = absurd r
 rows_met cs k [] ds helds hs calls jobs (l ∷ ls) ms a w r = absurd r
 rows_met cs k (n ∷ needs) ds helds hs calls jobs [] ms a w r = absurd r
@@ -192,24 +201,27 @@ journals_met callers n k (d ∷ ds) (x ∷ helds) (h ∷ hs) [] ms ts done place
 journals_met callers n k (d ∷ ds) (x ∷ helds) (h ∷ hs) (l ∷ ls) [] ts done place p a r w = absurd r
 journals_met callers n k (d ∷ ds) (x ∷ helds) (h ∷ hs) (l ∷ ls) (m ∷ ms) [] done place p a r w = absurd w
 
-first_journals : (cs : List ℕ) (callers : ℕ) (needs : List ℕ) (ds : List DockSeen) (helds : List HeldSeen) (hs : List (List Event)) (jobs : List Placed) (ls ms : List (List (Lane StationSeen))) (rows : List (List many.Lane)) → 0 < length ms → length rows ≡ length ms → Each (λ d. d.live.passes ≡ callers) ds → AreHeld ds helds → RowsMeet needs helds ls ms
-    → AreRows cs jobs 0 0 (ports_in ds) hs (histories_of helds) rows → AreJournals callers (ports_in ds) hs (histories_of helds)
-first_journals cs callers (n ∷ needs) ds helds hs jobs (l ∷ ls) (m ∷ ms) (row ∷ rows) some size p a r d = journals_met callers n 0 ds helds hs l m row (deal cs 0 jobs) 0 p a r.0 d.0
-first_journals cs callers needs ds helds hs jobs ls [] rows some size p a r d = absurd (omega (arith, some))
-first_journals cs callers needs ds helds hs jobs ls (m ∷ ms) [] some size p a r d = absurd (omega (arith, size))
-first_journals cs callers [] ds helds hs jobs [] (m ∷ ms) (row ∷ rows) some size p a r d = absurd r
-first_journals cs callers [] ds helds hs jobs (l ∷ ls) (m ∷ ms) (row ∷ rows) some size p a r d = absurd r
-first_journals cs callers (n ∷ needs) ds helds hs jobs [] (m ∷ ms) (row ∷ rows) some size p a r d = absurd r
+first_journals : (cs : List ℕ) (callers : ℕ) (needs : List ℕ) (ds : List DockSeen) (helds : List HeldSeen) (hs : List (List Event)) (jobs : List Placed) (ls ms : List (List (Lane StationSeen))) (rows : List (List many.Lane)) (hops : List (List (List Placed))) → 0 < length ms → length rows ≡ length ms → Each (λ d. d.live.passes ≡ callers) ds → AreHeld ds helds → RowsMeet needs helds ls ms
+    → AreHandedRows (locals_in ds) cs jobs 0 (ports_in ds) hs (histories_of helds) rows hops → AreJournals callers (ports_in ds) hs (histories_of helds)
+first_journals cs callers (n ∷ needs) ds helds hs jobs (l ∷ ls) (m ∷ ms) (row ∷ rows) (h ∷ hops) some size p a r d = journals_met callers n 0 ds helds hs l m row (with_hops (deal cs 0 jobs) h) 0 p a r.0 d.0
+first_journals cs callers (n ∷ needs) ds helds hs jobs (l ∷ ls) (m ∷ ms) (row ∷ rows) [] some size p a r d = absurd d
+first_journals cs callers needs ds helds hs jobs ls [] rows hops some size p a r d = absurd (omega (arith, some))
+first_journals cs callers needs ds helds hs jobs ls (m ∷ ms) [] hops some size p a r d = absurd (omega (arith, size))
+first_journals cs callers [] ds helds hs jobs [] (m ∷ ms) (row ∷ rows) hops some size p a r d = absurd r
+first_journals cs callers [] ds helds hs jobs (l ∷ ls) (m ∷ ms) (row ∷ rows) hops some size p a r d = absurd r
+first_journals cs callers (n ∷ needs) ds helds hs jobs [] (m ∷ ms) (row ∷ rows) hops some size p a r d = absurd r
 
 -- all callers did their own of the jobs, and met
 pub did : (h : HarbourSeen) (needs : List ℕ) (helds : List HeldSeen) (hs : List (List Event)) (calls : List (List Call)) (jobs : List Placed) (ls ms : List (List (Lane StationSeen))) → length ms ≡ callers h → Each (λ d. d.live.passes ≡ 16 + length h.controllers) h.docks → AreHeld h.docks helds
     → RowsWork h.controllers 0 h.docks hs calls jobs ls → RowsMeet needs helds ls ms → Did h hs calls jobs ms
 did h needs helds hs calls jobs ls ms size passes a w r =
-    let x = rows_met h.controllers 0 needs h.docks helds hs calls jobs ls ms a w r in record {
+    let x = rows_met h.controllers 0 needs h.docks helds hs calls jobs ls ms a w r in
+    let pool = pooled (locals_in h.docks) h.controllers jobs (ports_in h.docks) hs (histories_of helds) x.rows x.hops x.done in record {
       histories = histories_of helds;
       rows = x.rows;
+      hops = x.hops;
       size = x.size ∙ size;
       done = x.done;
-      journals = first_journals h.controllers (callers h) needs h.docks helds hs jobs ls ms x.rows (omega (arith, size)) x.size passes a r x.done;
-      stand = rows_stand h.controllers jobs 0 h.docks hs (histories_of helds) calls x.rows x.rows ms x.done (among_front [] x.rows) x.met;
+      journals = first_journals h.controllers (callers h) needs h.docks helds hs jobs ls ms x.rows x.hops (omega (arith, size)) x.size passes a r x.done;
+      stand = rows_stand h.controllers pool.0 0 h.docks hs (histories_of helds) calls x.rows x.rows ms pool.1 (among_front [] x.rows) x.met;
     }

@@ -18,9 +18,11 @@ use Rattle.vsw_promise.specs.Ports.{PortSeen, ports_of}
 use Rattle.vsw_policy.specs.Layers.{place_of}
 use Rattle.vsw_promise.specs.Jobs.{Placed, Setting, numbers_of}
 use Rattle.vsw_promise.specs.Schedule.{commands_at}
-use Rattle.vsw_harbour.specs.Harbour.{AreLike, HarbourSeen, IsOfRun, MayAsk, callers}
+use Rattle.vsw_harbour.specs.Harbour.{AreLike, HarbourSeen, IsOfRun, MayAsk, callers, locals_in, ports_in}
 use Rattle.vsw_harbour.specs.Standing.{RowStands, RowsStand, Stands}
 use Rattle.vsw_harbour.specs.Steps.{AreAt, Did, Turned, asks_before, placed_ask}
+use Rattle.vsw_dock.proofs.HopLaws.{asked_rows}
+use Rattle.vsw_dock.specs.Plain.{IsAsk}
 use Rattle.vsw_harbour.proofs.Likes.{calls_like, journals_like, numbers_like, rows_like}
 
 -- ---- no jobs
@@ -54,11 +56,12 @@ turned_none h s hs calls rows r j x = record {
 -- ---- one caller's jobs, and two stretches
 
 -- one caller's jobs were done in turn
-pub turned_one : (h : HarbourSeen) (s : Setting) (hs : List (List Event)) (calls : List (List Call)) (jobs : List Placed) (k : ℕ) (met : List (List (Lane StationSeen))) → IsOfRun h s → Each (λ t. job_doer h.controllers t.1 ≡ k) jobs → k < callers h → Did h hs calls jobs met → Turned h s hs calls jobs met
-turned_one h s hs calls jobs k met r who lt d =
+pub turned_one : (h : HarbourSeen) (s : Setting) (hs : List (List Event)) (calls : List (List Call)) (jobs : List Placed) (k : ℕ) (met : List (List (Lane StationSeen))) → IsOfRun h s → Each (λ t. job_doer h.controllers t.1 ≡ k) jobs → Each (λ t. IsAsk t.1) jobs → k < callers h → Did h hs calls jobs met → Turned h s hs calls jobs met
+turned_one h s hs calls jobs k met r who asked lt d =
     let ps = ports_of s.policy in
     let cs : h.controllers ≡ s.policy.controllers = sym r.controllers in
-    let done : AreRows s.policy.controllers jobs 0 0 ps hs d.histories d.rows = subst (λ c. AreRows c jobs 0 0 ps hs d.histories d.rows) cs (rows_like h.controllers jobs 0 ps h.docks hs d.histories d.rows r.ports d.done) in
+    let plain : AreRows h.controllers jobs 0 0 (ports_in h.docks) hs d.histories d.rows = asked_rows (locals_in h.docks) h.controllers jobs 0 (ports_in h.docks) hs d.histories d.rows d.hops asked d.done in
+    let done : AreRows s.policy.controllers jobs 0 0 ps hs d.histories d.rows = subst (λ c. AreRows c jobs 0 0 ps hs d.histories d.rows) cs (rows_like h.controllers jobs 0 ps h.docks hs d.histories d.rows r.ports plain) in
     let journals : AreJournals (callers h) ps hs d.histories = journals_like (callers h) ps h.docks hs d.histories r.ports d.journals in
     let all : callers h ≡ 16 + length s.policy.controllers = ap (λ c. 16 + length c) cs in record {
       histories = d.histories;
@@ -112,7 +115,7 @@ pub before_turned : (h : HarbourSeen) (l : Line) (rows met : List (List (Lane St
 before_turned h l rows met e may did s hs calls r j x =
     let within = place_within h.controllers l.controller may.controller in
     let lt : controller_at h.controllers l.controller < callers h = omega (arith, within) in
-    subst (λ w. Turned h s hs calls w met) (sym (asks_one h.docks l e)) (turned_one h s hs calls (placed_ask h.docks l ∷ []) (controller_at h.controllers l.controller) met r (refl, tt) lt (did hs calls x))
+    subst (λ w. Turned h s hs calls w met) (sym (asks_one h.docks l e)) (turned_one h s hs calls (placed_ask h.docks l ∷ []) (controller_at h.controllers l.controller) met r (refl, tt) (tt, tt) lt (did hs calls x))
 
 -- no commands, and one and then the others
 pub none_turned : (h : HarbourSeen) (rows : List (List (Lane StationSeen))) → AsksTurned h [] rows rows

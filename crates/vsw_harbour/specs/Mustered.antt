@@ -1,5 +1,5 @@
 -- The harbour of a policy file and the rows of all its callers, before the first round.
-use Rattle.std.specs.Prelude.{◌≡◌, ℕ, List, [], length, map, true, false}
+use Rattle.std.specs.Prelude.{◌≡◌, ℕ, Bool, List, [], length, map, true}
 use Rattle.vsw_harbour.specs.Lane.{Lane}
 use Rattle.vsw_commandfile.specs.declared.line.Line.{Line}
 use Rattle.vsw_harbour.specs.Seen.{DockSeen, StationSeen}
@@ -23,9 +23,9 @@ pub record IsServed (file : PolicyFile) (l : Line) : Type 0 where
   pub controller : is_listed file.controllers l.controller ≡ true
   pub rules : Each IsGoodRule (rules_given l.command)
 
--- the harbour of each run of this policy with so many workers, if no packet is handed on, and a row for each caller: no port has an entry, and no caller has done anything
-pub record IsMustered (workers : ℕ) (file : PolicyFile) (h : HarbourSeen) (rows : List (List (Lane StationSeen))) : Type 0 where
-  pub run : (commands : List Line) → IsOfRun h (record { workers = workers; policy = file; commands = commands; local = false })
+-- the harbour of each run of this policy with so many workers, which hands packets on or doesn't, and a row for each caller: no port has an entry, and no caller has done anything
+pub record IsMustered (workers : ℕ) (file : PolicyFile) (local : Bool) (h : HarbourSeen) (rows : List (List (Lane StationSeen))) : Type 0 where
+  pub run : (commands : List Line) → IsOfRun h (record { workers = workers; policy = file; commands = commands; local = local })
   pub size : length rows ≡ callers h
   pub lanes : Each (AreLanesAt h.docks) rows
   pub stand : RowsStand 0 h.docks (no_entries h.docks) (no_calls h.docks) rows

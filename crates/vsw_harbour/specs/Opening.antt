@@ -1,5 +1,5 @@
 -- The ports of a policy file, opened for a run of some workers.
-use Rattle.std.specs.Prelude.{◌≡◌, ◌<◌, ◌≤◌, ◌+◌, ◌++◌, ℕ, List, length, map, replicate}
+use Rattle.std.specs.Prelude.{◌≡◌, ◌<◌, ◌≤◌, ◌+◌, ◌++◌, ℕ, Bool, List, length, map, replicate}
 use Rattle.vsw_harbour.specs.HarbourOpening.{AreOpened}
 use Rattle.vsw_port.specs.Order.{ascending}
 use Rattle.vsw_harbour.specs.Ports.{OpenSeen}
@@ -8,9 +8,10 @@ use Rattle.vsw_config.specs.Good.{IsGoodPolicy}
 use Rattle.vsw_promise.specs.declared.port.Port.{Port}
 use Rattle.vsw_promise.specs.Ports.{port_seen, ports_of}
 
--- ports with their numbers and addresses in the policy, still without names
+-- ports with their numbers and addresses in the policy, still without names, and whether they hand packets on to each other
 pub record OpenHarbourSeen : Type 0 where
   pub workers : ℕ
+  pub local : Bool
   pub controllers : List ℕ
   pub numbers : List ℕ
   pub macs : List ℕ
@@ -34,11 +35,12 @@ pub record ArePortsFor (file : PolicyFile) (numbers macs : List ℕ) (os : List 
   pub opened : AreOpened (16 + length file.controllers) made os
 
 -- so they were for two to sixteen workers, where the file has a port
-pub record IsOpenFor (workers : ℕ) (file : PolicyFile) (o : OpenHarbourSeen) : Type 0 where
+pub record IsOpenFor (workers : ℕ) (file : PolicyFile) (local : Bool) (o : OpenHarbourSeen) : Type 0 where
   pub good : IsGoodPolicy file
   pub some : 0 < length file.ports
   pub more : 2 ≤ workers
   pub most : workers ≤ 16
   pub workers_are : o.workers ≡ workers
+  pub local_is : o.local ≡ local
   pub controllers_are : o.controllers ≡ file.controllers
   pub ports_are : ArePortsFor file o.numbers o.macs o.ports

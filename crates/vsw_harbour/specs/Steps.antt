@@ -6,22 +6,24 @@ use Rattle.vsw_commandfile.specs.declared.line.Line.{Line}
 use Rattle.vsw_dock.specs.Seen.{DockSeen, StationSeen}
 use Rattle.vsw_port.specs.declared.event.Event.{Event}
 use Rattle.vsw_port.specs.Calls.{Ask, Call}
-use Rattle.vsw_dock.specs.Actors.{AreRows}
+use Rattle.vsw_dock.specs.Handing.{AreHandedRows}
 use Rattle.vsw_dock.specs.Phases as many
 use Rattle.vsw_dock.specs.Rounds.{AreJournals, calls_by_port}
 use Rattle.vsw_policy.specs.Layers.{place_of}
 use Rattle.vsw_promise.specs.Ports.{ports_of}
 use Rattle.vsw_promise.specs.Jobs.{Placed, Setting}
 use Rattle.vsw_many.specs.Turns.{PlacedTurns, append_each}
-use Rattle.vsw_harbour.specs.Harbour.{HarbourSeen, callers, ports_in}
+use Rattle.vsw_harbour.specs.Harbour.{HarbourSeen, callers, locals_in, ports_in}
 use Rattle.vsw_harbour.specs.Standing.{RowsMay, RowsStand}
 
--- since all stood at these histories, of whose rounds these calls are told, each caller has done its own of these jobs; and all have met again
+-- since all stood at these histories, of whose rounds these calls are told, each caller has done its own of these jobs, and after each of them what
+-- its call handed on; and all have met again
 pub record Did (h : HarbourSeen) (hs : List (List Event)) (calls : List (List Call)) (jobs : List Placed) (met : List (List (Lane StationSeen))) : Type 0 where
   pub histories : List (List Event)
   pub rows : List (List many.Lane)
   pub size : length rows ≡ callers h
-  pub done : AreRows h.controllers jobs 0 0 (ports_in h.docks) hs histories rows
+  pub hops : List (List (List Placed))
+  pub done : AreHandedRows (locals_in h.docks) h.controllers jobs 0 (ports_in h.docks) hs histories rows hops
   pub journals : AreJournals (callers h) (ports_in h.docks) hs histories
   pub stand : RowsStand 0 h.docks histories (append_each calls (calls_by_port (ports_in h.docks) rows)) met
 

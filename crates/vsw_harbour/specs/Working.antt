@@ -2,14 +2,14 @@
 use Rattle.std.specs.Prelude.{◌≡◌, ℕ, suc, List, [], ◌∷◌, ◌++◌}
 use Rattle.vsw_dock.specs.Lane.{Lane}
 use Rattle.vsw_flows.specs.Flows.{IsOf}
+use Rattle.vsw_dock.specs.ActorsDone.{AtWorkOn}
 use Rattle.vsw_dock.specs.Docks.{pass_in, port_in, tells}
 use Rattle.vsw_dock.specs.Seen.{DockSeen, StationSeen}
 use Rattle.vsw_port.specs.Calls.{Call, calls_of}
 use Rattle.vsw_port.specs.declared.event.Event.{Event}
-use Rattle.vsw_dock.specs.Actors.{AtWork}
 use Rattle.vsw_dock.specs.Phases.{Track}
 use Rattle.vsw_promise.specs.Jobs.{Placed, deal}
-use Rattle.vsw_harbour.specs.Harbour.{ports_in}
+use Rattle.vsw_harbour.specs.Harbour.{locals_in, ports_in}
 
 -- a lane on this track: the pass is where the track is, and the station tells these calls and then the track's
 pub record IsWorking (d : DockSeen) (told : List Call) (t : Track) (l : Lane StationSeen) : Type 0 where
@@ -22,10 +22,11 @@ AreWorking k [] [] [] [] = Unit {0}
 AreWorking k (d ∷ ds) (c ∷ cs) (t ∷ ts) (l ∷ ls) = IsWorking d (calls_of (port_in d).controllers k c) t l × AreWorking k ds cs ts ls
 AreWorking k _ _ _ _ = ⊥
 
--- caller k has done these jobs since all stood at these histories, where of these calls its own were told
+-- caller k has done these jobs, and after each of them what its call handed on, since all stood at these histories, where of these calls its own
+-- were told
 pub record RowWorks (k : ℕ) (ds : List DockSeen) (hs : List (List Event)) (calls : List (List Call)) (row : List (Lane StationSeen)) (done : List Placed) : Type 0 where
   pub tracks : List Track
-  pub work : AtWork 0 k (ports_in ds) hs tracks done
+  pub work : AtWorkOn (locals_in ds) k (ports_in ds) hs tracks done
   pub lanes : AreWorking k ds calls tracks row
 
 -- all callers, from caller k on, have done their own of these jobs

@@ -1,13 +1,14 @@
 //! The commands before the packets, one after the other.
 
-ghost use Rattle.std.specs.Prelude.{◌≡◌, ◌≤◌, ◌+◌, ◌∷◌, [], ℕ, List, OnOk, length};
+ghost use Rattle.std.specs.Prelude.{◌≡◌, ◌≤◌, ◌<◌, ◌+◌, ◌∷◌, [], ℕ, List, OnOk, length};
 ghost use Rattle.vsw_dock.specs.Lanes.{IsOwn, IsTaken};
 ghost use Rattle.vsw_commandfile.specs.declared.line.Line.{Line};
 ghost use Rattle.vsw_many.specs.Turns.{placed_before};
 ghost use Rattle.vsw_dock.specs.Work.{job_in};
-ghost use Rattle.vsw_dock.specs.Docks.{port_in, takes};
+ghost use Rattle.vsw_dock.specs.ActorsDone.{AreAlike};
+ghost use Rattle.vsw_dock.specs.Docks.{locals, port_in, takes};
 ghost use Rattle.vsw_dock.specs.Opening.{rows_in};
-ghost use Rattle.vsw_harbour.specs.Able.{IsAble};
+ghost use Rattle.vsw_harbour.specs.Able.{IsAble, IsLine};
 ghost use Rattle.vsw_harbour.specs.Harbour.{IsOfRun, MayAsk, asks_of, callers};
 ghost use Rattle.vsw_harbour.specs.Standing.{RowsStand};
 ghost use Rattle.vsw_harbour.specs.Steps.{AreAt, Did, MayGo, Turned, asks_before, placed_ask};
@@ -30,7 +31,7 @@ use vsw_commandfile::Line;
 use vsw_dock::{Dock, Lane, Naming, Station, Watch, Work};
 use vsw_promise::Schedule;
 
-/// Of these rows, the first of which is caller `at`'s, that of a caller does a job.
+/// Of these rows, the first of which is caller `at`'s, that of a caller asks a line.
 fn step_row<'w, 'g, J: Naming, G: Watch, R: Wait>(
     rt: &R,
     alloc: Global,
@@ -42,8 +43,11 @@ fn step_row<'w, 'g, J: Naming, G: Watch, R: Wait>(
     job: &Work<'w>,
 )
     requires few { length docks.now ≤ 16 }
+    requires within { place < length docks.now }
+    requires line { IsLine job.now }
+    requires alike { AreAlike locals docks.now }
     requires small { at + length rows.old ≤ 65536 }
-    requires own { IsOwn port_in job_in caller job.now docks.now }
+    requires own { IsOwn port_in (job_in job.now) caller docks.now }
     requires taken { IsTaken takes 0 place job.now docks.now }
     requires able { IsAble at caller docks.now (rows_in rows.old) }
     ensures works { (cs : List ℕ) (hs : List (List Event)) (calls : List (List Call)) → job_doer cs (job_in job.now) ≡ caller → RowsStand at docks.now hs calls (rows_in rows.old) → RowsWork cs at docks.now hs calls ((place, job_in job.now) ∷ []) (rows_in rows.new) }

@@ -1,6 +1,6 @@
 //! The ports of a policy file are opened, and then named.
 
-ghost use Rattle.std.specs.Prelude.{◌≡◌, ◌≤◌, ◌<◌, ℕ, length, IfOk};
+ghost use Rattle.std.specs.Prelude.{◌≡◌, ◌≤◌, ◌<◌, [], ℕ, Bool, length, IfOk, if◌then◌else◌};
 ghost use Rattle.vsw_harbour.specs.HarbourOpening.{AreIdle, docks_of, rows_from, rows_in};
 ghost use Rattle.vsw_harbour.specs.Ports as live;
 ghost use Rattle.vsw_harbour.specs.Mustered.{IsMustered};
@@ -20,10 +20,11 @@ use vsw_config::PolicyFile;
 use vsw_port::ascending;
 use vsw_promise::ports_of;
 
-/// The ports of a policy file with a pass for each caller, opened and still without names.
+/// The ports of a policy file with a pass for each caller, opened and still without names, and whether they hand packets on to each other.
 #[derive(Drop)]
 pub struct OpenHarbour {
     workers: u32,
+    local: bool,
     docks: OpenDocks,
     controllers: Vec<u16>,
     listed: Vec<u16>,
@@ -35,7 +36,7 @@ impl Model for OpenHarbour {
 
     ghost Value = { OpenHarbourSeen };
 
-    ghost view = { λ o. record { workers = o.workers; controllers = o.controllers.items; numbers = o.docks.numbers.items; macs = o.docks.macs.items; ports = o.docks.ports.items } };
+    ghost view = { λ o. record { workers = o.workers; local = o.local; controllers = o.controllers.items; numbers = o.docks.numbers.items; macs = o.docks.macs.items; ports = o.docks.ports.items } };
 
     ghost invariant = { λ o. HasLists o.controllers.items o.listed.items o.asks.items };
 }
@@ -51,34 +52,48 @@ fn open_docks(alloc: Global, file: &PolicyFile) -> Result<OpenDocks, NoMemory>
     Ok(docks)
 }
 
+/// The addresses of the ports to which packets are handed on: all of these, or none.
+fn locals_among(local: bool, macs: &[Mac]) -> &[Mac]
+    ensures { result.now ≡ (if local then macs.now else []) }
+{
+    if local { macs } else { &[] }
+}
+
 /// The docks of ports that are named, and a row for each of so many callers.
 fn dock_named<'g, J: Naming, G>(
     alloc: Global,
     numbers: &[u16],
     macs: &[Mac],
+    locals: &[Mac],
     opened: Vec<OpenPort>,
     callers: u32,
     gate: &'g G,
 ) -> Result<(Vec<Dock<'g, J, G>>, Vec<Vec<Lane<Station>>>), NoMemory>
     requires named { J.ports ≡ live.ports_of opened.items }
     requires idle { AreIdle (live.passes_of opened.items) }
-    ensures docks { IfOk result (λ r. r.0.items ≡ docks_of numbers.now macs.now (live.ports_of opened.items)) }
+    requires few { length locals.now ≤ 16 }
+    ensures docks { IfOk result (λ r. r.0.items ≡ docks_of locals.now numbers.now macs.now (live.ports_of opened.items)) }
     ensures rows { IfOk result (λ r. rows_in r.1.items ≡ rows_from callers (live.passes_of opened.items)) }
 {
     let (ports, passes) = name_all::<J>(alloc, opened)?;
-    let docks = dock_all(alloc, numbers, macs, ports, gate)?;
+    let docks = dock_all(alloc, numbers, macs, locals, ports, gate)?;
     let rows = rows_of(alloc, passes, callers)?;
     Ok((docks, rows))
 }
 
 impl OpenHarbour {
-    /// Opens the ports of a policy file for so many workers.
-    pub fn open(alloc: Global, workers: u32, file: &PolicyFile) -> Result<OpenHarbour, NoMemory>
+    /// Opens the ports of a policy file for so many workers, which hand packets on to each other or don't.
+    pub fn open(
+        alloc: Global,
+        workers: u32,
+        file: &PolicyFile,
+        local: bool,
+    ) -> Result<OpenHarbour, NoMemory>
         requires good { IsGoodPolicy file.now }
         requires some { 0 < length file.now.ports }
         requires more { 2 ≤ workers }
         requires most { workers ≤ 16 }
-        ensures { IfOk result (λ o. IsOpenFor workers file.now o) }
+        ensures { IfOk result (λ o. IsOpenFor workers file.now local o) }
     {
         let docks = open_docks(alloc, file)?;
         let controllers = copied(alloc, file.controllers.as_slice())?;
@@ -86,6 +101,7 @@ impl OpenHarbour {
         let asks = needs_of(alloc, file.controllers.as_slice())?;
         Ok(OpenHarbour {
             workers,
+            local,
             docks,
             controllers,
             listed,
@@ -100,11 +116,12 @@ impl OpenHarbour {
         gate: &'g G,
     ) -> Result<(Harbour<'g, J, G>, Vec<Vec<Lane<Station>>>), NoMemory>
         requires named { J.ports ≡ live.ports_of self.ports }
-        requires open_for { (workers : ℕ) × (file : PolicyFile) × IsOpenFor workers file self }
-        ensures { IfOk result (λ r. (workers : ℕ) (file : PolicyFile) → IsOpenFor workers file self → IsMustered workers file r.0 (rows_in r.1.items)) }
+        requires open_for { (workers : ℕ) × (file : PolicyFile) × (local : Bool) × IsOpenFor workers file local self }
+        ensures { IfOk result (λ r. (workers : ℕ) (file : PolicyFile) (local : Bool) → IsOpenFor workers file local self → IsMustered workers file local r.0 (rows_in r.1.items)) }
     {
         let OpenHarbour {
             workers,
+            local,
             docks,
             controllers,
             listed,
@@ -116,7 +133,10 @@ impl OpenHarbour {
             ports,
         } = docks;
         let callers = callers_of(&controllers);
-        let (docks, rows) = dock_named::<J, G>(alloc, &numbers, &macs, ports, callers, gate)?;
+        let locals = locals_among(local, &macs);
+        let (docks, rows) = dock_named::<J, G>(
+            alloc, &numbers, &macs, locals, ports, callers, gate,
+        )?;
         let harbour = Harbour {
             alloc,
             workers,

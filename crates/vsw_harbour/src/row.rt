@@ -1,9 +1,11 @@
 //! The lanes of a caller.
 
-ghost use Rattle.std.specs.Prelude.{◌≡◌, ◌≤◌, ◌∷◌, [], List, length};
+ghost use Rattle.std.specs.Prelude.{◌≡◌, ◌≤◌, ◌<◌, ◌∷◌, [], List, length};
 ghost use Rattle.vsw_dock.specs.Lanes.{AreFit, IsOwn, IsTaken};
 ghost use Rattle.vsw_dock.specs.Work.{job_in};
-ghost use Rattle.vsw_dock.specs.Docks.{is_of, pass_in, permits, port_in, takes};
+ghost use Rattle.vsw_dock.specs.ActorsDone.{AreAlike};
+ghost use Rattle.vsw_dock.specs.Docks.{is_of, locals, pass_in, permits, port_in, takes};
+ghost use Rattle.vsw_harbour.specs.Able.{IsLine};
 ghost use Rattle.vsw_harbour.specs.Standing.{RowStands};
 ghost use Rattle.vsw_harbour.specs.Working.{RowWorks};
 ghost use Rattle.vsw_port.specs.Calls.{Call};
@@ -11,9 +13,9 @@ ghost use Rattle.vsw_port.specs.declared.event.Event.{Event};
 
 use std::alloc::Global;
 use std::sync::Wait;
-use vsw_dock::{Dock, Lane, Naming, Station, Watch, Work, step_at};
+use vsw_dock::{Dock, Lane, Naming, Parcel, Station, Watch, Work, step_at};
 
-/// The lanes of a caller do a job at the port at a place, and nothing at the others.
+/// The lanes of a caller ask a line at the port at a place, and nothing at the others. A line hands nothing on.
 fn step_lanes<'w, 'g, J: Naming, G: Watch, R: Wait>(
     rt: &R,
     alloc: Global,
@@ -24,15 +26,19 @@ fn step_lanes<'w, 'g, J: Naming, G: Watch, R: Wait>(
     job: &Work<'w>,
 )
     requires few { length docks.now ≤ 16 }
-    requires own { IsOwn port_in job_in caller job.now docks.now }
+    requires within { place < length docks.now }
+    requires line { IsLine job.now }
+    requires alike { AreAlike locals docks.now }
+    requires own { IsOwn port_in (job_in job.now) caller docks.now }
     requires taken { IsTaken takes 0 place job.now docks.now }
     requires fit { AreFit pass_in is_of permits caller 1 docks.now lanes.old }
     ensures works { (hs : List (List Event)) (calls : List (List Call)) → RowStands caller docks.now hs calls lanes.old → RowWorks caller docks.now hs calls lanes.new ((place, job_in job.now) ∷ []) }
 {
-    step_at(rt, alloc, docks, lanes, 0, place, job);
+    let mut none = Parcel::none(alloc);
+    step_at(rt, alloc, docks, lanes, 0, place, job, &mut none);
 }
 
-/// The row of a caller does a job at the port at a place, and nothing at the others.
+/// The row of a caller asks a line at the port at a place, and nothing at the others.
 pub fn step<'w, 'g, J: Naming, G: Watch, R: Wait>(
     rt: &R,
     alloc: Global,
@@ -43,7 +49,10 @@ pub fn step<'w, 'g, J: Naming, G: Watch, R: Wait>(
     job: &Work<'w>,
 )
     requires few { length docks.now ≤ 16 }
-    requires own { IsOwn port_in job_in caller job.now docks.now }
+    requires within { place < length docks.now }
+    requires line { IsLine job.now }
+    requires alike { AreAlike locals docks.now }
+    requires own { IsOwn port_in (job_in job.now) caller docks.now }
     requires taken { IsTaken takes 0 place job.now docks.now }
     requires fit { AreFit pass_in is_of permits caller 1 docks.now row.old.items }
     ensures works { (hs : List (List Event)) (calls : List (List Call)) → RowStands caller docks.now hs calls row.old.items → RowWorks caller docks.now hs calls row.new.items ((place, job_in job.now) ∷ []) }

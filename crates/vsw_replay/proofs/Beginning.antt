@@ -85,7 +85,7 @@ head_put s start old now name run switch t u e d f =
       next = subst (λ n. IsNextCut s.commands n t.next) (sym f.first) f.next;
       long = shows.1;
       shows = shows_put start old now name r p.bytes r.batch t.stop d.inputs shows.0;
-      so = subst (λ c. AreSoFar s [] c [] (map (λ p. []) (ports_of s.policy))) (sym (ap (cuts_within s.commands) f.first ∙ within_none s.commands)) (none_so_far s f.at.apart);
+      so = subst (λ c. AreSoFar s [] c [] (map (λ p. []) (ports_of s.policy))) (sym (ap (cuts_within s.commands) f.first ∙ within_none s.commands)) (none_so_far s f.at.some f.at.few);
       at = f.at;
       short_is = sym f.short_is;
       puts = grows_is start.put now.put head_line (report_text []) (sym (append-nil head_line)) (grows_then start.put old.put now.put [] head_line f.puts d.told);
@@ -99,7 +99,7 @@ head_unput s start old now name run switch t x e d f =
     let passed = headed start old name r p.bytes t.next t.stop f.next.above p.read p.says e in
     let reading = reading_put start old now name r.source.file p.bytes d.inputs p.read.reading in
     runs_so s start now name end.WriteFault (since_put start old now head_line (Err x) f.since d) reading.later
-    (omega (arith, f.since.puts_later, d.cause.failed), breaks_off s start now name (read_to Stopped p.bytes) head_line d.told.0 (reads_stopped start now name r.source.file p.bytes reading) (header_follows s p.bytes passed.form f.at.apart passed.header) (grows_then start.put old.put now.put [] (take d.told.0 head_line) f.puts d.told.1))
+    (omega (arith, f.since.puts_later, d.cause.failed), breaks_off s start now name (read_to Stopped p.bytes) head_line d.told.0 (reads_stopped start now name r.source.file p.bytes reading) (header_follows s p.bytes passed.form f.at.some f.at.few passed.header) (grows_then start.put old.put now.put [] (take d.told.0 head_line) f.puts d.told.1))
 
 -- ---- no header was accepted
 
@@ -160,7 +160,7 @@ pub first_unfilled : (s : Setting) (start old now : Outside) (name : List ℕ) (
 first_unfilled s start old now name run switch next e r outputs fills o =
     let f = fills start name [] (opened_holds s start old name run switch o) in
     let bytes = f.bytes ++ f.more in
-    let t = some_tells s bytes o.at.apart in
+    let t = some_tells s bytes o.at.some o.at.few in
     runs_so s start now name end.Memory (since_read start old now o.since outputs) f.reading.later
     (inr (inr (record { trace = read_to Stopped bytes; reads = reads_stopped start now name r.source.file bytes f.reading; text = t.0; tells = t.1; count = 0; puts = grows_read start old now [] outputs o.puts })))
 

@@ -1,13 +1,14 @@
 -- Rounds of a trace are rounds of a longer one, and on longer histories.
-use Rattle.std.proofs.Common.{◌≡◌, ◌<◌, ◌≤◌, ◌+◌, ◌-◌, inl, inr, ℕ, zero, suc, Bool, List, [], ◌∷◌, ◌++◌, length, map, take, drop, refl, ap, sym, ◌∙◌, subst, arith, length-take, false}
+use Rattle.std.proofs.Common.{◌≡◌, ◌<◌, ◌≤◌, ◌+◌, ◌-◌, inl, inr, ℕ, zero, suc, Bool, List, [], ◌∷◌, ◌++◌, length, map, take, drop, refl, ap, sym, ◌∙◌, subst, arith, length-take}
 use Rattle.vsw_pcap.specs.declared.capture.Record.{Record}
 use Rattle.vsw_promise.specs.Ports.{PortSeen, ports_of}
 use Rattle.vsw_port.specs.declared.event.Event.{Event}
 use Rattle.vsw_port.specs.Order.{numbered}
-use Rattle.vsw_promise.specs.Alone.{rounds_from}
 use Rattle.vsw_promise.specs.Jobs.{Setting, at_place, macs_of, loose_among, packets_between, placed_packets, before_jobs, during_jobs}
 use Rattle.vsw_promise.specs.Rounds.{IsRound, IsPortRound, ArePortRounds, AreRoundsAt, AreRounds, AreChained, AllBegin, end_before}
-use Rattle.vsw_promise.proofs.Exists.{rounds_exist, ports_later, none_yet, no_counts}
+use Rattle.vsw_promise.proofs.Exists.{ports_later, none_yet, no_counts}
+use Rattle.vsw_hairpin.proofs.Existing.{rounds_go_on}
+use Rattle.vsw_hairpin.proofs.Laws.{turns_hand_on}
 use Rattle.vsw_report.specs.declared.round.PortRound.{PortRound}
 use Rattle.vsw_report.specs.declared.round.Round.{Round}
 use Rattle.vsw_crew.specs.Round.{TellsRound}
@@ -122,14 +123,15 @@ chain_append counts mid last [] more a b = subst (λ w. AreChained w more last) 
 chain_append counts mid last (r ∷ rs) more a b = (a.0, chain_append (map (λ p. p.after) r.ports) mid last rs more a.1 b)
 
 -- none yet
-pub none_so_far : (s : Setting) → s.local ≡ false → AreSoFar s [] [] [] (map (λ p. []) (ports_of s.policy))
-none_so_far s apart = record { apart = apart; right = none_yet (ports_of s.policy); are = tt; chained = no_counts (ports_of s.policy) }
+pub none_so_far : (s : Setting) → 0 < s.workers → s.workers ≤ 16 → AreSoFar s [] [] [] (map (λ p. []) (ports_of s.policy))
+none_so_far s some few = record { some = some; few = few; right = none_yet (ports_of s.policy); are = tt; chained = no_counts (ports_of s.policy) }
 
 -- one more was run
 pub round_more : (s : Setting) (given all packets : List Record) (first : ℕ) (cs : List ℕ) (rounds : List Round) (hs : List (List Event)) (now : SwitchNow) (short : Bool) (old new : List ℕ) → given ≡ take first all → AreLow 0 first cs → packets_between all first (length all) ≡ numbered first packets → AreSoFar s given cs rounds hs
     → (r : TellsRound s hs first packets now short old new) → AreSoFar s all (cs ++ first ∷ []) (rounds ++ r.round ∷ []) r.histories
 round_more s given all packets first cs rounds hs now short old new e low are so r = record {
-  apart = so.apart;
+  some = so.some;
+  few = so.few;
   right = r.right;
   are = append_rounds s given all r.histories first 0 cs [] rounds (r.round ∷ []) e low (rounds_later s given hs r.histories cs rounds r.begin so.are) (r.is_round all (length all) are, tt);
   chained = chain_append (map (λ p. 0) (ports_of s.policy)) (map length hs) (map length r.histories) rounds (r.round ∷ []) so.chained (r.before, sym r.after);
@@ -147,12 +149,13 @@ pub record RoundsFollow (s : Setting) (all : List Record) (cs : List ℕ) (round
 
 pub rounds_follow : (s : Setting) (given all : List Record) (first : ℕ) (cs rest : List ℕ) (rounds : List Round) (hs : List (List Event)) → given ≡ take first all → AreLow 0 first cs → AreSoFar s given cs rounds hs → RoundsFollow s all (cs ++ first ∷ rest) rounds
 rounds_follow s given all first cs rest rounds hs e low so =
-    let next = rounds_exist s all hs (first ∷ rest) so.apart so.right in
-    let more = rounds_from s all hs (first ∷ rest) in record {
+    let next = rounds_go_on turns_hand_on s all hs (first ∷ rest) so.some so.few so.right in
+    let more = next.rounds in record {
       more = more;
       histories = next.histories;
       so = record {
-        apart = so.apart;
+        some = so.some;
+        few = so.few;
         right = next.right;
         are = append_rounds s given all next.histories first 0 cs rest rounds more e low (rounds_later s given hs next.histories cs rounds next.begin so.are) next.are;
         chained = chain_append (map (λ p. 0) (ports_of s.policy)) (map length hs) (map length next.histories) rounds more so.chained next.chained;

@@ -156,14 +156,14 @@ refused_tells s bytes (Cut at) h d = absurd (not_cut bytes at h)
 refused_tells s bytes (Huge at) h d = absurd (not_huge bytes at h)
 
 -- a good header alone
-pub header_follows : (s : Setting) (bytes : List ℕ) (form : Form) → s.local ≡ false → header_of bytes ≡ Ok form → Follows s (read_to Stopped bytes) head_line
-header_follows s bytes form apart h =
-    let none : AreSoFar s [] (cuts_within s.commands 0) [] (map (λ p. []) (ports_of s.policy)) = subst (λ c. AreSoFar s [] c [] (map (λ p. []) (ports_of s.policy))) (sym (within_none s.commands)) (none_so_far s apart) in
+pub header_follows : (s : Setting) (bytes : List ℕ) (form : Form) → 0 < s.workers → s.workers ≤ 16 → header_of bytes ≡ Ok form → Follows s (read_to Stopped bytes) head_line
+header_follows s bytes form some most h =
+    let none : AreSoFar s [] (cuts_within s.commands 0) [] (map (λ p. []) (ports_of s.policy)) = subst (λ c. AreSoFar s [] c [] (map (λ p. []) (ports_of s.policy))) (sym (within_none s.commands)) (none_so_far s some most) in
     let f = front_follows s bytes [] [] (map (λ p. []) (ports_of s.policy)) (record { form = form; rest = drop 24 bytes; header = h; splits = refl }) (omega arith) (inr (0, omega arith)) none in
     record { more = f.more; tells = subst (λ t. MayTell s (read_to Stopped bytes) (t ++ f.more)) (append-nil head_line) f.tells }
 
-pub some_tells : (s : Setting) (bytes : List ℕ) → s.local ≡ false → (text : List ℕ) × MayTell s (read_to Stopped bytes) text
-some_tells s bytes apart = by (header_of bytes) refl
+pub some_tells : (s : Setting) (bytes : List ℕ) → 0 < s.workers → s.workers ≤ 16 → (text : List ℕ) × MayTell s (read_to Stopped bytes) text
+some_tells s bytes some most = by (header_of bytes) refl
   where
     few : (bad : BadTrace) → header_of bytes ≡ Err bad → (b : Bool) → nat_lt (length bytes) 24 ≡ b → (text : List ℕ) × MayTell s (read_to Stopped bytes) text
     few bad h true t = ([], inr (refl, inl (record { few = grind (arith, common_steps); nothing = refl })))
@@ -171,4 +171,4 @@ some_tells s bytes apart = by (header_of bytes) refl
 
     by : (r : Result Form BadTrace) → header_of bytes ≡ r → (text : List ℕ) × MayTell s (read_to Stopped bytes) text
     by (Err bad) h = few bad h (nat_lt (length bytes) 24) refl
-    by (Ok form) h = let f = header_follows s bytes form apart h in (head_line ++ f.more, f.tells)
+    by (Ok form) h = let f = header_follows s bytes form some most h in (head_line ++ f.more, f.tells)

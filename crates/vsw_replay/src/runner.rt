@@ -63,6 +63,42 @@ impl<'g, J: Naming, G> Runner<'g, J, G> {
     }
 }
 
+/// Runs a round in one thread, which tells the watch of its packets.
+#[tactic(auto, using(crate::proofs::Behind::told_alone))]
+fn run_alone<G: Watch>(
+    switch: &mut Switch,
+    watch: &G,
+    schedule: &Schedule,
+    first: u32,
+    packets: &Batch,
+    out: &mut RoundText,
+) -> Result<bool, NoMemory>
+    requires served { AreServed switch.old schedule.now }
+    requires numbers { first + length packets.now < 2 ^ 32 }
+    ensures runs { IfOk result (λ short. (s : Setting) (hs : List (List Event)) → s.commands ≡ schedule.now → IsAt s hs switch.old → TellsRound s hs first packets.now switch.new short (whole_text out.old) (whole_text out.new)) }
+    ensures served { (lines : List Line) → AreServed switch.old lines → AreServed switch.new lines }
+{
+    run_round(switch, watch, schedule, first, packets, out)
+}
+
+/// Runs a round with a thread for each caller. Its text goes behind the end.
+#[tactic(auto, using(crate::proofs::Behind::told_behind))]
+fn run_beside<'g, J: Naming + Send + Sync, G: Gate + Watch + Sync, R: Threads + Wait + Sync>(
+    crew: &mut Crew<'g, J, G>,
+    rt: &R,
+    schedule: &Schedule,
+    first: u32,
+    packets: &Batch,
+    out: &mut RoundText,
+) -> Result<bool, NoMemory>
+    requires served { AreServed (crew_now crew.old) schedule.now }
+    requires numbers { first + length packets.now < 2 ^ 32 }
+    ensures runs { IfOk result (λ short. (s : Setting) (hs : List (List Event)) → s.commands ≡ schedule.now → IsAt s hs (crew_now crew.old) → TellsRound s hs first packets.now (crew_now crew.new) short (whole_text out.old) (whole_text out.new)) }
+    ensures served { (lines : List Line) → AreServed (crew_now crew.old) lines → AreServed (crew_now crew.new) lines }
+{
+    crew.run_round(rt, schedule, first, packets, &mut out.end)
+}
+
 impl<'g, J: Naming + Send + Sync, G: Gate + Watch + Sync> Runner<'g, J, G> {
     /// Runs the round of these packets, the first of which has the number `first` in the trace: the commands that name that
     /// number, first those before the packets, and then those beside them and the packets. Appends its text, and answers
@@ -81,8 +117,8 @@ impl<'g, J: Naming + Send + Sync, G: Gate + Watch + Sync> Runner<'g, J, G> {
         ensures served { (lines : List Line) → AreServed self.old lines → AreServed self.new lines }
     {
         match &mut self.work {
-            Work::Alone(switch, watch) => run_round(switch, *watch, schedule, first, packets, out),
-            Work::Beside(crew) => crew.run_round(rt, schedule, first, packets, &mut out.end),
+            Work::Alone(switch, watch) => run_alone(switch, *watch, schedule, first, packets, out),
+            Work::Beside(crew) => run_beside(crew, rt, schedule, first, packets, out),
         }
     }
 }

@@ -12,13 +12,11 @@ use Rattle.vsw_pcap.specs.declared.capture.Record.{Record}
 use Rattle.vsw_pcap.specs.declared.fault.BadTrace.TheVariants as bad
 use Rattle.vsw_promise.specs.Jobs.{Setting}
 use Rattle.vsw_report.specs.declared.round.Round.{Round}
-use Rattle.vsw_run.proofs.Bounds.{counted}
-use Rattle.vsw_run.proofs.Grammars.{reads_grammar}
 use Rattle.vsw_run.proofs.Runs.{each_asked}
-use Rattle.vsw_run.specs.Grammar.{Asks, IsCount}
+use Rattle.vsw_run.proofs.Well.{workers_are}
 use Rattle.vsw_run.specs.IsRun.{EndsByTrace}
 use Rattle.vsw_run.specs.Trace.{HasBadRecord, HasMore, Tells, TellsAll, TellsWithin, Trace}
-use Rattle.vsw_run.specs.Words.{Forward, Request, asked_in}
+use Rattle.vsw_run.specs.Words.{Request, asked_in, run_over}
 use Rattle.vsw_run.specs.declared.ending.Ending.{Ending}
 use Rattle.vsw_run.specs.declared.ending.Ending.TheVariants as ending
 use Rattle.vsw_report_law.proofs.Outgoing.{front, rest}
@@ -86,12 +84,9 @@ tells_read s t (ending.Report why) text f are w = absurd w
 tells_read s t ending.Illegal text f are w = absurd w
 tells_read s t (ending.Rows why) text f are w = absurd w
 
-workers_are : (words : List (List ℕ)) (q : Request) → asked_in words ≡ Some (Forward q) → IsCount q.workers
-workers_are words q e = let h : Asks words (Forward q) = (reads_grammar words (Forward q)).0 e in counted h.3.option q.workers h.3.option_is
-
-has_files : (words : List (List ℕ)) (q : Request) (old new : Outside) (files : List Opened) (end : Ending) → asked_in words ≡ Some (Forward q) → (ends : EndsByTrace q old new files end) → HasFiles ends.reads.setting
-has_files words q old new files end e ends =
-    let count = workers_are words q e in
+has_files : (words : List (List ℕ)) (local : Bool) (q : Request) (old new : Outside) (files : List Opened) (end : Ending) → asked_in words ≡ Some (run_over local q) → (ends : EndsByTrace local q old new files end) → HasFiles ends.reads.setting
+has_files words local q old new files end e ends =
+    let count = workers_are words local q e in
     let o = ends.reads.opened in
     record {
       policy = o.policy.bytes;
@@ -103,11 +98,11 @@ has_files words q old new files end e ends =
     }
 
 pub put_is_read : PutIsRead
-put_is_read words q old new files end e ends are =
+put_is_read words local q old new files end e ends are =
     let file = ends.reads.file in
-    tells_read ends.reads.setting ends.reads.trace end ends.text (has_files words q old new files end e ends) (subst IsBytes (sym ends.reads.read.bytes) (front file.read file.bytes are)) ends.tells
+    tells_read ends.reads.setting ends.reads.trace end ends.text (has_files words local q old new files end e ends) (subst IsBytes (sym ends.reads.read.bytes) (front file.read file.bytes are)) ends.tells
 
 pub done_is_read : DoneIsRead
-done_is_read words q old new files e ends are =
+done_is_read words local q old new files e ends are =
     let file = ends.reads.file in
-    all_read ends.reads.setting ends.reads.trace false ends.text (has_files words q old new files ending.Done e ends) (subst IsBytes (sym ends.reads.read.bytes) (front file.read file.bytes are)) ends.tells
+    all_read ends.reads.setting ends.reads.trace false ends.text (has_files words local q old new files ending.Done e ends) (subst IsBytes (sym ends.reads.read.bytes) (front file.read file.bytes are)) ends.tells

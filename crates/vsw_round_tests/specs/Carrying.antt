@@ -1,9 +1,10 @@
 -- Packets that a port without layers carries.
-use Rattle.std.specs.Prelude.{◌≡◌, ◌≤◌, ℕ, List, [], ◌∷◌, length, false, Vec}
+use Rattle.std.specs.Prelude.{◌≡◌, ◌≤◌, ◌<◌, ℕ, List, [], ◌∷◌, length, false, Vec}
 use Rattle.vsw_actors.specs.declared.actor.Placed.{Placed}
 use Rattle.vsw_actors.specs.declared.lane.Lane.{Lane}
 use Rattle.vsw_round_tests.specs.declared.carrying.Load.{Load}
 use Rattle.vsw_round_tests.specs.declared.carrying.Packet.{Packet}
+use Rattle.vsw_round_tests.specs.declared.refusing.Nothing.{Nothing}
 use Rattle.vsw_round_tests.specs.declared.refusing.Refusing.{Refusing}
 use Rattle.vsw_base.specs.declared.fate.Fate.{Fate}
 use Rattle.vsw_base.specs.declared.fate.Fate.TheVariants.{Pass, Drop}
@@ -49,8 +50,11 @@ is_of p s = Unit {0}
 abbrev pub permits : Load → ℕ
 permits s = 3
 
-abbrev pub takes : Refusing → Packet → Type 0
-takes p j = Unit {0}
+abbrev pub takes : Refusing → ℕ → Packet → Type 0
+takes p place j = Unit {0}
+
+abbrev pub fits : Refusing → Packet → Nothing → Type 0
+fits p j q = Unit {0}
 
 -- ---- what a worker begins with
 
@@ -59,9 +63,9 @@ abbrev pub IsRow : ℕ → List (Lane Load) → Type 0
 IsRow k (l ∷ m ∷ []) = (l.station.worker ≡ k) × (l.base ≡ 0) × (m.station.worker ≡ k) × (m.base ≡ 0)
 IsRow k _ = ⊥
 
--- at most three packets that this worker brings
+-- at most three packets that this worker brings, each to one of two ports
 abbrev pub IsShare : ℕ → List (Placed Packet) → Type 0
-IsShare k js = (length js ≤ 3) × Each (λ a. a.job.worker ≡ k) js
+IsShare k js = (length js ≤ 3) × Each (λ a. (a.job.worker ≡ k) × (a.place < 2)) js
 
 -- rows of the workers 0, 1 and 2, and their shares
 abbrev pub AreThreeRows : {G : Type 0} → List (Vec (Lane Load) G) → Type 0

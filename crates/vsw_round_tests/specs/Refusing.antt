@@ -1,5 +1,6 @@
 -- A port that has memory for no command.
 use Rattle.std.specs.Prelude.{ℕ, List, [], ◌∷◌, true, false}
+use Rattle.vsw_round_tests.specs.declared.refusing.Nothing.{Nothing}
 use Rattle.vsw_round_tests.specs.declared.refusing.Notes.{Notes}
 use Rattle.vsw_round_tests.specs.declared.refusing.Refusing.{Refusing}
 use Rattle.vsw_commandfile.specs.declared.line.Line.{Line}
@@ -8,6 +9,7 @@ use Rattle.vsw_many.specs.Passes.{PassNow}
 use Rattle.vsw_policy.specs.declared.command.Command.TheVariants.{RemoveLayer}
 use Rattle.vsw_policy.specs.declared.refusal.Refusal.TheVariants.{Memory}
 use Rattle.vsw_policy.specs.declared.refusal.Reply.TheVariants.{Refused}
+use Rattle.vsw_promise.specs.Jobs.{Placed}
 use Rattle.vsw_promise.specs.Ports.{PortSeen}
 
 -- the line of this number, of controller 1
@@ -37,5 +39,18 @@ is_of p s = Unit {0}
 abbrev pub permits : Notes → ℕ
 permits s = 3
 
-abbrev pub takes : Refusing → ℕ → Type 0
-takes p n = Unit {0}
+abbrev pub takes : Refusing → ℕ → ℕ → Type 0
+takes p place n = Unit {0}
+
+-- it hands nothing on, so no parcel holds anything, whatever a parcel would tell
+abbrev pub locals : Refusing → List ℕ
+locals p = []
+
+abbrev pub fits : Refusing → ℕ → Nothing → Type 0
+fits p n q = Unit {0}
+
+abbrev pub holds : Nothing → Type 0
+holds q = ⊥
+
+abbrev pub parcel_in : Nothing → Placed
+parcel_in q = (0, Ask (line 0))

@@ -1,10 +1,10 @@
 //! Where an actor does which job.
 
-ghost use Rattle.std.specs.Prelude.{◌≡◌, ◌∷◌, [], IfSome, length};
+ghost use Rattle.std.specs.Prelude.{◌≡◌, ◌∷◌, [], IfSome};
 ghost use Rattle.vsw_actors.specs.declared.lane.Lane.{Lane};
 ghost use Rattle.vsw_round_tests.specs.declared.refusing.Notes.{Notes};
 
-use crate::refusing::{Notes, Refusing};
+use crate::refusing::{Notes, Nothing, Refusing};
 use std::alloc::Global;
 use vsw_actors::{Actor, Lane, Placed};
 use vsw_workers::Forwarder;
@@ -32,7 +32,7 @@ fn two_lanes(alloc: Global) -> Option<Vec<Lane<Notes>>>
 }
 
 fn three_jobs(alloc: Global) -> Option<Vec<Placed<u32>>>
-    ensures { IfSome result (λ v. length v.items ≡ 3) }
+    ensures { IfSome result (λ v. v.items ≡ record { place = 1; job = 10 } ∷ record { place = 0; job = 20 } ∷ record { place = 1; job = 30 } ∷ []) }
 {
     let mut jobs = Vec::with_capacity(alloc, 3).ok()?;
     jobs.push_reserved(Placed { place: 1, job: 10 });
@@ -54,7 +54,7 @@ fn each_job_is_done_at_its_port_and_in_its_turn(rt: HostRuntime) {
     let ports = [Refusing::new(1, 0), Refusing::new(2, 0)];
     let lanes = two_lanes(rt.alloc()).expect(&rt, "memory");
     let jobs = three_jobs(rt.alloc()).expect(&rt, "memory");
-    let mut actor = Actor::begin(16, &ports, lanes, jobs);
+    let mut actor = Actor::begin(16, &ports, lanes, jobs, Nothing);
     for _ in 0..actor.left() {
         actor.job(&rt, rt.alloc());
     }

@@ -4,6 +4,7 @@ use std::alloc::Global;
 use std::sync::Wait;
 use std::sync::atomic::{AtomicU64, Ordering};
 use vsw_actors::{Port, RowPort};
+use vsw_base::NoMemory;
 
 /// A port that has memory for no command. Any thread may use it. It counts how many rows were reconciled, and keeps the last one's
 /// number; each is one step on an atomic word.
@@ -46,12 +47,20 @@ pub struct Notes {
     pub count: usize,
 }
 
+/// No packet: these ports hand nothing on.
+#[derive(Drop)]
+pub struct Nothing;
+
 impl Port<u32> for Refusing {
-    ghost use Rattle.vsw_round_tests.specs.Refusing.{asked, is_of, pass, permits, port, takes, tells};
+    ghost use Rattle.vsw_round_tests.specs.Refusing.{asked, fits, holds, is_of, locals, parcel_in, pass, permits, port, takes, tells};
 
     type Station = Notes;
 
+    type Parcel = Nothing;
+
     ghost port_in = { port };
+
+    ghost locals = { locals };
 
     ghost pass_in = { pass };
 
@@ -65,10 +74,37 @@ impl Port<u32> for Refusing {
 
     ghost takes = { takes };
 
-    fn work<R: Wait>(&self, _rt: &R, _alloc: Global, station: &mut Notes, job: &u32) {
+    ghost fits = { fits };
+
+    ghost holds = { holds };
+
+    ghost parcel_in = { parcel_in };
+
+    fn parcel(_alloc: Global, _ports: &[Self]) -> Result<Nothing, NoMemory> {
+        Ok(Nothing)
+    }
+
+    fn work<R: Wait>(
+        &self,
+        _rt: &R,
+        _alloc: Global,
+        station: &mut Notes,
+        _place: usize,
+        job: &u32,
+        _parcel: &mut Nothing,
+    ) -> bool {
         if station.count < 4 {
             station.asked[station.count] = *job;
             station.count += 1;
         }
+        false
+    }
+
+    fn receive<R: Wait>(&self, _rt: &R, _alloc: Global, _station: &mut Notes, _parcel: &Nothing) {
+        unreachable!();
+    }
+
+    fn place(_parcel: &Nothing) -> usize {
+        0
     }
 }

@@ -87,7 +87,8 @@ fn three_rows(alloc: Global) -> Option<Vec<Vec<Lane<Load>>>>
 }
 
 fn placed(worker: u32, place: usize, number: u32) -> Placed<Packet>
-    ensures { result.job.worker ≡ worker }
+    ensures worker { result.job.worker ≡ worker }
+    ensures place { result.place ≡ place }
 {
     Placed {
         place,

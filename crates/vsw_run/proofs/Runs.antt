@@ -1,5 +1,5 @@
 -- Two runs of the same words over the same files.
-use Rattle.std.proofs.Common.{◌≡◌, ◌≢◌, ℕ, zero, suc, true, false, List, [], ◌∷◌, ◌++◌, length, take, drop, Option, Some, None, Ok, Err, Result, refl, ap, sym, ◌∙◌, subst, arith, All}
+use Rattle.std.proofs.Common.{◌≡◌, ◌≢◌, ℕ, zero, suc, Bool, true, false, List, [], ◌∷◌, ◌++◌, length, take, drop, Option, Some, None, Ok, Err, Result, refl, ap, sym, ◌∙◌, subst, arith, All}
 use Rattle.vsw_commandfile.specs.declared.fault.CommandsFault.{CommandsFault}
 use Rattle.vsw_commandfile.specs.Commands.{commands_file_of}
 use Rattle.vsw_commandfile.specs.declared.line.Line.{Line}
@@ -30,7 +30,7 @@ use Rattle.vsw_promise.specs.Jobs.{Setting, cuts, cuts_within}
 use Rattle.vsw_report.specs.Print.{report_text}
 use Rattle.vsw_promise.specs.Rounds.{AreRounds}
 use Rattle.vsw_run.specs.Trace.{All as Whole, Trace, Tells}
-use Rattle.vsw_run.specs.Words.{Request, Asked, Forward, Check, Engine, Generate, asked_in}
+use Rattle.vsw_run.specs.Words.{Request, Asked, Forward, Deliver, Check, Engine, Generate, asked_in, run_over}
 use Rattle.vsw_history_law.specs.Law.{AreAsked}
 use Rattle.vsw_run.specs.Law.{AreAlike, HasNoFault, OneText, OneStatus, OneRun, TellsWant}
 use Rattle.vsw_run.proofs.Answering.{ByRows, found_rows, same_rows}
@@ -94,7 +94,7 @@ one_text_by s (ending.Rows why) rs text other i apart w asked none nothing a b =
 -- ---- what a run found in the files
 
 -- the trace decided: what its file says, and the text that was put
-record FoundTrace (q : Request) (files : List ℕ → Option (List ℕ)) (old new : Option (List ℕ)) (e : Ending) : Type 0 where
+record FoundTrace (local : Bool) (q : Request) (files : List ℕ → Option (List ℕ)) (old new : Option (List ℕ)) (e : Ending) : Type 0 where
   setting : Setting
   policy : List ℕ
   policy_held : files q.policy ≡ Some policy
@@ -103,7 +103,7 @@ record FoundTrace (q : Request) (files : List ℕ → Option (List ℕ)) (old ne
   commands_held : files q.commands ≡ Some commands
   commands_good : commands_file_of setting.policy commands ≡ Ok setting.commands
   workers : setting.workers ≡ q.workers
-  apart : setting.local ≡ false
+  hands_on : setting.local ≡ local
   file : List ℕ
   held : files q.trace ≡ Some file
   records : List Record
@@ -127,10 +127,10 @@ record FoundCommands (q : Request) (files : List ℕ → Option (List ℕ)) (why
   held : files q.commands ≡ Some commands
   bad : commands_file_of given commands ≡ Err why
 
-data Found (q : Request) (files : List ℕ → Option (List ℕ)) (old new : Option (List ℕ)) (e : Ending) : Type 0 where
-  AtPolicy : (why : ConfigFault) → e ≡ ending.Policy why → FoundPolicy q files why → Grows old new [] → Found q files old new e
-  AtCommands : (why : CommandsFault) → e ≡ ending.Commands why → FoundCommands q files why → Grows old new [] → Found q files old new e
-  ByTrace : IsByTrace e → FoundTrace q files old new e → Found q files old new e
+data Found (local : Bool) (q : Request) (files : List ℕ → Option (List ℕ)) (old new : Option (List ℕ)) (e : Ending) : Type 0 where
+  AtPolicy : (why : ConfigFault) → e ≡ ending.Policy why → FoundPolicy q files why → Grows old new [] → Found local q files old new e
+  AtCommands : (why : CommandsFault) → e ≡ ending.Commands why → FoundCommands q files why → Grows old new [] → Found local q files old new e
+  ByTrace : IsByTrace e → FoundTrace local q files old new e → Found local q files old new e
 
 held_as : (a : Inputs) (inputs : Option Inputs) (name other bytes : List ℕ) → inputs ≡ Some a → name ≡ other → TellsHeld inputs name bytes → a.files other ≡ Some bytes
 held_as a inputs name other bytes e n t = ap a.files (sym n) ∙ subst (λ i. TellsHeld i name bytes) e t
@@ -140,8 +140,8 @@ take_drop zero xs = refl
 take_drop (suc n) [] = refl
 take_drop (suc n) (x ∷ xs) = ap (λ w. x ∷ w) (take_drop n xs)
 
-of_file : (q : Request) (old new : Outside) (files : List Opened) (r : TraceRead q old new files) → IsOfFile r.file.bytes r.trace
-of_file q old new files r = record {
+of_file : (local : Bool) (q : Request) (old new : Outside) (files : List Opened) (r : TraceRead local q old new files) → IsOfFile r.file.bytes r.trace
+of_file local q old new files r = record {
   more = drop r.file.read r.file.bytes;
   is = take_drop r.file.read r.file.bytes ∙ ap (λ w. w ++ drop r.file.read r.file.bytes) (sym r.read.bytes);
   all = λ e. sym (r.read.bytes ∙ (ap (λ n. take n r.file.bytes) (whole e) ∙ take_whole r.file.bytes));
@@ -174,13 +174,13 @@ shown_by s file t (ending.Report why) text b i r = absurd b
 shown_by s file t ending.Illegal text b i r = absurd b
 shown_by s file t (ending.Rows why) text b i r = absurd b
 
-found_trace : (q : Request) (old new : Outside) (a : Inputs) (e : Ending) (r : Runs q old new e) → old.inputs ≡ Some a → IsByTrace e → EndsByTrace q old new r.files e → FoundTrace q a.files old.put new.put e
-found_trace q old new a e r told b ends =
+found_trace : (local : Bool) (q : Request) (old new : Outside) (a : Inputs) (e : Ending) (r : Runs local q old new e) → old.inputs ≡ Some a → IsByTrace e → EndsByTrace local q old new r.files e → FoundTrace local q a.files old.put new.put e
+found_trace local q old new a e r told b ends =
     let o = ends.reads.opened in
     let file = ends.reads.file in
     let turn : InTurn q (o.policy ∷ o.commands ∷ file ∷ []) = subst (InTurn q) o.all r.opens.in_turn in
     let held : Each (λ f. TellsHeld old.inputs f.name f.bytes) (o.policy ∷ o.commands ∷ file ∷ []) = subst (Each (λ f. TellsHeld old.inputs f.name f.bytes)) o.all r.opens.held in
-    let shown = shown_by ends.reads.setting file.bytes ends.reads.trace e ends.text b (of_file q old new r.files ends.reads) ends.tells in record {
+    let shown = shown_by ends.reads.setting file.bytes ends.reads.trace e ends.text b (of_file local q old new r.files ends.reads) ends.tells in record {
       setting = ends.reads.setting;
       policy = o.policy.bytes;
       policy_held = held_as a old.inputs o.policy.name q.policy o.policy.bytes told turn.2.named held.0;
@@ -189,7 +189,7 @@ found_trace q old new a e r told b ends =
       commands_held = held_as a old.inputs o.commands.name q.commands o.commands.bytes told turn.3.named held.1.0;
       commands_good = o.commands_good;
       workers = o.workers;
-      apart = o.apart;
+      hands_on = o.hands_on;
       file = file.bytes;
       held = held_as a old.inputs file.name q.trace file.bytes told turn.4 held.1.1.0;
       records = shown.records;
@@ -199,14 +199,14 @@ found_trace q old new a e r told b ends =
       puts = ends.puts;
     }
 
-found_policy : (q : Request) (old new : Outside) (a : Inputs) (e : Ending) (why : ConfigFault) (r : Runs q old new e) → old.inputs ≡ Some a → HasBadPolicy r.files why → FoundPolicy q a.files why
-found_policy q old new a e why r told b =
+found_policy : (local : Bool) (q : Request) (old new : Outside) (a : Inputs) (e : Ending) (why : ConfigFault) (r : Runs local q old new e) → old.inputs ≡ Some a → HasBadPolicy r.files why → FoundPolicy q a.files why
+found_policy local q old new a e why r told b =
     let turn : InTurn q (b.policy ∷ []) = subst (InTurn q) b.only r.opens.in_turn in
     let held : Each (λ f. TellsHeld old.inputs f.name f.bytes) (b.policy ∷ []) = subst (Each (λ f. TellsHeld old.inputs f.name f.bytes)) b.only r.opens.held in
     record { policy = b.policy.bytes; held = held_as a old.inputs b.policy.name q.policy b.policy.bytes told turn held.0; bad = b.bad }
 
-found_commands : (q : Request) (old new : Outside) (a : Inputs) (e : Ending) (why : CommandsFault) (r : Runs q old new e) → old.inputs ≡ Some a → HasBadCommands r.files why → FoundCommands q a.files why
-found_commands q old new a e why r told b =
+found_commands : (local : Bool) (q : Request) (old new : Outside) (a : Inputs) (e : Ending) (why : CommandsFault) (r : Runs local q old new e) → old.inputs ≡ Some a → HasBadCommands r.files why → FoundCommands q a.files why
+found_commands local q old new a e why r told b =
     let turn : InTurn q (b.policy ∷ b.commands ∷ []) = subst (InTurn q) b.only r.opens.in_turn in
     let held : Each (λ f. TellsHeld old.inputs f.name f.bytes) (b.policy ∷ b.commands ∷ []) = subst (Each (λ f. TellsHeld old.inputs f.name f.bytes)) b.only r.opens.held in record {
       policy = b.policy.bytes;
@@ -219,19 +219,19 @@ found_commands q old new a e why r told b =
     }
 
 -- a run that wasn't ended by a fault or want of memory found one of the three
-found : (q : Request) (old new : Outside) (a : Inputs) (e : Ending) → old.inputs ≡ Some a → HasNoFault old new → status_of e ≢ status.Memory → Runs q old new e → Found q a.files old.put new.put e
-found q old new a (ending.Policy why) told clean n r = AtPolicy why refl (found_policy q old new a (ending.Policy why) why r told r.ends.0) r.ends.1
-found q old new a (ending.Commands why) told clean n r = AtCommands why refl (found_commands q old new a (ending.Commands why) why r told r.ends.0) r.ends.1
-found q old new a (ending.Trace bad) told clean n r = ByTrace tt (found_trace q old new a (ending.Trace bad) r told tt r.ends)
-found q old new a ending.Records told clean n r = ByTrace tt (found_trace q old new a ending.Records r told tt r.ends)
-found q old new a ending.Done told clean n r = ByTrace tt (found_trace q old new a ending.Done r told tt r.ends)
-found q old new a ending.ReadFault told clean n r = absurd (clean.read r.ends.0)
-found q old new a ending.WriteFault told clean n r = absurd (clean.put r.ends.0)
-found q old new a ending.Memory told clean n r = absurd (n refl)
-found q old new a ending.Usage told clean n r = absurd r.ends
-found q old new a (ending.Report why) told clean n r = absurd r.ends
-found q old new a ending.Illegal told clean n r = absurd r.ends
-found q old new a (ending.Rows why) told clean n r = absurd r.ends
+found : (local : Bool) (q : Request) (old new : Outside) (a : Inputs) (e : Ending) → old.inputs ≡ Some a → HasNoFault old new → status_of e ≢ status.Memory → Runs local q old new e → Found local q a.files old.put new.put e
+found local q old new a (ending.Policy why) told clean n r = AtPolicy why refl (found_policy local q old new a (ending.Policy why) why r told r.ends.0) r.ends.1
+found local q old new a (ending.Commands why) told clean n r = AtCommands why refl (found_commands local q old new a (ending.Commands why) why r told r.ends.0) r.ends.1
+found local q old new a (ending.Trace bad) told clean n r = ByTrace tt (found_trace local q old new a (ending.Trace bad) r told tt r.ends)
+found local q old new a ending.Records told clean n r = ByTrace tt (found_trace local q old new a ending.Records r told tt r.ends)
+found local q old new a ending.Done told clean n r = ByTrace tt (found_trace local q old new a ending.Done r told tt r.ends)
+found local q old new a ending.ReadFault told clean n r = absurd (clean.read r.ends.0)
+found local q old new a ending.WriteFault told clean n r = absurd (clean.put r.ends.0)
+found local q old new a ending.Memory told clean n r = absurd (n refl)
+found local q old new a ending.Usage told clean n r = absurd r.ends
+found local q old new a (ending.Report why) told clean n r = absurd r.ends
+found local q old new a ending.Illegal told clean n r = absurd r.ends
+found local q old new a (ending.Rows why) told clean n r = absurd r.ends
 
 -- ---- two such runs
 
@@ -257,50 +257,50 @@ same_policy files name p r a b = ap policy_file_of (some_is p r (sym a ∙ b))
 same_commands : (files : List ℕ → Option (List ℕ)) (name p r : List ℕ) (a b : PolicyFile) → files name ≡ Some p → files name ≡ Some r → a ≡ b → commands_file_of a p ≡ commands_file_of b r
 same_commands files name p r a b h k e = ap (λ w. commands_file_of w p) e ∙ ap (commands_file_of b) (some_is p r (sym h ∙ k))
 
--- what two runs agree on: the ending, and with one worker the text
-record Agree (q : Request) (one two : Option (List ℕ)) (old other : Option (List ℕ)) (e f : Ending) : Type 0 where
+-- what two runs agree on: the ending, and with one worker the text, where no packet is handed on
+record Agree (local : Bool) (q : Request) (one two : Option (List ℕ)) (old other : Option (List ℕ)) (e f : Ending) : Type 0 where
   ends : e ≡ f
-  text : q.workers ≡ 1 → (a b : List ℕ) → old ≡ Some [] → other ≡ Some [] → one ≡ Some a → two ≡ Some b → ¬ (TellsWant a) → ¬ (TellsWant b) → a ≡ b
+  text : local ≡ false → q.workers ≡ 1 → (a b : List ℕ) → old ≡ Some [] → other ≡ Some [] → one ≡ Some a → two ≡ Some b → ¬ (TellsWant a) → ¬ (TellsWant b) → a ≡ b
 
 put_is : (old new : Option (List ℕ)) (text a : List ℕ) → old ≡ Some [] → new ≡ Some a → Grows old new text → a ≡ text
 put_is old new text a e f g = subst (λ o. Grows o (Some a) text) e (subst (λ n. Grows old n text) f g)
 
-nothing_is : (q : Request) (old new other last : Option (List ℕ)) (e f : Ending) → e ≡ f → Grows old new [] → Grows other last [] → Agree q new last old other e f
-nothing_is q old new other last e f same g h = record { ends = same; text = λ w a b o p n l none nothing. put_is old new [] a o n g ∙ sym (put_is other last [] b p l h) }
+nothing_is : (local : Bool) (q : Request) (old new other last : Option (List ℕ)) (e f : Ending) → e ≡ f → Grows old new [] → Grows other last [] → Agree local q new last old other e f
+nothing_is local q old new other last e f same g h = record { ends = same; text = λ d w a b o p n l none nothing. put_is old new [] a o n g ∙ sym (put_is other last [] b p l h) }
 
-by_trace : (q : Request) (files : List ℕ → Option (List ℕ)) (old new other last : Option (List ℕ)) (e f : Ending) → IsByTrace e → FoundTrace q files old new e → FoundTrace q files other last f → Agree q new last old other e f
-by_trace q files old new other last e f i a b =
+by_trace : (local : Bool) (q : Request) (files : List ℕ → Option (List ℕ)) (old new other last : Option (List ℕ)) (e f : Ending) → IsByTrace e → FoundTrace local q files old new e → FoundTrace local q files other last f → Agree local q new last old other e f
+by_trace local q files old new other last e f i a b =
     let policies : a.setting.policy ≡ b.setting.policy = ok_is a.setting.policy b.setting.policy (sym a.policy_good ∙ (same_policy files q.policy a.policy b.policy a.policy_held b.policy_held ∙ b.policy_good)) in
     let lines : a.setting.commands ≡ b.setting.commands = ok_is a.setting.commands b.setting.commands (sym a.commands_good ∙ (same_commands files q.commands a.commands b.commands a.setting.policy b.setting.policy a.commands_held b.commands_held policies ∙ b.commands_good)) in
-    let settings : a.setting ≡ b.setting = (λ i. record { workers = (a.workers ∙ sym b.workers) i; policy = policies i; commands = lines i; local = (a.apart ∙ sym b.apart) i }) in
+    let settings : a.setting ≡ b.setting = (λ i. record { workers = (a.workers ∙ sym b.workers) i; policy = policies i; commands = lines i; local = (a.hands_on ∙ sym b.hands_on) i }) in
     let file : a.file ≡ b.file = some_is a.file b.file (sym a.held ∙ b.held) in
     let one = one_ending a.file e f a.records b.records a.says (subst (λ w. Says w f b.records) (sym file) b.says) in
     let asked : AreAsked a.setting = each_asked a.setting.policy a.setting.commands (each_is_good a.setting.policy a.commands a.setting.commands a.commands_good).can_ask in
     let texts : Texts a.setting e a.records b.text = subst (λ w. Texts w e a.records b.text) (sym settings) (subst (λ w. Texts b.setting w a.records b.text) (sym one.0) (subst (λ w. Texts b.setting f w b.text) (sym one.1) b.texts)) in record {
       ends = one.0;
-      text = λ w x y o p n l none nothing.
+      text = λ d w x y o p n l none nothing.
           let first = put_is old new a.text x o n a.puts in
           let second = put_is other last b.text y p l b.puts in
-          first ∙ (one_text_by a.setting e a.records a.text b.text i a.apart (a.workers ∙ w) asked (subst (λ t. ¬ (TellsWant t)) first none) (subst (λ t. ¬ (TellsWant t)) second nothing) a.texts texts ∙ sym second);
+          first ∙ (one_text_by a.setting e a.records a.text b.text i (a.hands_on ∙ d) (a.workers ∙ w) asked (subst (λ t. ¬ (TellsWant t)) first none) (subst (λ t. ¬ (TellsWant t)) second nothing) a.texts texts ∙ sym second);
     }
 
-agree : (q : Request) (files : List ℕ → Option (List ℕ)) (old new other last : Option (List ℕ)) (e f : Ending) → Found q files old new e → Found q files other last f → Agree q new last old other e f
-agree q files old new other last e f (AtPolicy why i a g) (AtPolicy how j b h) =
-    nothing_is q old new other last e f (i ∙ (ap (λ w. ending.Policy w) (err_is why how (sym a.bad ∙ (same_policy files q.policy a.policy b.policy a.held b.held ∙ b.bad))) ∙ sym j)) g h
-agree q files old new other last e f (AtPolicy why i a g) (AtCommands how j b h) = absurd (not_both b.given why (sym b.good ∙ (same_policy files q.policy b.policy a.policy b.policy_held a.held ∙ a.bad)))
-agree q files old new other last e f (AtPolicy why i a g) (ByTrace j b) = absurd (not_both b.setting.policy why (sym b.policy_good ∙ (same_policy files q.policy b.policy a.policy b.policy_held a.held ∙ a.bad)))
-agree q files old new other last e f (AtCommands why i a g) (AtPolicy how j b h) = absurd (not_both a.given how (sym a.good ∙ (same_policy files q.policy a.policy b.policy a.policy_held b.held ∙ b.bad)))
-agree q files old new other last e f (AtCommands why i a g) (AtCommands how j b h) =
+agree : (local : Bool) (q : Request) (files : List ℕ → Option (List ℕ)) (old new other last : Option (List ℕ)) (e f : Ending) → Found local q files old new e → Found local q files other last f → Agree local q new last old other e f
+agree local q files old new other last e f (AtPolicy why i a g) (AtPolicy how j b h) =
+    nothing_is local q old new other last e f (i ∙ (ap (λ w. ending.Policy w) (err_is why how (sym a.bad ∙ (same_policy files q.policy a.policy b.policy a.held b.held ∙ b.bad))) ∙ sym j)) g h
+agree local q files old new other last e f (AtPolicy why i a g) (AtCommands how j b h) = absurd (not_both b.given why (sym b.good ∙ (same_policy files q.policy b.policy a.policy b.policy_held a.held ∙ a.bad)))
+agree local q files old new other last e f (AtPolicy why i a g) (ByTrace j b) = absurd (not_both b.setting.policy why (sym b.policy_good ∙ (same_policy files q.policy b.policy a.policy b.policy_held a.held ∙ a.bad)))
+agree local q files old new other last e f (AtCommands why i a g) (AtPolicy how j b h) = absurd (not_both a.given how (sym a.good ∙ (same_policy files q.policy a.policy b.policy a.policy_held b.held ∙ b.bad)))
+agree local q files old new other last e f (AtCommands why i a g) (AtCommands how j b h) =
     let policies = ok_is a.given b.given (sym a.good ∙ (same_policy files q.policy a.policy b.policy a.policy_held b.policy_held ∙ b.good)) in
-    nothing_is q old new other last e f (i ∙ (ap (λ w. ending.Commands w) (err_is why how (sym a.bad ∙ (same_commands files q.commands a.commands b.commands a.given b.given a.held b.held policies ∙ b.bad))) ∙ sym j)) g h
-agree q files old new other last e f (AtCommands why i a g) (ByTrace j b) =
+    nothing_is local q old new other last e f (i ∙ (ap (λ w. ending.Commands w) (err_is why how (sym a.bad ∙ (same_commands files q.commands a.commands b.commands a.given b.given a.held b.held policies ∙ b.bad))) ∙ sym j)) g h
+agree local q files old new other last e f (AtCommands why i a g) (ByTrace j b) =
     let policies = ok_is b.setting.policy a.given (sym b.policy_good ∙ (same_policy files q.policy b.policy a.policy b.policy_held a.policy_held ∙ a.good)) in
     absurd (not_both b.setting.commands why (sym b.commands_good ∙ (same_commands files q.commands b.commands a.commands b.setting.policy a.given b.commands_held a.held policies ∙ a.bad)))
-agree q files old new other last e f (ByTrace i a) (AtPolicy how j b h) = absurd (not_both a.setting.policy how (sym a.policy_good ∙ (same_policy files q.policy a.policy b.policy a.policy_held b.held ∙ b.bad)))
-agree q files old new other last e f (ByTrace i a) (AtCommands how j b h) =
+agree local q files old new other last e f (ByTrace i a) (AtPolicy how j b h) = absurd (not_both a.setting.policy how (sym a.policy_good ∙ (same_policy files q.policy a.policy b.policy a.policy_held b.held ∙ b.bad)))
+agree local q files old new other last e f (ByTrace i a) (AtCommands how j b h) =
     let policies = ok_is a.setting.policy b.given (sym a.policy_good ∙ (same_policy files q.policy a.policy b.policy a.policy_held b.policy_held ∙ b.good)) in
     absurd (not_both a.setting.commands how (sym a.commands_good ∙ (same_commands files q.commands a.commands b.commands a.setting.policy b.given a.commands_held b.held policies ∙ b.bad)))
-agree q files old new other last e f (ByTrace i a) (ByTrace j b) = by_trace q files old new other last e f i a b
+agree local q files old new other last e f (ByTrace i a) (ByTrace j b) = by_trace local q files old new other last e f i a b
 
 -- ---- a generated workload
 
@@ -334,41 +334,50 @@ one_summary start packets a b x y =
 pub runs_as : (words : List (List ℕ)) (o : Option Asked) (old new : Outside) (s : Status) (r : IsRun words old new s) → asked_in words ≡ o → RunsBy o old new r.end
 runs_as words o old new s r e = subst (λ w. RunsBy w old new r.end) e r.runs
 
+pub runs_over : (words : List (List ℕ)) (local : Bool) (q : Request) (old new : Outside) (s : Status) (r : IsRun words old new s) → asked_in words ≡ Some (run_over local q) → Runs local q old new r.end
+runs_over words false q old new s r e = runs_as words (Some (Forward q)) old new s r e
+runs_over words true q old new s r e = runs_as words (Some (Deliver q)) old new s r e
+
 record Both (q : Option Asked) (old new other last : Outside) (e f : Ending) : Type 0 where
   ends : status_of e ≡ status_of f
-  text : ((r : Request) → q ≡ Some (Forward r) → r.workers ≡ 1) → (a b : List ℕ) → old.put ≡ Some [] → other.put ≡ Some [] → new.put ≡ Some a → last.put ≡ Some b → ¬ (TellsWant a) → ¬ (TellsWant b) → a ≡ b
+  text : ((r : Request) → q ≡ Some (Forward r) → r.workers ≡ 1) → ((r : Request) → q ≢ Some (Deliver r)) → (a b : List ℕ) → old.put ≡ Some [] → other.put ≡ Some [] → new.put ≡ Some a → last.put ≡ Some b → ¬ (TellsWant a) → ¬ (TellsWant b) → a ≡ b
+
+both_over : (words : List (List ℕ)) (local : Bool) (q : Request) (old new other last : Outside) (s t : Status) → asked_in words ≡ Some (run_over local q) → (same : AreAlike old other) → HasNoFault old new → HasNoFault other last → (r : IsRun words old new s) (u : IsRun words other last t) → s ≢ status.Memory → t ≢ status.Memory → Agree local q new.put last.put old.put other.put r.end u.end
+both_over words local q old new other last s t e same clean also r u m n =
+    let a = found local q old new same.files r.end same.told clean (λ k. m (r.status_is ∙ k)) (runs_over words local q old new s r e) in
+    let b = found local q other last same.others u.end same.told_too also (λ k. n (u.status_is ∙ k)) (runs_over words local q other last t u e) in
+    agree local q same.files.files old.put new.put other.put last.put r.end u.end a (subst (λ f. Found local q f other.put last.put u.end) (sym same.same) b)
 
 both : (words : List (List ℕ)) (old new other last : Outside) (s t : Status) (o : Option Asked) → asked_in words ≡ o → AreAlike old other → HasNoFault old new → HasNoFault other last → (r : IsRun words old new s) (u : IsRun words other last t) → s ≢ status.Memory → t ≢ status.Memory → Both o old new other last r.end u.end
 both words old new other last s t None e same clean also r u m n =
     let a = runs_as words None old new s r e in
     let b = runs_as words None other last t u e in
-    record { ends = ap status_of (a.usage ∙ sym b.usage); text = λ w x y o p k l none nothing. put_is old.put new.put [] x o k a.nothing ∙ sym (put_is other.put last.put [] y p l b.nothing) }
+    record { ends = ap status_of (a.usage ∙ sym b.usage); text = λ w d x y o p k l none nothing. put_is old.put new.put [] x o k a.nothing ∙ sym (put_is other.put last.put [] y p l b.nothing) }
 both words old new other last s t (Some (Forward q)) e same clean also r u m n =
-    let a = found q old new same.files r.end same.told clean (λ k. m (r.status_is ∙ k)) (runs_as words (Some (Forward q)) old new s r e) in
-    let b = found q other last same.others u.end same.told_too also (λ k. n (u.status_is ∙ k)) (runs_as words (Some (Forward q)) other last t u e) in
-    let agreed = agree q same.files.files old.put new.put other.put last.put r.end u.end a (subst (λ f. Found q f other.put last.put u.end) (sym same.same) b) in
-    record { ends = ap status_of agreed.ends; text = λ w. agreed.text (w q refl) }
+    let agreed = both_over words false q old new other last s t e same clean also r u m n in record { ends = ap status_of agreed.ends; text = λ w d. agreed.text refl (w q refl) }
+both words old new other last s t (Some (Deliver q)) e same clean also r u m n =
+    let agreed = both_over words true q old new other last s t e same clean also r u m n in record { ends = ap status_of agreed.ends; text = λ w d. absurd (d q refl) }
 both words old new other last s t (Some (Check c)) e same clean also r u m n =
     let a = found_check c old new same.files r.end same.told clean (λ k. m (r.status_is ∙ ap status_of k)) (runs_as words (Some (Check c)) old new s r e) in
     let b = found_check c other last same.others u.end same.told_too also (λ k. n (u.status_is ∙ ap status_of k)) (runs_as words (Some (Check c)) other last t u e) in
     let ends = one_by_policy same.files.files c r.end u.end a.0 (subst (λ f. ByPolicy f c u.end) (sym same.same) b.0) in
-    record { ends = ap status_of ends; text = λ w x y o p k l none nothing. put_is old.put new.put (put_by r.end) x o k a.1 ∙ (ap put_by ends ∙ sym (put_is other.put last.put (put_by u.end) y p l b.1)) }
+    record { ends = ap status_of ends; text = λ w d x y o p k l none nothing. put_is old.put new.put (put_by r.end) x o k a.1 ∙ (ap put_by ends ∙ sym (put_is other.put last.put (put_by u.end) y p l b.1)) }
 both words old new other last s t (Some (Engine q)) e same clean also r u m n =
     let a = found_rows q old new same.files r.end same.told clean (λ k. m (r.status_is ∙ ap status_of k)) (runs_as words (Some (Engine q)) old new s r e) in
     let b = found_rows q other last same.others u.end same.told_too also (λ k. n (u.status_is ∙ ap status_of k)) (runs_as words (Some (Engine q)) other last t u e) in
     let agreed = same_rows q same.files.files r.end u.end a.text b.text a.found (subst (λ f. ByRows f q u.end b.text) (sym same.same) b.found) in
-    record { ends = agreed.0; text = λ w x y o p k l none nothing. put_is old.put new.put a.text x o k a.puts ∙ (agreed.1 ∙ sym (put_is other.put last.put b.text y p l b.puts)) }
+    record { ends = agreed.0; text = λ w d x y o p k l none nothing. put_is old.put new.put a.text x o k a.puts ∙ (agreed.1 ∙ sym (put_is other.put last.put b.text y p l b.puts)) }
 both words old new other last s t (Some (Generate start packets)) e same clean also r u m n =
     let a = summarized start packets old new r.end clean (λ k. m (r.status_is ∙ k)) (runs_as words (Some (Generate start packets)) old new s r e) in
     let b = summarized start packets other last u.end also (λ k. n (u.status_is ∙ k)) (runs_as words (Some (Generate start packets)) other last t u e) in
-    record { ends = ap status_of (a.0 ∙ sym b.0); text = λ w x y o p k l none nothing. put_is old.put new.put a.1.text x o k a.1.puts ∙ (one_summary start packets a.1.text b.1.text a.1.summarizes b.1.summarizes ∙ sym (put_is other.put last.put b.1.text y p l b.1.puts)) }
+    record { ends = ap status_of (a.0 ∙ sym b.0); text = λ w d x y o p k l none nothing. put_is old.put new.put a.1.text x o k a.1.puts ∙ (one_summary start packets a.1.text b.1.text a.1.summarizes b.1.summarizes ∙ sym (put_is other.put last.put b.1.text y p l b.1.puts)) }
 
 pub one_status : OneStatus
 one_status words old new other last s t same clean also r u m n =
     r.status_is ∙ ((both words old new other last s t (asked_in words) refl same clean also r u m n).ends ∙ sym u.status_is)
 
 pub one_run : OneRun
-one_run words old new other last s t same clean also r u m n w a b =
+one_run words old new other last s t same clean also r u m n w d a b =
     let agreed = both words old new other last s t (asked_in words) refl same clean also r u m n in
-    let texts = agreed.text w a.text b.text a.before b.before a.now b.now a.plenty b.plenty in
+    let texts = agreed.text w d a.text b.text a.before b.before a.now b.now a.plenty b.plenty in
     (a.now ∙ (ap (λ x. Some x) texts ∙ sym b.now), r.status_is ∙ (agreed.ends ∙ sym u.status_is))

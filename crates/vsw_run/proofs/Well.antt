@@ -1,5 +1,5 @@
 -- What holds of a run over files that ended well.
-use Rattle.std.proofs.Common.{◌≡◌, ℕ, false, List, length, take, Some, None, refl, ap, ◌∙◌, subst, arith}
+use Rattle.std.proofs.Common.{◌≡◌, ℕ, Bool, true, false, List, length, take, Some, None, refl, ap, ◌∙◌, subst, arith}
 use Rattle.vsw_commandfile.proofs.LinesRead.{each_is_good}
 use Rattle.vsw_commandfile.specs.declared.fault.CommandsFault.{CommandsFault}
 use Rattle.vsw_commandfile.specs.declared.fault.CommandsFault.TheVariants as commands
@@ -16,7 +16,7 @@ use Rattle.vsw_promise.proofs.PortRounds.{take_whole}
 use Rattle.vsw_promise.specs.Jobs.{cuts}
 use Rattle.vsw_run.proofs.Bounds.{counted}
 use Rattle.vsw_run.proofs.Grammars.{reads_grammar}
-use Rattle.vsw_run.proofs.Runs.{each_asked, runs_as}
+use Rattle.vsw_run.proofs.Runs.{each_asked, runs_over}
 use Rattle.vsw_run.proofs.Wholes.{done_reads_all}
 use Rattle.vsw_run.specs.Complaint.{commands_status, policy_status, report_status, rows_status, status_of}
 use Rattle.vsw_run.specs.Well.{DoneRanWell, RanWell}
@@ -24,7 +24,7 @@ use Rattle.vsw_run.specs.Files.{IsWhole, Reaches}
 use Rattle.vsw_run.specs.Grammar.{Asks, IsCount}
 use Rattle.vsw_run.specs.IsRun.{EndsByTrace, Puts, Runs}
 use Rattle.vsw_run.specs.Trace.{TellsAll}
-use Rattle.vsw_run.specs.Words.{Forward, Request, asked_in}
+use Rattle.vsw_run.specs.Words.{Forward, Deliver, Request, asked_in, run_over}
 use Rattle.vsw_run.specs.declared.ending.Ending.{Ending}
 use Rattle.vsw_run.specs.declared.ending.Ending.TheVariants as ending
 use Rattle.vsw_run.specs.declared.ending.ReportFault.{ReportFault}
@@ -78,12 +78,13 @@ done_is (ending.Report why) e = absurd (not_report why e)
 done_is (ending.Rows why) e = absurd (not_rows why e)
 done_is ending.Illegal e = absurd (cc e)
 
-workers_are : (words : List (List ℕ)) (q : Request) → asked_in words ≡ Some (Forward q) → IsCount q.workers
-workers_are words q e = let h : Asks words (Forward q) = (reads_grammar words (Forward q)).0 e in counted h.3.option q.workers h.3.option_is
+pub workers_are : (words : List (List ℕ)) (local : Bool) (q : Request) → asked_in words ≡ Some (run_over local q) → IsCount q.workers
+workers_are words false q e = let h : Asks words (Forward q) = (reads_grammar words (Forward q)).0 e in counted h.3.option q.workers h.3.option_is
+workers_are words true q e = let h : Asks words (Deliver q) = (reads_grammar words (Deliver q)).0 e in counted h.3.option q.workers h.3.option_is
 
-ran_well : (q : Request) (old new : Outside) → IsCount q.workers → Runs q old new ending.Done → RanWell q old new
-ran_well q old new count run =
-    let ends : EndsByTrace q old new run.files ending.Done = run.ends in
+ran_well : (local : Bool) (q : Request) (old new : Outside) → IsCount q.workers → Runs local q old new ending.Done → RanWell local q old new
+ran_well local q old new count run =
+    let ends : EndsByTrace local q old new run.files ending.Done = run.ends in
     let o = ends.reads.opened in
     let file = ends.reads.file in
     let s = ends.reads.setting in
@@ -97,7 +98,7 @@ ran_well q old new count run =
     record {
       files = run.files;
       opens = run.opens;
-      whole = done_reads_all q old new run;
+      whole = done_reads_all local q old new run;
       setting = s;
       trace = file;
       given = o;
@@ -109,11 +110,11 @@ ran_well q old new count run =
         are = all.are;
         replies = runs_replies_alone s all.records cs all.rounds served all.are all.short_is;
         lines = λ n r g. each_has_its_line s all.records cs all.rounds n r served covered all.are g;
-        packets = λ plain. agrees_alone s all.records cs all.rounds o.apart plain served all.are all.short_is;
+        packets = λ apart plain. agrees_alone s all.records cs all.rounds apart plain served all.are all.short_is;
       };
       puts = subst (Puts old new) all.text_is ends.puts;
     }
 
 pub done_ran_well : DoneRanWell
-done_ran_well words q old new e r =
-    ran_well q old new (workers_are words q e) (subst (Runs q old new) (done_is r.end r.status_is) (runs_as words (Some (Forward q)) old new status.Done r e))
+done_ran_well words local q old new e r =
+    ran_well local q old new (workers_are words local q e) (subst (Runs local q old new) (done_is r.end r.status_is) (runs_over words local q old new status.Done r e))

@@ -7,8 +7,8 @@ use Rattle.vsw_run.specs.IsRun.{EndsByTrace}
 use Rattle.vsw_run.specs.Law.{DoneReadsAll}
 
 pub done_reads_all : DoneReadsAll
-done_reads_all q old new run =
-    let ends : EndsByTrace q old new run.files Done = run.ends in
+done_reads_all local q old new run =
+    let ends : EndsByTrace local q old new run.files Done = run.ends in
     let o = ends.reads.opened in
     let turn : InTurn q (o.policy ∷ o.commands ∷ ends.reads.file ∷ []) = subst (InTurn q) o.all run.opens.in_turn in
     subst (Each IsWhole) (sym o.all) (turn.2.whole, (turn.3.whole, (subst (Reaches old new ends.reads.file) ends.tells.read ends.reads.read.reaches, tt)))

@@ -1,5 +1,5 @@
 -- The files of a run: what was opened and read of them, and what they say.
-use Rattle.std.specs.Prelude.{◌≡◌, ◌<◌, ◌≤◌, ◌+◌, ℕ, List, [], ◌∷◌, length, take, false, Ok, Err}
+use Rattle.std.specs.Prelude.{◌≡◌, ◌<◌, ◌≤◌, ◌+◌, ℕ, List, [], ◌∷◌, length, take, Bool, Ok, Err}
 use Rattle.vsw_commandfile.specs.declared.fault.CommandsFault.{CommandsFault}
 use Rattle.vsw_commandfile.specs.declared.fault.CommandsFault.TheVariants as commands_fault
 use Rattle.vsw_commandfile.specs.Commands.{commands_file_of}
@@ -91,13 +91,13 @@ pub record LacksTrace (files : List Opened) : Type 0 where
   pub few : length files ≤ 2
   pub cut_short : AreCutShort files
 
--- the trace was opened, of a run in this setting: no packet is handed on between ports
-pub record HasTrace (q : Request) (files : List Opened) (s : Setting) (trace : Opened) : Type 0 where
+-- the trace was opened, of a run in this setting, in which packets are handed on between ports or aren't
+pub record HasTrace (local : Bool) (q : Request) (files : List Opened) (s : Setting) (trace : Opened) : Type 0 where
   pub policy : Opened
   pub commands : Opened
   pub all : files ≡ policy ∷ commands ∷ trace ∷ []
   pub workers : s.workers ≡ q.workers
-  pub apart : s.local ≡ false
+  pub hands_on : s.local ≡ local
   pub policy_good : policy_file_of policy.bytes ≡ Ok s.policy
   pub commands_good : commands_file_of s.policy commands.bytes ≡ Ok s.commands
 

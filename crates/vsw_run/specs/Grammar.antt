@@ -1,8 +1,8 @@
--- The command line as a grammar: `vsw forward [--workers N] POLICY COMMANDS TRACE`, `vsw check [--workers N] POLICY COMMANDS TRACE REPORT`,
--- `vsw engine ROWS TRACE` and `vsw generate START PACKETS`.
+-- The command line as a grammar: `vsw forward [--workers N] POLICY COMMANDS TRACE`, `vsw deliver [--workers N] POLICY COMMANDS TRACE`,
+-- `vsw check [--workers N] POLICY COMMANDS TRACE REPORT`, `vsw engine ROWS TRACE` and `vsw generate START PACKETS`.
 use Rattle.std.specs.Prelude.{◌≡◌, ◌≢◌, ◌⊎◌, ◌≤◌, ℕ, List, [], ◌∷◌, ◌++◌, codes, decimal}
 use Rattle.std.specs.List.{All}
-use Rattle.vsw_run.specs.Words.{Request, Claim, Query, Asked, Forward, Check, Engine, Generate}
+use Rattle.vsw_run.specs.Words.{Request, Claim, Query, Asked, Forward, Deliver, Check, Engine, Generate}
 
 -- a word of more than one byte that begins with a dash
 abbrev pub IsDashed : List ℕ → Type 0
@@ -53,7 +53,7 @@ pub record ArePlain (words : List (List ℕ)) (names : List (List ℕ)) : Type 0
 abbrev pub files_of : Request → List (List ℕ)
 files_of q = q.policy ∷ q.commands ∷ q.trace ∷ []
 
--- the words after `forward`: three names
+-- the words after `forward`, and after `deliver`: three names
 abbrev pub IsForward : List (List ℕ) → Request → Type 0
 IsForward words request = AreNames words request.workers (files_of request)
 
@@ -74,12 +74,14 @@ pub record IsGenerate (words : List (List ℕ)) (start packets : ℕ) : Type 0 w
 -- what the words after a command ask for
 abbrev pub IsAsked : List (List ℕ) → Asked → Type 0
 IsAsked words (Forward request) = IsForward words request
+IsAsked words (Deliver request) = IsForward words request
 IsAsked words (Check claim) = IsClaim words claim
 IsAsked words (Engine q) = IsQuery words q
 IsAsked words (Generate start packets) = IsGenerate words start packets
 
 abbrev pub command_of : Asked → List ℕ
 command_of (Forward request) = codes "forward"
+command_of (Deliver request) = codes "deliver"
 command_of (Check claim) = codes "check"
 command_of (Engine q) = codes "engine"
 command_of (Generate start packets) = codes "generate"

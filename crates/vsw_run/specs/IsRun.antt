@@ -18,7 +18,7 @@ use Rattle.vsw_run.specs.Files.{Opens, HasBadPolicy, HasBadCommands, LacksTrace,
 use Rattle.vsw_run.specs.Generated.{Summarizes}
 use Rattle.vsw_promise.specs.Jobs.{Setting}
 use Rattle.vsw_run.specs.Trace.{Trace, Tells, MayTell, most_records}
-use Rattle.vsw_run.specs.Words.{Request, Claim, Query, Asked, Forward, Check, Engine, Generate, asked_in}
+use Rattle.vsw_run.specs.Words.{Request, Claim, Query, Asked, Forward, Deliver, Check, Engine, Generate, asked_in, run_over}
 
 -- a text was put, or a front of it, or nothing
 abbrev pub Puts : Outside → Outside → List ℕ → Type 0
@@ -31,44 +31,44 @@ abbrev pub PutsNothing : Outside → Outside → Type 0
 PutsNothing old new = Puts old new []
 
 -- what was read of the trace
-pub record TraceRead (q : Request) (old new : Outside) (files : List Opened) : Type 0 where
+pub record TraceRead (local : Bool) (q : Request) (old new : Outside) (files : List Opened) : Type 0 where
   pub setting : Setting
   pub file : Opened
-  pub opened : HasTrace q files setting file
+  pub opened : HasTrace local q files setting file
   pub trace : Trace
   pub read : IsReadOf old new file trace
 
 -- it gives this ending, and its text was put
-pub record EndsByTrace (q : Request) (old new : Outside) (files : List Opened) (end : Ending) : Type 0 where
-  pub reads : TraceRead q old new files
+pub record EndsByTrace (local : Bool) (q : Request) (old new : Outside) (files : List Opened) (end : Ending) : Type 0 where
+  pub reads : TraceRead local q old new files
   pub text : List ℕ
   pub tells : Tells reads.setting reads.trace end text
   pub puts : Puts old new text
 
 -- the run broke off, and put a front of a text that it might have put
-pub record BreaksOff (q : Request) (old new : Outside) (files : List Opened) : Type 0 where
-  pub reads : TraceRead q old new files
+pub record BreaksOff (local : Bool) (q : Request) (old new : Outside) (files : List Opened) : Type 0 where
+  pub reads : TraceRead local q old new files
   pub text : List ℕ
   pub tells : MayTell reads.setting reads.trace text
   pub puts : PutsFront old new text
 
 -- what a run over these files put, by how it ended. It ends by a read fault or a write fault only if the host counted one
-abbrev pub Ends : Request → Outside → Outside → List Opened → Ending → Type 0
-Ends q old new files (ending.Policy why) = HasBadPolicy files why × PutsNothing old new
-Ends q old new files (ending.Commands why) = HasBadCommands files why × PutsNothing old new
-Ends q old new files (ending.Trace bad) = EndsByTrace q old new files (ending.Trace bad)
-Ends q old new files ending.Records = EndsByTrace q old new files ending.Records
-Ends q old new files ending.Done = EndsByTrace q old new files ending.Done
-Ends q old new files ending.ReadFault = Rose old.input_faults new.input_faults × ((LacksTrace files × PutsNothing old new) ⊎ EndsByTrace q old new files ending.ReadFault)
-Ends q old new files ending.WriteFault = Rose old.put_faults new.put_faults × BreaksOff q old new files
-Ends q old new files ending.Memory = PutsNothing old new ⊎ EndsByTrace q old new files ending.Memory ⊎ BreaksOff q old new files
-Ends q old new files _ = ⊥
+abbrev pub Ends : (local : Bool) → Request → Outside → Outside → List Opened → Ending → Type 0
+Ends local q old new files (ending.Policy why) = HasBadPolicy files why × PutsNothing old new
+Ends local q old new files (ending.Commands why) = HasBadCommands files why × PutsNothing old new
+Ends local q old new files (ending.Trace bad) = EndsByTrace local q old new files (ending.Trace bad)
+Ends local q old new files ending.Records = EndsByTrace local q old new files ending.Records
+Ends local q old new files ending.Done = EndsByTrace local q old new files ending.Done
+Ends local q old new files ending.ReadFault = Rose old.input_faults new.input_faults × ((LacksTrace files × PutsNothing old new) ⊎ EndsByTrace local q old new files ending.ReadFault)
+Ends local q old new files ending.WriteFault = Rose old.put_faults new.put_faults × BreaksOff local q old new files
+Ends local q old new files ending.Memory = PutsNothing old new ⊎ EndsByTrace local q old new files ending.Memory ⊎ BreaksOff local q old new files
+Ends local q old new files _ = ⊥
 
--- the words ask for a run over files
-pub record Runs (q : Request) (old new : Outside) (end : Ending) : Type 0 where
+-- the words ask for a run over files, in which packets are handed on between ports or aren't
+pub record Runs (local : Bool) (q : Request) (old new : Outside) (end : Ending) : Type 0 where
   pub files : List Opened
   pub opens : Opens old new q files
-  pub ends : Ends q old new files end
+  pub ends : Ends local q old new files end
 
 -- the words are outside the grammar: nothing was opened, and nothing put
 pub record RunsNot (old new : Outside) (end : Ending) : Type 0 where
@@ -104,7 +104,8 @@ pub record RunsGenerated (start packets : ℕ) (old new : Outside) (end : Ending
 -- a run by what its words ask for
 abbrev pub RunsBy : Option Asked → Outside → Outside → Ending → Type 0
 RunsBy None old new end = RunsNot old new end
-RunsBy (Some (Forward q)) old new end = Runs q old new end
+RunsBy (Some (Forward q)) old new end = Runs false q old new end
+RunsBy (Some (Deliver q)) old new end = Runs true q old new end
 RunsBy (Some (Check c)) old new end = Checks c old new end
 RunsBy (Some (Engine q)) old new end = RunsByRows q old new end
 RunsBy (Some (Generate start packets)) old new end = RunsGenerated start packets old new end
@@ -118,8 +119,9 @@ pub record IsRun (words : List (List ℕ)) (old new : Outside) (status : Status)
 
 -- the words ask for a run over three files that the host holds: a good policy, good commands, and a sound trace within its limit
 pub record AreAdmitted (words : List (List ℕ)) (inputs : Option Inputs) : Type 0 where
+  pub local : Bool
   pub request : Request
-  pub asked : asked_in words ≡ Some (Forward request)
+  pub asked : asked_in words ≡ Some (run_over local request)
   pub files : Inputs
   pub told : inputs ≡ Some files
   pub policy : List ℕ

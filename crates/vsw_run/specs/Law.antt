@@ -1,5 +1,5 @@
 -- What holds of runs of the program.
-use Rattle.std.specs.Prelude.{◌≡◌, ◌≢◌, ◌⊎◌, ℕ, List, [], ◌++◌, Some, false, codes}
+use Rattle.std.specs.Prelude.{◌≡◌, ◌≢◌, ◌⊎◌, ℕ, List, [], ◌++◌, Bool, Some, false, codes}
 use Rattle.vsw_host.specs.Outside.{Inputs, Outside, Rose}
 use Rattle.vsw_policy.specs.Sound.{Each}
 use Rattle.vsw_promise.specs.Jobs.{Setting}
@@ -10,11 +10,11 @@ use Rattle.vsw_run.specs.declared.ending.Status.TheVariants as status
 use Rattle.vsw_run.specs.Files.{IsWhole}
 use Rattle.vsw_run.specs.IsRun.{Runs, IsRun}
 use Rattle.vsw_run.specs.Trace.{Trace, TellsAll}
-use Rattle.vsw_run.specs.Words.{Request, Forward, asked_in}
+use Rattle.vsw_run.specs.Words.{Request, Forward, Deliver, asked_in}
 
 -- a run that ended well read each of its files to the end
 abbrev pub DoneReadsAll : Type 0
-DoneReadsAll = (q : Request) (old new : Outside) (run : Runs q old new Done) → Each IsWhole run.files
+DoneReadsAll = (local : Bool) (q : Request) (old new : Outside) (run : Runs local q old new Done) → Each IsWhole run.files
 
 -- where no packet is handed on, what one worker puts of a trace that ends cleanly, where memory suffices, is one text of the three files
 abbrev pub OneText : Type 0
@@ -49,8 +49,8 @@ pub record PutsPlenty (old new : Outside) : Type 0 where
   pub now : new.put ≡ Some text
   pub plenty : ¬ (TellsWant text)
 
--- with one worker they also put the same, unless want of memory stands in it
+-- with one worker, and where no packet is handed on, they also put the same, unless want of memory stands in it
 abbrev pub OneRun : Type 0
 OneRun = (words : List (List ℕ)) (old new other last : Outside) (s t : Status) → AreAlike old other → HasNoFault old new → HasNoFault other last
     → IsRun words old new s → IsRun words other last t → s ≢ status.Memory → t ≢ status.Memory
-    → ((q : Request) → asked_in words ≡ Some (Forward q) → q.workers ≡ 1) → PutsPlenty old new → PutsPlenty other last → (new.put ≡ last.put) × (s ≡ t)
+    → ((q : Request) → asked_in words ≡ Some (Forward q) → q.workers ≡ 1) → ((q : Request) → asked_in words ≢ Some (Deliver q)) → PutsPlenty old new → PutsPlenty other last → (new.put ≡ last.put) × (s ≡ t)

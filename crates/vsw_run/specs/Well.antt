@@ -1,5 +1,5 @@
 -- What holds of a run over files that ended well.
-use Rattle.std.specs.Prelude.{◌≡◌, ℕ, List, length, Some, None, true}
+use Rattle.std.specs.Prelude.{◌≡◌, ℕ, List, length, Some, None, Bool, true, false}
 use Rattle.std.specs.List.{flat_map, slice_get}
 use Rattle.vsw_history_law.specs.Law.{AreServed, all_jobs, answers_alone, asked_by, replies_told}
 use Rattle.vsw_history_law.specs.OneLine.{HasItsLine}
@@ -17,7 +17,7 @@ use Rattle.vsw_report.specs.declared.round.Round.{Round}
 use Rattle.vsw_run.specs.declared.ending.Status.TheVariants as status
 use Rattle.vsw_run.specs.Files.{HasTrace, IsWhole, Opens}
 use Rattle.vsw_run.specs.IsRun.{IsRun, Puts}
-use Rattle.vsw_run.specs.Words.{Forward, Request, asked_in}
+use Rattle.vsw_run.specs.Words.{Request, asked_in, run_over}
 
 -- its rounds hold to these files and this setting
 pub record TellsWell (s : Setting) (records : List Record) (rounds : List Round) : Type 0 where
@@ -25,19 +25,19 @@ pub record TellsWell (s : Setting) (records : List Record) (rounds : List Round)
   -- at each port each controller is told the replies that its own commands alone would have, one after the other
   pub replies : (place : ℕ) (p : PortSeen) (c : ℕ) → slice_get (ports_of s.policy) place ≡ Some p → is_listed p.controllers c ≡ true
       → replies_told c (lines_at place rounds) ≡ answers_alone p.controllers p.layers c (flat_map (asked_by c) (all_jobs s records (cuts s.commands (length records)) rounds place p.number))
-  -- each packet has one line: at the port to which it goes, or among the loose packets
+  -- each packet has one line where it goes: at its port, or among the loose packets. Where no packet is handed on there is no other
   pub lines : (n : ℕ) (r : Record) → slice_get records n ≡ Some r → HasItsLine s rounds n (aim_of (macs_of s.policy) r)
-  -- where no rule is stateful and no command is "during", each packet has the fate and the bytes that one worker tells
-  pub packets : IsPlainSetting s → AgreeOnPackets (length (ports_of s.policy)) rounds (rounds_alone (with_workers 1 s) records (cuts s.commands (length records)))
+  -- where no packet is handed on, no rule is stateful and no command is "during", each packet has the fate and the bytes that one worker tells
+  pub packets : s.local ≡ false → IsPlainSetting s → AgreeOnPackets (length (ports_of s.policy)) rounds (rounds_alone (with_workers 1 s) records (cuts s.commands (length records)))
 
 -- it read its three files to the end, and put the report of such rounds
-pub record RanWell (q : Request) (old new : Outside) : Type 0 where
+pub record RanWell (local : Bool) (q : Request) (old new : Outside) : Type 0 where
   pub files : List Opened
   pub opens : Opens old new q files
   pub whole : Each IsWhole files
   pub setting : Setting
   pub trace : Opened
-  pub given : HasTrace q files setting trace
+  pub given : HasTrace local q files setting trace
   pub served : AreServed setting
   pub records : List Record
   pub capture : IsCapture trace.bytes records None
@@ -47,4 +47,4 @@ pub record RanWell (q : Request) (old new : Outside) : Type 0 where
 
 -- the words ask for a run over files, and the status says that it ended well
 abbrev pub DoneRanWell : Type 0
-DoneRanWell = (words : List (List ℕ)) (q : Request) (old new : Outside) → asked_in words ≡ Some (Forward q) → IsRun words old new status.Done → RanWell q old new
+DoneRanWell = (words : List (List ℕ)) (local : Bool) (q : Request) (old new : Outside) → asked_in words ≡ Some (run_over local q) → IsRun words old new status.Done → RanWell local q old new

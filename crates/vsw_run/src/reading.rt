@@ -16,11 +16,12 @@ const MOST_START: u32 = 2_147_483_647;
 /// Most packets of a workload.
 const MOST_PACKETS: u32 = 1_048_576;
 
-/// What the words ask for: to forward, to check a report, to answer a trace from a rows file, or to generate so many packets, which are
-/// drawn from a number.
+/// What the words ask for: to forward, to forward and hand packets on between the ports, to check a report, to answer a trace from a rows
+/// file, or to generate so many packets, which are drawn from a number.
 #[derive(Clone, Copy)]
 pub enum Asked<'a> {
     Forward(Request<'a>),
+    Deliver(Request<'a>),
     Check(Claim<'a>),
     Engine(Query<'a>),
     Generate { start: u32, packets: u32 },
@@ -45,6 +46,7 @@ fn read_after<'a>(command: &str, words: &'a [Word]) -> Option<Asked<'a>>
 {
     match command {
         "forward" => Some(Asked::Forward(read_forward(words)?)),
+        "deliver" => Some(Asked::Deliver(read_forward(words)?)),
         "check" => Some(Asked::Check(read_check(words)?)),
         "engine" => Some(Asked::Engine(read_engine(words)?)),
         "generate" => read_generate(words),

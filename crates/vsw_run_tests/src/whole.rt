@@ -1,6 +1,7 @@
 //! Runs over whole policies and packets made by hand.
 
 mod command_tests;
+mod delivery_tests;
 mod edit_tests;
 pub mod frames;
 mod ipv6_tests;

@@ -2,6 +2,7 @@
 
 mod check_tests;
 mod counts;
+mod delivery_tests;
 mod files;
 mod flows;
 mod gate_tests;

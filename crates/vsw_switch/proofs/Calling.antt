@@ -1,9 +1,9 @@
--- A port in the midst of a round: its jobs so far are calls, one after the other.
+-- A port in the midst of a round: its calls so far, one after the other.
 use Rattle.std.proofs.Common.{◌≡◌, ◌≤◌, ◌+◌, ℕ, Bool, List, [], ◌∷◌, ◌++◌, length, map, refl, ap, ap₂, sym, ◌∙◌, subst, arith, append_assoc}
 use Rattle.std.proofs.lemmas.List.{length-map}
 use Rattle.vsw_base.specs.declared.fate.Fate.{Fate}
 use Rattle.vsw_port.specs.declared.event.Event.{Event}
-use Rattle.vsw_port.specs.Calls.{Call, Deed, Job, Carried, Asked, controller_at, job_of}
+use Rattle.vsw_port.specs.Calls.{Call, Deed, Carried, Asked, controller_at, job_of}
 use Rattle.vsw_port.specs.Next.{Goes, IsNext}
 use Rattle.vsw_port.specs.Order.{ascending, counted}
 use Rattle.vsw_port.proofs.Calls.{each_append}
@@ -14,14 +14,14 @@ use Rattle.vsw_promise.specs.Ports.{PortSeen}
 use Rattle.vsw_promise.specs.Rounds.{opening_of}
 use Rattle.vsw_promise.specs.Summary.{dropped, in_line, passed, size_of, total}
 use Rattle.vsw_promise.specs.Told.{by_of, what_of}
-use Rattle.vsw_switch.specs.Does.{Does, HasCaller, told_controllers, told_workers, with_call}
+use Rattle.vsw_switch.specs.Does.{HasCaller, Makes, told_controllers, told_workers, with_call}
 use Rattle.vsw_switch.specs.Switch.{PortNow, StandsAt}
 use Rattle.vsw_switch.specs.Tally.{counted_in}
 use Rattle.vsw_switch.specs.declared.tally.Tally.{Tally}
 use Rattle.vsw_switch.proofs.Opened.{length_counted}
 use Rattle.vsw_history_law.specs.MergingLaw.{IsKnown}
-use Rattle.vsw_switch.proofs.Steps.{DoesEach}
-use Rattle.vsw_switch.proofs.Tellings.{Tells, map_append, tells, text, texts}
+use Rattle.vsw_switch.proofs.Steps.{MakesEach}
+use Rattle.vsw_switch.proofs.Tellings.{Tells, tells, text, texts}
 use Rattle.vsw_switch.proofs.Totals.{total_append}
 
 -- what became of the packet of a call
@@ -46,15 +46,13 @@ tally_more calls (Asked l reply) entry count =
     same : (f : Fate → ℕ) (c : Call) → of_call f c ≡ 0 → total (of_call f) calls ≡ total (of_call f) (calls ++ c ∷ [])
     same f c none = let e = one_more f calls c in omega (arith, e, none)
 
--- a port in the midst of a round that began with this history, after these jobs
-pub record PortGoes (workers : ℕ) (seen : PortSeen) (before : List Event) (jobs : List Job) (p : PortNow) : Type 0 where
+-- a port in the midst of a round that began with this history, after these calls
+pub record PortGoes (workers : ℕ) (seen : PortSeen) (before : List Event) (calls : List Call) (p : PortNow) : Type 0 where
   pub number : p.number ≡ seen.number
   pub mac : p.mac ≡ seen.mac
   pub opening : p.opening ≡ opening_of seen
   pub before_is : p.before ≡ length before
-  pub calls : List Call
   pub goes : Goes (opening_of seen) before p.journal calls
-  pub jobs_are : map (λ c. job_of c.deed) calls ≡ jobs
   pub callers : Each (λ c. IsKnown workers seen.controllers c.deed) calls
   pub workers_are : p.workers ≡ texts seen.controllers calls (counted 0 workers)
   pub controllers_are : p.controllers ≡ texts seen.controllers calls (map (controller_at seen.controllers) (ascending seen.controllers))
@@ -71,9 +69,7 @@ port_begins workers seen h p s = record {
   mac = s.mac;
   opening = s.opening;
   before_is = s.before;
-  calls = [];
   goes = subst (λ w. Goes (opening_of seen) h w []) (sym s.journal) (goes_none (opening_of seen) h s.right);
-  jobs_are = refl;
   callers = tt;
   workers_are = s.workers_are;
   controllers_are = s.controllers_are ∙ map_map seen.controllers (ascending seen.controllers);
@@ -85,36 +81,34 @@ caller_of : (workers : ℕ) (seen : PortSeen) (p : PortNow) (d : Deed) → lengt
 caller_of workers seen p (Carried x parts fate bytes) w o h = omega (arith, w, h)
 caller_of workers seen p (Asked l reply) w o h = ap (λ q. is_listed q.controllers l.controller) (sym o) ∙ h
 
--- a port that does one more job
-pub port_does : (workers : ℕ) (seen : PortSeen) (before : List Event) (jobs : List Job) (j : Job) (p q : PortNow) → workers ≤ 16 → PortGoes workers seen before jobs p → Does p j q → PortGoes workers seen before (jobs ++ j ∷ []) q
-port_does workers seen before jobs j p q few g d = subst (λ w. PortGoes workers seen before (jobs ++ j ∷ []) w) (sym d.is) here
+-- a port that makes one more call
+pub port_does : (workers : ℕ) (seen : PortSeen) (before : List Event) (calls : List Call) (c : Call) (p q : PortNow) → workers ≤ 16 → PortGoes workers seen before calls p → Makes p c q → PortGoes workers seen before (calls ++ c ∷ []) q
+port_does workers seen before calls c p q few g m = subst (λ w. PortGoes workers seen before (calls ++ c ∷ []) w) (sym m.is) here
   where
-    of : IsKnown workers seen.controllers d.call.deed
-    of = caller_of workers seen p d.call.deed (ap length g.workers_are ∙ (length-map (counted 0 workers) _ ∙ length_counted 0 workers)) g.opening (subst (HasCaller p) (sym d.job) d.caller)
+    of : IsKnown workers seen.controllers c.deed
+    of = caller_of workers seen p c.deed (ap length g.workers_are ∙ (length-map (counted 0 workers) _ ∙ length_counted 0 workers)) g.opening m.caller
 
-    told : Tells workers seen.controllers g.calls d.call
-    told = tells workers seen.controllers g.calls d.call.deed d.call.entry d.call.count few of
+    told : Tells workers seen.controllers calls c
+    told = tells workers seen.controllers calls c.deed c.entry c.count few of
 
-    next : IsNext (opening_of seen) p.journal d.call
-    next = subst (λ o. IsNext o p.journal d.call) g.opening d.next
+    next : IsNext (opening_of seen) p.journal c
+    next = subst (λ o. IsNext o p.journal c) g.opening m.next
 
-    here : PortGoes workers seen before (jobs ++ j ∷ []) (with_call d.call p)
+    here : PortGoes workers seen before (calls ++ c ∷ []) (with_call c p)
     here = record {
       number = g.number;
       mac = g.mac;
       opening = g.opening;
       before_is = g.before_is;
-      calls = g.calls ++ d.call ∷ [];
-      goes = goes_on (opening_of seen) before p.journal g.calls d.call g.goes next;
-      jobs_are = map_append (λ c. job_of c.deed) g.calls (d.call ∷ []) ∙ ap₂ (λ x y. x ++ y ∷ []) g.jobs_are d.job;
-      callers = each_append (λ c. IsKnown workers seen.controllers c.deed) g.calls (d.call ∷ []) g.callers (of, tt);
-      workers_are = ap (told_workers (by_of d.call.deed) (text d.call)) g.workers_are ∙ told.workers_are;
-      controllers_are = ap₂ (λ o w. told_controllers o.controllers (by_of d.call.deed) (text d.call) w) g.opening g.controllers_are ∙ told.controllers_are;
-      tally = ap (counted_in (what_of d.call.deed)) g.tally ∙ tally_more g.calls d.call.deed d.call.entry d.call.count;
+      goes = goes_on (opening_of seen) before p.journal calls c g.goes next;
+      callers = each_append (λ c. IsKnown workers seen.controllers c.deed) calls (c ∷ []) g.callers (of, tt);
+      workers_are = ap (told_workers (by_of c.deed) (text c)) g.workers_are ∙ told.workers_are;
+      controllers_are = ap₂ (λ o w. told_controllers o.controllers (by_of c.deed) (text c) w) g.opening g.controllers_are ∙ told.controllers_are;
+      tally = ap (counted_in (what_of c.deed)) g.tally ∙ tally_more calls c.deed c.entry c.count;
     }
 
 -- several more
-pub port_goes : (workers : ℕ) (seen : PortSeen) (before : List Event) (jobs more : List Job) (p q : PortNow) → workers ≤ 16 → PortGoes workers seen before jobs p → DoesEach more p q → PortGoes workers seen before (jobs ++ more) q
-port_goes workers seen before jobs [] p q few g d = subst (λ js. PortGoes workers seen before js q) (sym (append_end jobs)) (subst (λ w. PortGoes workers seen before jobs w) (sym d) g)
-port_goes workers seen before jobs (j ∷ js) p q few g d =
-    subst (λ w. PortGoes workers seen before w q) (append_assoc jobs (j ∷ []) js) (port_goes workers seen before (jobs ++ j ∷ []) js d.0 q few (port_does workers seen before jobs j p d.0 few g d.1) d.2)
+pub port_goes : (workers : ℕ) (seen : PortSeen) (before : List Event) (calls more : List Call) (p q : PortNow) → workers ≤ 16 → PortGoes workers seen before calls p → MakesEach more p q → PortGoes workers seen before (calls ++ more) q
+port_goes workers seen before calls [] p q few g d = subst (λ cs. PortGoes workers seen before cs q) (sym (append_end calls)) (subst (λ w. PortGoes workers seen before calls w) (sym d) g)
+port_goes workers seen before calls (c ∷ cs) p q few g d =
+    subst (λ w. PortGoes workers seen before w q) (append_assoc calls (c ∷ []) cs) (port_goes workers seen before (calls ++ c ∷ []) cs d.0 q few (port_does workers seen before calls c p d.0 few g d.1) d.2)

@@ -4,10 +4,10 @@ use native.Mathlib.Decide.{ℕ_discrete}
 use Rattle.vsw_commandfile.specs.declared.line.Line.{Line}
 use Rattle.vsw_port.specs.Calls.{Ask, Job}
 use Rattle.vsw_history_law.proofs.Callers.{place_one}
-use Rattle.vsw_pcap.specs.declared.capture.Record.{Record}
+use Rattle.vsw_history_law.specs.Plain.{IsAsk}
 use Rattle.vsw_policy.specs.Layers.{place_of}
-use Rattle.vsw_policy.specs.Sound.{are_distinct, is_listed}
-use Rattle.vsw_promise.specs.Jobs.{Placed, at_place, before_jobs, during_jobs, placed_packets}
+use Rattle.vsw_policy.specs.Sound.{Each, are_distinct, is_listed}
+use Rattle.vsw_promise.specs.Jobs.{Placed, at_place, before_jobs, during_jobs}
 use Rattle.vsw_promise.proofs.Handed.{place_append}
 use Rattle.vsw_promise.specs.Schedule.{commands_at}
 use Rattle.vsw_switch.specs.Does.{placed_line}
@@ -23,7 +23,7 @@ same_test numbers number i port at listed = by (ℕ_discrete port number)
     by (no ne) = ne_eqb (place_of port numbers) i (λ f. ne (sym (place_one numbers number port listed (at ∙ sym f)))) ∙ sym (ne_eqb port number ne)
 
 -- the commands of a round that pass a test, for all ports and for one
-abbrev placed_lines : (Line → Bool) → List ℕ → List Line → ℕ → List Placed
+abbrev pub placed_lines : (Line → Bool) → List ℕ → List Line → ℕ → List Placed
 placed_lines t numbers commands first = map (placed_line numbers) (filter t (commands_at first commands))
 
 abbrev jobs_where : (Line → Bool) → List Line → ℕ → ℕ → List Job
@@ -45,17 +45,22 @@ lines_where t numbers (l ∷ ls) first i number at listed =
 
 -- ---- both
 
--- all that is done in a round: the "before" commands, the "during" commands, and the packets
-abbrev pub jobs_done : ℕ → List ℕ → List ℕ → List Line → ℕ → List (ℕ × Record) → List Placed
-jobs_done workers numbers macs commands first packets = placed_lines (λ l. not l.during) numbers commands first ++ (placed_lines (λ l. l.during) numbers commands first ++ placed_packets workers false macs [] packets)
+-- all that is done in a round: the "before" commands, the "during" commands, and the jobs of packets
+abbrev pub jobs_done : List ℕ → List Line → ℕ → List Placed → List Placed
+jobs_done numbers commands first jobs = placed_lines (λ l. not l.during) numbers commands first ++ (placed_lines (λ l. l.during) numbers commands first ++ jobs)
 
-pub jobs_there : (workers : ℕ) (numbers macs : List ℕ) (commands : List Line) (first : ℕ) (packets : List (ℕ × Record)) (i number : ℕ) → place_of number numbers ≡ i → is_listed numbers number ≡ true
-    → at_place i (jobs_done workers numbers macs commands first packets) ≡ before_jobs commands first number ++ (during_jobs commands first number ++ at_place i (placed_packets workers false macs [] packets))
-jobs_there workers numbers macs commands first packets i number at listed =
-    place_append i (placed_lines (λ l. not l.during) numbers commands first) (placed_lines (λ l. l.during) numbers commands first ++ placed_packets workers false macs [] packets)
-    ∙ (ap (λ w. w ++ at_place i (placed_lines (λ l. l.during) numbers commands first ++ placed_packets workers false macs [] packets)) (lines_where (λ l. not l.during) numbers commands first i number at listed)
-    ∙ ap (λ w. before_jobs commands first number ++ w) (place_append i (placed_lines (λ l. l.during) numbers commands first) (placed_packets workers false macs [] packets)
-    ∙ ap (λ w. w ++ at_place i (placed_packets workers false macs [] packets)) (lines_where (λ l. l.during) numbers commands first i number at listed)))
+pub jobs_there : (numbers : List ℕ) (commands : List Line) (first : ℕ) (jobs : List Placed) (i number : ℕ) → place_of number numbers ≡ i → is_listed numbers number ≡ true
+    → at_place i (jobs_done numbers commands first jobs) ≡ before_jobs commands first number ++ (during_jobs commands first number ++ at_place i jobs)
+jobs_there numbers commands first jobs i number at listed =
+    place_append i (placed_lines (λ l. not l.during) numbers commands first) (placed_lines (λ l. l.during) numbers commands first ++ jobs)
+    ∙ (ap (λ w. w ++ at_place i (placed_lines (λ l. l.during) numbers commands first ++ jobs)) (lines_where (λ l. not l.during) numbers commands first i number at listed)
+    ∙ ap (λ w. before_jobs commands first number ++ w) (place_append i (placed_lines (λ l. l.during) numbers commands first) jobs
+    ∙ ap (λ w. w ++ at_place i jobs) (lines_where (λ l. l.during) numbers commands first i number at listed)))
+
+-- those of the commands are commands
+pub ask_alone : (numbers : List ℕ) (ls : List Line) → Each (λ (t : Placed). IsAsk t.1) (map (placed_line numbers) ls)
+ask_alone numbers [] = tt
+ask_alone numbers (l ∷ ls) = (tt, ask_alone numbers ls)
 
 -- ---- the places of numbers
 

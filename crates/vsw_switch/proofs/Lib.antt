@@ -1,10 +1,13 @@
 pub mod Places
+pub mod Given
 pub mod Answered
 pub mod Closed
 pub mod Staying
-pub mod Loosened
 pub mod Opened
 pub mod Steps
+pub mod Handing
+pub mod Loosened
+pub mod Carrying
 pub mod Asking
 pub mod Tellings
 pub mod Totals

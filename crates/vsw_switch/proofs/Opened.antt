@@ -14,6 +14,7 @@ use Rattle.vsw_config.specs.declared.file.PolicyFile.{PolicyFile}
 use Rattle.vsw_config.specs.declared.file.PortFile.{PortFile}
 use Rattle.vsw_port.specs.Core.{AreAtMost}
 use Rattle.vsw_promise.specs.declared.port.Port.{Port}
+use Rattle.vsw_promise.specs.Jobs.{macs_of}
 use Rattle.vsw_promise.specs.Ports.{PortSeen, in_order, port_of, port_seen, ports_of, whole}
 use Rattle.vsw_report.specs.Line.{TextLine}
 use Rattle.vsw_switch.specs.Stay.{ArePorts, CanOpen, port_at_first}
@@ -84,6 +85,14 @@ seen_numbers workers (p ∷ ps) = ap (λ w. p.number ∷ w) (seen_numbers worker
 seen_macs : (workers : ℕ) (ports : List Port) → map (λ p. p.mac) (map (port_at_first workers) (map port_seen ports)) ≡ map (λ p. p.mac) ports
 seen_macs workers [] = refl
 seen_macs workers (p ∷ ps) = ap (λ w. p.mac ∷ w) (seen_macs workers ps)
+
+made_seen : (ports : List Port) → map (λ p. p.mac) ports ≡ map (λ p. p.mac) (map port_seen ports)
+made_seen [] = refl
+made_seen (p ∷ ps) = ap (λ w. p.mac ∷ w) (made_seen ps)
+
+-- the addresses of the ports that a policy gives
+pub made_macs : (f : PolicyFile) (made : List Port) (macs : List ℕ) → map port_seen made ≡ ports_of f → macs ≡ map (λ p. p.mac) made → macs ≡ macs_of f
+made_macs f made macs is m = m ∙ (made_seen made ∙ ap (map (λ p. p.mac)) is)
 
 first_numbers : (workers : ℕ) (ps : List PortSeen) → map (λ p. p.number) (map (port_at_first workers) ps) ≡ map (λ p. p.number) ps
 first_numbers workers [] = refl

@@ -1,15 +1,16 @@
 -- The element at a place: a caller that tells a line, a port that does a job.
-use Rattle.std.proofs.Common.{◌≡◌, ◌<◌, ℕ, zero, suc, ◌==◌, ◌||◌, Bool, true, false, nat_lt, if◌then◌else◌, List, [], ◌∷◌, ◌++◌, length, map, get_or, Result, Ok, Err, OnOk, refl, ap, sym, ◌∙◌, subst, arith, ne_eqb}
+use Rattle.std.proofs.Common.{◌≡◌, ◌<◌, ℕ, zero, suc, ◌==◌, ◌||◌, Bool, true, false, nat_lt, if◌then◌else◌, List, [], ◌∷◌, ◌++◌, length, map, get_or, Result, Ok, Err, IfOk, OnOk, refl, ap, sym, ◌∙◌, subst, arith, ne_eqb}
 use Rattle.std.specs.Prelude.{⊤}
 use Rattle.std.specs.List.{slice_set}
 use native.Mathlib.Decide.{ℕ_discrete}
 use Rattle.vsw_base.specs.declared.fault.NoMemory.{NoMemory}
-use Rattle.vsw_port.specs.Calls.{Job}
+use Rattle.vsw_port.specs.Calls.{Call, Job}
+use Rattle.vsw_port.specs.declared.crossing.Outcome.{Outcome}
 use Rattle.vsw_port.specs.Order.{ascending, put_in}
 use Rattle.vsw_report.specs.Line.{TextLine}
 use Rattle.vsw_policy.specs.Layers.{place_of}
 use Rattle.vsw_policy.specs.Sound.{Each, is_listed}
-use Rattle.vsw_switch.specs.Does.{Does, DoesAt, told_at}
+use Rattle.vsw_switch.specs.Does.{Does, DoesAll, Makes, MakesAt, told_at}
 use Rattle.vsw_switch.specs.Switch.{PortNow}
 
 -- ---- a line of a caller
@@ -25,14 +26,20 @@ told_ok xs i x y l (Err f) lt here e = tt
 
 -- ---- a port
 
-does_set : (xs : List PortNow) (i : ℕ) (x y : PortNow) (j : Job) → i < length xs → x ≡ get_or xs i x → Does x j y → DoesAt i j xs (slice_set xs i y)
-does_set [] i x y j lt here d = absurd (omega (arith, lt))
-does_set (z ∷ zs) zero x y j lt here d = (subst (λ w. Does w j y) here d, refl)
-does_set (z ∷ zs) (suc i) x y j lt here d = (refl, does_set zs i x y j (omega (arith, lt)) here d)
+make_set : (xs : List PortNow) (i : ℕ) (x y : PortNow) (c : Call) → i < length xs → x ≡ get_or xs i x → Makes x c y → MakesAt i c xs (slice_set xs i y)
+make_set [] i x y c lt here m = absurd (omega (arith, lt))
+make_set (z ∷ zs) zero x y c lt here m = (subst (λ w. Makes w c y) here m, refl)
+make_set (z ∷ zs) (suc i) x y c lt here m = (refl, make_set zs i x y c (omega (arith, lt)) here m)
 
-pub does_ok : (xs : List PortNow) (i : ℕ) (x y : PortNow) (j : Job) (r : Result ⊤ NoMemory) → i < length xs → x ≡ get_or xs i x → OnOk r (Does x j y) → OnOk r (DoesAt i j xs (slice_set xs i y))
-does_ok xs i x y j (Ok u) lt here d = does_set xs i x y j lt here d
+pub does_ok : (xs : List PortNow) (i : ℕ) (x y : PortNow) (j : Job) (r : Result ⊤ NoMemory) → i < length xs → x ≡ get_or xs i x → OnOk r (Does x j y) → OnOk r (DoesAll ((i, j) ∷ []) xs (slice_set xs i y))
+does_ok xs i x y j (Ok u) lt here d = record { calls = (i, d.call) ∷ []; jobs_are = ap (λ k. (i, k) ∷ []) d.job; make = (slice_set xs i y, make_set xs i x y d.call lt here d.makes, refl) }
 does_ok xs i x y j (Err f) lt here d = tt
+
+-- of a call that hangs on the outcome
+pub makes_ok : (xs : List PortNow) (i : ℕ) (x y : PortNow) (call : Outcome → ℕ → Call) (r : Result Outcome NoMemory) → i < length xs → x ≡ get_or xs i x → IfOk r (λ o. Makes x (call o (length x.journal)) y)
+    → IfOk r (λ o. (count : ℕ) × MakesAt i (call o count) xs (slice_set xs i y))
+makes_ok xs i x y call (Ok o) lt here m = (length x.journal, make_set xs i x y (call o (length x.journal)) lt here m)
+makes_ok xs i x y call (Err f) lt here m = tt
 
 -- an element that stays as it was
 pub set_here : {A : Type 0} (xs : List A) (i : ℕ) (x y : A) → x ≡ get_or xs i x → y ≡ x → slice_set xs i y ≡ xs

@@ -21,7 +21,7 @@ each_down : (P : Standing → Type 0) (ps : List PortNow) → Each P (map standi
 each_down P [] e = tt
 each_down P (p ∷ ps) e = (e.0, each_down P ps e.1)
 
-stay_each : (P : Standing → Type 0) (ps qs : List PortNow) → map standing qs ≡ map standing ps → Each (λ p. P (standing p)) ps → Each (λ p. P (standing p)) qs
+pub stay_each : (P : Standing → Type 0) (ps qs : List PortNow) → map standing qs ≡ map standing ps → Each (λ p. P (standing p)) ps → Each (λ p. P (standing p)) qs
 stay_each P ps qs s e = each_down P qs (subst (Each P) (sym s) (each_up P ps e))
 
 pub ports_stay : (workers : ℕ) (numbers macs : List ℕ) (ps qs : List PortNow) → map standing qs ≡ map standing ps → ArePorts workers numbers macs ps → ArePorts workers numbers macs qs

@@ -38,7 +38,7 @@ abbrev pub begun : PortNow → PortNow
 begun p = record { number = p.number; mac = p.mac; opening = p.opening; journal = p.journal; before = length p.journal; workers = emptied p.workers; controllers = emptied p.controllers; tally = none; last = p.tally }
 
 abbrev pub next_round : SwitchNow → SwitchNow
-next_round s = record { workers = s.workers; ports = map begun s.ports; loose = [] }
+next_round s = record { workers = s.workers; locals = s.locals; ports = map begun s.ports; loose = [] }
 
 -- what became of the packets of the round that ended last, at all ports
 abbrev pub last_of : List PortNow → Tally

@@ -1,6 +1,7 @@
--- What the ports of a switch do: jobs, one after the other. Each is the next call on its port's history.
-use Rattle.std.specs.Prelude.{◌≡◌, ◌<◌, ℕ, zero, suc, List, [], ◌∷◌, ◌++◌, length, map, true}
+-- What the ports of a switch do: calls, one after the other. Each is the next on its port's history.
+use Rattle.std.specs.Prelude.{◌≡◌, ◌<◌, ℕ, zero, suc, List, [], ◌∷◌, ◌++◌, filter, length, map, true, ◌==◌}
 use Rattle.vsw_commandfile.specs.declared.line.Line.{Line}
+use Rattle.vsw_hairpin.specs.Handing.{HasHanded, with_hops}
 use Rattle.vsw_port.specs.Calls.{Call, Job, Carry, Ask, job_of, entries_of}
 use Rattle.vsw_port.specs.Next.{IsNext}
 use Rattle.vsw_port.specs.Order.{ascending}
@@ -52,26 +53,59 @@ abbrev pub HasCaller : PortNow → Job → Type 0
 HasCaller p (Carry x parts) = x.caller < length p.workers
 HasCaller p (Ask l) = is_listed p.opening.controllers l.controller ≡ true
 
--- a port does a job: it is the next call on its history
+-- a port makes a call: it is the next on its history
+pub record Makes (p : PortNow) (c : Call) (q : PortNow) : Type 0 where
+  pub caller : HasCaller p (job_of c.deed)
+  pub next : IsNext p.opening p.journal c
+  pub is : q ≡ with_call c p
+
+-- a port does a job: by a call
 pub record Does (p : PortNow) (j : Job) (q : PortNow) : Type 0 where
-  pub caller : HasCaller p j
   pub call : Call
   pub job : job_of call.deed ≡ j
-  pub next : IsNext p.opening p.journal call
-  pub is : q ≡ with_call call p
+  pub makes : Makes p call q
 
 -- ---- all ports
 
--- the port at a place does a job, and the others stay as they are
-abbrev pub DoesAt : ℕ → Job → List PortNow → List PortNow → Type 0
-DoesAt zero j (p ∷ ps) (q ∷ qs) = Does p j q × (qs ≡ ps)
-DoesAt (suc n) j (p ∷ ps) (q ∷ qs) = (q ≡ p) × DoesAt n j ps qs
-DoesAt n j _ _ = ⊥
+-- a call, with the place of its port
+abbrev pub CallAt : Type 0
+CallAt = ℕ × Call
+
+-- the job that it did, and the calls of the port at a place among these
+abbrev pub job_at : CallAt → Placed
+job_at c = (c.0, job_of c.1.deed)
+
+abbrev pub calls_at : ℕ → List CallAt → List Call
+calls_at i cs = map (λ c. c.1) (filter (λ c. c.0 == i) cs)
+
+-- the port at a place makes a call, and the others stay as they are
+abbrev pub MakesAt : ℕ → Call → List PortNow → List PortNow → Type 0
+MakesAt zero c (p ∷ ps) (q ∷ qs) = Makes p c q × (qs ≡ ps)
+MakesAt (suc n) c (p ∷ ps) (q ∷ qs) = (q ≡ p) × MakesAt n c ps qs
+MakesAt n c _ _ = ⊥
+
+-- calls, one after the other
+abbrev pub MakesAll : List CallAt → List PortNow → List PortNow → Type 0
+MakesAll [] ps qs = qs ≡ ps
+MakesAll (c ∷ cs) ps qs = (mid : List PortNow) × MakesAt c.0 c.1 ps mid × MakesAll cs mid qs
 
 -- jobs, one after the other
-abbrev pub DoesAll : List Placed → List PortNow → List PortNow → Type 0
-DoesAll [] ps qs = qs ≡ ps
-DoesAll (t ∷ ts) ps qs = (mid : List PortNow) × DoesAt t.0 t.1 ps mid × DoesAll ts mid qs
+pub record DoesAll (jobs : List Placed) (ps qs : List PortNow) : Type 0 where
+  pub calls : List CallAt
+  pub jobs_are : map job_at calls ≡ jobs
+  pub make : MakesAll calls ps qs
+
+-- among these calls each of these jobs was done, and handed this on to ports of these addresses
+abbrev pub AreHanded : List ℕ → List CallAt → List Placed → List (List Placed) → Type 0
+AreHanded macs cs [] [] = Unit {0}
+AreHanded macs cs (j ∷ js) (h ∷ hops) = HasHanded macs (calls_at j.0 cs) j h × AreHanded macs cs js hops
+AreHanded macs cs _ _ = ⊥
+
+-- jobs, one after the other, and after each at once those that its call hands on to ports of these addresses
+pub record HandsOn (macs : List ℕ) (jobs : List Placed) (ps qs : List PortNow) : Type 0 where
+  pub hops : List (List Placed)
+  pub does : DoesAll (with_hops jobs hops) ps qs
+  pub handed : AreHanded macs does.calls jobs hops
 
 -- the addresses and the numbers of the ports
 abbrev pub macs_in : SwitchNow → List ℕ
@@ -80,10 +114,18 @@ macs_in s = map (λ p. p.mac) s.ports
 abbrev pub numbers_in : SwitchNow → List ℕ
 numbers_in s = map (λ p. p.number) s.ports
 
--- a switch before and after these jobs and loose packets
-pub record Works (s : SwitchNow) (jobs : List Placed) (loose : List Loose) (t : SwitchNow) : Type 0 where
+-- a switch before and after these jobs
+pub record Works (s : SwitchNow) (jobs : List Placed) (t : SwitchNow) : Type 0 where
   pub workers : t.workers ≡ s.workers
+  pub locals : t.locals ≡ s.locals
   pub ports : DoesAll jobs s.ports t.ports
+  pub loose_are : t.loose ≡ s.loose
+
+-- a switch before and after these jobs, each with what it handed on, and loose packets
+pub record Hands (s : SwitchNow) (jobs : List Placed) (loose : List Loose) (t : SwitchNow) : Type 0 where
+  pub workers : t.workers ≡ s.workers
+  pub locals : t.locals ≡ s.locals
+  pub ports : HandsOn s.locals jobs s.ports t.ports
   pub loose_are : t.loose ≡ s.loose ++ loose
 
 -- a command, with the place of the port that it is for
@@ -92,8 +134,8 @@ placed_line numbers l = (place_of l.port numbers, Ask l)
 
 -- a command was asked of its port
 abbrev pub Asks : SwitchNow → Line → SwitchNow → Type 0
-Asks s l t = Works s (placed_line (numbers_in s) l ∷ []) [] t
+Asks s l t = Works s (placed_line (numbers_in s) l ∷ []) t
 
--- packet n went to its port, or is loose
+-- packet n went to its port, and on to another if it was handed on, or it is loose
 abbrev pub Forwards : SwitchNow → ℕ → Record → SwitchNow → Type 0
-Forwards s n r t = Works s (placed_packet s.workers n r.moment [] (aim_of (macs_in s) r)) (loose_after n (aim_of (macs_in s) r)) t
+Forwards s n r t = Hands s (placed_packet s.workers n r.moment [] (aim_of (macs_in s) r)) (loose_after n (aim_of (macs_in s) r)) t

@@ -5,3 +5,4 @@ pub mod Close
 pub mod Stay
 pub mod Round
 pub mod Steps
+pub mod Export

@@ -10,7 +10,7 @@ use Rattle.vsw_promise.specs.Ports.{PortSeen}
 use Rattle.vsw_promise.specs.Jobs.{aim_of, placed_packet}
 use Rattle.vsw_promise.specs.Rounds.{opening_of}
 use Rattle.vsw_report.specs.declared.round.LooseCause.{LooseCause}
-use Rattle.vsw_switch.specs.Does.{DoesAll}
+use Rattle.vsw_switch.specs.Does.{HandsOn}
 use Rattle.vsw_switch.specs.Switch.{PortNow}
 use Rattle.vsw_switch.specs.Tally.{none}
 
@@ -55,7 +55,7 @@ abbrev pub why_of : {A : Type 0} → Result A LooseCause → Option LooseCause
 why_of (Err why) = Some why
 why_of (Ok a) = None
 
--- ports before and after packet n, which one of them met, or which is loose
-pub record Arrives (workers n : ℕ) (macs : List ℕ) (r : Record) (ps qs : List PortNow) (loose : Option LooseCause) : Type 0 where
-  pub ports : DoesAll (placed_packet workers n r.moment [] (aim_of macs r)) ps qs
+-- ports before and after packet n, which one of them met and may have handed on to a port of these local addresses, or which is loose
+pub record Arrives (workers n : ℕ) (locals macs : List ℕ) (r : Record) (ps qs : List PortNow) (loose : Option LooseCause) : Type 0 where
+  pub ports : HandsOn locals (placed_packet workers n r.moment [] (aim_of macs r)) ps qs
   pub why : loose ≡ why_of (aim_of macs r)

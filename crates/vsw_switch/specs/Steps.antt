@@ -4,7 +4,7 @@ use Rattle.std.specs.List.{flat_map, slice_get}
 use Rattle.vsw_commandfile.specs.declared.line.Line.{Line}
 use Rattle.vsw_pcap.specs.declared.capture.Record.{Record}
 use Rattle.vsw_promise.specs.Jobs.{loose_among, placed_packets}
-use Rattle.vsw_switch.specs.Does.{Works, macs_in}
+use Rattle.vsw_switch.specs.Does.{Hands, macs_in}
 use Rattle.vsw_switch.specs.Switch.{SwitchNow}
 
 -- the commands at these places of the file
@@ -15,6 +15,6 @@ lines_at lines places = flat_map (λ place. option_to_list (slice_get lines plac
 abbrev pub is_when : Bool → Line → Bool
 is_when during l = if during then l.during else not l.during
 
--- these packets were forwarded, each with its number
+-- these packets were forwarded, each with its number, and handed on
 abbrev pub ForwardsAll : SwitchNow → List (ℕ × Record) → SwitchNow → Type 0
-ForwardsAll s packets t = Works s (placed_packets s.workers false (macs_in s) [] packets) (loose_among (macs_in s) packets) t
+ForwardsAll s packets t = Hands s (placed_packets s.workers false (macs_in s) [] packets) (loose_among (macs_in s) packets) t

@@ -1,6 +1,7 @@
 -- The ports of a run: how they stand between two rounds, and in the midst of one.
-use Rattle.std.specs.Prelude.{◌≡◌, ◌≤◌, ◌<◌, ℕ, List, [], ◌∷◌, length, map, true, false}
+use Rattle.std.specs.Prelude.{◌≡◌, ◌≤◌, ◌<◌, ℕ, List, [], ◌∷◌, length, map, true}
 use Rattle.vsw_commandfile.specs.declared.line.Line.{Line}
+use Rattle.vsw_hairpin.specs.Handing.{locals_of}
 use Rattle.vsw_port.specs.declared.event.Event.{Event}
 use Rattle.vsw_port.specs.History.{Opening, AllRight}
 use Rattle.vsw_port.specs.Order.{ascending, counted}
@@ -27,9 +28,11 @@ pub record PortNow : Type 0 where
   pub tally : Tally
   pub last : Tally
 
--- the number of workers, the ports in the policy's order, and the loose packets of the round so far
+-- the number of workers, the addresses of the ports to which packets are handed on (all ports', or none), the ports in the policy's order, and
+-- the loose packets of the round so far
 pub record SwitchNow : Type 0 where
   pub workers : ℕ
+  pub locals : List ℕ
   pub ports : List PortNow
   pub loose : List Loose
 
@@ -55,8 +58,7 @@ pub record IsAt (s : Setting) (hs : List (List Event)) (now : SwitchNow) : Type 
   pub workers : now.workers ≡ s.workers
   pub some : 0 < s.workers
   pub few : s.workers ≤ 16
-  -- it hands no packet on
-  pub apart : s.local ≡ false
+  pub locals : now.locals ≡ locals_of s
   pub ports : AllStandAt s.workers (ports_of s.policy) hs now.ports
   pub loose : now.loose ≡ []
 

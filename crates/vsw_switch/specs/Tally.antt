@@ -1,5 +1,5 @@
 -- What became of packets, in numbers.
-use Rattle.std.specs.Prelude.{ℕ, ◌+◌}
+use Rattle.std.specs.Prelude.{◌+◌}
 use Rattle.vsw_base.specs.declared.fate.Fate.{Fate}
 use Rattle.vsw_promise.specs.Summary.{dropped, in_round, passed, size_of}
 use Rattle.vsw_report.specs.declared.round.Round.{Round}

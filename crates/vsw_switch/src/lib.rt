@@ -1,6 +1,7 @@
 //! A switch of one thread: its ports, its packets, and its rounds.
 #![tactic(auto)]
 
+mod arrival;
 mod callers;
 mod live;
 mod numbers;

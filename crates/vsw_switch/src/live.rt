@@ -2,15 +2,16 @@
 
 ghost use Rattle.std.specs.Prelude.{◌≡◌, ◌≤◌, ◌<◌, ◌-◌, ◌^◌, ◌++◌, nat_lt, IfOk, OnOk, length, true};
 ghost use Rattle.vsw_frame.specs.Frame.{parts};
-ghost use Rattle.vsw_port.specs.Calls.{Ask, Carry};
+ghost use Rattle.vsw_port.specs.Calls.{Ask, Carried};
 ghost use Rattle.vsw_policy.specs.Obey.{rules_given};
 ghost use Rattle.vsw_policy.specs.Sound.{Each, IsGoodRule, is_listed};
 ghost use Rattle.vsw_promise.specs.Ports.{port_seen};
 ghost use Rattle.vsw_report.specs.Whole.{whole_text};
 ghost use Rattle.vsw_switch.specs.Close.{IsCounted, begun, is_short_now, text_now};
-ghost use Rattle.vsw_switch.specs.Does.{Does};
+ghost use Rattle.vsw_switch.specs.Does.{Does, Makes};
+ghost use Rattle.vsw_switch.specs.Export.{Gives};
 ghost use Rattle.vsw_switch.specs.Stay.{CanOpen, port_at_first, standing};
-ghost use Rattle.vsw_answer.specs.Transit.{IsOfFrame};
+ghost use Rattle.vsw_answer.specs.Transit.{IsOfFrame, bytes_in, len_of};
 
 use crate::callers::{callers, tell_packet, tell_reply, tell_watch};
 use crate::numbers::place_of;
@@ -21,10 +22,11 @@ use vsw_answer::{Room, Watch};
 use vsw_base::{Crossing, Mac, NoMemory};
 use vsw_commandfile::Line;
 use vsw_frame::Frame;
-use vsw_port::ascending;
+use vsw_offload::PortRows;
+use vsw_port::{Outcome, ascending};
 use vsw_promise::Port;
 use vsw_report::{Caller, RoundText, merge_text, port_line};
-use vsw_sole::{SolePort, transit};
+use vsw_sole::{Keeping, SolePort, transit};
 
 /// The most rows of a port that are reconciled at the end of a round.
 const RECONCILED: u32 = 256;
@@ -109,14 +111,19 @@ fn take_room(callers: &mut Vec<Caller>, out: &mut RoundText, place: usize)
 
 impl Live {
     /// A port before the first round.
-    pub(crate) fn open(alloc: Global, workers: u32, port: Port) -> Result<Live, NoMemory>
+    pub(crate) fn open(
+        alloc: Global,
+        workers: u32,
+        keeping: Keeping,
+        port: Port,
+    ) -> Result<Live, NoMemory>
         requires can { CanOpen (port_seen port) }
         requires few { workers ≤ 16 }
         ensures { IfOk result (λ live. live ≡ port_at_first workers (port_seen port)) }
     {
         let listed = ascending(alloc, port.policy.controllers())?;
         let controllers = callers(alloc, listed.len())?;
-        let sole = SolePort::open(alloc, port.policy, port.rows, workers)?;
+        let sole = SolePort::open(alloc, port.policy, port.rows, workers, keeping)?;
         let workers = callers(alloc, workers as usize)?;
         Ok(Live {
             number: port.number,
@@ -131,17 +138,19 @@ impl Live {
         })
     }
 
-    /// Carries a packet, and tells what became of it, the watch first. After `NoMemory` nothing is said of the history.
+    /// Carries a packet, and tells what became of it, the watch first. A pass has left with its frame's own bytes or those at the front of the
+    /// room. After `NoMemory` nothing is said of the history.
     pub(crate) fn carry<G: Watch>(
         &mut self,
         watch: &G,
         crossing: &Crossing,
         frame: &Frame<'_>,
         room: &mut Room,
-    ) -> Result<(), NoMemory>
+    ) -> Result<Outcome, NoMemory>
         requires worker { crossing.now.caller < length self.old.workers }
         requires of { IsOfFrame crossing.now (parts frame.now) }
-        ensures does { OnOk result (Does self.old (Carry crossing.now (parts frame.now)) self.new) }
+        ensures makes { IfOk result (λ o. Makes self.old (record { deed = Carried crossing.now (parts frame.now) o.fate (bytes_in o.own (parts frame.now) o.fate room.new); entry = o.entry; count = length self.old.journal }) self.new) }
+        ensures len { IfOk result (λ o. len_of o.fate ≤ 65700) }
         ensures stays { standing self.new ≡ standing self.old }
     {
         let count = reserve(&mut self.port)?;
@@ -149,7 +158,8 @@ impl Live {
         tell_watch(watch, crossing, count, outcome, self.port.why());
         let tally = self.tally.and(Tally::of(outcome.fate))?;
         self.tally = tally;
-        tell_packet(&mut self.workers, crossing, count, outcome, frame, room)
+        tell_packet(&mut self.workers, crossing, count, outcome, frame, room)?;
+        Ok(outcome)
     }
 
     /// Does or refuses what a controller asks, and tells the reply. After `NoMemory` nothing is said of the history.
@@ -203,6 +213,21 @@ impl Live {
         ensures { result ≡ self.now.last }
     {
         self.last
+    }
+
+    /// The rows that are current, each compared with the layers of now before, once. Nothing else is seen of it.
+    pub(crate) fn export(&mut self, alloc: Global) -> Result<PortRows, NoMemory>
+        ensures same { self.new ≡ self.old }
+        ensures gives { IfOk result (Gives self.old) }
+        ensures few { IfOk result (λ rows. length rows.rows ≤ 16384) }
+    {
+        let exported = self.port.export(alloc)?;
+        Ok(PortRows {
+            port: u32::from(self.number),
+            mac: self.mac,
+            entries: exported.count,
+            rows: exported.rows,
+        })
     }
 
     /// How many entries its history has.

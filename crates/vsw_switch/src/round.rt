@@ -1,6 +1,6 @@
 //! Running a round.
 
-ghost use Rattle.std.specs.Prelude.{◌≡◌, ◌≤◌, ◌<◌, ◌+◌, ◌^◌, [], ℕ, List, filter, length, map, IfOk, OnOk};
+ghost use Rattle.std.specs.Prelude.{◌≡◌, ◌≤◌, ◌<◌, ◌+◌, ◌^◌, ℕ, List, filter, length, map, IfOk, OnOk};
 ghost use Rattle.vsw_commandfile.specs.declared.line.Line.{Line};
 ghost use Rattle.vsw_port.specs.declared.event.Event.{Event};
 ghost use Rattle.vsw_port.specs.Order.{numbered};
@@ -36,7 +36,7 @@ fn ask_all(
 ) -> Result<(), NoMemory>
     requires served { AreServed switch.old schedule.now }
     requires places { Each (λ place. place < length schedule.now) places.now }
-    ensures asked { OnOk result (Works switch.old (map (placed_line (numbers_in switch.old)) (filter (steps.is_when during) (steps.lines_at schedule.now places.now))) [] switch.new) }
+    ensures asked { OnOk result (Works switch.old (map (placed_line (numbers_in switch.old)) (filter (steps.is_when during) (steps.lines_at schedule.now places.now))) switch.new) }
     ensures served { (lines : List Line) → AreServed switch.old lines → AreServed switch.new lines }
 {
     for place in places {

@@ -1,36 +1,39 @@
 //! A switch.
 
-ghost use Rattle.std.specs.Prelude.{◌≡◌, ◌≤◌, ◌<◌, ◌^◌, ◌++◌, ◌∷◌, [], List, IfOk, OnOk, false, length, map, true};
+ghost use Rattle.std.specs.Prelude.{◌≡◌, ◌≤◌, ◌<◌, ◌^◌, ◌++◌, ◌∷◌, [], List, IfOk, OnOk, if◌then◌else◌, length, map, true};
 ghost use Rattle.std.specs.List.{flat_map, list_any};
 ghost use Rattle.vsw_commandfile.specs.declared.line.Line.{Line};
-ghost use Rattle.vsw_frame.specs.Frame.{parts};
-ghost use Rattle.vsw_port.specs.Calls.{Ask, Carry};
+ghost use Rattle.vsw_port.specs.Calls.{Ask};
+ghost use Rattle.vsw_port.specs.declared.event.Event.{Event};
 ghost use Rattle.vsw_policy.specs.Obey.{rules_given};
 ghost use Rattle.vsw_policy.specs.Sound.{Each, IsGoodRule, are_distinct, is_listed};
 ghost use Rattle.vsw_config.specs.Good.{IsGoodPolicy};
+ghost use Rattle.vsw_promise.specs.Jobs.{Setting};
 ghost use Rattle.vsw_promise.specs.Ports.{port_seen, ports_of};
-ghost use Rattle.vsw_promise.specs.Jobs.{crossing_by, worker_of};
 ghost use Rattle.vsw_report.specs.Whole.{whole_text};
 ghost use Rattle.vsw_switch.specs.Close.{AreCounted, IsCounted, begun, entries_in, is_short_now, last_of, next_round, round_now, text_now};
-ghost use Rattle.vsw_switch.specs.Does.{Asks, DoesAt, Forwards, numbers_in};
-ghost use Rattle.vsw_switch.specs.Stay.{ArePorts, Arrives, CanOpen, port_at_first, standing};
+ghost use Rattle.vsw_switch.specs.Does.{Asks, DoesAll, Forwards, numbers_in};
+ghost use Rattle.vsw_switch.specs.Export.{GivesAt, HasRowsAt};
+ghost use Rattle.vsw_switch.specs.Stay.{ArePorts, CanOpen, port_at_first, standing};
 ghost use Rattle.vsw_switch.specs.Switch.{AreServed, IsAt, IsServed, SwitchNow};
 
+use crate::arrival::arrive;
 use crate::live::Live;
 use crate::numbers::place_of;
 use crate::tally::{Tally, sum};
-use crate::worker::Worker;
+use crate::worker::Rooms;
 use std::alloc::Global;
 use std::marker::Model;
 use vsw_answer::Watch;
-use vsw_base::{Items, Mac, NoMemory, Place};
+use vsw_base::{Items, Mac, NoMemory};
 use vsw_commandfile::Line;
 use vsw_config::PolicyFile;
-use vsw_frame::{Frame, FrameRoom, read_frame};
-use vsw_header::choose_port;
+use vsw_frame::FrameRoom;
+use vsw_offload::PortRows;
 use vsw_pcap::Captured;
 use vsw_promise::{Port, macs, ports_of};
-use vsw_report::{Loose, LooseCause, RoundText, loose_part, round_line};
+use vsw_report::{Loose, RoundText, loose_part, round_line};
+use vsw_sole::Keeping;
 
 /// The ports of a switch in the midst of a run, and the round so far.
 #[derive(Drop)]
@@ -41,32 +44,43 @@ pub struct Switch {
     numbers: Vec<u16>,
     /// Their addresses.
     macs: Items<Mac>,
+    /// Whether packets are handed on between the ports.
+    local: bool,
     loose: Vec<Loose>,
-    rooms: Worker,
+    rooms: Rooms,
     /// Where the headers of a frame stand while it is forwarded.
     headers: FrameRoom,
 }
 
 impl Model for Switch {
+    ghost use Rattle.std.specs.Prelude.{[], if◌then◌else◌};
     ghost use Rattle.vsw_switch.specs.Stay.{ArePorts};
     ghost use Rattle.vsw_switch.specs.Switch.{SwitchNow};
 
     ghost Value = { SwitchNow };
 
-    ghost view = { λ s. record { workers = s.workers; ports = s.ports.items; loose = s.loose.items } };
+    ghost view = { λ s. record { workers = s.workers; locals = if s.local then s.macs else []; ports = s.ports.items; loose = s.loose.items } };
 
     ghost invariant = { λ s. ArePorts s.workers s.numbers.items s.macs s.ports.items };
 }
 
 /// The ports before the first round.
-fn open_all(alloc: Global, workers: u32, made: Items<Port>) -> Result<Vec<Live>, NoMemory>
+fn open_all(
+    alloc: Global,
+    workers: u32,
+    keeping: Keeping,
+    made: Items<Port>,
+) -> Result<Vec<Live>, NoMemory>
     requires can { Each CanOpen (map port_seen made) }
     requires few { workers ≤ 16 }
     ensures { IfOk result (λ ports. ports.items ≡ map (port_at_first workers) (map port_seen made)) }
 {
     let mut ports = Vec::new(alloc);
     for port in made.into_vec() {
-        if ports.push(Live::open(alloc, workers, port)?).is_err() {
+        if ports
+            .push(Live::open(alloc, workers, keeping, port)?)
+            .is_err()
+        {
             return Err(NoMemory);
         }
     }
@@ -91,67 +105,18 @@ fn ask_at(ports: &mut Vec<Live>, place: usize, line: &Line) -> Result<(), NoMemo
     requires within { place < length ports.old.items }
     requires listed { Each (λ p. is_listed p.opening.controllers line.now.controller ≡ true) ports.old.items }
     requires good { Each IsGoodRule (rules_given line.now.command) }
-    ensures does { OnOk result (DoesAt place (Ask line.now) ports.old.items ports.new.items) }
+    ensures does { OnOk result (DoesAll ((place, Ask line.now) ∷ []) ports.old.items ports.new.items) }
     ensures stays { map standing ports.new.items ≡ map standing ports.old.items }
 {
     let port = &mut ports[place];
     port.ask(line)
 }
 
-/// Packet `packet` is carried at the port of its place.
-fn carry_at<G: Watch>(
-    ports: &mut Vec<Live>,
-    watch: &G,
-    workers: u32,
-    place: Place,
-    packet: u32,
-    captured: &Captured<'_>,
-    frame: &Frame<'_>,
-    rooms: &mut Worker,
-) -> Result<(), NoMemory>
-    requires some { 1 ≤ workers }
-    requires callers { Each (λ p. length p.workers ≡ workers) ports.old.items }
-    requires within { place.port < length ports.old.items }
-    ensures does { OnOk result (DoesAt place.port (Carry (crossing_by (worker_of workers (parts frame.now)) packet place captured.now.moment (parts frame.now)) (parts frame.now)) ports.old.items ports.new.items) }
-    ensures stays { map standing ports.new.items ≡ map standing ports.old.items }
+/// The addresses to which packets are handed on: all of these, or none.
+fn locals(local: bool, macs: &[Mac]) -> &[Mac]
+    ensures { result.now ≡ (if local then macs.now else []) }
 {
-    rooms.bring(workers, packet, place, captured.moment, frame);
-    let port = &mut ports[place.port as usize];
-    port.carry(watch, &rooms.crossing, frame, &mut rooms.room)
-}
-
-/// Packet `packet` arrives at its port. Ok tells why it is loose, where it is.
-fn arrive<G: Watch>(
-    ports: &mut Vec<Live>,
-    watch: &G,
-    macs: &[Mac],
-    workers: u32,
-    packet: u32,
-    captured: &Captured<'_>,
-    rooms: &mut Worker,
-    headers: &mut FrameRoom,
-) -> Result<Option<LooseCause>, NoMemory>
-    requires some { 1 ≤ workers }
-    requires callers { Each (λ p. length p.workers ≡ workers) ports.old.items }
-    requires macs { macs.now ≡ map (λ p. p.mac) ports.old.items }
-    requires few { length macs.now ≤ 16 }
-    ensures arrives { IfOk result (λ loose. Arrives workers packet macs.now (record { moment = captured.now.moment; original = captured.now.original; bytes = captured.now.bytes.now }) ports.old.items ports.new.items loose) }
-    ensures stays { map standing ports.new.items ≡ map standing ports.old.items }
-{
-    if captured.bytes.len() < captured.original as usize {
-        return Ok(Some(LooseCause::Snapped));
-    }
-    let read = read_frame(captured.bytes, headers);
-    match &read {
-        Err(fault) => Ok(Some(LooseCause::Malformed(*fault))),
-        Ok(frame) => match choose_port(macs, frame.stack()) {
-            None => Ok(Some(LooseCause::NoPort)),
-            Some(place) => {
-                carry_at(ports, watch, workers, place, packet, captured, frame, rooms)?;
-                Ok(None)
-            }
-        },
-    }
+    if local { macs } else { &[] }
 }
 
 /// Before a round the ports take the rooms back that were taken of them.
@@ -182,6 +147,17 @@ fn close_all(ports: &mut Vec<Live>, out: &mut RoundText) -> Result<bool, NoMemor
     Ok(short)
 }
 
+/// The rows that are current at the port at a place.
+fn export_at(alloc: Global, ports: &mut Vec<Live>, place: usize) -> Result<PortRows, NoMemory>
+    requires within { place < length ports.old.items }
+    ensures same { ports.new.items ≡ ports.old.items }
+    ensures gives { IfOk result (GivesAt place ports.old.items) }
+    ensures few { IfOk result (λ rows. length rows.rows ≤ 16384) }
+{
+    let port = &mut ports[place];
+    port.export(alloc)
+}
+
 /// What became of the packets of the round that was closed last, at these ports.
 fn last_of(ports: &[Live]) -> Result<Tally, NoMemory>
     ensures { IfOk result (λ tally. tally ≡ last_of ports.now) }
@@ -209,27 +185,66 @@ fn entries_in(ports: &[Live]) -> Result<u64, NoMemory>
 }
 
 impl Switch {
-    /// The switch of a policy file with so many workers, before the first round.
-    pub fn open(alloc: Global, workers: u32, file: &PolicyFile) -> Result<Switch, NoMemory>
+    /// The switch of a policy file with so many workers, before the first round. A local one hands packets on between its ports.
+    fn open_with(
+        alloc: Global,
+        workers: u32,
+        file: &PolicyFile,
+        local: bool,
+        keeping: Keeping,
+    ) -> Result<Switch, NoMemory>
         requires good { IsGoodPolicy file.now }
         requires some { 0 < workers }
         requires few { workers ≤ 16 }
-        ensures opens { IfOk result (λ switch. (commands : List Line) → IsAt (record { workers = workers; policy = file.now; commands = commands; local = false }) (map (λ p. []) (ports_of file.now)) switch) }
+        ensures opens { IfOk result (λ switch. (commands : List Line) → IsAt (record { workers = workers; policy = file.now; commands = commands; local = local }) (map (λ p. []) (ports_of file.now)) switch) }
         ensures served { IfOk result (λ switch. (lines : List Line) → Each (λ l. is_listed file.now.controllers l.controller ≡ true) lines → Each (λ l. is_listed (map (λ p. p.number) (ports_of file.now)) l.port ≡ true) lines → Each (λ l. Each IsGoodRule (rules_given l.command)) lines → AreServed switch lines) }
     {
         let made = ports_of(alloc, file)?;
         let macs = macs(alloc, made.as_slice())?;
         let numbers = numbers_of(alloc, made.as_slice())?;
-        let ports = open_all(alloc, workers, made)?;
+        let ports = open_all(alloc, workers, keeping, made)?;
         Ok(Switch {
             workers,
             ports,
             numbers,
             macs,
+            local,
             loose: Vec::new(alloc),
-            rooms: Worker::new(alloc)?,
+            rooms: Rooms::new(alloc)?,
             headers: FrameRoom::new(),
         })
+    }
+
+    /// The switch of a policy file with so many workers, before the first round. A local one hands packets on between its ports.
+    pub fn open(
+        alloc: Global,
+        workers: u32,
+        file: &PolicyFile,
+        local: bool,
+    ) -> Result<Switch, NoMemory>
+        requires good { IsGoodPolicy file.now }
+        requires some { 0 < workers }
+        requires few { workers ≤ 16 }
+        ensures opens { IfOk result (λ switch. (commands : List Line) → IsAt (record { workers = workers; policy = file.now; commands = commands; local = local }) (map (λ p. []) (ports_of file.now)) switch) }
+        ensures served { IfOk result (λ switch. (lines : List Line) → Each (λ l. is_listed file.now.controllers l.controller ≡ true) lines → Each (λ l. is_listed (map (λ p. p.number) (ports_of file.now)) l.port ≡ true) lines → Each (λ l. Each IsGoodRule (rules_given l.command)) lines → AreServed switch lines) }
+    {
+        Switch::open_with(alloc, workers, file, local, Keeping::WhereCheaper)
+    }
+
+    /// The same, whose ports keep rows whatever their layers are. Who exports them wants these.
+    pub fn open_keeping(
+        alloc: Global,
+        workers: u32,
+        file: &PolicyFile,
+        local: bool,
+    ) -> Result<Switch, NoMemory>
+        requires good { IsGoodPolicy file.now }
+        requires some { 0 < workers }
+        requires few { workers ≤ 16 }
+        ensures opens { IfOk result (λ switch. (commands : List Line) → IsAt (record { workers = workers; policy = file.now; commands = commands; local = local }) (map (λ p. []) (ports_of file.now)) switch) }
+        ensures served { IfOk result (λ switch. (lines : List Line) → Each (λ l. is_listed file.now.controllers l.controller ≡ true) lines → Each (λ l. is_listed (map (λ p. p.number) (ports_of file.now)) l.port ≡ true) lines → Each (λ l. Each IsGoodRule (rules_given l.command)) lines → AreServed switch lines) }
+    {
+        Switch::open_with(alloc, workers, file, local, Keeping::Always)
     }
 
     /// Asks a command of its port, and tells the reply. After `NoMemory` nothing is said of the port's history.
@@ -242,8 +257,8 @@ impl Switch {
         ask_at(&mut self.ports, place, line)
     }
 
-    /// Forwards packet `packet` to its port and tells what became of it, the watch too, or why it is loose. After `NoMemory`
-    /// nothing is said of the port's history.
+    /// Forwards packet `packet` to its port, and to the one to which it is handed on, and tells what became of it there, the watch
+    /// too, or why it is loose. After `NoMemory` nothing is said of the ports' histories.
     pub fn forward<G: Watch>(
         &mut self,
         watch: &G,
@@ -253,10 +268,12 @@ impl Switch {
         ensures forwards { OnOk result (Forwards self.old packet (record { moment = captured.now.moment; original = captured.now.original; bytes = captured.now.bytes.now }) self.new) }
         ensures served { (lines : List Line) → AreServed self.old lines → AreServed self.new lines }
     {
+        let macs = self.macs.as_slice();
         match arrive(
             &mut self.ports,
             watch,
-            self.macs.as_slice(),
+            macs,
+            locals(self.local, macs),
             self.workers,
             packet,
             captured,
@@ -298,6 +315,23 @@ impl Switch {
         ensures { IfOk result (λ tally. tally ≡ last_of self.now.ports) }
     {
         last_of(&self.ports)
+    }
+
+    /// How many ports there are.
+    pub fn ports(&self) -> u32
+        ensures { result ≡ length self.now.ports }
+    {
+        self.ports.len() as u32
+    }
+
+    /// The rows that are current at the port at a place, each compared with the layers of now before, once. Nothing else is seen of it.
+    pub fn export(&mut self, alloc: Global, place: u32) -> Result<PortRows, NoMemory>
+        requires { place < length self.old.ports }
+        ensures same { self.new ≡ self.old }
+        ensures rows { IfOk result (λ rows. (s : Setting) (hs : List (List Event)) → IsAt s hs self.old → HasRowsAt place (ports_of s.policy) hs rows) }
+        ensures few { IfOk result (λ rows. length rows.rows ≤ 16384) }
+    {
+        export_at(alloc, &mut self.ports, place as usize)
     }
 
     /// How many entries the histories of all ports have. A number of more than 64 bits counts as want of memory.

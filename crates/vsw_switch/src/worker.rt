@@ -1,14 +1,14 @@
-//! The rooms in which packet after packet is brought to its port.
+//! The rooms in which packet after packet is brought to its port, and once more to the one to which it is handed on.
 
 ghost use Rattle.std.specs.Prelude.{◌≡◌, ◌≤◌, ◌<◌, ◌%◌};
 ghost use Rattle.vsw_header.specs.FlowSum.{flow_sum_of};
 ghost use Rattle.vsw_frame.specs.Frame.{parts};
-ghost use Rattle.vsw_promise.specs.Jobs.{crossing_by, worker_of};
+ghost use Rattle.vsw_promise.specs.Jobs.{crossing_by};
 
 use std::alloc::Global;
 use vsw_answer::Room;
 use vsw_base::{Control, Crossing, Dir, Moment, NoMemory, Place, Sizes, Stack, Ufid};
-use vsw_frame::Frame;
+use vsw_frame::{Frame, FrameRoom};
 use vsw_header::spread;
 
 /// A packet on its way, and room for its outgoing bytes. Both are written over by the next packet.
@@ -18,8 +18,35 @@ pub(crate) struct Worker {
     pub room: Room,
 }
 
+/// Rooms of a packet that is handed on: its way, and the headers of its frame.
+#[derive(Drop)]
+pub(crate) struct Handed {
+    pub worker: Worker,
+    pub headers: FrameRoom,
+}
+
+/// Rooms of a packet at its own port, and at the one to which it is handed on.
+#[derive(Drop)]
+pub(crate) struct Rooms {
+    pub own: Worker,
+    pub handed: Handed,
+}
+
+impl Rooms {
+    /// Rooms in which no packet was brought.
+    pub(crate) fn new(alloc: Global) -> Result<Rooms, NoMemory> {
+        let own = Worker::new(alloc)?;
+        let worker = Worker::new(alloc)?;
+        let headers = FrameRoom::new();
+        Ok(Rooms {
+            own,
+            handed: Handed { worker, headers },
+        })
+    }
+}
+
 /// The worker, of so many, that brings a frame. One worker brings all, and no sum is taken.
-fn worker_for(workers: u32, stack: &Stack) -> u32
+pub(crate) fn worker_for(workers: u32, stack: &Stack) -> u32
     requires { 1 ≤ workers }
     ensures value { result ≡ flow_sum_of stack.now % workers }
     ensures below { result < workers }
@@ -53,21 +80,19 @@ impl Worker {
         Ok(Worker { crossing, room })
     }
 
-    /// Packet `packet`, which came at this moment, is brought to the port at a place by its worker, one of so many.
+    /// Packet `packet`, which came at this moment, is brought to the port at a place by this caller.
     pub(crate) fn bring(
         &mut self,
-        workers: u32,
+        caller: u32,
         packet: u32,
         place: Place,
         moment: Moment,
         frame: &Frame<'_>,
     )
-        requires { 1 ≤ workers }
-        ensures crossing { self.new.crossing ≡ crossing_by (worker_of workers (parts frame.now)) packet place moment (parts frame.now) }
-        ensures worker { self.new.crossing.caller < workers }
+        ensures { self.new.crossing ≡ crossing_by caller packet place moment (parts frame.now) }
     {
         let crossing = &mut self.crossing;
-        crossing.caller = worker_for(workers, frame.stack());
+        crossing.caller = caller;
         crossing.packet = packet;
         crossing.id.dir = place.dir;
         crossing.id.stack.copy_from(frame.stack());

@@ -19,8 +19,8 @@ begun_rows pass_in k ps (r ∷ rs) (s ∷ ss) = (record { number = k; ports = ps
 begun_rows pass_in k ps _ _ = []
 
 -- the rows of actors, as they end
-abbrev pub AllEnd : {J P S F : Type 0} → (P → PortSeen) → (S → PassNow) → (J → Job) → (S → List Call → Type 0) → (P → S → Type 0) → (S → ℕ) → List (ActorSeen P J) → List (Vec (Lane S) F) → Type 0
-AllEnd port_in pass_in job_in tells is_of permits [] [] = Unit {0}
-AllEnd port_in pass_in job_in tells is_of permits (a ∷ actors) (t ∷ ts) =
-    AreFit pass_in is_of permits a.0.number (length a.2) a.0.ports t.items × HasDone port_in pass_in job_in tells a.0.number a.0.ports a.0.histories t.items a.1 × AllEnd port_in pass_in job_in tells is_of permits actors ts
-AllEnd port_in pass_in job_in tells is_of permits _ _ = ⊥
+abbrev pub AllEnd : {J P S F : Type 0} → (P → PortSeen) → (P → List ℕ) → (S → PassNow) → (J → Job) → (S → List Call → Type 0) → (P → S → Type 0) → (S → ℕ) → List (ActorSeen P J) → List (Vec (Lane S) F) → Type 0
+AllEnd port_in locals pass_in job_in tells is_of permits [] [] = Unit {0}
+AllEnd port_in locals pass_in job_in tells is_of permits (a ∷ actors) (t ∷ ts) =
+    AreFit pass_in is_of permits a.0.number (length a.2) a.0.ports t.items × HasDone port_in locals pass_in job_in tells a.0.number a.0.ports a.0.histories t.items a.1 × AllEnd port_in locals pass_in job_in tells is_of permits actors ts
+AllEnd port_in locals pass_in job_in tells is_of permits _ _ = ⊥

@@ -8,26 +8,26 @@ use Rattle.vsw_actors.specs.Private.Reconciling.{Tally}
 use Rattle.vsw_actors.specs.Private.Rows.{ActorSeen}
 
 -- what an actor is: of the reconciler nothing is told
-abbrev pub who_of : {J P S : Type 0} → Seat J P S → Option (Begun P)
+abbrev pub who_of : {J P S Q : Type 0} → Seat J P S Q → Option (Begun P)
 who_of (Caller a) = Some a.0
 who_of (Reconciler r) = None
 
 -- the jobs that it has done, and those that are left
-abbrev pub done_of : {J P S : Type 0} → Seat J P S → List (Option (Placed J))
+abbrev pub done_of : {J P S Q : Type 0} → Seat J P S Q → List (Option (Placed J))
 done_of (Caller a) = map Some a.1
 done_of (Reconciler r) = replicate r.done None
 
-abbrev pub todo_of : {J P S : Type 0} → Seat J P S → List (Option (Placed J))
+abbrev pub todo_of : {J P S Q : Type 0} → Seat J P S Q → List (Option (Placed J))
 todo_of (Caller a) = map Some a.2
 todo_of (Reconciler r) = replicate r.left None
 
 -- the seats of callers, and behind them the reconciler's
-abbrev pub seats_of : {J P S : Type 0} → List (ActorSeen P J) → Tally → List (Seat J P S)
+abbrev pub seats_of : {J P S Q : Type 0} → List (ActorSeen P J) → Tally → List (Seat J P S Q)
 seats_of [] r = Reconciler r ∷ []
 seats_of (a ∷ actors) r = Caller a ∷ seats_of actors r
 
 -- the callers among seats
-abbrev pub callers_in : {J P S : Type 0} → List (Seat J P S) → List (ActorSeen P J)
+abbrev pub callers_in : {J P S Q : Type 0} → List (Seat J P S Q) → List (ActorSeen P J)
 callers_in [] = []
 callers_in (Caller a ∷ seats) = a ∷ callers_in seats
 callers_in (Reconciler r ∷ seats) = callers_in seats

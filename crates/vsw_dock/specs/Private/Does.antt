@@ -6,6 +6,8 @@ use Rattle.vsw_live.specs.Calls.{Crosses}
 use Rattle.vsw_report.specs.Line.{TextLine, text_of}
 use Rattle.vsw_promise.specs.Told.{line_of}
 use Rattle.vsw_flows.specs.Flows.{Writing}
+use Rattle.vsw_hairpin.specs.Handing.{handed_by}
+use Rattle.vsw_promise.specs.Jobs.{Placed}
 use Rattle.vsw_dock.specs.Seen.{StationSeen}
 
 -- a station counts the permits of its pass, and those that it was ever given
@@ -23,3 +25,8 @@ pub record Does (o : Opening) (j : Job) (r s : StationSeen) : Type 0 where
   pub about : job_of call.deed ≡ j
   pub crosses : Crosses o r.pass s.pass call
   pub told : Tells r.lines r.whole s.lines s.whole (text_of (line_of call))
+
+-- and its call, at the port at this place, handed this on to ports of these addresses
+pub record HandsOn (o : Opening) (macs : List ℕ) (place : ℕ) (j : Job) (hops : List Placed) (r s : StationSeen) : Type 0 where
+  pub does : Does o j r s
+  pub hands : handed_by macs place does.call.deed ≡ hops

@@ -20,6 +20,10 @@ fn told(alloc: Global, asked: &Option<Asked<'_>>) -> Result<String, AllocError> 
             "{} workers, {} {} {}",
             r.workers, r.policy, r.commands, r.trace
         ),
+        Some(Asked::Deliver(r)) => format!(in alloc;
+            "{} workers hand on, {} {} {}",
+            r.workers, r.policy, r.commands, r.trace
+        ),
         Some(Asked::Check(c)) => format!(in alloc;
             "{} of {} workers, {} {} {}",
             c.report, c.run.workers, c.run.policy, c.run.commands, c.run.trace
@@ -85,6 +89,39 @@ const GOOD: [(&str, &str); 19] = [
 #[test]
 fn lines_of_the_grammar_are_read(rt: HostRuntime) -> Result<(), Fail> {
     let wrong = first_wrong(rt.alloc(), &GOOD)?;
+    assert!(rt; wrong.is_none(), "{wrong:?}");
+    Ok(())
+}
+
+/// Lines that ask to hand packets on between the ports.
+const DELIVERIES: [(&str, &str); 16] = [
+    ("vsw deliver P C T", "1 workers hand on, P C T"),
+    ("any deliver - - -", "1 workers hand on, - - -"),
+    ("vsw deliver --workers 2 P C T", "2 workers hand on, P C T"),
+    (
+        "vsw deliver P C T --workers=16",
+        "16 workers hand on, P C T",
+    ),
+    ("vsw deliver P C -- -T", "1 workers hand on, P C -T"),
+    (
+        "vsw deliver deliver forward T",
+        "1 workers hand on, deliver forward T",
+    ),
+    ("vsw deliver", "refused"),
+    ("vsw deliver P C", "refused"),
+    ("vsw deliver P C T R", "refused"),
+    ("vsw deliver P C ", "refused"),
+    ("vsw deliver P C -T", "refused"),
+    ("vsw deliver --workers 0 P C T", "refused"),
+    ("vsw deliver --workers=17 P C T", "refused"),
+    ("vsw deliver --local P C T", "refused"),
+    ("vsw Deliver P C T", "refused"),
+    ("vsw delivery P C T", "refused"),
+];
+
+#[test]
+fn lines_of_a_delivery_name_three_files(rt: HostRuntime) -> Result<(), Fail> {
+    let wrong = first_wrong(rt.alloc(), &DELIVERIES)?;
     assert!(rt; wrong.is_none(), "{wrong:?}");
     Ok(())
 }

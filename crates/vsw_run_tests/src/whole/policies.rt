@@ -14,6 +14,9 @@ pub const PORT_OF_2: &str =
 /// What stands after the layers of the only port.
 pub const END: &str = "]}]}";
 
+/// The end of port 1's layers, and port 2 up to its layers.
+pub const BETWEEN_PORTS: &str = r#"]},{"port":2,"mac":"02:00:00:00:00:99","rows":64,"layers":["#;
+
 /// Layer 10 of controller 1, up to its groups.
 pub const LAYER: &str =
     r#"{"controller":1,"layer":10,"order":1,"default_out":"drop","default_in":"drop","pairs":100,"idle":240,"linger":10,"groups":["#;
@@ -47,6 +50,17 @@ pub const TWO_RULES_TURNED: &str =
 /// One group, whose only rule keeps the state of each flow.
 pub const STATEFUL: &str =
     r#"{"group":1,"dir":"out","when":[],"rules":[{"rule":1,"priority":10,"when":[],"action":"allow","stateful":true,"last":false}]}"#;
+
+/// The same of inbound packets.
+pub const STATEFUL_IN: &str =
+    r#"{"group":1,"dir":"in","when":[],"rules":[{"rule":1,"priority":10,"when":[],"action":"allow","stateful":true,"last":false}]}"#;
+
+/// A rule that wraps what goes out, and one that takes an encapsulation from what comes in.
+pub const TUNNELLING: &str =
+    r#"{"group":1,"dir":"out","when":[],"rules":[{"rule":1,"priority":10,"when":[],"action":{"decap":false,"set":{},"encap":{"dst_mac":"02:00:00:00:0a:02","src_mac":"02:00:00:00:0a:01","src_ip":"172.16.0.1","dst_ip":"172.16.0.2","vni":5001}},"stateful":false,"last":false}]}"#;
+
+pub const UNTUNNELLING: &str =
+    r#"{"group":1,"dir":"in","when":[],"rules":[{"rule":1,"priority":10,"when":[],"action":{"decap":true,"set":{},"encap":null},"stateful":false,"last":false}]}"#;
 
 /// A rule that sends all packets from 192.0.2.7:40000.
 pub const SETTING: &str =

@@ -59,10 +59,11 @@ fn run_on<R: Abort + Threads + Wait + Sync, G: Gate + Watch + Sync>(
     host.written().to_vec(alloc)
 }
 
-/// What is put of a run with so many workers over these files, under this gate, where it is at most so many bytes.
-pub fn report_within<R: Abort + Threads + Wait + Sync, G: Gate + Watch + Sync>(
+/// What is put of a run by this command with so many workers over these files, under this gate, where it is at most so many bytes.
+pub fn report_by<R: Abort + Threads + Wait + Sync, G: Gate + Watch + Sync>(
     rt: &R,
     alloc: Global,
+    command: &str,
     workers: &str,
     held: Vec<MemoryFile>,
     room: usize,
@@ -73,7 +74,7 @@ pub fn report_within<R: Abort + Threads + Wait + Sync, G: Gate + Watch + Sync>(
         alloc,
         &[
             "vsw",
-            "forward",
+            command,
             "--workers",
             workers,
             "policy",
@@ -82,6 +83,18 @@ pub fn report_within<R: Abort + Threads + Wait + Sync, G: Gate + Watch + Sync>(
         ],
     )?;
     Ok(run_on(rt, alloc, &words, &mut host, gate)?)
+}
+
+/// The same by `forward`.
+pub fn report_within<R: Abort + Threads + Wait + Sync, G: Gate + Watch + Sync>(
+    rt: &R,
+    alloc: Global,
+    workers: &str,
+    held: Vec<MemoryFile>,
+    room: usize,
+    gate: &G,
+) -> Result<Vec<u8>, Fail> {
+    report_by(rt, alloc, "forward", workers, held, room, gate)
 }
 
 /// The same of at most 262,144 bytes.

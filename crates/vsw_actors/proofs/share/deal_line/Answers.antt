@@ -25,4 +25,4 @@ returns-clause-work c = λ before.
     let l = c.args.line.now in
     let ns = c.args.numbers.now in
     let within = subst (λ i. i < length ns) (sym c.place_of-place.ensures.value) (place_within ns l.port c.requires.port) in
-    c.give_line.ensures.work (length ns) c.args.controllers.now (within, (c.requires.controller, c.requires.rules)) before
+    c.give_line.ensures.work (length ns) c.args.controllers.now (within, tt, (c.requires.controller, c.requires.rules)) before

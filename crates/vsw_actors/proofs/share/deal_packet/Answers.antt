@@ -11,7 +11,7 @@ returns-in-Ok-clause-dealt c = λ cs js e.
 pub returns-in-Ok-clause-work : goal.returns-in-Ok-clause-work
 returns-in-Ok-clause-work c = λ cs before.
     let fit = subst (λ r. IfOk r (IsCarried (length c.args.macs.now))) c.in-Ok.is c.aim.ensures.fit in
-    c.give_packet.ensures.work (length c.args.macs.now) cs (fit.1, (fit.0, fit.2, fit.3)) before
+    c.give_packet.ensures.work (length c.args.macs.now) cs (fit.1, refl, (fit.0, fit.2, fit.3)) before
 
 pub returns-in-Ok-clause-loose : goal.returns-in-Ok-clause-loose
 returns-in-Ok-clause-loose c =

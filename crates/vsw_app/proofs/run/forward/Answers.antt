@@ -9,12 +9,12 @@ use Rattle.vsw_app.proofs.run.forward.Goals as goal
 pub returns-in-Err : goal.returns-in-Err
 returns-in-Err g c =
     let q = request_seen c.args.request.now in
-    ended_early q (g.H.Host.outside c.args.host.now) (g.H.Host.outside c.open_policy.new.host) c.in-Err.end (c.in-Err.ensures q refl)
+    ended_early c.args.local q (g.H.Host.outside c.args.host.now) (g.H.Host.outside c.open_policy.new.host) c.in-Err.end (c.in-Err.ensures q refl)
 
 pub returns-in-Err-open_commands : goal.returns-in-Err-open_commands
 returns-in-Err-open_commands g c =
     let q = request_seen c.args.request.now in
-    ended_early q (g.H.Host.outside c.args.host.now) (g.H.Host.outside c.open_commands.new.host) c.in-Err-open_commands.end (c.in-Err-open_commands.ensures q (g.H.Host.outside c.args.host.now) refl (c.in-Ok.ensures q refl))
+    ended_early c.args.local q (g.H.Host.outside c.args.host.now) (g.H.Host.outside c.open_commands.new.host) c.in-Err-open_commands.end (c.in-Err-open_commands.ensures q (g.H.Host.outside c.args.host.now) refl (c.in-Ok.ensures q refl))
 
 pub run_through-requires-clause-good : goal.run_through-requires-clause-good
 run_through-requires-clause-good g c κs within =
@@ -31,4 +31,4 @@ run_through-requires-clause-asked g c κs within =
 pub returns : goal.returns
 returns g c =
     let q = request_seen c.args.request.now in
-    traced_as q (g.H.Host.outside c.args.host.now) (g.H.Host.outside c.open_commands.new.host) (g.H.Host.outside c.run_through.new.host) c.in-Ok.policy c.in-Ok-open_commands.lines c.run_through.result c.ending_of.result (c.in-Ok-open_commands.ensures q (g.H.Host.outside c.args.host.now) refl (c.in-Ok.ensures q refl)) c.run_through.ensures c.ending_of.ensures
+    traced_as c.args.local q (g.H.Host.outside c.args.host.now) (g.H.Host.outside c.open_commands.new.host) (g.H.Host.outside c.run_through.new.host) c.in-Ok.policy c.in-Ok-open_commands.lines c.run_through.result c.ending_of.result (c.in-Ok-open_commands.ensures q (g.H.Host.outside c.args.host.now) refl (c.in-Ok.ensures q refl)) c.run_through.ensures c.ending_of.ensures

@@ -1,4 +1,4 @@
-use Rattle.std.proofs.Common.{[], map, refl, subst, sym, false}
+use Rattle.std.proofs.Common.{[], map, refl, subst, sym}
 use Rattle.vsw_promise.specs.Ports.{ports_of}
 use Rattle.vsw_promise.specs.Jobs.{Setting}
 use Rattle.vsw_replay.specs.Switch.{AreServed, IsAt, SwitchNow}
@@ -16,5 +16,5 @@ run_trace-requires-clause-served g c κs within =
 
 pub returns : goal.returns
 returns g c =
-    let s : Setting = record { workers = c.args.workers; policy = c.args.policy.now; commands = c.args.schedule.now; local = false } in
+    let s : Setting = record { workers = c.args.workers; policy = c.args.policy.now; commands = c.args.schedule.now; local = c.args.local } in
     c.run_trace.ensures.runs s refl (subst (λ (w : SwitchNow). IsAt s (map (λ p. []) (ports_of s.policy)) w) (sym c.alone-runner.ensures) (c.in-Ok.ensures.opens c.args.schedule.now))

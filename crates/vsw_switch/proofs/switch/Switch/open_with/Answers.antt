@@ -1,6 +1,6 @@
-use Rattle.std.proofs.Common.{◌∙◌, refl, ap, map}
-use Rattle.vsw_switch.proofs.Opened.{all_stand, are_ports, made_open, served_first}
-use Rattle.vsw_switch.proofs.switch.Switch.open.Goals as goal
+use Rattle.std.proofs.Common.{◌∙◌, [], List, ℕ, if◌then◌else◌, refl, ap, map}
+use Rattle.vsw_switch.proofs.Opened.{all_stand, are_ports, made_macs, made_open, served_first}
+use Rattle.vsw_switch.proofs.switch.Switch.open_with.Goals as goal
 
 pub open_all-requires : goal.open_all-requires
 open_all-requires c = record { can = made_open c.args.file.now c.in_ok-made.made c.requires.good c.in_ok-made.ensures; few = c.requires.few }
@@ -15,7 +15,7 @@ returns-clause-opens c commands = record {
   workers = refl;
   some = c.requires.some;
   few = c.requires.few;
-  apart = refl;
+  locals = ap (λ (ms : List ℕ). if c.args.local then ms else []) (made_macs c.args.file.now c.in_ok-made.made _ c.in_ok-made.ensures (c.macs-2.view_is ∙ (c.in_ok-macs.ensures ∙ ap (map (λ p. p.mac)) c.as_slice.ensures)));
   ports = all_stand c.args.file.now c.args.workers c.in_ok-made.made c.in_ok-ports.ports.items c.in_ok-made.ensures c.in_ok-ports.ensures;
   loose = c.new.ensures.items;
 }

@@ -1,0 +1,19 @@
+use Rattle.std.proofs.Common.{rules}
+use Rattle.vsw_many.specs.Actors.{Moves}
+use Rattle.vsw_promise.specs.Rounds.{opening_of}
+use Rattle.vsw_actors.proofs.Lanes.{done_here, done_there, spends_here}
+use Rattle.vsw_actors.proofs.hop.+receive_at.Goals as goal
+
+pub returns-then-at-place-clause-does : goal.returns-then-at-place-clause-does
+returns-then-at-place-clause-does g t c =
+    done_here g.P.Port.port_in g.P.Port.pass_in g.P.Port.tells (λ p. Moves (opening_of (g.P.Port.port_in p)) (g.P.Port.parcel_in c.args.parcel.now).1) c.args.at c.args.place c.in-Some.port.now c.in-Some.others.now c.args.ports.now c.in-Some-split_first_mut.lane.now c.receive.new.lane c.in-Some-split_first_mut.rest.now c.args.lanes.now
+    (search rules) (search rules) (search rules) c.receive.ensures.moves
+
+pub returns-then-at-place-clause-fit : goal.returns-then-at-place-clause-fit
+returns-then-at-place-clause-fit g t c =
+    spends_here g.P.Port.pass_in g.P.Port.is_of g.P.Port.permits c.args.at c.args.place c.in-Some.port.now c.in-Some.others.now c.args.ports.now c.in-Some-split_first_mut.lane.now c.receive.new.lane c.in-Some-split_first_mut.rest.now c.args.lanes.now (search rules) (search rules) (search rules) c.receive.ensures.fit
+
+pub returns-else-at-place-clause-does : goal.returns-else-at-place-clause-does
+returns-else-at-place-clause-does g t c =
+    done_there g.P.Port.port_in g.P.Port.pass_in g.P.Port.tells (λ p. Moves (opening_of (g.P.Port.port_in p)) (g.P.Port.parcel_in c.args.parcel.now).1) c.args.at c.args.place c.in-Some.port.now c.in-Some.others.now c.args.ports.now c.in-Some-split_first_mut.lane.now c.in-Some-split_first_mut.rest.now c.receive_at.new.lanes c.args.lanes.now
+    (search rules) (search rules) (search rules) c.receive_at.ensures.does

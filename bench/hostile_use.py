@@ -253,7 +253,7 @@ def policy_memory(bench):
 # A row, what it measures, the unit, and its bound: so many times the ordinary run's seconds, or so many MB more than an empty run.
 ROWS = [
     (first, "60,000 first packets, three layers", "times", 25),
-    (handshakes, "SYN, ACK and RST of one flow in turn, sixteen layers", "times", 30),
+    (handshakes, "SYN, ACK and RST of one flow in turn, sixteen layers", "times", 25),
     (reopened, "closed connections opened again, three layers", "times", 25),
     (full, "first packets at full layers, three layers", "times", 25),
     (collide, "first packets that collide under FoldHasher", "times", 2),
@@ -263,7 +263,7 @@ ROWS = [
     (scan, "a scan of 50,000 flows, then 10,000 flows", "times", 4),
     (greatest, "frames of 65,549 bytes", "times", 400),
     (commands, "a command each 1,000 packets", "times", 4),
-    (often, "a command each 16 packets", "times", 80),
+    (often, "a command each 16 packets", "times", 20),
     (often_by_four, "the same by four workers", "times", 80),
     (rules, "commands on a group of 1,000 rules", "times", 400),
     (line_memory, "a commands line of 16 MiB", "MB", 3500),

@@ -26,7 +26,7 @@ SYN, ACK, FIN, PSH = 0x02, 0x10, 0x01, 0x08
 PAGE_PORT = 49_210
 QUERY_PORT = 53_124
 MILLISECOND, SECOND = 1_000, 1_000_000
-HTTP, HTTPS, SSH = 80, 443, 22
+HTTP, HTTPS, SSH, POSTGRES = 80, 443, 22, 5_432
 
 
 def query(number=0x1A2B, kind=1):
@@ -250,6 +250,23 @@ def roll_out():
     ]
 
 
+def two_machines():
+    """The machine behind port 1 asks a database on the one behind port 2, 10.0.0.6, and tries to log in there; so does a stranger."""
+    def sent(machine, other, src_port, dst_port, *rest):
+        return ether(other[0], machine[0], 0x0800, ipv4(machine[1], other[1], 6, tcp(machine[1], other[1], src_port, dst_port, *rest)))
+
+    asked = b"SELECT 1"
+    return [
+        sent(ONE, TWO, PAGE_PORT, POSTGRES, SYN, 1_000, 0),
+        sent(TWO, ONE, POSTGRES, PAGE_PORT, SYN | ACK, 5_000, 1_001),
+        sent(ONE, TWO, PAGE_PORT, POSTGRES, PSH | ACK, 1_001, 5_001, asked),
+        sent(TWO, ONE, POSTGRES, PAGE_PORT, PSH | ACK, 5_001, 1_001 + len(asked), b"1"),
+        sent(ONE, TWO, PAGE_PORT + 1, SSH, SYN, 1_000, 0),
+        ask(NAMES),
+        segment_in(STRANGER, 40_022, SYN, 7_000, 0, machine=TWO, dst_port=POSTGRES),
+    ]
+
+
 def flows():
     """Four datagrams of each of a hundred flows."""
     ends = [f"10.0.1.{number}" for number in range(1, 101)]
@@ -267,6 +284,7 @@ TRACES = {
     "8-bad-files": lambda: [ask(NAMES)],
     "10-ipv6": security6,
     "11-roll-out": roll_out,
+    "14-two-machines": two_machines,
     "flows": flows,
 }
 

@@ -22,6 +22,7 @@ ROOT = os.path.dirname(os.path.dirname(os.path.abspath(__file__)))
 EXAMPLES = os.path.join(ROOT, "examples")
 STEPS = {int(name.split("-")[0]): name for name in os.listdir(EXAMPLES) if name[0].isdigit()}
 BAD = "8-bad-files"
+DELIVERED = STEPS[14]
 FOLDERS = [STEPS[step] for step in sorted(STEPS) if STEPS[step] != BAD]
 STATUSES = {"refused": 5, "limit": 6}
 PROGRAM = [os.path.join(ROOT, "vsw"), *(word for word in sys.argv[1:] if word == "--unproved")]
@@ -43,11 +44,12 @@ def bad_files():
 
 
 def runs():
-    """The runs in the gate's order: folder, policy, commands, what is put, what is complained."""
+    """The runs in the gate's order: the first word, folder, policy, commands, what is put, what is complained."""
     for folder in ["first", *FOLDERS]:
-        yield folder, "policy.json", "commands.jsonl", read(folder, "report.txt"), b""
+        yield "forward", folder, "policy.json", "commands.jsonl", read(folder, "report.txt"), b""
     for folder, policy, commands, said in bad_files():
-        yield folder, policy, commands, b"", said
+        yield "forward", folder, policy, commands, b"", said
+    yield "deliver", DELIVERED, "policy.json", "commands.jsonl", read(DELIVERED, "delivered.txt"), b""
 
 
 def wanted():
@@ -55,8 +57,8 @@ def wanted():
     files = {("vsw", "stdout"): read("flows", "report.txt")}
     for name in ("policy.json", "commands.jsonl", "trace.pcap"):
         files["vsw", "data", name] = read("flows", name)
-    files["vsw_examples", "stdout"] = b"".join(put + said for _, _, _, put, said in runs())
-    for folder, policy, commands, _, _ in runs():
+    files["vsw_examples", "stdout"] = b"".join(put + said for _, _, _, _, put, said in runs())
+    for _, folder, policy, commands, _, _ in runs():
         for name in (policy, commands, "trace.pcap"):
             files["vsw_examples", "data", folder, name] = read(folder, name)
     return {os.path.join(ROOT, "crates", *path): data for path, data in files.items()}
@@ -92,6 +94,8 @@ def check_reports():
     for folder in ["flows", *FOLDERS]:
         report = plain_switch.report(read(folder, "policy.json"), read(folder, "trace.pcap"), read(folder, "commands.jsonl"))
         yield compare(f"report of {folder} by the rules", report.encode() == read(folder, "report.txt"))
+    delivered = plain_switch.report(*(read(DELIVERED, name) for name in ("policy.json", "trace.pcap", "commands.jsonl")), local=True)
+    yield compare(f"report of {DELIVERED} by the rules of `deliver`", delivered.encode() == read(DELIVERED, "delivered.txt"))
 
 
 def check_guide():
@@ -104,7 +108,7 @@ def check_guide():
             shown = re.findall(r"^\| `([\w-]+)` \| `([^`]+)`", section, re.MULTILINE)
             is_well = all(read(folder, f"{name}.said") == f"vsw: {said}\n".encode() for name, said in shown)
         else:
-            lines = [line for name in ("report.txt", "two-workers.txt") if os.path.exists(os.path.join(EXAMPLES, folder, name))
+            lines = [line for name in ("report.txt", "two-workers.txt", "delivered.txt") if os.path.exists(os.path.join(EXAMPLES, folder, name))
                      for line in read(folder, name).decode().splitlines()]
             shown = re.findall(r"^    ([wc]\d+ .+?|port \d.+?|round \d.*?)(?:  .*)?$", section, re.MULTILINE)
             is_well = all(any(line.startswith(part[:-1]) if part.endswith("…") else line == part for line in lines)
@@ -136,13 +140,13 @@ def check_commands():
 def check_runs():
     # The first use builds the program, and says so.
     subprocess.run([*PROGRAM, "generate", "1", "1"], stdout=subprocess.DEVNULL)
-    flows = ("flows", "policy.json", "commands.jsonl", read("flows", "report.txt"), b"")
-    for folder, policy, commands, put, said in [flows, *runs()]:
+    flows = ("forward", "flows", "policy.json", "commands.jsonl", read("flows", "report.txt"), b"")
+    for word, folder, policy, commands, put, said in [flows, *runs()]:
         files = [os.path.join(EXAMPLES, folder, name) for name in (policy, commands, "trace.pcap")]
-        ran = subprocess.run([*PROGRAM, "forward", *files], capture_output=True)
+        ran = subprocess.run([*PROGRAM, word, *files], capture_output=True)
         status = STATUSES[said.split()[1].decode()] if said else 0
         is_well = (ran.stdout, ran.stderr, ran.returncode) == (put, said, status)
-        yield compare(f"run of {folder}/{policy} with {commands}", is_well)
+        yield compare(f"{word} of {folder}/{policy} with {commands}", is_well)
 
 
 def ends_legal(names, workers, report):
@@ -171,6 +175,10 @@ def check_workers():
         ran = subprocess.run([*PROGRAM, "forward", "--workers=4", *names], capture_output=True)
         why = legal.fault(*(read(folder, os.path.basename(name)) for name in names), 4, ran.stdout.decode())
         yield compare(f"run of {folder} with four workers", ran.returncode == 0 and why is None and ends_legal(names, 4, ran.stdout))
+    names = [os.path.join(EXAMPLES, DELIVERED, name) for name in ("policy.json", "commands.jsonl", "trace.pcap")]
+    ran = subprocess.run([*PROGRAM, "deliver", "--workers=4", *names], capture_output=True)
+    why = legal.fault(*(read(DELIVERED, os.path.basename(name)) for name in names), 4, ran.stdout.decode(), local=True)
+    yield compare(f"run of {DELIVERED} by `deliver` with four workers", ran.returncode == 0 and why is None)
     files = [read("7-commands", name) for name in ("policy.json", "commands.jsonl", "trace.pcap")]
     yield compare("the run of two workers that the guide shows", legal.fault(*files, 2, read("7-commands", "two-workers.txt").decode()) is None)
 

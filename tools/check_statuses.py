@@ -150,6 +150,7 @@ def cases(folder):
 
     yield "a whole report", ["forward", POLICY, COMMANDS, TRACE], 0, b""
     yield "four workers", ["forward", "--workers", "4", POLICY, COMMANDS, TRACE], 0, b""
+    yield "packets handed on", ["deliver", "--workers", "4", POLICY, COMMANDS, TRACE], 0, b""
     yield "a summary", ["generate", "1", "2"], 0, b""
     for words in ["01", "5"], ["1", "0"], ["1", "1048577"], ["2147483648", "1"], ["1"], ["1", "1", "1"], ["--", "1", "1"]:
         yield f"generate {words}", ["generate", *words], 2, b"vsw: usage\n"

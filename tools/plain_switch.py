@@ -565,15 +565,30 @@ def met(macs, record):
     return "noport" if port is None else (port, "out" if outermost in macs else "in", packet)
 
 
-def carry(macs, told, loose, place, record, workers):
-    """Brings a packet to its port, or tells why it is loose."""
+def handed_on(macs, port, way, fate):
+    """The other port for which a packet's bytes are a frame, once it passed outbound, and the packet there; or None."""
+    if way != "out" or not fate.startswith("pass "):
+        return None
+    try:
+        packet = Packet(bytes.fromhex(fate.split(" ")[2]))
+    except Malformed:
+        return None
+    other_port = macs.get(packet.fields["dst_mac"])
+    return None if other_port is None or other_port is port else (other_port, "in", packet)
+
+
+def carry(macs, told, loose, place, record, workers, local=False):
+    """Brings a packet to its port, or tells why it is loose; and, if packets are handed on between the ports, to the port that it is for then."""
     found = met(macs, record)
     if isinstance(found, str):
-        return loose.append(f"{place} {found}")
-    port, way, packet = found
-    worker = flow_sum(packet.fields) % workers
-    fate, is_entry = cross(port, way, packet, record[0])
-    return tell(port, told, ("w", worker), place, fate, is_entry)
+        loose.append(f"{place} {found}")
+        return
+    worker = flow_sum(found[2].fields) % workers
+    while found is not None:
+        port, way, packet = found
+        fate, is_entry = cross(port, way, packet, record[0])
+        tell(port, told, ("w", worker), place, fate, is_entry)
+        found = handed_on(macs, port, way, fate) if local else None
 
 
 def rounds(records, commands):
@@ -582,8 +597,8 @@ def rounds(records, commands):
     return zip(cuts, [*cuts[1:], None])
 
 
-def report(policy_text, trace, commands_text=b"", workers=1):
-    """The report of a run over this policy, these commands and this trace, all done in one order."""
+def report(policy_text, trace, commands_text=b"", workers=1, local=False):
+    """The report of a run over this policy, these commands and this trace, all done in one order. `local`: of `deliver`, which hands packets on between the ports."""
     policy, records, commands = json.loads(policy_text), read_capture(trace), read_commands(commands_text)
     places = {controller: place for place, controller in enumerate(policy["controllers"])}
     ports = opened_ports(policy, places)
@@ -597,7 +612,7 @@ def report(policy_text, trace, commands_text=b"", workers=1):
             reply = obey(port, places, command)
             tell(port, told, ("c", command["controller"]), command["line"], reply, True)
         for place, record in enumerate(records[first:following], first):
-            carry(macs, told, loose, place, record, workers)
+            carry(macs, told, loose, place, record, workers, local)
         lines.append(f"round {first}")
         for port, before in zip(ports, begun):
             lines += [f"port {port['port']} {before} {port['count']}", *(line for _, line in sorted(told[port["port"]], key=lambda t: t[0]))]

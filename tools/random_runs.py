@@ -1,14 +1,14 @@
 #!/usr/bin/env python3
 """Runs the program over random policies, commands and captures, and judges its reports by a plain program.
 
-    tools/random_runs.py [RUNS] [SEED] [PROGRAM]
+    tools/random_runs.py [--deliver] [RUNS] [SEED] [PROGRAM]
 
 The plain program is tools/plain_switch.py, written from docs/MODEL.md apart from the switch. Policies are of both versions, with
 up to four layers of three controllers on each of two ports. Packets are ARP, UDP, TCP and ICMP over IPv4 and, a third of them, over
 IPv6, among few addresses and ports; some are fragments, have extension headers, slack or a trailer, stand in VXLAN or are malformed;
 and there are replies to what passed. Commands come before and beside them, and past the last. Every run is made with 1 to 8 workers.
 The report of one worker is the plain program's; that of more is legal in the order that it tells (tools/legal.py). Each is legal by the program's
-own `check`, too. PROGRAM is ./vsw if it isn't given. Prints how often each fate and reply came, what the runs had, and the seed of a run whose report is wrong.
+own `check`, too. With `--deliver` the program's `deliver` is run, in which the two ports hand packets on to each other; `check` has no say there. PROGRAM is ./vsw if it isn't given. Prints how often each fate and reply came, what the runs had, and the seed of a run whose report is wrong.
 """
 import collections
 import ipaddress
@@ -251,7 +251,7 @@ def reply(sent):
     return sent[6:12] + sent[:6] + sent[12:26] + sent[30:34] + sent[26:30] + sent[36:38] + sent[34:36] + sent[38:]
 
 
-def drawn(seed):
+def drawn(seed, local=False):
     """A policy, commands, a capture and a number of workers, and the report of the plain program."""
     draw = Drawing(seed)
     made, records, moment = policy(draw), [], 0
@@ -263,13 +263,13 @@ def drawn(seed):
         data = draw.choice(often) if draw.random() < 0.6 else frame(draw)
         records.append((moment, data, len(data)))
     for _ in range(2):
-        told = parse_report("report", plain_switch.report(text, write_capture(records), lines, workers).encode()).packets()
-        sent = [told[packet].fate.sent for packet in sorted(told)]
+        told = parse_report("report", plain_switch.report(text, write_capture(records), lines, workers, local).encode())
+        sent = [line.fate.sent for line in sorted(told.packet_lines(), key=lambda line: line.packet)]
         for data in filter(None, (reply(data) for data in sent if data and draw.random() < 0.2)):
             moment += 1_000
             records.append((moment, data, len(data)))
     trace = write_capture(records)
-    return (text.encode(), lines, trace, workers), plain_switch.report(text, trace, lines, workers)
+    return (text.encode(), lines, trace, workers), plain_switch.report(text, trace, lines, workers, local)
 
 
 def keep(folder, text, lines, trace):
@@ -285,8 +285,8 @@ def words_of(program, command, workers, names):
     return [program, command, *([f"--workers={workers}"] if workers > 1 else []), *names]
 
 
-def run(program, folder, text, lines, trace, workers):
-    words = words_of(program, "forward", workers, keep(folder, text, lines, trace))
+def run(program, folder, text, lines, trace, workers, command="forward"):
+    words = words_of(program, command, workers, keep(folder, text, lines, trace))
     return subprocess.run(words, capture_output=True, check=True).stdout.decode()
 
 
@@ -299,16 +299,17 @@ def check(program, folder, text, lines, trace, workers, report):
     return ran.returncode, ran.stdout, ran.stderr
 
 
-def fault(files, got, wanted):
+def fault(files, got, wanted, local=False):
     """What is wrong with a report, None where nothing is."""
-    if files[3] == 1:
-        return None if got == wanted else "differs from the plain program's"
-    return legal.fault(*files, got)
+    if files[3] == 1 and got != wanted:
+        return "differs from the plain program's"
+    return legal.fault(*files, got, local=local) if files[3] > 1 or local else None
 
 
 def became(files, got):
     """What became of each packet and command of a run, in short."""
-    for told in parse_report("report", got.encode()).packets().values():
+    report = parse_report("report", got.encode())
+    for told in [*report.packet_lines(), *report.loose_lines()]:
         over = " over IPv6" if told.fate.sent and told.fate.sent[12:14] == b"\x86\xdd" else ""
         if isinstance(told, PacketLine):
             yield ("+" if told.is_entry else "@") + ("" if told.fate.is_pass else "drop ") + told.fate.kind + over
@@ -326,6 +327,8 @@ def kinds(files, got, wanted):
     """What a run had."""
     text, lines, _, workers = files
     yield f"runs of version {json.loads(text)['version']}"
+    numbers = [line.packet for line in parse_report("report", got.encode()).packet_lines()]
+    yield from ["packets that were handed on"] * (len(numbers) - len(set(numbers)))
     if workers > 1:
         yield "runs of many workers"
         if b'"when": "during"' in lines:
@@ -336,19 +339,27 @@ def kinds(files, got, wanted):
             yield "of these in another order than that of one thread"
 
 
+def judged(program, folder, files, got, wanted, local):
+    """What is wrong with the report of a run, None where nothing is."""
+    why = fault(files, got, wanted, local)
+    if why is None and not local:
+        said = check(program, folder, *files, got)
+        why = None if said == (0, b"legal\n", b"") else f"check says {said}"
+    return why
+
+
 def main():
-    runs = int(sys.argv[1]) if len(sys.argv) > 1 else 100
-    first = int(sys.argv[2]) if len(sys.argv) > 2 else 1
-    program = sys.argv[3] if len(sys.argv) > 3 else os.path.join(ROOT, "vsw")
+    words = [word for word in sys.argv[1:] if word != "--deliver"]
+    local = len(words) < len(sys.argv) - 1
+    runs = int(words[0]) if words else 100
+    first = int(words[1]) if len(words) > 1 else 1
+    program = words[2] if len(words) > 2 else os.path.join(ROOT, "vsw")
     fates, had, wrong = collections.Counter(), collections.Counter(), []
     with tempfile.TemporaryDirectory() as folder:
         for seed in range(first, first + runs):
-            files, wanted = drawn(seed)
-            got = run(program, folder, *files)
-            why = fault(files, got, wanted)
-            said = check(program, folder, *files, got)
-            if why is None and said != (0, b"legal\n", b""):
-                why = f"check says {said}"
+            files, wanted = drawn(seed, local)
+            got = run(program, folder, *files, "deliver" if local else "forward")
+            why = judged(program, folder, files, got, wanted, local)
             if why is not None:
                 wrong.append(seed)
                 print(f"seed {seed}, {files[3]} workers: {why}")

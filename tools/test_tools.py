@@ -245,8 +245,8 @@ class Shadows(unittest.TestCase):
 
 
 class Replays(unittest.TestCase):
-    def replay(self, folder: str, change: tuple[bytes, bytes] = (b"", b"")) -> Replay:
-        with open(example(folder, "report.txt"), "rb") as file:
+    def replay(self, folder: str, change: tuple[bytes, bytes] = (b"", b""), name: str = "report.txt") -> Replay:
+        with open(example(folder, name), "rb") as file:
             report = reports.parse_report("report.txt", file.read().replace(*change) if change[0] else file.read())
         with open(example(folder, "trace.pcap"), "rb") as file:
             records = list(parse_capture("it", file.read()))
@@ -258,6 +258,15 @@ class Replays(unittest.TestCase):
             counted = hits(replay)
             self.assertEqual(disagreement_lines(replay), [], folder)
             self.assertTrue(counted, folder)
+
+    def test_packets_that_were_handed_on_agree(self) -> None:
+        replay = self.replay("14-two-machines", name="delivered.txt")
+        self.assertEqual([traced.call.port for traced in replay.until(1)], [2, 1])
+        self.assertEqual([traced.call.port for traced in replay.until(4)], [1, 2])
+        self.assertEqual((list(replay.calls()) and None, disagreement_lines(self.replay("14-two-machines", name="delivered.txt"))), (None, []))
+        wrong = self.replay("14-two-machines", (b"w0 4 @2 drop rule 1/10/1/2", b"w0 4 @2 drop rule 1/10/1/1"), "delivered.txt")
+        list(wrong.calls())
+        self.assertEqual(wrong.disagreements, 1)
 
     def test_a_wrong_report_is_told_loudly(self) -> None:
         for folder, change in ("first", (b"drop rule 1/10/1/6", b"drop rule 1/10/1/5")), ("first", (b"6869\n", b"6868\n")), ("first", (b"4 noport", b"4 snapped")), \
@@ -306,6 +315,17 @@ class Outcomes(unittest.TestCase):
         first, told = next((line, line.split(" ", 3)) for line in report.splitlines() if line.startswith("w") and " @" in line)
         read = report.replace(first, f"{told[0]} {told[1]} {told[2]} drop memory")
         self.assertIn("a pair to be made", legal.fault(policy, commands, trace, 1, read))
+
+
+    def test_handed_on_packets_are_legal_by_the_worker_that_brought_them(self) -> None:
+        _, (policy, commands, trace) = self.files("14-two-machines")
+        report = ending.read_bytes(example("14-two-machines", "delivered.txt")).decode()
+        self.assertIsNone(legal.fault(policy, commands, trace, 1, report, local=True))
+        self.assertIn("one line each", legal.fault(policy, commands, trace, 1, report))
+        for change in ("w0 4 @2 drop", "w1 4 @2 drop"), ("w0 4 @2 drop rule 1/10/1/2\n", ""):
+            self.assertIsNotNone(legal.fault(policy, commands, trace, 1, report.replace(*change), local=True), change)
+        alone = ending.read_bytes(example("14-two-machines", "report.txt")).decode()
+        self.assertIn("without a line", legal.fault(policy, commands, trace, 1, alone, local=True))
 
 
 class Tools(unittest.TestCase):
@@ -358,6 +378,18 @@ class Tools(unittest.TestCase):
                 with open(path, "rb") as file:
                     self.assertEqual(len(list(parse_capture("it", file.read()))), count, options)
 
+    def test_packets_that_were_handed_on(self) -> None:
+        policy, report, trace = (example("14-two-machines", name) for name in ("policy.json", "delivered.txt", "trace.pcap"))
+        done = run_tool("explain", "--policy", policy, report, trace, "4")
+        self.assertEqual(done.returncode, 0)
+        self.assertLess(done.stdout.index("It passed port 1"), done.stdout.index("handed on to another port"))
+        self.assertLess(done.stdout.index("handed on to another port"), done.stdout.index("It was dropped at port 2: rule 2 of group 1"))
+        self.assertIn("--policy tells which", run_tool("explain", report, trace, "1").stdout)
+        for options, count in ([], 10), (["--dropped"], 2), (["--port", "2"], 4):
+            self.assertIn(f"{count} of 12 ", run_tool("report_to_pcap", *options, report, trace, os.devnull).stderr)
+        done = run_tool("compare_reports", report, report)
+        self.assertEqual((done.returncode, "a second line of packet 0" in done.stderr), (5, True))
+
     def test_sums(self) -> None:
         done = run_tool("summary", "--json", "--policy", example("7-commands", "policy.json"), example("7-commands", "report.txt"), example("7-commands", "trace.pcap"))
         summary = json.loads(done.stdout)
@@ -395,15 +427,18 @@ ANSWER = {0: 0x04D2_0035_0800_1137, 1: 5001, 2: 0x0200_0000_0A02, 3: 0x0200_0000
 DROP = {**{place: word for place, word in ROW.items() if place < 18}, 0: 0x0036_04D2_0800_1131, 16: 1, 19: 1 | 10 << 16 | 2 << 32 | 3 << 48}
 ARP = {0: 0x0806_0001, 2: 0xFFFF_FFFF_FFFF, 3: 0x0200_0000_0001, 16: 2, 17: 2**64 - 1, 19: 1 | 10 << 16}
 
+# Packets of TCP to port 54, whose source and whose destination port are written.
+MAPPED = {**ROW, 0: 0x0036_04D2_0800_0631, 17: 240_000_001, 22: 0x16, 23: 0xC000_0207, 25: 0x27, 27: 80}
+
 
 class Rows(unittest.TestCase):
     """Rows files in words, as a tool tells them."""
 
-    def told(self, data: bytes) -> subprocess.CompletedProcess[str]:
+    def told(self, data: bytes, *words: str) -> subprocess.CompletedProcess[str]:
         with tempfile.NamedTemporaryFile() as file:
             file.write(data)
             file.flush()
-            return run_tool("rows_text", file.name)
+            return run_tool("rows_text", *words, file.name)
 
     def test_a_row_a_line(self) -> None:
         self.assertEqual(len(rows_file(ROW)), 614)
@@ -416,6 +451,28 @@ class Rows(unittest.TestCase):
             "port 1 in vxlan 5001 172.16.0.1 > 172.16.0.2, 02:00:00:00:00:99 > 02:00:00:00:00:01 UDP 10.0.0.9:53 > 192.0.2.7:1234: pass, pop, pop, pop, "
             "set IPv4 destination 10.0.0.5, until 240.000001"])
         self.assertEqual((done.returncode, done.stderr), (0, ""))
+
+    def test_rules(self) -> None:
+        done = self.told(rows_file(ARP, ROW, MAPPED, DROP, ANSWER), "--nft", "tap{}")
+        ends = "ether daddr 02:00:00:00:00:99 ether saddr 02:00:00:00:00:01 ether type 0x0800 ip saddr 10.0.0.5 ip daddr 10.0.0.9"
+        self.assertEqual(done.stdout.splitlines(), [
+            "table netdev vsw {",
+            "    chain port_1_out {",
+            '        type filter hook ingress device "tap1" priority 0;',
+            '        ether daddr ff:ff:ff:ff:ff:ff ether saddr 02:00:00:00:00:01 ether type 0x0806 drop comment "drop by the default of layer 10 of controller 1 for outbound packets"',
+            f'        {ends} ip protocol 17 ip frag-off & 0x3fff == 0 udp sport 1234 udp dport 53 accept comment "pass"',
+            f"        {ends} ip protocol 6 ip frag-off & 0x3fff == 0 tcp sport 1234 tcp dport 54 tcp flags & (fin | syn | rst) == 0x0 "
+            'ip saddr set 192.0.2.7 tcp dport set 80 accept comment "pass, until 240.000001"',
+            f'        {ends} ip protocol 17 ip frag-off & 0x3fff == 0 udp sport 1234 udp dport 54 drop comment "drop by rule 3 of group 2 in layer 10 of controller 1"',
+            "    }",
+            "    chain port_1_in {",
+            '        type filter hook egress device "tap1" priority 0;',
+            "        # no rule: its packets are encapsulated: a rule sees the outermost headers alone",
+            "    }",
+            "}"])
+        self.assertEqual((done.returncode, done.stderr), (0, ""))
+        for device in "", 'tap"', "tap 1", "{}{}":
+            self.assertEqual(self.told(rows_file(ROW), f"--nft={device}").returncode, 2, device)
 
     def test_what_is_no_rows_file(self) -> None:
         whole = rows_file(ROW)

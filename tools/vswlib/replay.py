@@ -1,7 +1,8 @@
 """A run once more by the plain program (tools/plain_switch.py), in the order that its report tells, layer by layer.
 
 The plain program was written from docs/MODEL.md apart from the switch, and isn't proved. So where the report says otherwise, one of
-the two is wrong: that is kept, and whoever uses this module tells it loudly. Ports don't touch each other; each is replayed by its own lines.
+the two is wrong: that is kept, and whoever uses this module tells it loudly. Ports don't touch each other; each is replayed by its own lines. A packet that is told at another
+port than its own came there with the bytes that its own port's line shows, if it was handed on.
 """
 from __future__ import annotations
 
@@ -49,6 +50,7 @@ class Traced:
     stop: str = ""
     told: str = ""
     agrees: bool = True
+    is_handed_on: bool = False
 
 
 # A packet's way
@@ -156,6 +158,7 @@ class Replay:
         self.places = {controller: place for place, controller in enumerate(value["controllers"])}
         self.ports = {port["port"]: port for port in plain_switch.opened_ports(value, self.places)}
         self.macs = {plain_switch.mac(port["mac"]): port for port in self.ports.values()}
+        self.fates = {(line.port, line.packet): line.fate.text() for line in report.packet_lines()}
         self.count = 0
         self.disagreements = 0
         self.first_disagreement: Optional[tuple[Call | LooseLine, str]] = None
@@ -169,11 +172,14 @@ class Replay:
             for line in one.loose:
                 self.look_at_loose(line)
 
-    def until(self, packet: int) -> Traced:
-        """The call of a packet that reached a port."""
+    def until(self, packet: int) -> list[Traced]:
+        """The calls of a packet that reached a port, in the order of its way: it stands last at a port to which it was handed on."""
+        wanted = sum(line.packet == packet for line in self.report.packet_lines())
+        found: list[Traced] = []
         for traced in self.calls():
-            if isinstance(traced.call, PacketLine) and traced.call.packet == packet:
-                return traced
+            found += [traced] if isinstance(traced.call, PacketLine) and traced.call.packet == packet else []
+            if wanted and len(found) == wanted:
+                return sorted(found, key=lambda one: one.is_handed_on)
         raise Refused(f"{self.report.name} tells of no packet {packet} at a port")
 
     def disagree(self, call: Call | LooseLine, told: str) -> None:
@@ -211,13 +217,18 @@ class Replay:
             return "snapped" if record.is_snapped else f"malformed {fault}"
         return plain_switch.met(self.macs, (record.moment, record.data, record.original))
 
+    def handed_on(self, own: Any, call: PacketLine) -> Any:
+        """Port, direction and packet as a packet is handed on, by what the report tells of it at its own port; None where it isn't."""
+        fate = self.fates.get((own[0]["port"], call.packet), "")
+        return plain_switch.handed_on(self.macs, own[0], own[1], fate)
+
     def trace_packet(self, port: dict[str, Any], call: PacketLine) -> Traced:
         record = self.record(call)
-        found = self.met(record)
-        if isinstance(found, str) or found[0] is not port:
-            where = found if isinstance(found, str) else f"at port {found[0]['port']}"
-            return Traced(call, told=where, agrees=False)
-        traced = Traced(call, found[1])
+        own = self.met(record)
+        found = own if isinstance(own, str) or own[0] is port else self.handed_on(own, call)
+        if isinstance(found, str) or found is None or found[0] is not port:
+            return Traced(call, told=own if isinstance(own, str) else f"at port {own[0]['port']}", agrees=False)
+        traced = Traced(call, found[1], is_handed_on=found is not own)
         is_entry = carry(port, traced, found[2], record.moment, call.fate.cause == "memory")
         traced.agrees = (is_entry, traced.told) == (call.is_entry, call.fate.text())
         return traced

@@ -81,6 +81,7 @@ class LooseLine:
 
 
 Call = Union[PacketLine, CommandLine]
+Told = Union[PacketLine, LooseLine]
 
 
 @dataclass
@@ -123,11 +124,20 @@ class Report:
     def loose_lines(self) -> Iterator[LooseLine]:
         return (line for one in self.rounds for line in one.loose)
 
-    def packets(self) -> dict[int, Union[PacketLine, LooseLine]]:
-        """What is told of each packet, by its number."""
-        found: dict[int, Union[PacketLine, LooseLine]] = {line.packet: line for line in self.packet_lines()}
-        found.update((line.packet, line) for line in self.loose_lines())
-        return found
+    def told(self) -> dict[int, list[Told]]:
+        """What is told of each packet, by its number. One that `deliver` handed on to another port has two lines: where only one of them passed, that
+        was at its own port, and stands first; else they stand as in the report."""
+        found: dict[int, list[Told]] = {}
+        for line in [*self.packet_lines(), *self.loose_lines()]:
+            found.setdefault(line.packet, []).append(line)
+        return {packet: sorted(lines, key=lambda line: not line.fate.is_pass) for packet, lines in found.items()}
+
+    def packets(self) -> dict[int, Told]:
+        """The line of each packet, by its number. A report of `deliver` in which packets have two is refused."""
+        for packet, lines in self.told().items():
+            if len(lines) > 1:
+                raise Refused(f"{self.name}:{lines[1].line}: a second line of packet {packet}: `deliver` handed it on, and here each packet has one line")
+        return {packet: lines[0] for packet, lines in self.told().items()}
 
 
 # Read
@@ -235,7 +245,7 @@ def why_loose(cause: str) -> str:
     return LOOSE_WORDS[words[0]].format(" ".join(words[1:]))
 
 
-def became(line: Union[PacketLine, LooseLine]) -> str:
+def became(line: Told) -> str:
     """What became of a packet, in one sentence without its full stop."""
     if isinstance(line, LooseLine):
         return f"it reached no port: {why_loose(line.fate.cause)}"

@@ -9,7 +9,6 @@ ghost use Rattle.std.specs.Prelude.{◌≡◌, ◌≤◌, ◌%◌, ◌^◌};
 ghost use Rattle.vsw_flows.specs.Mixing as spec;
 
 use crate::spot::Spot;
-use std::hash::{BuildHasher, Hasher};
 use vsw_base::{Addr, Dir, LayerKey};
 use vsw_layerflow::{HashSeed, Probe};
 
@@ -39,11 +38,14 @@ pub struct Factors {
     pub dst: AddressFactors,
 }
 
-/// A number that the seed tells.
-fn drawn(seed: &HashSeed, turn: u32) -> u64 {
-    let mut hasher = seed.seeded().build_hasher();
-    hasher.write_u64(u64::from(turn));
-    hasher.finish()
+/// The turn at which the seed tells the first of the numbers below. Turn 0 is that of maps of pairs.
+const FIRST_TURN: u32 = 1;
+
+/// The number that the seed tells at this turn from the first.
+fn drawn(seed: &HashSeed, turn: u32) -> u64
+    requires { turn ≤ 19 }
+{
+    seed.number(FIRST_TURN + turn)
 }
 
 /// The factors of an address.

@@ -3,3 +3,4 @@ pub mod Pairs
 pub mod Life
 pub mod Index
 pub mod Hashed
+pub mod Point

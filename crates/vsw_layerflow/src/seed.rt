@@ -1,26 +1,31 @@
 //! What hashing begins with, which strangers on the wire don't know.
 
+use crate::point::PointHasher;
 use std::hash::{BuildHasher, DefaultHasher, Hasher};
 use std::marker::Model;
 
-/// Makes each hasher as SipHash-1-3 that has taken in a seed.
+/// The turn at which a seed tells the point of maps.
+const MAPS_TURN: u32 = 0;
+
+/// Makes each hasher at the point that a seed tells.
 #[derive(Clone, Copy)]
 pub struct Seeded {
-    start: DefaultHasher,
+    start: PointHasher,
 }
 
 impl BuildHasher for Seeded {
-    type Hasher = DefaultHasher;
+    type Hasher = PointHasher;
 
     ghost build_hasher = { λ s. s.start };
 
-    fn build_hasher(&self) -> DefaultHasher {
+    #[inline(always)]
+    fn build_hasher(&self) -> PointHasher {
         self.start
     }
 }
 
-/// A seed for the hashing of keys that strangers pick: who doesn't know it can't tell which keys collide. To
-/// clauses all seeds are one, so no answer may depend on it.
+/// A seed for the hashing of keys that strangers pick, taken in by SipHash-1-3: who doesn't know it can't tell which keys
+/// collide. To clauses all seeds are one, so no answer may depend on it.
 #[derive(Drop)]
 pub struct HashSeed {
     taken: DefaultHasher,
@@ -77,8 +82,17 @@ impl HashSeed {
         HashSeed { taken: self.taken }
     }
 
+    /// The number that the seed tells at this turn. Who knows some of them can't tell others.
+    pub fn number(&self, turn: u32) -> u64 {
+        let mut taken = self.taken;
+        taken.write_u64(u64::from(turn));
+        taken.finish()
+    }
+
     /// What makes a map's hashers.
     pub fn seeded(&self) -> Seeded {
-        Seeded { start: self.taken }
+        Seeded {
+            start: PointHasher::at(self.number(MAPS_TURN)),
+        }
     }
 }

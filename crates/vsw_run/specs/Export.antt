@@ -1,5 +1,5 @@
--- What an export is: rows of each port that are good at the whole history of a run, as a rows file. No command of the program puts one yet.
-use Rattle.std.specs.Prelude.{◌≡◌, ℕ, List, [], ◌∷◌, length, Bool, true, Ok}
+-- What an export is: rows of each port that are good at the whole history of a run, as a rows file.
+use Rattle.std.specs.Prelude.{◌≡◌, ℕ, List, [], ◌∷◌, length, true, false, Ok}
 use Rattle.vsw_base.specs.declared.fate.Fate.{Fate}
 use Rattle.vsw_base.specs.declared.flow.Crossing.{Crossing}
 use Rattle.vsw_base.specs.Frame.{Parts, frame_of, sizes_of}
@@ -33,11 +33,11 @@ AreExported [] [] [] = Unit {0}
 AreExported (p ∷ ps) (h ∷ hs) (r ∷ rs) = IsExported p h r × AreExported ps hs rs
 AreExported _ _ _ = ⊥
 
--- the text is the rows file of ports whose histories are those of a run over the whole trace, in which memory was wanting or not
-pub record IsExport (s : Setting) (records : List Record) (short : Bool) (text : List ℕ) : Type 0 where
+-- the text is the rows file of ports whose histories are those of a run over the whole trace, in which memory was wanting nowhere
+pub record IsExport (s : Setting) (records : List Record) (text : List ℕ) : Type 0 where
   pub rounds : List Round
   pub are : AreRounds s records (cuts s.commands (length records)) rounds
-  pub short_is : are_short rounds ≡ short
+  pub whole : are_short rounds ≡ false
   pub rows : List PortRows
   pub exported : AreExported (ports_of s.policy) are.histories rows
   pub text_is : text ≡ rows_bytes rows

@@ -1,4 +1,4 @@
--- What a probe feeds a hasher: few words of 64 bits, as each takes a round of SipHash.
+-- What a probe feeds a hasher: few words of 64 bits, as each takes two multiplications.
 use Rattle.std.specs.Prelude.{ℕ, ◌+◌, ◌*◌, ◌^◌, ◌++◌, [], cond}
 use Rattle.std.specs.Hash as fed
 use Rattle.vsw_base.specs.declared.address.Addr.{Addr}

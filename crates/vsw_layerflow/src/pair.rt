@@ -48,7 +48,7 @@ impl Hash for Probe {
 
     ghost respects_eq = { Prim.search (hashing, rules) };
 
-    // Few words are fed, three where the addresses are of IPv4, as each takes a round of SipHash.
+    // Few words are fed, three where the addresses are of IPv4, as each takes two multiplications.
     fn hash<H: Hasher>(&self, state: &mut H) {
         state.write_u128(fields_number(self));
         hash_addresses(&self.key.src, &self.key.dst, state);

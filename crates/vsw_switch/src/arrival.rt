@@ -22,6 +22,7 @@ use vsw_port::Outcome;
 use vsw_report::LooseCause;
 
 /// Packet `packet` is carried by a caller at the port of its place.
+#[inline(always)]
 fn carry_at<G: Watch>(
     ports: &mut Vec<Live>,
     watch: &G,

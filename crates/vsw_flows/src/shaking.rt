@@ -41,6 +41,7 @@ fn shakes_one(layers: &[Layer], change: &Wanted, looks: &[Looked]) -> bool
 }
 
 /// The row with a mark falls, if the change shakes it.
+#[inline(always)]
 fn test(
     lookup: &Lookup<PortStory>,
     writer: &mut Writer<PortStory>,

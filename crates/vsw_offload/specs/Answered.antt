@@ -36,6 +36,7 @@ fate_by acts p verdict.Pass = passed (answer p (apply acts p.stack) (kept acts))
 fate_by acts p (verdict.Rule controller layer group rule) = Drop (cause.Rule controller layer group rule)
 fate_by acts p (verdict.Default controller layer dir) = Drop (cause.Default controller layer dir)
 
+-- the bytes with which a packet of this fate leaves, its headers edited by the acts. A dropped one leaves with none
 abbrev pub bytes_by : List Act → Parts → Fate → List ℕ
 bytes_by acts p (Pass len) = outgoing p (apply acts p.stack) (kept acts)
 bytes_by acts p (Drop why) = []
@@ -56,6 +57,7 @@ pub record IsAnswered (rows : List (List ℕ)) (x : Crossing) (p : Parts) (fate 
   pub fate_is : fate ≡ fate_by row.acts p row.verdict
   pub bytes_are : bytes ≡ bytes_by row.acts p fate
 
+-- what the rows answer a packet: nothing, or this fate with these bytes
 abbrev pub Answered : List (List ℕ) → Crossing → Parts → Option Fate → List ℕ → Type 0
 Answered rows x p None bytes = IsUnanswered rows x
 Answered rows x p (Some fate) bytes = IsAnswered rows x p fate bytes

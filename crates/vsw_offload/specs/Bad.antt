@@ -24,9 +24,11 @@ pub data Done : Type 0 where
 abbrev pub ports_text : ℕ → List PortRows → List ℕ
 ports_text count ps = head ++ little_bytes 4 count ++ flat_map port_bytes ps
 
+-- the bytes of whole ports, and of one more's number, address and count of entries
 abbrev pub entries_text : ℕ → List PortRows → ℕ → ℕ → ℕ → List ℕ
 entries_text count ps port mac entries = ports_text count ps ++ little_bytes 4 port ++ big_bytes 6 mac ++ little_bytes 4 entries
 
+-- the bytes of what was read
 abbrev pub text_of : Done → List ℕ
 text_of Head = head
 text_of (Ports count ps) = ports_text count ps
@@ -43,11 +45,13 @@ pub record IsNew (count : ℕ) (ps : List PortRows) (port : ℕ) : Type 0 where
   pub below : port < 2 ^ 32
   pub new : is_among port (numbers_of ps) ≡ false
 
+-- so it is of a port with this address, which no port before it has
 pub record IsNewAt (count : ℕ) (ps : List PortRows) (port mac : ℕ) : Type 0 where
   pub number : IsNew count ps port
   pub below : mac < 2 ^ 48
   pub new : is_among mac (macs_of ps) ≡ false
 
+-- what was read is sound so far, and the file goes on
 abbrev pub IsOpen : Done → Type 0
 IsOpen Head = Unit {0}
 IsOpen (Ports count ps) = (count ≤ 16) × (length ps < count) × AreRows ps
@@ -56,6 +60,7 @@ IsOpen (Address count ps port mac) = IsNewAt count ps port mac
 IsOpen (Entries count ps port mac entries) = IsNewAt count ps port mac × (entries < 2 ^ 32)
 IsOpen (Rows count ps p rows) = IsNewAt count ps p.port p.mac × IsPortRows p × (rows ≤ 16384) × (length p.rows < rows)
 
+-- how many bytes the next part has: a number, an address, or a row
 abbrev pub next_size : Done → ℕ
 next_size Head = 4
 next_size (Ports count ps) = 4
@@ -88,17 +93,20 @@ words_in (suc n) bytes = little_number 8 bytes ∷ words_in n (drop 8 bytes)
 abbrev pub row_at : List ℕ → ℕ → List ℕ
 row_at bytes at = words_in 73 (take 584 (drop at bytes))
 
+-- the file ends within the part that begins at this byte
 pub record IsCut (bytes : List ℕ) (at : ℕ) : Type 0 where
   pub done : Done
   pub reaches : Reaches bytes at done
   pub short : length bytes < at + next_size done
 
+-- the number of a port that begins there is an earlier port's
 pub record NumberTwice (bytes : List ℕ) (at : ℕ) : Type 0 where
   pub count : ℕ
   pub ps : List PortRows
   pub stands : Stands bytes at (Ports count ps)
   pub twice : is_among (little_number 4 (drop at bytes)) (numbers_of ps) ≡ true
 
+-- the address that begins there is an earlier port's
 pub record AddressTwice (bytes : List ℕ) (at : ℕ) : Type 0 where
   pub count : ℕ
   pub ps : List PortRows
@@ -106,6 +114,7 @@ pub record AddressTwice (bytes : List ℕ) (at : ℕ) : Type 0 where
   pub stands : Stands bytes at (Number count ps port)
   pub twice : is_among (big_number 6 (drop at bytes)) (macs_of ps) ≡ true
 
+-- the number of rows that begins there is above 16,384
 pub record HasManyRows (bytes : List ℕ) (at : ℕ) : Type 0 where
   pub count : ℕ
   pub ps : List PortRows
@@ -115,6 +124,7 @@ pub record HasManyRows (bytes : List ℕ) (at : ℕ) : Type 0 where
   pub stands : Stands bytes at (Entries count ps port mac entries)
   pub many : 16384 < little_number 4 (drop at bytes)
 
+-- the words that begin there say no row
 pub record HasBadRow (bytes : List ℕ) (at : ℕ) : Type 0 where
   pub count : ℕ
   pub ps : List PortRows
@@ -123,6 +133,7 @@ pub record HasBadRow (bytes : List ℕ) (at : ℕ) : Type 0 where
   pub stands : Stands bytes at (Rows count ps p rows)
   pub bad : ¬ (IsRow (row_at bytes at))
 
+-- the row that begins there has a key that isn't above the one before
 pub record Falls (bytes : List ℕ) (at : ℕ) : Type 0 where
   pub count : ℕ
   pub ps : List PortRows

@@ -15,6 +15,7 @@ use Rattle.vsw_transpose.specs.Fits as fit
 abbrev pub row_bytes : List ℕ → List ℕ
 row_bytes words = flat_map (little_bytes 8) words
 
+-- rows, one behind the other
 abbrev pub all_rows_bytes : List (List ℕ) → List ℕ
 all_rows_bytes rows = flat_map row_bytes rows
 
@@ -22,6 +23,7 @@ all_rows_bytes rows = flat_map row_bytes rows
 abbrev pub port_bytes : PortRows → List ℕ
 port_bytes p = little_bytes 4 p.port ++ big_bytes 6 p.mac ++ little_bytes 4 p.entries ++ little_bytes 4 (length p.rows) ++ all_rows_bytes p.rows
 
+-- the eight bytes with which every rows file begins
 abbrev pub head : List ℕ
 head = codes "VSWROWS1"
 
@@ -54,6 +56,7 @@ is_less (x ∷ xs) (y ∷ ys) = nat_lt x y || ((x == y) && is_less xs ys)
 abbrev pub key_of : List ℕ → List ℕ
 key_of words = take 16 words
 
+-- by their keys, one row stands before another
 abbrev pub is_before : List ℕ → List ℕ → Bool
 is_before r s = is_less (key_of r) (key_of s)
 
@@ -63,6 +66,7 @@ Rise [] = Unit {0}
 Rise (r ∷ []) = Unit {0}
 Rise (r ∷ s ∷ rs) = (is_before r s ≡ true) × Rise (s ∷ rs)
 
+-- numbers that their places in the file hold, and at most 16,384 rows, whose keys rise
 pub record IsPortRows (p : PortRows) : Type 0 where
   pub port : p.port < 2 ^ 32
   pub mac : p.mac < 2 ^ 48
@@ -76,13 +80,16 @@ abbrev pub is_among : ℕ → List ℕ → Bool
 is_among n [] = false
 is_among n (m ∷ ms) = (n == m) || is_among n ms
 
+-- none of these stands twice
 abbrev pub are_distinct : List ℕ → Bool
 are_distinct [] = true
 are_distinct (n ∷ ns) = not (is_among n ns) && are_distinct ns
 
+-- the ports' numbers, in the file's order
 abbrev pub numbers_of : List PortRows → List ℕ
 numbers_of ps = map (λ p. p.port) ps
 
+-- the ports' addresses, in the file's order
 abbrev pub macs_of : List PortRows → List ℕ
 macs_of ps = map (λ p. p.mac) ps
 

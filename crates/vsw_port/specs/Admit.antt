@@ -21,6 +21,7 @@ abbrev pub staying : Option ℕ → List Pair → List Pair
 staying None ps = ps
 staying (Some number) ps = without number ps
 
+-- the pair that holds what replies look for is told
 abbrev pub taken_by : LayerSeen → Option Pair → Option Stop
 taken_by l None = None
 taken_by l (Some q) = Some (Taken l.controller l.spec.layer q.number)
@@ -55,6 +56,7 @@ refusals ls ws = filter_map (refused_of ls (λ place. left_in place ws)) ws
 abbrev pub refusal : List LayerSeen → List Wanted → Option Stop
 refusal ls ws = slice_get (refusals ls ws) 0
 
+-- a walk that drops its packet ends by that
 abbrev pub on_pass : Verdict → Option Stop → Option Stop
 on_pass Pass stop = stop
 on_pass verdict stop = None
@@ -63,6 +65,7 @@ on_pass verdict stop = None
 abbrev pub stop_of : List LayerSeen → Crossing → Walk → Option Stop
 stop_of ls x w = on_pass w.verdict (if is_long x w.stack w.kept then Some Long else refusal ls w.changes)
 
+-- the cause that the packet is told
 abbrev pub cause_of : Stop → Cause
 cause_of Long = cause.Long
 cause_of (Full controller layer) = cause.Full controller layer

@@ -21,6 +21,7 @@ done (Make place p) ls = changed_at place (with_pair p) ls
 done (Touch place number state last) ls = changed_at place (with_touched number state last) ls
 done (Leave place number) ls = changed_at place (without_pair number) ls
 
+-- all that a packet wants, done in turn
 abbrev pub all_done : List Wanted → List LayerSeen → List LayerSeen
 all_done [] ls = ls
 all_done (w ∷ ws) ls = all_done ws (done w ls)
@@ -53,6 +54,7 @@ abbrev pub made_after : Verdict → Option Stop → List Wanted → List Wanted
 made_after Pass None ws = ws
 made_after verdict stop ws = []
 
+-- what a crossing changes of the layers
 abbrev pub made_by : List LayerSeen → Crossing → List Wanted
 made_by ls x = made_after (walk_of ls x).verdict (stop_of ls x (walk_of ls x)) (walk_of ls x).changes
 

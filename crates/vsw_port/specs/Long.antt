@@ -16,6 +16,7 @@ size_without s (suc (suc n)) = s.two
 abbrev pub outer_total : Crossing → List Header → ℕ → ℕ
 outer_total x edited kept = total_over (pushes edited kept) (size_without x.sizes (encaps x.id.stack - kept))
 
+-- it doesn't fit the 16 bits of that length
 abbrev pub is_long : Crossing → List Header → ℕ → Bool
 is_long x edited kept = nat_lt 65535 (outer_total x edited kept)
 

@@ -142,10 +142,11 @@ placed_packet workers n moment hops (Ok a) = (a.0.port, Carry (crossing_by (work
 abbrev pub placed_packets : ℕ → Bool → List ℕ → List PortRound → List (ℕ × Record) → List Placed
 placed_packets workers local macs told packets = flat_map (λ p. placed_packet workers p.0 p.1.moment (hops_of local macs told p.0 (aim_of macs p.1)) (aim_of macs p.1)) packets
 
--- the commands of the round that begins with this packet, for the port of this number, in file order: those before its packets, and those beside them
+-- the commands of the round that begins with this packet, for the port of this number, in file order: those before its packets
 abbrev pub before_jobs : List Line → ℕ → ℕ → List Job
 before_jobs commands first port = map Ask (filter (λ l. (l.at == first) && (l.port == port) && not l.during) commands)
 
+-- those beside its packets
 abbrev pub during_jobs : List Line → ℕ → ℕ → List Job
 during_jobs commands first port = map Ask (filter (λ l. (l.at == first) && (l.port == port) && l.during) commands)
 

@@ -31,5 +31,6 @@ port_seen p = record { number = p.number; mac = p.mac; rows = p.rows; controller
 abbrev pub port_of : List ℕ → PortFile → PortSeen
 port_of cs p = record { number = p.port; mac = p.mac; rows = p.rows; controllers = cs; layers = in_order cs (map whole p.layers) }
 
+-- the ports of the file, in the file's order
 abbrev pub ports_of : PolicyFile → List PortSeen
 ports_of f = map (port_of f.controllers) f.ports

@@ -12,15 +12,17 @@ abbrev pub total : {A : Type 0} → (A → ℕ) → List A → ℕ
 total f [] = 0
 total f (x ∷ xs) = f x + total f xs
 
--- one for a packet that passed, one for a packet that was dropped, and the length of one that passed
+-- one for a packet that passed
 abbrev pub passed : Fate → ℕ
 passed (Pass len) = 1
 passed (Drop cause) = 0
 
+-- one for a packet that was dropped
 abbrev pub dropped : Fate → ℕ
 dropped (Pass len) = 0
 dropped (Drop cause) = 1
 
+-- the length of a packet that passed
 abbrev pub size_of : Fate → ℕ
 size_of (Pass len) = len
 size_of (Drop cause) = 0
@@ -30,13 +32,15 @@ abbrev pub in_line : (Fate → ℕ) → What → ℕ
 in_line f (what.Fate fate bytes) = f fate
 in_line f (what.Reply reply) = 0
 
--- the sum over the lines of a port's round, of a round, and of rounds
+-- the sum over the lines of a port's round
 abbrev pub in_port : (Fate → ℕ) → PortRound → ℕ
 in_port f p = total (λ l. in_line f l.what) p.lines
 
+-- over the ports of a round
 abbrev pub in_round : (Fate → ℕ) → Round → ℕ
 in_round f r = total (in_port f) r.ports
 
+-- over rounds
 abbrev pub in_rounds : (Fate → ℕ) → List Round → ℕ
 in_rounds f rounds = total (in_round f) rounds
 

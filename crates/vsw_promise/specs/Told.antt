@@ -40,10 +40,11 @@ line_doer cs l = doer_by cs l.by
 abbrev pub callers : List ℕ → List ℕ
 callers cs = counted 0 16 ++ map (controller_at cs) (ascending cs)
 
--- the reads at a count, and the entry of that number
+-- the reads at a count
 abbrev pub reads_at : ℕ → List Call → List Call
 reads_at n calls = filter (λ c. not c.entry && (c.count == n)) calls
 
+-- the entry of a count
 abbrev pub entry_at : ℕ → List Call → List Call
 entry_at n calls = filter (λ c. c.entry && (c.count == n)) calls
 

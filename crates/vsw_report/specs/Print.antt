@@ -33,6 +33,7 @@ head_line = codes "vsw report 1\n"
 unfoldable pub layer_text : ℕ → ℕ → List ℕ
 layer_text controller layer = decimal controller ++ codes "/" ++ decimal layer
 
+-- a direction, as it ends the cause of a default
 unfoldable pub dir_text : Dir → List ℕ
 dir_text Out = codes " out"
 dir_text In = codes " in"
@@ -79,6 +80,7 @@ line_text l = by_text l.by ++ codes " " ++ decimal l.item ++ mark_text l.entry +
 unfoldable pub fault_text : BadFrame → List ℕ
 fault_text fault = codes " malformed " ++ decimal (fault_number fault) ++ codes " " ++ fault_name fault ++ codes "\n"
 
+-- why a packet reached no port, as it ends its line
 abbrev pub loose_cause_text : LooseCause → List ℕ
 loose_cause_text Snapped = codes " snapped\n"
 loose_cause_text (Malformed fault) = fault_text fault
@@ -92,6 +94,7 @@ loose_text l = decimal l.packet ++ loose_cause_text l.cause
 unfoldable pub port_line : ℕ → ℕ → ℕ → List ℕ
 port_line port before after = codes "port " ++ decimal port ++ codes " " ++ decimal before ++ codes " " ++ decimal after ++ codes "\n"
 
+-- a port's line, and the lines of its calls
 abbrev pub port_text : PortRound → List ℕ
 port_text p = port_line p.port p.before p.after ++ flat_map line_text p.lines
 

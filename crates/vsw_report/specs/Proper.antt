@@ -36,27 +36,34 @@ Tells (Worker n) (what.Reply r) = ⊥
 Tells (Controller n) (what.Fate fate bytes) = ⊥
 Tells (Controller n) (what.Reply r) = n < 2 ^ 16
 
+-- numbers of packets, of commands and of entries have 32 bits
 abbrev pub IsProperLine : ToldLine → Type 0
 IsProperLine l = (l.item < 2 ^ 32) × (l.count < 2 ^ 32) × Tells l.by l.what
 
+-- so it is of each line
 abbrev pub AreProperLines : List ToldLine → Type 0
 AreProperLines [] = Unit {0}
 AreProperLines (l ∷ ls) = IsProperLine l × AreProperLines ls
 
+-- a port's number has 16 bits, its counts of entries 32
 abbrev pub IsProperPort : PortRound → Type 0
 IsProperPort p = (p.port < 2 ^ 16) × (p.before < 2 ^ 32) × (p.after < 2 ^ 32) × AreProperLines p.lines
 
+-- so it is of each port
 abbrev pub AreProperPorts : List PortRound → Type 0
 AreProperPorts [] = Unit {0}
 AreProperPorts (p ∷ ps) = IsProperPort p × AreProperPorts ps
 
+-- so it is of the number of each loose packet
 abbrev pub AreProperLoose : List Loose → Type 0
 AreProperLoose [] = Unit {0}
 AreProperLoose (l ∷ ls) = (l.packet < 2 ^ 32) × AreProperLoose ls
 
+-- a round, the number of whose first packet has 32 bits, too
 abbrev pub IsProper : Round → Type 0
 IsProper r = (r.first < 2 ^ 32) × AreProperPorts r.ports × AreProperLoose r.loose
 
+-- so it is of each round
 abbrev pub AreProper : List Round → Type 0
 AreProper [] = Unit {0}
 AreProper (r ∷ rs) = IsProper r × AreProper rs

@@ -22,12 +22,14 @@ tells_short (what.Fate fate bytes) = drops_short fate
 tells_short (what.Reply (Refused refusal.Memory)) = true
 tells_short (what.Reply reply) = false
 
--- so it was at the port, in the round, in these rounds
+-- so it was at a port
 abbrev pub is_short_port : PortRound → Bool
 is_short_port p = list_any (λ line. tells_short line.what) p.lines
 
+-- at one of the ports
 abbrev pub is_short_round : Round → Bool
 is_short_round r = list_any is_short_port r.ports
 
+-- in one of the rounds
 abbrev pub are_short : List Round → Bool
 are_short rounds = list_any is_short_round rounds

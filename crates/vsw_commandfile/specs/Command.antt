@@ -22,17 +22,20 @@ use Rattle.vsw_commandfile.specs.declared.verb.Verb.TheVariants as verb
 unfoldable pub rules_of : ℕ → Data → Result (List Rule) Fault
 rules_of version d = items_in d >>= items_after (λ done. rule_of version []) []
 
+-- a layer without groups
 unfoldable pub add_layer : Data → Result Command Fault
 add_layer o = do
   layer ← read_in word.Layer o short_of
   spec ← spec_in layer o
   Ok (command.AddLayer spec)
 
+-- the layer of a number goes
 unfoldable pub remove_layer : Data → Result Command Fault
 remove_layer o = do
   layer ← read_in word.Layer o short_of
   Ok (command.RemoveLayer layer)
 
+-- a group without rules
 unfoldable pub add_group : ℕ → Data → Result Command Fault
 add_group version o = do
   layer ← read_in word.Layer o short_of
@@ -41,12 +44,14 @@ add_group version o = do
   when ← read_in word.WhenAll o (conds_of version)
   Ok (command.AddGroup layer group dir when)
 
+-- the group of a number goes
 unfoldable pub remove_group : Data → Result Command Fault
 remove_group o = do
   layer ← read_in word.Layer o short_of
   group ← read_in word.Group o short_of
   Ok (command.RemoveGroup layer group)
 
+-- rules in place of those of a group
 unfoldable pub put_rules : ℕ → Data → Result Command Fault
 put_rules version o = do
   layer ← read_in word.Layer o short_of
@@ -54,6 +59,7 @@ put_rules version o = do
   rules ← read_in word.Rules o (rules_of version)
   Ok (command.PutRules layer group rules)
 
+-- the members of a part, all of which stand
 abbrev pub part_words : List Word
 part_words = word.Layer ∷ word.Group ∷ word.Rules ∷ []
 
@@ -70,11 +76,13 @@ part_of version d = do
 unfoldable pub parts_of : ℕ → Data → Result (List Part) Fault
 parts_of version d = items_in d >>= items_after (λ done. part_of version) []
 
+-- rules in place of those of several groups
 unfoldable pub put_many : ℕ → Data → Result Command Fault
 put_many version o = do
   parts ← read_in word.Parts o (parts_of version)
   Ok (command.PutMany parts)
 
+-- one more rule for a group
 unfoldable pub add_rule : ℕ → Data → Result Command Fault
 add_rule version o = do
   layer ← read_in word.Layer o short_of
@@ -82,6 +90,7 @@ add_rule version o = do
   rule ← read_in word.Rule o (rule_of version [])
   Ok (command.AddRule layer group rule)
 
+-- the rule of a number goes
 unfoldable pub remove_rule : Data → Result Command Fault
 remove_rule o = do
   layer ← read_in word.Layer o short_of
@@ -89,6 +98,7 @@ remove_rule o = do
   number ← read_in word.Rule o short_of
   Ok (command.RemoveRule layer group number)
 
+-- another default for a direction
 unfoldable pub set_default : Data → Result Command Fault
 set_default o = do
   layer ← read_in word.Layer o short_of

@@ -36,6 +36,7 @@ set_of version d = do
   dst_ip6 ← read_if word.DstIp6 o ip6_in
   Ok (record { dst_mac = dst_mac; src_mac = src_mac; src_ip = src_ip; dst_ip = dst_ip; src_port = src_port; dst_port = dst_port; src_ip6 = src_ip6; dst_ip6 = dst_ip6 })
 
+-- a network of VXLAN, of 24 bits
 abbrev pub vni_of : Data → Result ℕ Fault
 vni_of d = number_from 0 16777215 d
 
@@ -44,6 +45,7 @@ abbrev pub if_small : {A : Type 0} → (vni : ℕ) → (vni < 2 ^ 24 → A) → 
 if_small vni make true h = Ok (make (ltb-true vni (2 ^ 24) h))
 if_small vni make false h = shape
 
+-- what is made of a VNI that has at most 24 bits
 unfoldable pub small : {A : Type 0} → (vni : ℕ) → (vni < 2 ^ 24 → A) → Result A Fault
 small vni make = if_small vni make (nat_lt vni (2 ^ 24)) refl
 
@@ -51,9 +53,11 @@ small vni make = if_small vni make (nat_lt vni (2 ^ 24)) refl
 unfoldable pub headers_of : ℕ → ℕ → ℕ → ℕ → ℕ → Result Outer Fault
 headers_of dst_mac src_mac src_ip dst_ip vni = small vni (λ bound. record { dst_mac = dst_mac; src_mac = src_mac; src_ip = src_ip; dst_ip = dst_ip; vni = vni; vni_small = bound })
 
+-- the members of an encapsulation, all of which stand
 abbrev pub encap_words : List Word
 encap_words = word.DstMac ∷ word.SrcMac ∷ word.SrcIp ∷ word.DstIp ∷ word.Vni ∷ []
 
+-- the headers of an encapsulation
 unfoldable pub outer_of : Data → Result Outer Fault
 outer_of d = do
   o ← object_among encap_words d
@@ -68,6 +72,7 @@ outer_of d = do
 unfoldable pub encap_of : Data → Result (Option Outer) Fault
 encap_of d = if is_some (as_null d) then Ok None else outer_of d >>= (λ o. Ok (Some o))
 
+-- an edit: whether the outermost encapsulation goes, what is written, and which one comes
 unfoldable pub edit_of : ℕ → Data → Result Action Fault
 edit_of version d = do
   o ← object_among (word.Decap ∷ word.Set ∷ word.Encap ∷ []) d
@@ -76,6 +81,7 @@ edit_of version d = do
   encap ← read_in word.Encap o encap_of
   Ok (action.Edit decap set encap)
 
+-- an action that is a text
 abbrev pub action_for : List ℕ → Result Action Fault
 action_for = value_for ((codes "allow", action.Allow) ∷ (codes "drop", action.Drop) ∷ [])
 

@@ -26,12 +26,15 @@ value_of form.Mac d = mac_in d
 value_of form.Ip4 d = ip4_in d
 value_of form.Ip6 d = shape
 
+-- a prefix of IPv4 addresses
 abbrev pub prefix_in : Data → Result Prefix Fault
 prefix_in d = text_of d >>= (λ t. if_there (prefix_of t))
 
+-- a prefix of IPv6 addresses
 abbrev pub prefix6_in : Data → Result Prefix6 Fault
 prefix6_in d = text_of d >>= (λ t. if_there (prefix6_of t))
 
+-- the range of one value
 abbrev pub single_of : Form → Data → Result Item Fault
 single_of f d = value_of f d >>= (λ n. Ok (item.Range n n))
 
@@ -67,6 +70,7 @@ item_of form.Mac d = one_or_two form.Mac d
 unfoldable pub items_of : Form → Data → Result (List Item) Fault
 items_of f d = items_to 64 d >>= items_after (λ done. item_of f) []
 
+-- a field, and the items of which its value has to be in one
 unfoldable pub cond_of : ℕ → Data → Result Cond Fault
 cond_of version d = do
   o ← object_among (word.Field ∷ word.Any ∷ []) d

@@ -24,19 +24,23 @@ number_from low high d = whole_of d >>= (λ n. if nat_le low n && nat_le n high 
 abbrev pub short_of : Data → Result ℕ Fault
 short_of d = number_from 0 65535 d
 
+-- a truth value
 abbrev pub truth_of : Data → Result Bool Fault
 truth_of d = if_there (as_bool d)
 
+-- a text, as its bytes
 abbrev pub text_of : Data → Result (List ℕ) Fault
 text_of d = if_there (as_str d)
 
--- the text of an Ethernet address, of an IPv4 address, of an IPv6 address
+-- the text of an Ethernet address
 abbrev pub mac_in : Data → Result ℕ Fault
 mac_in d = text_of d >>= (λ t. if_there (mac_of t))
 
+-- the text of an IPv4 address
 abbrev pub ip4_in : Data → Result ℕ Fault
 ip4_in d = text_of d >>= (λ t. if_there (ip4_of t))
 
+-- the text of an IPv6 address
 abbrev pub ip6_in : Data → Result ℕ Fault
 ip6_in d = text_of d >>= (λ t. if_there (ip6_of t))
 

@@ -24,6 +24,7 @@ use Rattle.vsw_walk.specs.declared.outcome.Want.TheVariants.{Make}
 use Rattle.vsw_walk.specs.Known.{goes_with}
 use Rattle.vsw_walk.specs.Wanted.{wanted_pair}
 
+-- the layer's default for a direction
 abbrev pub allows : LayerSpec → Dir → Bool
 allows s Out = s.allow_out
 allows s In = s.allow_in
@@ -42,11 +43,13 @@ by_action Allow stops goes = goes
 by_action Drop stops goes = stops
 by_action (Edit decap set encap) stops goes = goes
 
+-- the rule that was chosen in a group decides
 abbrev pub by_rule : LayerSeen → Dir → Control → ℕ → List Header → Option ℕ → ℕ → Rule → Visit
 by_rule l d c moment hs leaves group r = by_action r.action
     (Stops (verdict.Rule l.controller l.spec.layer group r.number))
     (Goes r.action leaves (wanted l.next_pair d c moment hs group r))
 
+-- the rule that was chosen decides, or the default, where none was
 abbrev pub by_choice : LayerSeen → Dir → Control → ℕ → List Header → Option ℕ → Option Chosen → Visit
 by_choice l d c moment hs leaves None = by_default l d leaves
 by_choice l d c moment hs leaves (Some chosen) = by_rule l d c moment hs leaves chosen.group chosen.rule
@@ -60,6 +63,7 @@ abbrev pub by_state : LayerSeen → Dir → Control → ℕ → List Header → 
 by_state l d c moment hs p (To t) = goes_with l.spec d moment t p
 by_state l d c moment hs p Reopen = asked l d c moment hs (Some p.number)
 
+-- the pair that was found decides, or the rules, where there is none
 abbrev pub by_pair : LayerSeen → Dir → Control → ℕ → List Header → Option Pair → Visit
 by_pair l d c moment hs None = asked l d c moment hs None
 by_pair l d c moment hs (Some p) = by_state l d c moment hs p (track_of p.state p.dir c d)

@@ -4,7 +4,6 @@ use Rattle.vsw_actors.specs.declared.actor.Placed.{Placed}
 use Rattle.vsw_actors.specs.declared.lane.Lane.{Lane}
 use Rattle.vsw_round_tests.specs.declared.carrying.Load.{Load}
 use Rattle.vsw_round_tests.specs.declared.carrying.Packet.{Packet}
-use Rattle.vsw_round_tests.specs.declared.refusing.Nothing.{Nothing}
 use Rattle.vsw_round_tests.specs.declared.refusing.Refusing.{Refusing}
 use Rattle.vsw_base.specs.declared.fate.Fate.{Fate}
 use Rattle.vsw_base.specs.declared.fate.Fate.TheVariants.{Pass, Drop}
@@ -17,6 +16,7 @@ use Rattle.vsw_frame.specs.Bytes.{outgoing}
 use Rattle.vsw_port.specs.Calls.{Job, Carry, Carried, Call}
 use Rattle.vsw_many.specs.Passes.{PassNow}
 use Rattle.vsw_policy.specs.Sound.{Each}
+use Rattle.vsw_promise.specs.Jobs as jobs
 use Rattle.vsw_walk.specs.Walk.{walk_of}
 
 -- a frame without headers
@@ -53,8 +53,15 @@ permits s = 3
 abbrev pub takes : Refusing → ℕ → Packet → Type 0
 takes p place j = Unit {0}
 
-abbrev pub fits : Refusing → Packet → Nothing → Type 0
+-- a parcel would be a packet, at the first port
+abbrev pub fits : Refusing → Packet → Packet → Type 0
 fits p j q = Unit {0}
+
+abbrev pub holds : Packet → Type 0
+holds q = Unit {0}
+
+abbrev pub parcel_in : Packet → jobs.Placed
+parcel_in q = (0, brought q)
 
 -- ---- what a worker begins with
 

@@ -1,6 +1,5 @@
 -- A port that has memory for no command.
 use Rattle.std.specs.Prelude.{ℕ, List, [], ◌∷◌, true, false}
-use Rattle.vsw_round_tests.specs.declared.refusing.Nothing.{Nothing}
 use Rattle.vsw_round_tests.specs.declared.refusing.Notes.{Notes}
 use Rattle.vsw_round_tests.specs.declared.refusing.Refusing.{Refusing}
 use Rattle.vsw_commandfile.specs.declared.line.Line.{Line}
@@ -42,15 +41,16 @@ permits s = 3
 abbrev pub takes : Refusing → ℕ → ℕ → Type 0
 takes p place n = Unit {0}
 
--- it hands nothing on, so no parcel holds anything, whatever a parcel would tell
+-- it hands nothing on
 abbrev pub locals : Refusing → List ℕ
 locals p = []
 
-abbrev pub fits : Refusing → ℕ → Nothing → Type 0
+-- a parcel would be a line, at the first port
+abbrev pub fits : Refusing → ℕ → ℕ → Type 0
 fits p n q = Unit {0}
 
-abbrev pub holds : Nothing → Type 0
-holds q = ⊥
+abbrev pub holds : ℕ → Type 0
+holds q = Unit {0}
 
-abbrev pub parcel_in : Nothing → Placed
-parcel_in q = (0, Ask (line 0))
+abbrev pub parcel_in : ℕ → Placed
+parcel_in q = (0, asked q)

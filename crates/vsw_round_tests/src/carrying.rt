@@ -1,6 +1,8 @@
 //! Packets at ports without layers: each passes, and changes nothing.
 
-use crate::refusing::{Nothing, Refusing};
+ghost use Rattle.std.specs.Prelude.{◌≡◌};
+
+use crate::refusing::Refusing;
 use std::alloc::Global;
 use std::sync::Wait;
 use vsw_actors::Port;
@@ -21,13 +23,24 @@ pub struct Load {
     pub count: usize,
 }
 
+/// Writes down a packet's number.
+fn note(station: &mut Load, packet: u32)
+    ensures { station.new.worker ≡ station.old.worker }
+{
+    if station.count < 4 {
+        station.carried[station.count] = packet;
+        station.count += 1;
+    }
+}
+
+/// These ports hand nothing on. A parcel, if one came, would be a packet once more.
 impl Port<Packet> for Refusing {
-    ghost use Rattle.vsw_round_tests.specs.Carrying.{brought, fits, is_of, pass, permits, takes, tells};
-    ghost use Rattle.vsw_round_tests.specs.Refusing.{holds, locals, parcel_in, port};
+    ghost use Rattle.vsw_round_tests.specs.Carrying.{brought, fits, holds, is_of, parcel_in, pass, permits, takes, tells};
+    ghost use Rattle.vsw_round_tests.specs.Refusing.{locals, port};
 
     type Station = Load;
 
-    type Parcel = Nothing;
+    type Parcel = Packet;
 
     ghost port_in = { port };
 
@@ -51,8 +64,11 @@ impl Port<Packet> for Refusing {
 
     ghost parcel_in = { parcel_in };
 
-    fn parcel(_alloc: Global, _ports: &[Self]) -> Result<Nothing, NoMemory> {
-        Ok(Nothing)
+    fn parcel(_alloc: Global, _ports: &[Self]) -> Result<Packet, NoMemory> {
+        Ok(Packet {
+            worker: 0,
+            number: 0,
+        })
     }
 
     fn work<R: Wait>(
@@ -62,20 +78,17 @@ impl Port<Packet> for Refusing {
         station: &mut Load,
         _place: usize,
         job: &Packet,
-        _parcel: &mut Nothing,
+        _parcel: &mut Packet,
     ) -> bool {
-        if station.count < 4 {
-            station.carried[station.count] = job.number;
-            station.count += 1;
-        }
+        note(station, job.number);
         false
     }
 
-    fn receive<R: Wait>(&self, _rt: &R, _alloc: Global, _station: &mut Load, _parcel: &Nothing) {
-        unreachable!();
+    fn receive<R: Wait>(&self, _rt: &R, _alloc: Global, station: &mut Load, parcel: &Packet) {
+        note(station, parcel.number);
     }
 
-    fn place(_parcel: &Nothing) -> usize {
+    fn place(_parcel: &Packet) -> usize {
         0
     }
 }

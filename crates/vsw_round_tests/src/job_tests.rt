@@ -4,7 +4,7 @@ ghost use Rattle.std.specs.Prelude.{◌≡◌, ◌∷◌, [], IfSome};
 ghost use Rattle.vsw_actors.specs.declared.lane.Lane.{Lane};
 ghost use Rattle.vsw_round_tests.specs.declared.refusing.Notes.{Notes};
 
-use crate::refusing::{Notes, Nothing, Refusing};
+use crate::refusing::{Notes, Refusing};
 use std::alloc::Global;
 use vsw_actors::{Actor, Lane, Placed};
 use vsw_workers::Forwarder;
@@ -54,7 +54,7 @@ fn each_job_is_done_at_its_port_and_in_its_turn(rt: HostRuntime) {
     let ports = [Refusing::new(1, 0), Refusing::new(2, 0)];
     let lanes = two_lanes(rt.alloc()).expect(&rt, "memory");
     let jobs = three_jobs(rt.alloc()).expect(&rt, "memory");
-    let mut actor = Actor::begin(16, &ports, lanes, jobs, Nothing);
+    let mut actor = Actor::begin(16, &ports, lanes, jobs, 0);
     for _ in 0..actor.left() {
         actor.job(&rt, rt.alloc());
     }

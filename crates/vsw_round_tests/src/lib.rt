@@ -29,5 +29,5 @@ mod schedule_tests;
 mod workers_tests;
 
 pub use carrying::{Load, Packet};
-pub use refusing::{Notes, Nothing, Refusing};
+pub use refusing::{Notes, Refusing};
 pub use samples::{commands, life, packets, replies};

@@ -47,16 +47,21 @@ pub struct Notes {
     pub count: usize,
 }
 
-/// No packet: these ports hand nothing on.
-#[derive(Drop)]
-pub struct Nothing;
+/// Writes down a line's number.
+fn note(station: &mut Notes, line: u32) {
+    if station.count < 4 {
+        station.asked[station.count] = line;
+        station.count += 1;
+    }
+}
 
+/// These ports hand nothing on. A parcel, if one came, would be a line once more.
 impl Port<u32> for Refusing {
     ghost use Rattle.vsw_round_tests.specs.Refusing.{asked, fits, holds, is_of, locals, parcel_in, pass, permits, port, takes, tells};
 
     type Station = Notes;
 
-    type Parcel = Nothing;
+    type Parcel = u32;
 
     ghost port_in = { port };
 
@@ -80,8 +85,8 @@ impl Port<u32> for Refusing {
 
     ghost parcel_in = { parcel_in };
 
-    fn parcel(_alloc: Global, _ports: &[Self]) -> Result<Nothing, NoMemory> {
-        Ok(Nothing)
+    fn parcel(_alloc: Global, _ports: &[Self]) -> Result<u32, NoMemory> {
+        Ok(0)
     }
 
     fn work<R: Wait>(
@@ -91,20 +96,17 @@ impl Port<u32> for Refusing {
         station: &mut Notes,
         _place: usize,
         job: &u32,
-        _parcel: &mut Nothing,
+        _parcel: &mut u32,
     ) -> bool {
-        if station.count < 4 {
-            station.asked[station.count] = *job;
-            station.count += 1;
-        }
+        note(station, *job);
         false
     }
 
-    fn receive<R: Wait>(&self, _rt: &R, _alloc: Global, _station: &mut Notes, _parcel: &Nothing) {
-        unreachable!();
+    fn receive<R: Wait>(&self, _rt: &R, _alloc: Global, station: &mut Notes, parcel: &u32) {
+        note(station, *parcel);
     }
 
-    fn place(_parcel: &Nothing) -> usize {
+    fn place(_parcel: &u32) -> usize {
         0
     }
 }

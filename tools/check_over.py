@@ -8,6 +8,8 @@ LIBRARIES is the top of a clone in which `rt ci` ran (it leaves each proved libr
 are proved over it; name them lowest first. What a check did is kept in out/incremental (of tests in out/incremental-test): copied there from
 another clone it serves as well, and a crate whose own text didn't change is proved in some 20 seconds.
 
+As `rt ci` does, it fails where no call can meet a function's contract, or where a pattern takes each value and one case was probably meant.
+
 It is no verdict: `rt ci` is. Refused are libraries of LIBRARIES that stand on one that was built anew here.
 """
 import os
@@ -18,6 +20,8 @@ import sys
 import time
 
 ROOT = os.path.dirname(os.path.dirname(os.path.abspath(__file__)))
+# What the gate refuses though the check ends well.
+REFUSED = re.compile(r"warning: no call of `(?![^`]*::fn::)|note: the search for empty contracts did not end|.* warning: this pattern binds a variable spelled like a constructor")
 QUIET = re.compile(r"(fn|impl|struct|enum|trait) .*: proved|statements |library |by-macro|test |$")
 
 
@@ -64,7 +68,7 @@ def words_of(crates, libraries, name, flags):
     words += ["--antt-project", f"{kit}/rattle/logic/antt-project.json", "--logic-built", f"{kit}/logic_built"]
     jobs = [] if any(it.startswith("--jobs") for it in flags) else ["--jobs", "1"]
     kept = "out/incremental-test" if "--test" in flags else "out/incremental"
-    return [*words, "--links", f"{name}=", *flags, *jobs, "--incremental", kept], f"{kit}/bin/rattle"
+    return [*words, "--links", f"{name}=", *flags, *jobs, "--empty-contracts", "--incremental", kept], f"{kit}/bin/rattle"
 
 
 def check(crates, libraries, name, is_library, flags):
@@ -76,9 +80,11 @@ def check(crates, libraries, name, is_library, flags):
     os.makedirs(os.path.dirname(place(ROOT, name)) if is_library else os.path.join(folder, "out"), exist_ok=True)
     verb = ["build", *words, "-o", place(ROOT, name)] if is_library else ["check", *words]
     ran = subprocess.run([rattle, *verb], cwd=folder, stdin=subprocess.DEVNULL, stdout=subprocess.PIPE, stderr=subprocess.STDOUT, text=True, errors="replace")
-    print(*(line for line in ran.stdout.split("\n") if not QUIET.match(line)), sep="\n")
-    print(f"{name}: status {ran.returncode}, {time.time() - begun:.0f} s", flush=True)
-    return ran.returncode
+    lines = ran.stdout.split("\n")
+    print(*(line for line in lines if not QUIET.match(line)), sep="\n")
+    status = ran.returncode or int(any(map(REFUSED.match, lines)))
+    print(f"{name}: status {status}, {time.time() - begun:.0f} s", flush=True)
+    return status
 
 
 def main():

@@ -5,6 +5,7 @@ use Rattle.vsw_base.specs.Hexadecimal.{octet_of}
 use Rattle.vsw_base.specs.Six.{six}
 
 infixl 10 ◌>>=◌
+-- the next step, where there was an answer before
 abbrev pub ◌>>=◌ : {A B : Type 0} → Option A → (A → Option B) → Option B
 o >>= f = option_and_then f o
 
@@ -13,6 +14,7 @@ abbrev pub all_of : List (Option ℕ) → Option (List ℕ)
 all_of [] = Some []
 all_of (o ∷ os) = option_and_then (λ x. option_map (λ xs. x ∷ xs) (all_of os)) o
 
+-- each byte is a colon
 abbrev pub are_colons : List ℕ → Bool
 are_colons [] = true
 are_colons (b ∷ bs) = (b == 58) && are_colons bs
@@ -25,6 +27,7 @@ octets_of (a ∷ b ∷ p ∷ c ∷ d ∷ q ∷ e ∷ f ∷ r ∷ g ∷ h ∷ s �
     else None
 octets_of _ = None
 
+-- the number of an Ethernet address
 abbrev pub mac_of : List ℕ → Option ℕ
 mac_of text = option_map six (octets_of text)
 
@@ -32,6 +35,7 @@ mac_of text = option_map six (octets_of text)
 abbrev pub digit_of : ℕ → Option ℕ
 digit_of c = if nat_le 48 c && nat_le c 57 then Some (c - 48) else None
 
+-- a number, if it is within the limit
 abbrev pub at_most : ℕ → ℕ → Option ℕ
 at_most limit n = if nat_le n limit then Some n else None
 

@@ -8,6 +8,7 @@ use Rattle.vsw_rule.specs.declared.rule.Rule.{Rule}
 abbrev pub is_group : ℕ → Group → Bool
 is_group n g = n == g.number
 
+-- the rule of this number
 abbrev pub is_rule : ℕ → Rule → Bool
 is_rule n r = n == r.number
 
@@ -16,6 +17,7 @@ abbrev pub changed : {A : Type 0} → (A → Bool) → (A → A) → List A → 
 changed p f [] = []
 changed p f (x ∷ xs) = if p x then f x ∷ xs else x ∷ changed p f xs
 
+-- the first element that passes goes
 abbrev pub removed : {A : Type 0} → (A → Bool) → List A → List A
 removed p [] = []
 removed p (x ∷ xs) = if p x then xs else x ∷ removed p xs
@@ -25,6 +27,7 @@ abbrev pub rules_of : Option Group → List Rule
 rules_of None = []
 rules_of (Some g) = g.rules
 
+-- the rules of the group of a number
 abbrev pub rules_in : List Group → ℕ → List Rule
 rules_in gs g = rules_of (find (is_group g) gs)
 
@@ -37,8 +40,10 @@ has_twice (r ∷ rs) = list_any (is_rule r.number) rs || has_twice rs
 abbrev pub with_rules : List Rule → Group → Group
 with_rules rs g = record { number = g.number; dir = g.dir; when = g.when; rules = rs }
 
+-- a group with one rule more
 abbrev pub with_rule : Rule → Group → Group
 with_rule r g = with_rules (g.rules ++ r ∷ []) g
 
+-- a group without the rule of a number
 abbrev pub without_rule : ℕ → Group → Group
 without_rule k g = with_rules (removed (is_rule k) g.rules) g

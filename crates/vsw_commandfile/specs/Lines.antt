@@ -2,6 +2,7 @@
 use Rattle.std.specs.Prelude.{ℕ, ◌==◌, ◌||◌, List, [], ◌∷◌, Bool, if◌then◌else◌}
 use Rattle.std.specs.List.{list_all}
 
+-- a line feed, which ends a line
 abbrev pub is_feed : ℕ → Bool
 is_feed b = b == 10
 

@@ -20,6 +20,7 @@ verb_names =
 unfoldable pub verb_for : ℕ → List ℕ → Result Verb Fault
 verb_for version = value_for (verb_names ++ since_two version ((codes "put_many", PutMany) ∷ []))
 
+-- what a line is to do
 abbrev pub verb_of : ℕ → Data → Result Verb Fault
 verb_of version d = text_of d >>= verb_for version
 

@@ -16,6 +16,7 @@ Err e >>= f = Err e
 abbrev pub bad : {A : Type 0} → Kind → Result A Fault
 bad kind = Err (Bad kind [])
 
+-- the value is of the wrong form
 abbrev pub shape : {A : Type 0} → Result A Fault
 shape = bad Shape
 

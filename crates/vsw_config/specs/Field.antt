@@ -25,6 +25,7 @@ field_names6 = (codes "src_ip6", SrcIp6) ∷ (codes "dst_ip6", DstIp6) ∷ []
 unfoldable pub field_for : ℕ → List ℕ → Result Field Fault
 field_for version = value_for (field_names ++ since_two version field_names6)
 
+-- a field
 abbrev pub field_of : ℕ → Data → Result Field Fault
 field_of version d = text_of d >>= field_for version
 

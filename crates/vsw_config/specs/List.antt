@@ -9,6 +9,7 @@ use Rattle.vsw_config.specs.declared.fault.Fault.{Fault}
 use Rattle.vsw_config.specs.Fault.{◌>>=◌, bad, under}
 use Rattle.vsw_config.specs.Value.{if_there, short_of}
 
+-- the items as a list
 abbrev pub list_of : Items → List Data
 list_of no_items = []
 list_of (item d ds) = d ∷ list_of ds

@@ -18,6 +18,7 @@ abbrev pub are_among : List Word → Members → Bool
 are_among words no_members = true
 are_among words (member name d ms) = is_among words name && are_among words ms
 
+-- it is an object, all of whose names are among these
 abbrev pub has_names_among : List Word → Data → Bool
 has_names_among words d = elim (as_object d) [ None ↦ false | Some ms ↦ are_among words ms ]
 

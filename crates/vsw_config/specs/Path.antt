@@ -70,6 +70,7 @@ abbrev pub path_text : List Step → List ℕ
 path_text [] = 47 ∷ []
 path_text (s ∷ ss) = steps_text (s ∷ ss)
 
+-- the name that a complaint has
 abbrev pub kind_name : Kind → List ℕ
 kind_name Json = codes "Json"
 kind_name Shape = codes "Shape"

@@ -13,9 +13,11 @@ drawn state = state / 65536
 abbrev pub flow_of : ℕ → ℕ
 flow_of state = drawn (next_state state) % 256
 
+-- which of four kinds
 abbrev pub kind_of : ℕ → ℕ
 kind_of state = drawn (next_state (next_state state)) % 4
 
+-- bytes of the payload, at most 63
 abbrev pub size_of : ℕ → ℕ
 size_of state = drawn (next_state (next_state (next_state state))) % 64
 

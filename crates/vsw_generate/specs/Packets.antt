@@ -15,9 +15,11 @@ use Rattle.vsw_generate.specs.declared.frame.Ends.{Ends}
 abbrev pub udp_bytes : ℕ → ℕ → ℕ → List ℕ
 udp_bytes src dst size = big_bytes 2 src ++ big_bytes 2 dst ++ big_bytes 2 (size + 8) ++ big_bytes 2 0 ++ replicate size 97
 
+-- the packet: IPv4 and UDP
 abbrev pub packet_bytes : Ends → ℕ → List ℕ
 packet_bytes ends size = pushed_ip_bytes ends.src_ip ends.dst_ip (size + 28) ++ udp_bytes ends.src_port ends.dst_port size
 
+-- the frame of the packet
 abbrev pub frame_bytes : Ends → ℕ → List ℕ
 frame_bytes ends size = ether_bytes ends.dst ends.src ipv4_kind ++ packet_bytes ends size
 

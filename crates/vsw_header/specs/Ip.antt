@@ -23,6 +23,7 @@ ip_bytes src dst total sum = (0x45 ∷ 0 ∷ []) ++ big_bytes 2 total ++ big_byt
 unfoldable pub pushed_checksum : ℕ → ℕ → ℕ → ℕ
 pushed_checksum src dst total = checksum (words_of (ip_bytes src dst total 0))
 
+-- the header that is put in front, with its checksum
 abbrev pub pushed_ip_bytes : ℕ → ℕ → ℕ → List ℕ
 pushed_ip_bytes src dst total = ip_bytes src dst total (pushed_checksum src dst total)
 

@@ -41,23 +41,27 @@ ports_of (ether ∷ ip ∷ Six src dst proto ∷ hs) = (0, 0)
 abbrev pub vni_at : ℕ → List Header → ℕ
 vni_at place hs = get_or (vnis hs) place 0
 
--- the inner IP header's source, destination, protocol, and whether it is of a fragment
+-- the inner IP header's source
 abbrev pub src_of : List Header → Addr
 src_of hs = (packet_of (inner hs)).0
 
+-- the inner IP header's destination
 abbrev pub dst_of : List Header → Addr
 dst_of hs = (packet_of (inner hs)).1
 
+-- the inner IP header's protocol
 abbrev pub proto_of : List Header → ℕ
 proto_of hs = (packet_of (inner hs)).2
 
+-- whether the inner IP header is of a fragment
 abbrev pub is_part : List Header → Bool
 is_part hs = (packet_of (inner hs)).3
 
--- the inner ports
+-- the inner source port
 abbrev pub src_port_of : List Header → ℕ
 src_port_of hs = (ports_of (inner hs)).0
 
+-- the inner destination port
 abbrev pub dst_port_of : List Header → ℕ
 dst_port_of hs = (ports_of (inner hs)).1
 

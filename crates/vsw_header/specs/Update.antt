@@ -8,6 +8,7 @@ changes [] ns = []
 changes (m ∷ ms) [] = []
 changes (m ∷ ms) (n ∷ ns) = if m == n then changes ms ns else (65535 - m) ∷ n ∷ changes ms ns
 
+-- the checksum once the words are the second list, where it was this with the first
 abbrev pub update_of : ℕ → List ℕ → List ℕ → ℕ
 update_of old ms ns = checksum ((65535 - old) ∷ changes ms ns)
 

@@ -13,6 +13,7 @@ life Opening idle linger = idle * 1000000
 life Open idle linger = idle * 1000000
 life (Half d) idle linger = idle * 1000000
 
+-- so many microseconds later, at most the greatest moment
 abbrev pub later : ℕ → ℕ → ℕ
 later moment micros = min (moment + micros) (2 ^ 64 - 1)
 

@@ -10,14 +10,17 @@ use Rattle.vsw_base.specs.declared.flow.Track.{Track}
 use Rattle.vsw_layerflow.specs.declared.pair.Probe.{Probe}
 use Rattle.vsw_layerflow.specs.declared.pair.Pair.{Pair}
 
+-- the other direction
 abbrev pub turned : Dir → Dir
 turned Out = In
 turned In = Out
 
+-- whether two truth values are one
 abbrev pub same_bool : Bool → Bool → Bool
 same_bool true b = b
 same_bool false b = not b
 
+-- whether two addresses are one
 abbrev pub same_addr : Addr → Addr → Bool
 same_addr addr.Absent addr.Absent = true
 same_addr (addr.Four a) (addr.Four b) = a == b
@@ -29,12 +32,15 @@ same_addr (addr.Four a) (addr.Six b) = false
 same_addr (addr.Six a) addr.Absent = false
 same_addr (addr.Six a) (addr.Four b) = false
 
+-- whether two keys are one
 abbrev pub same_key : LayerKey → LayerKey → Bool
 same_key a b = a.encaps == b.encaps && (a.vni_outer == b.vni_outer && (a.vni_second == b.vni_second && (same_addr a.src b.src && (same_addr a.dst b.dst && (a.proto == b.proto && (same_bool a.part b.part && (a.src_port == b.src_port && a.dst_port == b.dst_port)))))))
 
+-- whether two probes are one
 abbrev pub same_probe : Probe → Probe → Bool
 same_probe a b = same_dir a.dir b.dir && same_key a.key b.key
 
+-- a direction and a key
 abbrev pub probe : Dir → LayerKey → Probe
 probe d k = record { dir = d; key = k }
 
@@ -42,9 +48,11 @@ probe d k = record { dir = d; key = k }
 abbrev pub front : Pair → Probe
 front p = probe p.dir p.forward
 
+-- what replies look for
 abbrev pub back : Pair → Probe
 back p = probe (turned p.dir) p.reverse
 
+-- a pair holds a direction and a key
 abbrev pub holds : Probe → Pair → Bool
 holds k p = same_probe (front p) k || same_probe (back p) k
 
@@ -66,6 +74,7 @@ numbered n (p ∷ ps) = if n == p.number then Some p else numbered n ps
 abbrev pub with_use : Track → ℕ → Pair → Pair
 with_use t m p = record { number = p.number; group = p.group; rule = p.rule; dir = p.dir; forward = p.forward; forward_set = p.forward_set; reverse = p.reverse; reverse_set = p.reverse_set; state = t; last_use = m }
 
+-- a pair with another state and last use, if its number is this
 abbrev pub touch_if : ℕ → Track → ℕ → Pair → Pair
 touch_if n t m p = with_use (if n == p.number then t else p.state) (if n == p.number then m else p.last_use) p
 
@@ -73,6 +82,7 @@ touch_if n t m p = with_use (if n == p.number then t else p.state) (if n == p.nu
 abbrev pub touched : ℕ → Track → ℕ → List Pair → List Pair
 touched n t m ps = map (touch_if n t m) ps
 
+-- the pairs but the one of this number
 abbrev pub without : ℕ → List Pair → List Pair
 without n ps = filter (λ p. not (n == p.number)) ps
 
@@ -89,6 +99,7 @@ pub record Pairs : Type 0 where
   pub pairs : List Pair
   pub spare : ℕ
 
+-- its number in its layer
 abbrev pub number_of : Pair → ℕ
 number_of p = p.number
 

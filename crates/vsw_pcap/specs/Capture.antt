@@ -20,6 +20,7 @@ abbrev pub number : Order → ℕ → List ℕ → ℕ
 number Little n bytes = little_number n bytes
 number Big n bytes = big_number n bytes
 
+-- in which fractions of a second the records of a file with this magic count
 abbrev pub fraction_of : ℕ → Option Fraction
 fraction_of magic = if magic == 0xa1b2c3d4 then Some Micros else if magic == 0xa1b23c4d then Some Nanos else None
 
@@ -54,6 +55,7 @@ front_of form bytes = if nat_lt (length bytes) 16 then Part
     else if nat_lt (length bytes) (16 + captured_of form bytes) then Part
     else Whole (captured_of form bytes)
 
+-- a fraction in microseconds, rounded down
 abbrev pub micros_of : Fraction → ℕ → ℕ
 micros_of Micros n = n
 micros_of Nanos n = n / 1000

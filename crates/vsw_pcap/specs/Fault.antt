@@ -10,6 +10,7 @@ trace_number LinkType = 3
 trace_number (Cut at) = 4
 trace_number (Huge at) = 5
 
+-- the name that a complaint has
 abbrev pub trace_name : BadTrace → List ℕ
 trace_name NotPcap = codes "NotPcap"
 trace_name Version = codes "Version"

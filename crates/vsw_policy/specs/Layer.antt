@@ -28,6 +28,7 @@ room l = l.flows.spare
 abbrev pub with_spec : LayerSpec → LayerSeen → LayerSeen
 with_spec s l = record { controller = l.controller; spec = s; groups = l.groups; pairs = l.pairs; next_pair = l.next_pair }
 
+-- a layer with other groups and pairs
 abbrev pub with_parts : List Group → List Pair → LayerSeen → LayerSeen
 with_parts gs ps l = record { controller = l.controller; spec = l.spec; groups = gs; pairs = ps; next_pair = l.next_pair }
 

@@ -21,6 +21,7 @@ abbrev pub groups_of : Option LayerSeen → List Group
 groups_of None = []
 groups_of (Some l) = l.groups
 
+-- the groups of the controller's layer of a number
 abbrev pub groups_in : List LayerSeen → ℕ → ℕ → List Group
 groups_in ls c n = groups_of (find (is_layer c n) ls)
 
@@ -28,6 +29,7 @@ groups_in ls c n = groups_of (find (is_layer c n) ls)
 abbrev pub no_layer : List LayerSeen → ℕ → ℕ → Bool × Refusal
 no_layer ls c n = (not (list_any (is_layer c n) ls), NoLayer)
 
+-- there is no such group
 abbrev pub no_group : List LayerSeen → ℕ → ℕ → ℕ → Bool × Refusal
 no_group ls c n g = (not (list_any (is_group g) (groups_in ls c n)), NoGroup)
 
@@ -35,12 +37,15 @@ no_group ls c n g = (not (list_any (is_group g) (groups_in ls c n)), NoGroup)
 abbrev pub lacks_layer : List LayerSeen → ℕ → Part → Bool
 lacks_layer ls c p = (no_layer ls c p.layer).0
 
+-- there is no group of the part
 abbrev pub lacks_group : List LayerSeen → ℕ → Part → Bool
 lacks_group ls c p = (no_group ls c p.layer p.group).0
 
+-- two rules of the part have one number
 abbrev pub repeats_rule : Part → Bool
 repeats_rule p = has_twice p.rules
 
+-- the part has more than 1,024 rules
 abbrev pub exceeds_rules : Part → Bool
 exceeds_rules p = nat_lt 1024 (length p.rules)
 
@@ -53,6 +58,7 @@ abbrev pub has_part_twice : List Part → Bool
 has_part_twice [] = false
 has_part_twice (p ∷ ps) = list_any (same_part p) ps || has_part_twice ps
 
+-- each command's tests, the first first
 abbrev pub tests : List LayerSeen → ℕ → Command → List (Bool × Refusal)
 tests ls c (AddLayer s) = (list_any (is_layer c s.layer) ls, LayerExists) ∷ (nat_le 16 (length (filter (is_of c) ls)), ManyLayers) ∷ []
 tests ls c (RemoveLayer n) = no_layer ls c n ∷ []
@@ -70,6 +76,7 @@ abbrev pub placed : List ℕ → LayerSeen → List LayerSeen → List LayerSeen
 placed cs l [] = l ∷ []
 placed cs l (m ∷ ms) = if is_before cs l m then l ∷ m ∷ ms else m ∷ placed cs l ms
 
+-- a layer without groups and pairs
 abbrev pub empty_layer : ℕ → LayerSpec → LayerSeen
 empty_layer c s = record { controller = c; spec = s; groups = []; pairs = []; next_pair = 0 }
 
@@ -90,6 +97,7 @@ within (Sweep n now) l = with_parts l.groups (filter (λ p. not (is_over now l.s
 abbrev pub put_part : ℕ → Part → List LayerSeen → List LayerSeen
 put_part c p ls = changed (is_layer c p.layer) (within (PutRules p.layer p.group p.rules)) ls
 
+-- each part put in turn
 abbrev pub put_parts : ℕ → List Part → List LayerSeen → List LayerSeen
 put_parts c [] ls = ls
 put_parts c (p ∷ ps) ls = put_parts c ps (put_part c p ls)
@@ -112,6 +120,7 @@ abbrev pub first_refusal : List (Bool × Refusal) → Option Refusal
 first_refusal [] = None
 first_refusal (t ∷ ts) = if t.0 then Some t.1 else first_refusal ts
 
+-- the layers, or why the command is refused
 abbrev pub answered : Option Refusal → List LayerSeen → Result (List LayerSeen) Refusal
 answered None ls = Ok ls
 answered (Some e) ls = Err e

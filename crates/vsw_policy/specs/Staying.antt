@@ -18,6 +18,7 @@ is_gone rs r = not (list_any (same_rule r) rs)
 abbrev pub goes : ℕ → List Rule → List Rule → Pair → Bool
 goes g old new p = list_any (λ r. is_gone new r && of_rule g r.number p) old
 
+-- the pairs that stay where a group gets other rules
 abbrev pub staying : ℕ → List Rule → List Rule → List Pair → List Pair
 staying g old new ps = filter (λ p. not (goes g old new p)) ps
 

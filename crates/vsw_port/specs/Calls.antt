@@ -114,6 +114,7 @@ pub record IsShort (o : Opening) (h : List Event) (c : Call) : Type 0 where
   pub within : c.count ≤ length h
   pub wants : Wants (replay o (take c.count h)) c.deed
 
+-- a call is an entry, a read, or was told of want of memory
 pub data IsCall (o : Opening) (h : List Event) (c : Call) : Type 0 where
   Entry : IsEntry h c → IsCall o h c
   Read : IsRead o h c → IsCall o h c

@@ -28,6 +28,7 @@ pub record Chosen : Type 0 where
   pub group : ℕ
   pub rule : Rule
 
+-- a rule that was chosen in the group of this number
 abbrev pub of_group : ℕ → Rule → Chosen
 of_group n r = record { group = n; rule = r }
 
@@ -39,6 +40,7 @@ pick_in d hs g = if applies d hs g then option_map (of_group g.number) (pick g.r
 abbrev pub picks_of : Dir → List Group → List Header → List Chosen
 picks_of d gs hs = filter_map (pick_in d hs) gs
 
+-- a rule at which the choice ends
 abbrev pub is_last : Chosen → Bool
 is_last c = c.rule.last
 

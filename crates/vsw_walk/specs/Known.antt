@@ -14,6 +14,7 @@ use Rattle.vsw_walk.specs.declared.outcome.Visit.TheVariants.{Goes}
 use Rattle.vsw_walk.specs.declared.outcome.Want.{Want}
 use Rattle.vsw_walk.specs.declared.outcome.Want.TheVariants.{Touch}
 
+-- whether two states are one
 abbrev pub same_state : Track → Track → Bool
 same_state Plain Plain = true
 same_state Opening Opening = true

@@ -66,6 +66,7 @@ wanting place None = []
 wanting place (Some (want.Make p)) = Make place p ∷ []
 wanting place (Some (want.Touch number state last)) = Touch place number state last ∷ []
 
+-- a walk that ends here
 abbrev pub ended : Verdict → List Header → ℕ → Walk
 ended verdict hs kept = record { verdict = verdict; stack = hs; kept = kept; changes = []; looked = []; due = None }
 

@@ -12,6 +12,7 @@ joined [] xs = 0
 joined (m ∷ ms) [] = 0
 joined (m ∷ ms) (x ∷ xs) = joined ms xs * m + x
 
+-- a truth value as one bit
 abbrev pub bit : Bool → ℕ
 bit true = 1
 bit false = 0
@@ -92,6 +93,7 @@ inner_fields (Six src dst proto ∷ hs) = []
 abbrev pub head_bounds : List ℕ
 head_bounds = 2 ∷ 2 ∷ 4 ∷ 2 ∷ 2 ∷ 2 ∷ 2 ∷ 2 ^ 8 ∷ 2 ^ 16 ∷ 2 ^ 16 ∷ 2 ^ 16 ∷ []
 
+-- the bounds of the second word's fields: both networks
 abbrev pub vni_bounds : List ℕ
 vni_bounds = 2 ^ 24 ∷ 2 ^ 24 ∷ []
 

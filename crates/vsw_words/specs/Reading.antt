@@ -43,6 +43,7 @@ abbrev pub AreRanged : List Act → Type 0
 AreRanged [] = Unit {0}
 AreRanged (x ∷ xs) = IsRanged x × AreRanged xs
 
+-- so it is of each
 abbrev pub AreActsFit : List Act → Type 0
 AreActsFit [] = Unit {0}
 AreActsFit (x ∷ xs) = IsActFit x × AreActsFit xs
@@ -64,6 +65,7 @@ lone_src (Modify (of.Six src None)) = src
 lone_src (Modify (of.Six src (Some dst))) = None
 lone_src Ignore = None
 
+-- the destination of a change of IPv6 that writes it alone
 abbrev pub lone_dst : Act → Option ℕ
 lone_dst (Push h) = None
 lone_dst Pop = None

@@ -18,6 +18,7 @@ verdict_word (Rule controller layer group rule) = 1
 verdict_word (Default controller layer Out) = 2
 verdict_word (Default controller layer In) = 3
 
+-- the bounds of four numbers of 16 bits in one word
 abbrev pub four_bounds : List ℕ
 four_bounds = 2 ^ 16 ∷ 2 ^ 16 ∷ 2 ^ 16 ∷ 2 ^ 16 ∷ []
 
@@ -88,6 +89,7 @@ act_words (Modify (of.Six None (Some dst))) = six_words 10 false dst
 act_words (Modify (of.Six None None)) = 0 ∷ 0 ∷ 0 ∷ []
 act_words Ignore = act_head 8 false false 0 ∷ 0 ∷ 0 ∷ []
 
+-- acts, one behind the other
 abbrev pub acts_words : List Act → List ℕ
 acts_words [] = []
 acts_words (x ∷ xs) = act_words x ++ acts_words xs

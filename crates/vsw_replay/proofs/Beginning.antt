@@ -3,7 +3,7 @@ use Rattle.std.proofs.Common.{◌≡◌, ◌<◌, ◌≤◌, ◌⊎◌, inl, inr
 use Rattle.std.specs.Bool.{⊤}
 use Rattle.std.proofs.lemmas.Grind.{common_steps}
 use Rattle.vsw_base.specs.declared.fault.NoMemory.{NoMemory}
-use Rattle.vsw_host.specs.Outside.{Outside, Inputs, Grows, Rose, SameOutputs, DoesPut}
+use Rattle.vsw_host.specs.Outside.{Outside, Inputs, Grows, Rose, SameInputs, SameOutputs, DoesPut}
 use Rattle.vsw_host.specs.Source.{IsReading, OpensSource}
 use Rattle.vsw_host.specs.Told.{TellsSince}
 use Rattle.vsw_host.specs.declared.source.Unopened.{Unopened}
@@ -66,9 +66,9 @@ headed start now name r bytes most stop.End some h says e = record { form = says
 headed start now name r bytes most stop.Fault some h says e = waits_passed bytes r.batch (omega (arith, less_seen r.seen e, h.seen)) says.2
 headed start now name r bytes most (stop.Bad bad) some h says e = bad_passed bytes r.batch bad r.seen says.1 e
 
--- the head line was put
-pub head_put : (s : Setting) (start old now : Outside) (name : List ℕ) (run : Run) (switch : SwitchNow) (t : Stretch) (u : ⊤) → unheaded_of t.stop run.reading.seen ≡ None → DoesPut old now head_line (Ok u) → IsFirst s start old name run switch t → IsFilled s start now name run switch t
-head_put s start old now name run switch t u e d f =
+-- the report begins so
+pub head_begun : (s : Setting) (start old now : Outside) (name : List ℕ) (run : Run) (switch : SwitchNow) (t : Stretch) → unheaded_of t.stop run.reading.seen ≡ None → SameInputs old now → Since start now → Grows start.put now.put head_line → IsFirst s start old name run switch t → IsFilled s start now name run switch t
+head_begun s start old now name run switch t e inputs since put f =
     let p = f.stops in
     let r = run.reading in
     let passed = headed start old name r p.bytes t.next t.stop f.next.above p.read p.says e in
@@ -77,19 +77,23 @@ head_put s start old now name run switch t u e d f =
       given = [];
       rounds = [];
       histories = map (λ p. []) (ports_of s.policy);
-      since = since_put start old now head_line (Ok u) f.since d;
-      reading = reading_put start old now name r.source.file p.bytes d.inputs p.read.reading;
+      since = since;
+      reading = reading_put start old now name r.source.file p.bytes inputs p.read.reading;
       passed = passed;
       count = sym f.first;
       cut = inr (0, f.first);
       next = subst (λ n. IsNextCut s.commands n t.next) (sym f.first) f.next;
       long = shows.1;
-      shows = shows_put start old now name r p.bytes r.batch t.stop d.inputs shows.0;
+      shows = shows_put start old now name r p.bytes r.batch t.stop inputs shows.0;
       so = subst (λ c. AreSoFar s [] c [] (map (λ p. []) (ports_of s.policy))) (sym (ap (cuts_within s.commands) f.first ∙ within_none s.commands)) (none_so_far s f.at.some f.at.few);
       at = f.at;
       short_is = sym f.short_is;
-      puts = grows_is start.put now.put head_line (report_text []) (sym (append-nil head_line)) (grows_then start.put old.put now.put [] head_line f.puts d.told);
+      puts = grows_is start.put now.put head_line (report_text []) (sym (append-nil head_line)) put;
     }
+
+-- the head line was put
+pub head_put : (s : Setting) (start old now : Outside) (name : List ℕ) (run : Run) (switch : SwitchNow) (t : Stretch) (u : ⊤) → unheaded_of t.stop run.reading.seen ≡ None → DoesPut old now head_line (Ok u) → IsFirst s start old name run switch t → IsFilled s start now name run switch t
+head_put s start old now name run switch t u e d f = head_begun s start old now name run switch t e d.inputs (since_put start old now head_line (Ok u) f.since d) (grows_then start.put old.put now.put [] head_line f.puts d.told) f
 
 -- or a front of it
 pub head_unput : (s : Setting) (start old now : Outside) (name : List ℕ) (run : Run) (switch : SwitchNow) (t : Stretch) (x : Failed) → unheaded_of t.stop run.reading.seen ≡ None → DoesPut old now head_line (Err x) → IsFirst s start old name run switch t → RunsTrace s start now name end.WriteFault

@@ -11,6 +11,9 @@ pub mod Putting
 pub mod Lasting
 pub mod Filling
 pub mod Beginning
+pub mod Unput
+pub mod Asking
+pub mod Exporting
 pub mod Drawing
 pub mod WorkloadRounds
 pub mod Summing

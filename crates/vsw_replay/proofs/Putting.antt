@@ -26,7 +26,7 @@ use Rattle.vsw_reading.specs.declared.reading.Stop.TheVariants as stop
 use Rattle.vsw_replay.specs.declared.trace.Run.{Run}
 use Rattle.vsw_replay.specs.declared.trace.Stretch.{Stretch}
 use Rattle.vsw_replay.specs.Private.Cut.{IsCut, IsNextCut, cuts_until, AreBehind}
-use Rattle.vsw_replay.specs.Private.Going.{Since, ShowsStop, IsAsLong, IsFilled, IsPast, AfterPut, PutsStretch, PutsRound, is_run_of}
+use Rattle.vsw_replay.specs.Private.Going.{Since, ShowsStop, IsAsLong, IsFilled, IsPast, IsTurn, AfterPut, PutsStretch, PutsRound, is_run_of}
 use Rattle.vsw_replay.specs.Private.Pauses.{Pauses}
 use Rattle.vsw_reading.specs.Passed.{IsPassed}
 use Rattle.vsw_replay.specs.Runs.{Reads, RunsTrace}
@@ -48,12 +48,12 @@ record Continues (s : Setting) (start now : Outside) (name front : List ℕ) : T
   follows : Follows s trace front
 
 -- the records of a trace, and why the reading stopped after them
-record IsStopped (s : Setting) (start now : Outside) (name : List ℕ) (r : Reading) (bytes : List ℕ) (all : List Record) (first next : ℕ) (st : Stop) : Type 0 where
-  reading : IsReading start now name r.source.file bytes
-  passed : IsPassed bytes all
-  after : IsNextCut s.commands first next
-  long : IsAsLong st next (length all)
-  shows : ShowsStop start now name r bytes all st
+pub record IsStopped (s : Setting) (start now : Outside) (name : List ℕ) (r : Reading) (bytes : List ℕ) (all : List Record) (first next : ℕ) (st : Stop) : Type 0 where
+  pub reading : IsReading start now name r.source.file bytes
+  pub passed : IsPassed bytes all
+  pub after : IsNextCut s.commands first next
+  pub long : IsAsLong st next (length all)
+  pub shows : ShowsStop start now name r bytes all st
 
 header_bad : (bytes : List ℕ) (all : List Record) (bad : BadTrace) → IsPassed bytes all → header_of bytes ≡ Err bad → ⊥
 header_bad bytes all bad p e = let h = p.header in cc (e, h)
@@ -96,12 +96,12 @@ continues_for s start now name r bytes all first next rounds hs (stop.Bad bad) i
 -- ---- after the round
 
 -- what was put, and by which rounds
-record IsPutBy (start now : Outside) (rounds : List Round) (short : Bool) : Type 0 where
-  since : Since start now
-  short_is : are_short rounds ≡ short
-  puts : Grows start.put now.put (report_text rounds)
+pub record IsPutBy (start now : Outside) (rounds : List Round) (short : Bool) : Type 0 where
+  pub since : Since start now
+  pub short_is : are_short rounds ≡ short
+  pub puts : Grows start.put now.put (report_text rounds)
 
-after_for : (s : Setting) (start now : Outside) (name : List ℕ) (run : Run) (switch : SwitchNow) (t : Stretch) (bytes : List ℕ) (all : List Record) (rounds : List Round) (hs : List (List Event)) (st : Stop) → IsStopped s start now name run.reading bytes all t.first t.next st → RoundsFor s t.first all rounds hs st → IsAt s hs switch → IsPutBy start now rounds run.short
+pub after_for : (s : Setting) (start now : Outside) (name : List ℕ) (run : Run) (switch : SwitchNow) (t : Stretch) (bytes : List ℕ) (all : List Record) (rounds : List Round) (hs : List (List Event)) (st : Stop) → IsStopped s start now name run.reading bytes all t.first t.next st → RoundsFor s t.first all rounds hs st → IsAt s hs switch → IsPutBy start now rounds run.short
     → AfterPut s start now name run switch t st
 after_for s start now name run switch t bytes all rounds hs stop.Full i so at put = record {
   bytes = bytes;
@@ -144,7 +144,7 @@ after_for s start now name run switch t bytes all rounds hs (stop.Bad bad) i so 
 
 -- ---- the records of a filled stretch
 
-stopped_filled : (s : Setting) (start old now : Outside) (name : List ℕ) (run new : Run) (switch : SwitchNow) (t : Stretch) → new.reading ≡ run.reading → SameInputs old now → (f : IsFilled s start old name run switch t) → IsStopped s start now name new.reading (IsFilled.bytes f) (IsFilled.given f ++ run.reading.batch) t.first t.next t.stop
+pub stopped_filled : (s : Setting) (start old now : Outside) (name : List ℕ) (run new : Run) (switch : SwitchNow) (t : Stretch) → new.reading ≡ run.reading → SameInputs old now → (f : IsFilled s start old name run switch t) → IsStopped s start now name new.reading (IsFilled.bytes f) (IsFilled.given f ++ run.reading.batch) t.first t.next t.stop
 stopped_filled s start old now name run new switch t same inputs f =
     let all = f.given ++ run.reading.batch in
     subst (λ r. IsStopped s start now name r f.bytes all t.first t.next t.stop) (sym same) (record {
@@ -237,13 +237,11 @@ continues_past s start now name bytes records first rounds hs reads c few behind
 behind_next : (s : Setting) (first next total : ℕ) → next_at (first + 1) s.commands ≡ Some next → AreBehind s.commands first total → AreBehind s.commands next total
 behind_next s first next total e behind = let is = next_some s.commands (first + 1) next e in λ n lt c. behind n (omega (arith, lt, is.from)) c
 
--- a further round was run, and put
-pub next_put : (s : Setting) (start old now : Outside) (name : List ℕ) (run new : Run) (switch after : SwitchNow) (first next : ℕ) (u : ⊤) → run.reading.batch ≡ [] → next_at (first + 1) s.commands ≡ Some next → SameInputs old now → ((hs : List (List Event)) → IsAt s hs switch → PutsRound s hs next run new after old now (Ok u))
-    → IsPast s start old name run.short switch first → IsPast s start now name new.short after next
-next_put s start old now name run new switch after first next u none e inputs put f =
-    let p = put f.histories f.at in
-    let ran = p.0.ran in
-    let by = put_by start old now f.rounds ran.round (whole_text new.text) u run.short new.short p.0.short f.since f.short_is f.puts ran.text p.0.short_is ran.short_is p.1 in record {
+-- a further round was run, of which this was put
+pub next_by : (s : Setting) (start old now : Outside) (name : List ℕ) (run new : Run) (switch after : SwitchNow) (first next : ℕ) → run.reading.batch ≡ [] → next_at (first + 1) s.commands ≡ Some next → SameInputs old now → (f : IsPast s start old name run.short switch first) → (p : IsTurn s f.histories next run new after)
+    → IsPutBy start now (f.rounds ++ p.ran.round ∷ []) new.short → IsPast s start now name new.short after next
+next_by s start old now name run new switch after first next none e inputs f p by =
+    let ran = p.ran in record {
       bytes = f.bytes;
       records = f.records;
       rounds = f.rounds ++ ran.round ∷ [];
@@ -254,11 +252,19 @@ next_put s start old now name run new switch after first next u none e inputs pu
       capture = f.capture;
       few = f.few;
       behind = behind_next s first next (length f.records) e f.behind;
-      so = rounds_past s first next f.records run.reading.batch f.rounds f.histories after p.0.short [] (whole_text new.text) none e f.behind f.so ran;
+      so = rounds_past s first next f.records run.reading.batch f.rounds f.histories after p.short [] (whole_text new.text) none e f.behind f.so ran;
       at = ran.at;
       short_is = by.short_is;
       puts = by.puts;
     }
+
+-- and all of its text was
+pub next_put : (s : Setting) (start old now : Outside) (name : List ℕ) (run new : Run) (switch after : SwitchNow) (first next : ℕ) (u : ⊤) → run.reading.batch ≡ [] → next_at (first + 1) s.commands ≡ Some next → SameInputs old now → ((hs : List (List Event)) → IsAt s hs switch → PutsRound s hs next run new after old now (Ok u))
+    → IsPast s start old name run.short switch first → IsPast s start now name new.short after next
+next_put s start old now name run new switch after first next u none e inputs put f =
+    let p = put f.histories f.at in
+    let ran = p.0.ran in
+    next_by s start old now name run new switch after first next none e inputs f p.0 (put_by start old now f.rounds ran.round (whole_text new.text) u run.short new.short p.0.short f.since f.short_is f.puts ran.text p.0.short_is ran.short_is p.1)
 
 -- or not
 pub next_unput : (s : Setting) (start old now : Outside) (name : List ℕ) (run new : Run) (switch after : SwitchNow) (first next : ℕ) (e : TraceEnd) → run.reading.batch ≡ [] → next_at (first + 1) s.commands ≡ Some next → SameInputs old now → ((hs : List (List Event)) → IsAt s hs switch → PutsRound s hs next run new after old now (Err e))

@@ -1,4 +1,5 @@
 pub mod Runs
+pub mod Exports
 pub mod Private
 pub mod Draws
 pub mod Going

@@ -3,4 +3,5 @@ pub mod Cut
 pub mod Pauses
 pub mod SoFar
 pub mod Going
+pub mod Exporting
 pub mod Runner

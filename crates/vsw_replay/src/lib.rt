@@ -4,6 +4,8 @@
 mod cut;
 mod draw;
 mod ending;
+mod export;
+mod quiet;
 mod run;
 mod runner;
 mod sheets;
@@ -11,6 +13,7 @@ mod summary;
 mod trace;
 
 pub use ending::TraceEnd;
+pub use export::export_trace;
 pub use run::{WorkloadEnd, run_workload};
 pub use runner::Runner;
 pub use trace::run_trace;

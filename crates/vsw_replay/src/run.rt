@@ -37,7 +37,7 @@ pub enum WorkloadEnd {
 }
 
 /// A watch that does nothing with what it is told.
-struct Nobody;
+pub(crate) struct Nobody;
 
 impl Watch for Nobody {
     fn answered(&self, _worker: u32, _packet: u32, _answer: &Answer) {}

@@ -65,7 +65,7 @@ impl<'g, J: Naming, G> Runner<'g, J, G> {
 
 /// Runs a round in one thread, which tells the watch of its packets.
 #[tactic(auto, using(crate::proofs::Behind::told_alone))]
-fn run_alone<G: Watch>(
+pub(crate) fn run_alone<G: Watch>(
     switch: &mut Switch,
     watch: &G,
     schedule: &Schedule,

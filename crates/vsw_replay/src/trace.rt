@@ -1,11 +1,12 @@
 //! Running a trace.
 
-ghost use Rattle.std.specs.Prelude.{◌≡◌, ◌≤◌, ◌<◌, ◌+◌, ◌^◌, ℕ, [], List, map, length, IfOk, IfSome, OnOk};
+ghost use Rattle.std.specs.Prelude.{◌≡◌, ◌≤◌, ◌<◌, ◌+◌, ◌^◌, ℕ, [], List, map, length, IfErr, IfOk, IfSome, OnOk};
 ghost use Rattle.vsw_commandfile.specs.declared.line.Line.{Line};
 ghost use Rattle.vsw_port.specs.declared.event.Event.{Event};
-ghost use Rattle.vsw_host.specs.Outside.{Outside, SameInputs};
+ghost use Rattle.vsw_host.specs.Outside.{Outside, SameInputs, SameOutputs};
 ghost use Rattle.vsw_promise.specs.Jobs.{Setting};
 ghost use Rattle.vsw_promise.specs.Ports.{ports_of};
+ghost use Rattle.vsw_replay.specs.Private.Exporting.{IsEarly};
 ghost use Rattle.vsw_replay.specs.Private.Going.{IsFilled, IsBetween, IsPast, IsOpened, IsFirst, IsNear, IsTurn, PutsRound, PutsStretch, PutsNext, GoesOn, is_run_of, unheaded_of, clean_of};
 ghost use Rattle.vsw_reading.specs.Reads.{IsOpen};
 ghost use Rattle.vsw_replay.specs.Runs.{RunsTrace};
@@ -32,23 +33,23 @@ const RECORDS_MOST: u32 = 1_048_576;
 
 /// What a run holds beside its switch.
 #[derive(Drop)]
-struct Run {
-    reading: Reading,
+pub(crate) struct Run {
+    pub reading: Reading,
     /// The text of a round, in room that the next round's text finds again.
-    text: RoundText,
+    pub text: RoundText,
     /// Whether memory was wanting for a packet or a command of the rounds that were run.
-    short: bool,
+    pub short: bool,
 }
 
 /// The packets from one cut up to the next, as far as they were read.
 #[derive(Clone, Copy)]
-struct Stretch {
+pub(crate) struct Stretch {
     /// The number of the first packet.
-    first: u32,
+    pub first: u32,
     /// The packet with which the next round begins.
-    next: u32,
+    pub next: u32,
     /// Why no further packet of it was read.
-    stop: Stop,
+    pub stop: Stop,
 }
 
 /// Runs the round of the batch, of which the first packet has this number, and prints it.
@@ -107,7 +108,7 @@ fn put_round<
 }
 
 /// Whether a round with so many packets is run.
-fn is_run(schedule: &Schedule, count: usize, first: u32, stop: Stop) -> bool
+pub(crate) fn is_run(schedule: &Schedule, count: usize, first: u32, stop: Stop) -> bool
     ensures { result ≡ is_run_of schedule.now count first stop }
 {
     count != 0 || matches!(stop, Stop::End) && (first == 0 || is_named(schedule, first))
@@ -168,7 +169,7 @@ fn put_next<'g, J: Naming + Send + Sync, G: Gate + Watch + Sync, R: Threads + Wa
 }
 
 /// How a run ends whose trace ended cleanly.
-fn clean_end(short: bool) -> TraceEnd
+pub(crate) fn clean_end(short: bool) -> TraceEnd
     ensures { result ≡ clean_of short }
 {
     if short {
@@ -202,7 +203,7 @@ fn run_past<'g, J: Naming + Send + Sync, G: Gate + Watch + Sync, R: Threads + Wa
 }
 
 /// Reads the round that begins with this packet, or finds that the trace has more records than it may have.
-fn read_next<H: Host>(
+pub(crate) fn read_next<H: Host>(
     host: &mut H,
     schedule: &Schedule,
     run: &mut Run,
@@ -213,6 +214,8 @@ fn read_next<H: Host>(
     ensures goes { (s : Setting) (start : Outside) (name : List ℕ) (switch : SwitchNow) → s.commands ≡ schedule.now → IsBetween s start (H.outside host.old) name run.old switch first → GoesOn s start (H.outside host.new) name run.new switch result }
     ensures near { IfOk result (λ next. IsNear (H.outside host.new) run.new next) }
     ensures first { IfOk result (λ next. next.first ≡ first) }
+    ensures early { IfErr result IsEarly }
+    ensures outputs { SameOutputs (H.outside host.old) (H.outside host.new) }
 {
     run.reading.batch.clear();
     let next = next_cut(schedule, first);
@@ -290,7 +293,7 @@ fn run_stretches<
 }
 
 /// How a run ends of whose trace no header was accepted.
-fn unheaded(stop: Stop, seen: usize) -> Option<TraceEnd>
+pub(crate) fn unheaded(stop: Stop, seen: usize) -> Option<TraceEnd>
     ensures { result ≡ unheaded_of stop seen }
 {
     match stop {

@@ -25,6 +25,8 @@ returns-in_default g c =
           (peeks_with old now run.reading c.peek.new.reading c.clear.new.self c.peek.result c.clear.ensures c.peek.ensures.peeks) b;
       near = near_none c.args.schedule.now now run c.args.first c.next_cut-next.result c.peek.result c.peek.new.reading c.if-first-eq-RECORDS_MOST.true none c.in_default.not-Full c.next_cut-next.ensures.next;
       first = refl;
+      early = tt;
+      outputs = c.peek.ensures.outputs;
     }
 
 pub fill-requires-clause-near : goal.fill-requires-clause-near

@@ -105,6 +105,24 @@ def check_cases(file, folder):
         yield f"check {words}", ["check", *words], 2, b"vsw: usage\n"
 
 
+def offload_cases(file, folder):
+    """The same as `cases`, of rows."""
+    missing = os.path.join(folder, "missing")
+    yield "rows of a run", ["offload", POLICY, COMMANDS, TRACE], 0, b""
+    for place in range(3):
+        files = [POLICY, COMMANDS, TRACE]
+        files[place] = missing
+        yield f"file {place} of an offload is missing", ["offload", *files], 3, b"vsw: read fault\n"
+    yield "rows of a policy that is no JSON", ["offload", file("json", b"{"), COMMANDS, TRACE], 5, b"vsw: refused policy Json /\n"
+    yield "rows of commands without members", ["offload", POLICY, file("none", b"{}"), TRACE], 5, b"vsw: refused commands 1 Shape /\n"
+    yield "rows of a trace that is none", ["offload", POLICY, COMMANDS, file("none", bytes(24))], 5, b"vsw: refused trace NotPcap\n"
+    yield "rows of a trace that is cut", ["offload", POLICY, COMMANDS, file("cut", head() + record(9, 9))], 5, b"vsw: refused trace Cut 24\n"
+    many = file("many", head() + record(0, 1) * (RECORDS + 1))
+    yield "rows of many records", ["offload", POLICY, COMMANDS, many], 6, b"vsw: limit records\n"
+    for words in [POLICY, COMMANDS], [POLICY, COMMANDS, TRACE, TRACE], ["--workers=1", POLICY, COMMANDS, TRACE], ["-x", COMMANDS, TRACE]:
+        yield f"offload {words}", ["offload", *words], 2, b"vsw: usage\n"
+
+
 def engine_cases(file, folder):
     """The same as `cases`, of a hardware's answers."""
     with open(ROWS, "rb") as source:
@@ -175,6 +193,7 @@ def cases(folder):
     for name, data, status, complaint in bad_commands():
         yield name, ["forward", POLICY, file(name, data), TRACE], status, complaint
     yield from check_cases(file, folder)
+    yield from offload_cases(file, folder)
     yield from engine_cases(file, folder)
 
 
@@ -200,10 +219,11 @@ def main():
         large = ["forward", os.path.join(folder, "spaces"), COMMANDS, TRACE]
         with open(large[1], "wb") as out:
             out.write(b" " * 4_194_304)
-        look("little memory", run(program, large, limit=4_096), 9, b"vsw: memory\n")
+        look("little memory", run(program, large, limit=4_800), 9, b"vsw: memory\n")
     with open("/dev/full", "wb") as full:
         look("a full disk for a summary", run(FRONT, ["generate", "1", "2"], full), 4, b"vsw: write fault\n")
         look("a full disk for an answer", run(FRONT, ["check", POLICY, COMMANDS, TRACE, REPORT], full), 4, b"vsw: write fault\n")
+        look("a full disk for rows", run(FRONT, ["offload", POLICY, COMMANDS, TRACE], full), 4, b"vsw: write fault\n")
         look("a full disk for answers", run(FRONT, ["engine", ROWS, TRACE], full), 4, b"vsw: write fault\n")
         look("a full disk", run(FRONT, ["forward", POLICY, COMMANDS, TRACE], full), 4, b"vsw: write fault\n")
     sys.exit(1 if wrong else print("each status came, with its words") or 0)

@@ -7,7 +7,8 @@ For n = 1, 2, .. the program's nth allocation fails, until a run meets no failur
 over examples, and over two small policies: a query and its reply through three layers, and a command between two packets; `flows` runs by one worker
 and by four. Each run must end with status 9 and the words "vsw: memory"; or with 3 and "vsw: read fault", where the host had no memory to open a file;
 and what it put must be the head line and whole rounds that are legal (tools/legal.py), where want of memory may be told of commands and of packets that
-would make a pair. Exits with 1 where a run does anything else.
+would make a pair. Of `offload`, over the same files, a run that ends so puts nothing, and one that ends well the rows that there are else, where it puts a row of their flows: a row that finds no room is left out, and another
+may stand in its place. Exits with 1 where a run does anything else.
 """
 import json
 import os
@@ -19,6 +20,8 @@ import legal
 import plain_switch
 from packets import read_capture, write_capture
 from vswlib.outcome import HEAD, commands_below
+from vswlib.rowsfiles import parse_rows
+from vswlib.rowsjudge import fault_of
 
 TOP = os.path.dirname(os.path.dirname(os.path.abspath(__file__)))
 EXAMPLES = [("7-commands", 1), ("10-ipv6", 1), ("11-roll-out", 1), ("flows", 1), ("flows", 4)]
@@ -120,24 +123,57 @@ def is_front(files, workers, text):
     return why is None or print(why)
 
 
-def run(program, shim, number, names, workers):
+def run(program, shim, number, words):
     environment = dict(os.environ, LD_PRELOAD=shim, REFUSED_ALLOCATION=str(number))
-    made = subprocess.run([program, "forward", "--workers", str(workers), *names], env=environment, capture_output=True, timeout=60)
-    return made.returncode, made.stdout.decode(), made.stderr.decode()
+    made = subprocess.run([program, *words], env=environment, capture_output=True, timeout=60)
+    return made.returncode, made.stdout, made.stderr.decode()
 
 
-def refuse_each(program, shim, folder, what, files, workers):
-    """Runs until no allocation is refused, and gives how often each status came."""
+def keep(folder, files):
+    """Writes a policy, commands and a capture, and gives the files' names."""
     names = [os.path.join(folder, name) for name in ("policy", "commands", "trace")]
     for name, data in zip(names, files):
         with open(name, "wb") as file:
             file.write(data)
+    return names
+
+
+def are_like(put, rows):
+    """Whether bytes are a rows file of the same ports, with the same row of each flow that has one in both."""
+    if fault_of(put) is not None:
+        return False
+    ports, others = list(parse_rows("put", put)), list(parse_rows("rows", rows))
+    same = [(port.port, port.mac, port.entries) for port in ports] == [(port.port, port.mac, port.entries) for port in others]
+    known = [{row[:16]: row for row in other.rows} for other in others]
+    return same and all(rows_there.get(row[:16], row) == row for port, rows_there in zip(ports, known) for row in port.rows)
+
+
+def refuse_each_of_rows(program, shim, folder, what, files):
+    """The same of `offload`."""
+    words = ["offload", *keep(folder, files)]
+    rows, statuses, number, quiet, others = run(program, shim, 0, words)[1], {}, 0, 0, 0
+    while quiet < QUIET:
+        number += 1
+        status, put, said = run(program, shim, number, words)
+        if (status, said) not in [(0, ""), *TOLD] or not (are_like(put, rows) if status == 0 else put == b""):
+            sys.exit(f"{what}, allocation {number} of rows: status {status}, {said!r}, {len(put)} bytes")
+        quiet = quiet + 1 if put == rows else 0
+        others += status == 0 and put != rows
+        statuses[status] = statuses.get(status, 0) + 1
+    statuses[0] -= QUIET
+    print(f"{what}, rows: {number - QUIET} allocations, one refused at a time; runs by status: {statuses}; {others} of them put other rows", flush=True)
+
+
+def refuse_each(program, shim, folder, what, files, workers):
+    """Runs until no allocation is refused, and gives how often each status came."""
+    words = ["forward", "--workers", str(workers), *keep(folder, files)]
     statuses, number, quiet, wants = {}, 0, 0, 0
     while quiet < QUIET:
         number += 1
-        status, text, words = run(program, shim, number, names, workers)
-        if not is_front(files, workers, text) or (status, words) not in [(0, ""), *TOLD]:
-            sys.exit(f"{what}, allocation {number}: status {status}, {words!r}, {text[:300]!r}")
+        status, put, said = run(program, shim, number, words)
+        text = put.decode()
+        if not is_front(files, workers, text) or (status, said) not in [(0, ""), *TOLD]:
+            sys.exit(f"{what}, allocation {number}: status {status}, {said!r}, {text[:300]!r}")
         tells = any(want in text for want in legal.WANT)
         quiet = quiet + 1 if status == 0 else 0
         wants += tells
@@ -160,6 +196,8 @@ def main():
         for what, files, workers in [("three layers", three_layers(), 1), ("three layers", three_layers(), 4), ("one command", one_command(), 1),
                                      ("one command", one_command(), 4), *((name, example(name), workers) for name, workers in EXAMPLES)]:
             refuse_each(program, shim, folder, what, files, workers)
+            if workers == 1:
+                refuse_each_of_rows(program, shim, folder, what, files)
 
 
 if __name__ == "__main__":

@@ -1,5 +1,5 @@
 -- A run over good files ends well, but for faults and want of memory.
-use Rattle.std.proofs.Common.{◌≡◌, ◌<◌, ◌≤◌, ◌⊎◌, inl, inr, ℕ, ◌+◌, Bool, List, [], ◌∷◌, ◌++◌, length, take, drop, Option, Some, None, Result, Ok, Err, refl, ap, sym, ◌∙◌, subst, arith}
+use Rattle.std.proofs.Common.{◌≡◌, ◌<◌, ◌≤◌, ◌⊎◌, inl, inr, ℕ, ◌+◌, Bool, true, false, List, [], ◌∷◌, ◌++◌, length, take, drop, Option, Some, None, Result, Ok, Err, refl, ap, sym, ◌∙◌, subst, arith}
 use Rattle.std.proofs.Math.Seq.{take-length}
 use Rattle.std.proofs.lemmas.List.{length-append, drop-append-le, take-append-drop}
 use Rattle.vsw_commandfile.specs.Commands.{commands_file_of}
@@ -19,17 +19,18 @@ use Rattle.vsw_policy.specs.Sound.{Each}
 use Rattle.vsw_config.specs.Policy.{policy_file_of}
 use Rattle.vsw_config.specs.declared.file.ConfigFault.{ConfigFault}
 use Rattle.vsw_config.specs.declared.file.PolicyFile.{PolicyFile}
-use Rattle.vsw_run.proofs.Runs.{runs_over}
+use Rattle.vsw_run.proofs.Exports.{forwarded, had_put}
+use Rattle.vsw_run.proofs.Runs.{runs_as}
 use Rattle.vsw_run.specs.Complaint.{status_of}
-use Rattle.vsw_run.specs.Files.{InTurn, HasBadPolicy, HasBadCommands, Reaches}
-use Rattle.vsw_run.specs.IsRun.{AreAdmitted, EndsByTrace, IsComplete, IsCompleteAlone, IsRun, Runs, RunsBy, RunsGenerated, TraceRead}
+use Rattle.vsw_run.specs.Files.{InTurn, HasBadPolicy, HasBadCommands, Reaches, TraceRead}
+use Rattle.vsw_run.specs.IsRun.{AreAdmitted, AskRun, EndsByTrace, IsComplete, IsCompleteAlone, IsRun, Runs, RunsBy, RunsGenerated}
 use Rattle.vsw_promise.specs.Jobs.{Setting}
 use Rattle.vsw_run.specs.Trace.{All, Trace, IsRefused, HasMore, most_records}
 use Rattle.vsw_run.specs.declared.ending.Ending.{Ending}
 use Rattle.vsw_run.specs.declared.ending.Ending.TheVariants as ending
 use Rattle.vsw_run.specs.declared.ending.Status.{Status}
 use Rattle.vsw_run.specs.declared.ending.Status.TheVariants as status
-use Rattle.vsw_run.specs.Words.{Request, Generate}
+use Rattle.vsw_run.specs.Words.{Request, Forward, Deliver, Offload, Generate, asked_in}
 
 -- ---- a file that is a capture, of which a trace was read
 
@@ -177,9 +178,27 @@ ends_well words local q old new ending.Records c same r =
 
 -- a run is complete
 pub complete_is : (words : List (List ℕ)) (old new : Outside) (s : Status) → IsRun words old new s → IsComplete words old new s
-complete_is words old new s run admitted n m =
-    let asked : Runs admitted.local admitted.request old new run.end = runs_over words admitted.local admitted.request old new s run admitted.asked in
-    subst (λ t. (t ≡ status.Done) ⊎ (t ≡ status.Memory)) (sym run.status_is) (ends_well words admitted.local admitted.request old new run.end (record { admitted = admitted; no_read = n; no_put = m }) refl asked)
+complete_is words old new s run admitted n m = subst (λ t. (t ≡ status.Done) ⊎ (t ≡ status.Memory)) (sym run.status_is) (by admitted.asked)
+  where
+    q : Request
+    q = admitted.request
+
+    clean : IsClean words old new
+    clean = record { admitted = admitted; no_read = n; no_put = m }
+
+    over : (local : Bool) → Runs local q old new run.end → (status_of run.end ≡ status.Done) ⊎ (status_of run.end ≡ status.Memory)
+    over local r = ends_well words local q old new run.end clean refl r
+
+    -- as one that forwards
+    exported : asked_in words ≡ Some (Offload q) → (status_of run.end ≡ status.Done) ⊎ (status_of run.end ≡ status.Memory)
+    exported e =
+        let f = forwarded q old new run.end (runs_as words (Some (Offload q)) old new s run e) in
+        ends_well words false q old (had_put old new f.0) run.end (record { admitted = admitted; no_read = n; no_put = m }) refl f.1
+
+    by : AskRun words q → (status_of run.end ≡ status.Done) ⊎ (status_of run.end ≡ status.Memory)
+    by (inl e) = over false (runs_as words (Some (Forward q)) old new s run e)
+    by (inr (inl e)) = over true (runs_as words (Some (Deliver q)) old new s run e)
+    by (inr (inr e)) = exported e
 
 generated_well : (start packets : ℕ) (old new : Outside) (end : Ending) → ¬ (Rose old.put_faults new.put_faults) → RunsGenerated start packets old new end → (status_of end ≡ status.Done) ⊎ (status_of end ≡ status.Memory)
 generated_well start packets old new ending.Done n r = inl refl

@@ -14,15 +14,16 @@ use Rattle.vsw_offload.specs.declared.fault.BadRows.TheVariants as bad
 use Rattle.vsw_run.specs.declared.ending.RowsFault.{RowsFault}
 use Rattle.vsw_run.specs.declared.ending.RowsFault.TheVariants as fault
 use Rattle.vsw_run.specs.Complaint.{policy_status, commands_status, report_status, rows_status, status_of, complaint, Complains}
-use Rattle.vsw_run.specs.Files.{Opens}
-use Rattle.vsw_run.specs.IsRun.{Ends, EndsByTrace, EndsGenerated, BreaksOff, PutsSummary, TraceRead, Runs, RunsBy, IsRun}
+use Rattle.vsw_run.specs.Exporting as exports
+use Rattle.vsw_run.specs.Files.{Opens, TraceRead}
+use Rattle.vsw_run.specs.IsRun.{Ends, EndsByTrace, EndsGenerated, BreaksOff, PutsSummary, Runs, RunsBy, IsRun}
 use Rattle.vsw_run.specs.declared.ending.Ending.{Ending}
 use Rattle.vsw_run.specs.declared.ending.Ending.TheVariants as ending
 use Rattle.vsw_run.specs.declared.ending.ReportFault.{ReportFault}
 use Rattle.vsw_run.specs.declared.ending.ReportFault.TheVariants as report
 use Rattle.vsw_run.specs.declared.ending.Status.{Status}
 use Rattle.vsw_run.specs.declared.ending.Status.TheVariants as status
-use Rattle.vsw_run.specs.Words.{Request, Claim, Query, Asked, Forward, Deliver, Check, Engine, Generate, asked_in, run_over}
+use Rattle.vsw_run.specs.Words.{Request, Claim, Query, Asked, Forward, Deliver, Offload, Check, Engine, Generate, asked_in, run_over}
 use Rattle.vsw_app.specs.Speaks.{KeepsPut}
 use Rattle.vsw_app.specs.Stages.{HasEnded, HasEndedBy}
 use Rattle.vsw_files.proofs.Growing.{grows_none, grows_as, rose_as}
@@ -68,6 +69,34 @@ ends_later local q old b c files ending.Usage l e = absurd e
 ends_later local q old b c files (ending.Report why) l e = absurd e
 ends_later local q old b c files ending.Illegal l e = absurd e
 ends_later local q old b c files (ending.Rows why) l e = absurd e
+
+-- the same of a run that exports
+export_read_later : (q : Request) (old b c : Outside) (files : List Opened) (text : List ℕ) → IsLater b c → exports.ReadsExport q old b files text → exports.ReadsExport q old c files text
+unfolding read_later
+export_read_later q old b c files text l e = record { reads = read_later false q old b c files l e.reads; whole = e.whole; records = e.records; capture = e.capture; few = e.few; is = e.is }
+
+unput_later : (q : Request) (old b c : Outside) (files : List Opened) (end : Ending) → IsLater b c → exports.EndsUnput q old b files end → exports.EndsUnput q old c files end
+unfolding read_later
+unput_later q old b c files end l e = record { reads = read_later false q old b c files l e.reads; text = e.text; tells = e.tells; nothing = grows_later old b c [] l e.nothing }
+
+export_front_later : (q : Request) (old b c : Outside) (files : List Opened) → IsLater b c → exports.PutsExportFront q old b files → exports.PutsExportFront q old c files
+export_front_later q old b c files l e = record { text = e.text; read = export_read_later q old b c files e.text l e.read; count = e.count; puts = grows_later old b c (take e.count e.text) l e.puts }
+
+export_later : (q : Request) (old b c : Outside) (files : List Opened) (end : Ending) → IsLater b c → exports.Ends q old b files end → exports.Ends q old c files end
+export_later q old b c files (ending.Policy why) l e = (e.0, grows_later old b c [] l e.1)
+export_later q old b c files (ending.Commands why) l e = (e.0, grows_later old b c [] l e.1)
+export_later q old b c files (ending.Trace bad) l e = unput_later q old b c files (ending.Trace bad) l e
+export_later q old b c files ending.Records l e = unput_later q old b c files ending.Records l e
+export_later q old b c files ending.Done l e = record { text = e.text; read = export_read_later q old b c files e.text l e.read; puts = grows_later old b c e.text l e.puts }
+export_later q old b c files ending.ReadFault l (rose, inl e) = (rose_as old.input_faults b.input_faults old.input_faults c.input_faults refl l.inputs.input_faults rose, inl (e.0, grows_later old b c [] l e.1))
+export_later q old b c files ending.ReadFault l (rose, inr e) = (rose_as old.input_faults b.input_faults old.input_faults c.input_faults refl l.inputs.input_faults rose, inr (unput_later q old b c files ending.ReadFault l e))
+export_later q old b c files ending.WriteFault l (rose, e) = (rose_as old.put_faults b.put_faults old.put_faults c.put_faults refl l.put.put_faults rose, export_front_later q old b c files l e)
+export_later q old b c files ending.Memory l (inl e) = inl (grows_later old b c [] l e)
+export_later q old b c files ending.Memory l (inr e) = inr (export_front_later q old b c files l e)
+export_later q old b c files ending.Usage l e = absurd e
+export_later q old b c files (ending.Report why) l e = absurd e
+export_later q old b c files ending.Illegal l e = absurd e
+export_later q old b c files (ending.Rows why) l e = absurd e
 
 -- the same of a run that checks
 checked_later : (k : Claim) (old b c : Outside) (files : List Opened) (end : Ending) → IsLater b c → checks.Ends k old b files end → checks.Ends k old c files end
@@ -163,6 +192,14 @@ run_over_files words local q old now new end s asked h is complains same keeps =
 pub run_asked : (words : List (List ℕ)) (a : Asked) (old now new : Outside) (end : Ending) (s : Status) → asked_in words ≡ Some a → HasEndedBy a old now end → s ≡ status_of end → Complains now new (complaint end) → SameInputs now new → KeepsPut now new → IsRun words old new s
 run_asked words (Forward q) old now new end s asked h is complains same keeps = run_over_files words false q old now new end s asked h is complains same keeps
 run_asked words (Deliver q) old now new end s asked h is complains same keeps = run_over_files words true q old now new end s asked h is complains same keeps
+run_asked words (Offload q) old now new end s asked h is complains same keeps =
+    let later : IsLater now new = record { inputs = same; put = keeps } in
+    record {
+      end = end;
+      status_is = is;
+      runs = subst (λ o. RunsBy o old new end) (sym asked) (record { files = h.runs.files; opens = opens_later q old now new h.runs.files later h.runs.opens; ends = export_later q old now new h.runs.files end later h.runs.ends });
+      complains = complains_from old now new (complaint end) h.complained h.complain_faults complains;
+    }
 run_asked words (Check k) old now new end s asked h is complains same keeps =
     let later : IsLater now new = record { inputs = same; put = keeps } in
     record {
@@ -257,6 +294,7 @@ usage_by : (o : Option Asked) (old new : Outside) (end : Ending) → RunsBy o ol
 usage_by None old new end r = ((λ e. refl), (λ e. r.usage))
 usage_by (Some (Forward q)) old new end r = ((λ e. absurd (subst (Ends false q old new r.files) e r.ends)), (λ e. absurd (cc e)))
 usage_by (Some (Deliver q)) old new end r = ((λ e. absurd (subst (Ends true q old new r.files) e r.ends)), (λ e. absurd (cc e)))
+usage_by (Some (Offload q)) old new end r = ((λ e. absurd (subst (exports.Ends q old new r.files) e r.ends)), (λ e. absurd (cc e)))
 usage_by (Some (Check k)) old new end r = ((λ e. absurd (subst (checks.Ends k old new r.files) e r.ends)), (λ e. absurd (cc e)))
 usage_by (Some (Engine q)) old new end r = ((λ e. absurd (subst (rows.Ends q old new r.files) e r.ends)), (λ e. absurd (cc e)))
 usage_by (Some (Generate start packets)) old new end r = ((λ e. absurd (subst (EndsGenerated start packets old new) e r.ends)), (λ e. absurd (cc e)))
@@ -271,6 +309,7 @@ read_by : (o : Option Asked) (old new : Outside) (end : Ending) → RunsBy o old
 read_by None old new end r e = absurd (let u = r.usage in cc (u, e))
 read_by (Some (Forward q)) old new end r e = (subst (Ends false q old new r.files) e r.ends).0
 read_by (Some (Deliver q)) old new end r e = (subst (Ends true q old new r.files) e r.ends).0
+read_by (Some (Offload q)) old new end r e = (subst (exports.Ends q old new r.files) e r.ends).0
 read_by (Some (Check k)) old new end r e = (subst (checks.Ends k old new r.files) e r.ends).0
 read_by (Some (Engine q)) old new end r e = (subst (rows.Ends q old new r.files) e r.ends).0
 read_by (Some (Generate start packets)) old new end r e = absurd (subst (EndsGenerated start packets old new) e r.ends)
@@ -282,6 +321,7 @@ write_by : (o : Option Asked) (old new : Outside) (end : Ending) → RunsBy o ol
 write_by None old new end r e = absurd (let u = r.usage in cc (u, e))
 write_by (Some (Forward q)) old new end r e = (subst (Ends false q old new r.files) e r.ends).0
 write_by (Some (Deliver q)) old new end r e = (subst (Ends true q old new r.files) e r.ends).0
+write_by (Some (Offload q)) old new end r e = (subst (exports.Ends q old new r.files) e r.ends).0
 write_by (Some (Check k)) old new end r e = (subst (checks.Ends k old new r.files) e r.ends).0
 write_by (Some (Engine q)) old new end r e = (subst (rows.Ends q old new r.files) e r.ends).0
 write_by (Some (Generate start packets)) old new end r e = (subst (EndsGenerated start packets old new) e r.ends).0

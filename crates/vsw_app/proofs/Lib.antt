@@ -1,5 +1,6 @@
 pub mod Speaking
 pub mod Running
+pub mod Exporting
 pub mod Answering
 pub mod Answered
 pub mod ByRows

@@ -12,8 +12,8 @@ use Rattle.vsw_policy.specs.Sound.{Each, IsGoodRule, is_listed}
 use Rattle.vsw_config.specs.declared.file.PolicyFile.{PolicyFile}
 use Rattle.vsw_config.specs.declared.file.PortFile.{PortFile}
 use Rattle.vsw_promise.specs.Ports.{port_of, ports_of}
-use Rattle.vsw_run.specs.Files.{IsReadOf, Opens, Reaches}
-use Rattle.vsw_run.specs.IsRun.{Ends, EndsByTrace, BreaksOff, TraceRead}
+use Rattle.vsw_run.specs.Files.{IsReadOf, Opens, Reaches, TraceRead}
+use Rattle.vsw_run.specs.IsRun.{Ends, EndsByTrace, BreaksOff}
 use Rattle.vsw_promise.specs.Jobs.{Setting}
 use Rattle.vsw_run.specs.Trace.{Reach, All as Whole, Fault, Stopped, Trace}
 use Rattle.vsw_run.specs.declared.ending.Ending.{Ending}
@@ -93,19 +93,19 @@ pub read_as : (a b c d : Outside) (f : Opened) (t : Trace) → (Rose a.input_fau
 read_as a b c d f t later r = record { bytes = r.bytes; reaches = reaches_as a b c d f t.reach later r.reaches }
 
 -- the setting of the files that were read
-abbrev setting_of : (local : Bool) → Request → PolicyFile → List Line → Setting
+abbrev pub setting_of : (local : Bool) → Request → PolicyFile → List Line → Setting
 setting_of local q p lines = record { workers = q.workers; policy = p; commands = lines; local = local }
 
-abbrev files_with : (q : Request) (old now : Outside) (p : PolicyFile) (lines : List Line) → HasCommands q old now p lines → Opened → List Opened
+abbrev pub files_with : (q : Request) (old now : Outside) (p : PolicyFile) (lines : List Line) → HasCommands q old now p lines → Opened → List Opened
 files_with q old now p lines h f = h.policy_file ∷ h.file ∷ f ∷ []
 
-opens_trace : (q : Request) (old now new : Outside) (p : PolicyFile) (lines : List Line) (h : HasCommands q old now p lines) (t : Trace) (r : Reads now new q.trace t) → Opens old new q (files_with q old now p lines h r.file)
+pub opens_trace : (q : Request) (old now new : Outside) (p : PolicyFile) (lines : List Line) (h : HasCommands q old now p lines) (t : Trace) (r : Reads now new q.trace t) → Opens old new q (files_with q old now p lines h r.file)
 opens_trace q old now new p lines h t r =
     opens_more q old now new (h.policy_file ∷ h.file ∷ []) q.trace r.file h.read.opens
     (record { named = r.named; since = r.since; held = subst (λ n. TellsHeld now.inputs n r.file.bytes) (sym r.named) r.held; within = r.within })
     (p, lines, h.policy_is, h.are, r.named)
 
-reads_trace : (local : Bool) (q : Request) (old now new : Outside) (p : PolicyFile) (lines : List Line) (h : HasCommands q old now p lines) (t : Trace) (r : Reads now new q.trace t) → TraceRead local q old new (files_with q old now p lines h r.file)
+unfoldable pub reads_trace : (local : Bool) (q : Request) (old now new : Outside) (p : PolicyFile) (lines : List Line) (h : HasCommands q old now p lines) (t : Trace) (r : Reads now new q.trace t) → TraceRead local q old new (files_with q old now p lines h r.file)
 reads_trace local q old now new p lines h t r = record {
   setting = setting_of local q p lines;
   file = r.file;
@@ -148,10 +148,10 @@ by_break local q old now new p lines h e = record {
 }
 
 -- the trace wasn't opened
-opens_behind : (q : Request) (old now new : Outside) (p : PolicyFile) (lines : List Line) (h : HasCommands q old now p lines) → OpensNothing now new → Opens old new q (h.policy_file ∷ h.file ∷ [])
+pub opens_behind : (q : Request) (old now new : Outside) (p : PolicyFile) (lines : List Line) (h : HasCommands q old now p lines) → OpensNothing now new → Opens old new q (h.policy_file ∷ h.file ∷ [])
 opens_behind q old now new p lines h o = opens_same q old now new (h.policy_file ∷ h.file ∷ []) h.read.opens o.since
 
-nothing_put : (q : Request) (old now new : Outside) (p : PolicyFile) (lines : List Line) → HasCommands q old now p lines → OpensNothing now new → Grows old.put new.put []
+pub nothing_put : (q : Request) (old now new : Outside) (p : PolicyFile) (lines : List Line) → HasCommands q old now p lines → OpensNothing now new → Grows old.put new.put []
 nothing_put q old now new p lines h o = grows_as now.put new.put old.put new.put [] (sym h.read.outputs.put) refl o.nothing
 
 -- the run ends as its trace did

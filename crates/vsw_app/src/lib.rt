@@ -5,6 +5,8 @@ mod check;
 mod complaint;
 mod ending;
 mod engine;
+mod given;
+mod offload;
 mod open;
 mod process;
 mod run;

@@ -14,12 +14,13 @@ ghost use Rattle.vsw_app.specs.Stages.{HasEnded, HasEndedBy, HasGenerated};
 use crate::check::check;
 use crate::ending::{drawn_ending, ending_of, finish};
 use crate::engine::engine;
+use crate::given::{Given, open_given};
+use crate::offload::offload;
 use crate::through::run_through;
 use std::alloc::Global;
 use std::sync::Wait;
 use std::thread::Threads;
 use vsw_config::{PolicyFile, read_policy};
-use vsw_files::{open_commands, open_policy};
 use vsw_generate::Workload;
 use vsw_host::Host;
 use vsw_replay::{Switch, Watch, WorkloadEnd, run_workload};
@@ -39,12 +40,8 @@ fn forward<R: Threads + Wait + Sync, H: Host, G: Gate + Watch + Sync>(
     requires few { request.now.workers ≤ 16 }
     ensures { HasEnded local (request_seen request.now) (H.outside host.old) (H.outside host.new) result }
 {
-    let policy = match open_policy(alloc, host, request.policy) {
-        Ok(policy) => policy,
-        Err(end) => return end,
-    };
-    let lines = match open_commands(alloc, host, &policy, request.commands) {
-        Ok(lines) => lines,
+    let Given { policy, lines } = match open_given(alloc, host, request) {
+        Ok(given) => given,
         Err(end) => return end,
     };
     let workers = request.workers;
@@ -101,6 +98,7 @@ fn run_asked<R: Threads + Wait + Sync, H: Host, G: Gate + Watch + Sync>(
     match asked {
         Asked::Forward(request) => forward(rt, alloc, host, gate, false, request),
         Asked::Deliver(request) => forward(rt, alloc, host, gate, true, request),
+        Asked::Offload(request) => offload(alloc, host, request),
         Asked::Check(claim) => check(alloc, host, claim),
         Asked::Engine(query) => engine(alloc, host, query),
         Asked::Generate { start, packets } => generate(alloc, host, *start, *packets),
@@ -127,7 +125,7 @@ fn run<R: Threads + Wait + Sync, H: Host, G: Gate + Watch + Sync>(
 }
 
 /// The whole program: reads the words, and the files that they name or the workload that they ask for, puts the
-/// report, the answer of a check, the lines of rows or the summary, and complains if it ends otherwise.
+/// report, the rows, the answer of a check, the lines of rows or the summary, and complains if it ends otherwise.
 ///
 /// `run` says what was opened, read, put and complained, by the status. `usage` and the two faults
 /// hold of hosts that tell nothing, too. `complete`, `alone`, `answered` and `by_rows` say when nothing but want of memory keeps a run

@@ -1,12 +1,12 @@
--- The words after `forward`, `check` and `engine`: what the grammar says of them is worked out of them, and nothing else.
+-- The words after `forward`, `offload`, `check` and `engine`: what the grammar says of them is worked out of them, and nothing else.
 use Rattle.std.proofs.Common.{◌≡◌, ◌≢◌, ℕ, suc, Bool, true, false, List, [], ◌∷◌, length, Option, Some, None, cond, refl, sym, ap, ◌∙◌, subst, arith}
 use Rattle.std.specs.Prelude.{option_and_then}
 use Rattle.std.specs.List.{list_any}
 use Rattle.std.proofs.lemmas.Bool.{cond-false, ne_eqb, or_from, or_parts, both_ways}
 use Rattle.std.proofs.lemmas.List.Elements.{All-nil, All-cons, All-head, All-tail}
 use Rattle.std.proofs.lemmas.Option.{none-some, same_Some}
-use Rattle.vsw_run.specs.Grammar.{AreNames, ArePlain, IsForward, IsClaim, IsQuery, files_of}
-use Rattle.vsw_run.specs.Words.{Request, Claim, Query, Named, is_empty, request_of, claim_of, query_of, named_in, plain_in, forward_in, check_in, engine_in}
+use Rattle.vsw_run.specs.Grammar.{AreNames, ArePlain, IsForward, IsOffload, IsClaim, IsQuery, files_of}
+use Rattle.vsw_run.specs.Words.{Request, Claim, Query, Named, is_empty, request_of, claim_of, query_of, named_in, plain_in, forward_in, offload_in, check_in, engine_in}
 use Rattle.vsw_run.proofs.Naming.{Full, names_read, names_are, plain_read, plain_are}
 
 -- ---- names, none of them empty
@@ -70,6 +70,17 @@ forward_is words q e =
     let b = behind request_of words q e in
     let (count, are, full) = request_is b.named.workers b.named.names q b.is in
     subst (λ n. AreNames words n (files_of q)) count (subst (AreNames words b.named.workers) are (names_are words b.named b.read full))
+
+pub offload_reads : (words : List (List ℕ)) (q : Request) → IsOffload words q → offload_in words ≡ Some q
+offload_reads words q f = ap (option_and_then (request_of 1)) (plain_read words (files_of q) f.1) ∙ subst (λ n. request_of n (files_of q) ≡ Some q) f.0 (request_fits q f.1.nonempty)
+
+pub offload_is : (words : List (List ℕ)) (q : Request) → offload_in words ≡ Some q → IsOffload words q
+offload_is words q e = by (plain_in words) refl e where
+  by : (o : Option (List (List ℕ))) → plain_in words ≡ o → option_and_then (request_of 1) o ≡ Some q → IsOffload words q
+  by None is e = absurd (none-some q e)
+  by (Some names) is e =
+      let (count, are, full) = request_is 1 names q e in
+      (sym count, subst (ArePlain words) are (plain_are words names is full))
 
 -- ---- four names
 

@@ -8,6 +8,7 @@ pub mod Endings
 pub mod Checking
 pub mod Answering
 pub mod Wants
+pub mod Exports
 pub mod Runs
 pub mod Wholes
 pub mod Well

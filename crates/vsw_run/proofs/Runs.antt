@@ -21,8 +21,8 @@ use Rattle.vsw_report.specs.declared.round.Round.{Round}
 use Rattle.vsw_run.specs.Complaint.{status_of}
 use Rattle.vsw_pcap.specs.Capture.{IsCapture}
 use Rattle.vsw_pcap.proofs.Unique.{captures_are_unique}
-use Rattle.vsw_run.specs.Files.{InTurn, HasBadPolicy, HasBadCommands, Reaches}
-use Rattle.vsw_run.specs.IsRun.{IsRun, TraceRead, Runs, RunsBy, RunsGenerated, EndsByTrace, PutsSummary}
+use Rattle.vsw_run.specs.Files.{InTurn, HasBadPolicy, HasBadCommands, Reaches, TraceRead}
+use Rattle.vsw_run.specs.IsRun.{IsRun, Runs, RunsBy, RunsGenerated, EndsByTrace, PutsSummary}
 use Rattle.vsw_promise.specs.Alone.{rounds_alone}
 use Rattle.vsw_run.specs.Generated.{Summarizes, alone_under, generated_records}
 use Rattle.vsw_promise.specs.Summary.{summary_text}
@@ -30,11 +30,12 @@ use Rattle.vsw_promise.specs.Jobs.{Setting, cuts, cuts_within}
 use Rattle.vsw_report.specs.Print.{report_text}
 use Rattle.vsw_promise.specs.Rounds.{AreRounds}
 use Rattle.vsw_run.specs.Trace.{All as Whole, Trace, Tells}
-use Rattle.vsw_run.specs.Words.{Request, Asked, Forward, Deliver, Check, Engine, Generate, asked_in, run_over}
+use Rattle.vsw_run.specs.Words.{Request, Asked, Forward, Deliver, Offload, Check, Engine, Generate, asked_in, run_over}
 use Rattle.vsw_history_law.specs.Law.{AreAsked}
 use Rattle.vsw_run.specs.Law.{AreAlike, HasNoFault, OneText, OneStatus, OneRun, TellsWant}
 use Rattle.vsw_run.proofs.Answering.{ByRows, found_rows, same_rows}
 use Rattle.vsw_run.proofs.Checking.{ByPolicy, found_check, one_by_policy, put_by}
+use Rattle.vsw_run.proofs.Exports.{forwarded, had_put}
 use Rattle.vsw_run.proofs.Endings.{Says, one_ending, IsOfFile, header_longer, says_cut, says_huge, says_more}
 use Rattle.vsw_history_law.proofs.Values.{one_value}
 use Rattle.vsw_run.proofs.Wants.{plenty_rounds}
@@ -340,7 +341,7 @@ runs_over words true q old new s r e = runs_as words (Some (Deliver q)) old new 
 
 record Both (q : Option Asked) (old new other last : Outside) (e f : Ending) : Type 0 where
   ends : status_of e ≡ status_of f
-  text : ((r : Request) → q ≡ Some (Forward r) → r.workers ≡ 1) → ((r : Request) → q ≢ Some (Deliver r)) → (a b : List ℕ) → old.put ≡ Some [] → other.put ≡ Some [] → new.put ≡ Some a → last.put ≡ Some b → ¬ (TellsWant a) → ¬ (TellsWant b) → a ≡ b
+  text : ((r : Request) → q ≡ Some (Forward r) → r.workers ≡ 1) → ((r : Request) → q ≢ Some (Deliver r)) → ((r : Request) → q ≢ Some (Offload r)) → (a b : List ℕ) → old.put ≡ Some [] → other.put ≡ Some [] → new.put ≡ Some a → last.put ≡ Some b → ¬ (TellsWant a) → ¬ (TellsWant b) → a ≡ b
 
 both_over : (words : List (List ℕ)) (local : Bool) (q : Request) (old new other last : Outside) (s t : Status) → asked_in words ≡ Some (run_over local q) → (same : AreAlike old other) → HasNoFault old new → HasNoFault other last → (r : IsRun words old new s) (u : IsRun words other last t) → s ≢ status.Memory → t ≢ status.Memory → Agree local q new.put last.put old.put other.put r.end u.end
 both_over words local q old new other last s t e same clean also r u m n =
@@ -352,32 +353,41 @@ both : (words : List (List ℕ)) (old new other last : Outside) (s t : Status) (
 both words old new other last s t None e same clean also r u m n =
     let a = runs_as words None old new s r e in
     let b = runs_as words None other last t u e in
-    record { ends = ap status_of (a.usage ∙ sym b.usage); text = λ w d x y o p k l none nothing. put_is old.put new.put [] x o k a.nothing ∙ sym (put_is other.put last.put [] y p l b.nothing) }
+    record { ends = ap status_of (a.usage ∙ sym b.usage); text = λ w d i x y o p k l none nothing. put_is old.put new.put [] x o k a.nothing ∙ sym (put_is other.put last.put [] y p l b.nothing) }
 both words old new other last s t (Some (Forward q)) e same clean also r u m n =
-    let agreed = both_over words false q old new other last s t e same clean also r u m n in record { ends = ap status_of agreed.ends; text = λ w d. agreed.text refl (w q refl) }
+    let agreed = both_over words false q old new other last s t e same clean also r u m n in record { ends = ap status_of agreed.ends; text = λ w d i. agreed.text refl (w q refl) }
 both words old new other last s t (Some (Deliver q)) e same clean also r u m n =
-    let agreed = both_over words true q old new other last s t e same clean also r u m n in record { ends = ap status_of agreed.ends; text = λ w d. absurd (d q refl) }
+    let agreed = both_over words true q old new other last s t e same clean also r u m n in record { ends = ap status_of agreed.ends; text = λ w d i. absurd (d q refl) }
+both words old new other last s t (Some (Offload q)) e same clean also r u m n =
+    let a = forwarded q old new r.end (runs_as words (Some (Offload q)) old new s r e) in
+    let b = forwarded q other last u.end (runs_as words (Some (Offload q)) other last t u e) in
+    let one = had_put old new a.0 in
+    let two = had_put other last b.0 in
+    let first = found false q old one same.files r.end same.told (record { read = clean.read; put = clean.put }) (λ k. m (r.status_is ∙ k)) a.1 in
+    let second = found false q other two same.others u.end same.told_too (record { read = also.read; put = also.put }) (λ k. n (u.status_is ∙ k)) b.1 in
+    let agreed = agree false q same.files.files old.put one.put other.put two.put r.end u.end first (subst (λ f. Found false q f other.put two.put u.end) (sym same.same) second) in
+    record { ends = ap status_of agreed.ends; text = λ w d i. absurd (i q refl) }
 both words old new other last s t (Some (Check c)) e same clean also r u m n =
     let a = found_check c old new same.files r.end same.told clean (λ k. m (r.status_is ∙ ap status_of k)) (runs_as words (Some (Check c)) old new s r e) in
     let b = found_check c other last same.others u.end same.told_too also (λ k. n (u.status_is ∙ ap status_of k)) (runs_as words (Some (Check c)) other last t u e) in
     let ends = one_by_policy same.files.files c r.end u.end a.0 (subst (λ f. ByPolicy f c u.end) (sym same.same) b.0) in
-    record { ends = ap status_of ends; text = λ w d x y o p k l none nothing. put_is old.put new.put (put_by r.end) x o k a.1 ∙ (ap put_by ends ∙ sym (put_is other.put last.put (put_by u.end) y p l b.1)) }
+    record { ends = ap status_of ends; text = λ w d i x y o p k l none nothing. put_is old.put new.put (put_by r.end) x o k a.1 ∙ (ap put_by ends ∙ sym (put_is other.put last.put (put_by u.end) y p l b.1)) }
 both words old new other last s t (Some (Engine q)) e same clean also r u m n =
     let a = found_rows q old new same.files r.end same.told clean (λ k. m (r.status_is ∙ ap status_of k)) (runs_as words (Some (Engine q)) old new s r e) in
     let b = found_rows q other last same.others u.end same.told_too also (λ k. n (u.status_is ∙ ap status_of k)) (runs_as words (Some (Engine q)) other last t u e) in
     let agreed = same_rows q same.files.files r.end u.end a.text b.text a.found (subst (λ f. ByRows f q u.end b.text) (sym same.same) b.found) in
-    record { ends = agreed.0; text = λ w d x y o p k l none nothing. put_is old.put new.put a.text x o k a.puts ∙ (agreed.1 ∙ sym (put_is other.put last.put b.text y p l b.puts)) }
+    record { ends = agreed.0; text = λ w d i x y o p k l none nothing. put_is old.put new.put a.text x o k a.puts ∙ (agreed.1 ∙ sym (put_is other.put last.put b.text y p l b.puts)) }
 both words old new other last s t (Some (Generate start packets)) e same clean also r u m n =
     let a = summarized start packets old new r.end clean (λ k. m (r.status_is ∙ k)) (runs_as words (Some (Generate start packets)) old new s r e) in
     let b = summarized start packets other last u.end also (λ k. n (u.status_is ∙ k)) (runs_as words (Some (Generate start packets)) other last t u e) in
-    record { ends = ap status_of (a.0 ∙ sym b.0); text = λ w d x y o p k l none nothing. put_is old.put new.put a.1.text x o k a.1.puts ∙ (one_summary start packets a.1.text b.1.text a.1.summarizes b.1.summarizes ∙ sym (put_is other.put last.put b.1.text y p l b.1.puts)) }
+    record { ends = ap status_of (a.0 ∙ sym b.0); text = λ w d i x y o p k l none nothing. put_is old.put new.put a.1.text x o k a.1.puts ∙ (one_summary start packets a.1.text b.1.text a.1.summarizes b.1.summarizes ∙ sym (put_is other.put last.put b.1.text y p l b.1.puts)) }
 
 pub one_status : OneStatus
 one_status words old new other last s t same clean also r u m n =
     r.status_is ∙ ((both words old new other last s t (asked_in words) refl same clean also r u m n).ends ∙ sym u.status_is)
 
 pub one_run : OneRun
-one_run words old new other last s t same clean also r u m n w d a b =
+one_run words old new other last s t same clean also r u m n w d i a b =
     let agreed = both words old new other last s t (asked_in words) refl same clean also r u m n in
-    let texts = agreed.text w d a.text b.text a.before b.before a.now b.now a.plenty b.plenty in
+    let texts = agreed.text w d i a.text b.text a.before b.before a.now b.now a.plenty b.plenty in
     (a.now ∙ (ap (λ x. Some x) texts ∙ sym b.now), r.status_is ∙ (agreed.ends ∙ sym u.status_is))

@@ -111,3 +111,11 @@ Reaches old new f Stopped = Unit {0}
 pub record IsReadOf (old new : Outside) (f : Opened) (t : Trace) : Type 0 where
   pub bytes : t.bytes ≡ take f.read f.bytes
   pub reaches : Reaches old new f t.reach
+
+-- what was read of the trace
+pub record TraceRead (local : Bool) (q : Request) (old new : Outside) (files : List Opened) : Type 0 where
+  pub setting : Setting
+  pub file : Opened
+  pub opened : HasTrace local q files setting file
+  pub trace : Trace
+  pub read : IsReadOf old new file trace

@@ -1,8 +1,9 @@
 -- The command line as a grammar: `vsw forward [--workers N] POLICY COMMANDS TRACE`, `vsw deliver [--workers N] POLICY COMMANDS TRACE`,
--- `vsw check [--workers N] POLICY COMMANDS TRACE REPORT`, `vsw engine ROWS TRACE` and `vsw generate START PACKETS`.
+-- `vsw offload POLICY COMMANDS TRACE`, `vsw check [--workers N] POLICY COMMANDS TRACE REPORT`, `vsw engine ROWS TRACE` and
+-- `vsw generate START PACKETS`.
 use Rattle.std.specs.Prelude.{◌≡◌, ◌≢◌, ◌⊎◌, ◌≤◌, ℕ, List, [], ◌∷◌, ◌++◌, codes, decimal}
 use Rattle.std.specs.List.{All}
-use Rattle.vsw_run.specs.Words.{Request, Claim, Query, Asked, Forward, Deliver, Check, Engine, Generate}
+use Rattle.vsw_run.specs.Words.{Request, Claim, Query, Asked, Forward, Deliver, Offload, Check, Engine, Generate}
 
 -- a word of more than one byte that begins with a dash
 abbrev pub IsDashed : List ℕ → Type 0
@@ -57,6 +58,10 @@ files_of q = q.policy ∷ q.commands ∷ q.trace ∷ []
 abbrev pub IsForward : List (List ℕ) → Request → Type 0
 IsForward words request = AreNames words request.workers (files_of request)
 
+-- the words after `offload`: three names without an option, and one worker
+abbrev pub IsOffload : List (List ℕ) → Request → Type 0
+IsOffload words request = (request.workers ≡ 1) × ArePlain words (files_of request)
+
 -- the words after `check`: the same three, and the report's
 abbrev pub IsClaim : List (List ℕ) → Claim → Type 0
 IsClaim words claim = AreNames words claim.run.workers (files_of claim.run ++ claim.report ∷ [])
@@ -75,6 +80,7 @@ pub record IsGenerate (words : List (List ℕ)) (start packets : ℕ) : Type 0 w
 abbrev pub IsAsked : List (List ℕ) → Asked → Type 0
 IsAsked words (Forward request) = IsForward words request
 IsAsked words (Deliver request) = IsForward words request
+IsAsked words (Offload request) = IsOffload words request
 IsAsked words (Check claim) = IsClaim words claim
 IsAsked words (Engine q) = IsQuery words q
 IsAsked words (Generate start packets) = IsGenerate words start packets
@@ -82,6 +88,7 @@ IsAsked words (Generate start packets) = IsGenerate words start packets
 abbrev pub command_of : Asked → List ℕ
 command_of (Forward request) = codes "forward"
 command_of (Deliver request) = codes "deliver"
+command_of (Offload request) = codes "offload"
 command_of (Check claim) = codes "check"
 command_of (Engine q) = codes "engine"
 command_of (Generate start packets) = codes "generate"

@@ -14,11 +14,12 @@ use Rattle.vsw_run.specs.declared.ending.Ending.{Ending}
 use Rattle.vsw_run.specs.declared.ending.Ending.TheVariants as ending
 use Rattle.vsw_run.specs.declared.ending.Status.{Status}
 use Rattle.vsw_run.specs.declared.ending.Status.TheVariants as status
-use Rattle.vsw_run.specs.Files.{Opens, HasBadPolicy, HasBadCommands, LacksTrace, HasTrace, IsReadOf}
+use Rattle.vsw_run.specs.Exporting.{RunsExport}
+use Rattle.vsw_run.specs.Files.{Opens, HasBadPolicy, HasBadCommands, LacksTrace, TraceRead}
 use Rattle.vsw_run.specs.Generated.{Summarizes}
 use Rattle.vsw_promise.specs.Jobs.{Setting}
-use Rattle.vsw_run.specs.Trace.{Trace, Tells, MayTell, most_records}
-use Rattle.vsw_run.specs.Words.{Request, Claim, Query, Asked, Forward, Deliver, Check, Engine, Generate, asked_in, run_over}
+use Rattle.vsw_run.specs.Trace.{Tells, MayTell, most_records}
+use Rattle.vsw_run.specs.Words.{Request, Claim, Query, Asked, Forward, Deliver, Offload, Check, Engine, Generate, asked_in}
 
 -- a text was put, or a front of it, or nothing
 abbrev pub Puts : Outside → Outside → List ℕ → Type 0
@@ -29,14 +30,6 @@ PutsFront old new text = (count : ℕ) × Puts old new (take count text)
 
 abbrev pub PutsNothing : Outside → Outside → Type 0
 PutsNothing old new = Puts old new []
-
--- what was read of the trace
-pub record TraceRead (local : Bool) (q : Request) (old new : Outside) (files : List Opened) : Type 0 where
-  pub setting : Setting
-  pub file : Opened
-  pub opened : HasTrace local q files setting file
-  pub trace : Trace
-  pub read : IsReadOf old new file trace
 
 -- it gives this ending, and its text was put
 pub record EndsByTrace (local : Bool) (q : Request) (old new : Outside) (files : List Opened) (end : Ending) : Type 0 where
@@ -106,6 +99,7 @@ abbrev pub RunsBy : Option Asked → Outside → Outside → Ending → Type 0
 RunsBy None old new end = RunsNot old new end
 RunsBy (Some (Forward q)) old new end = Runs false q old new end
 RunsBy (Some (Deliver q)) old new end = Runs true q old new end
+RunsBy (Some (Offload q)) old new end = RunsExport q old new end
 RunsBy (Some (Check c)) old new end = Checks c old new end
 RunsBy (Some (Engine q)) old new end = RunsByRows q old new end
 RunsBy (Some (Generate start packets)) old new end = RunsGenerated start packets old new end
@@ -117,11 +111,14 @@ pub record IsRun (words : List (List ℕ)) (old new : Outside) (status : Status)
   pub runs : RunsBy (asked_in words) old new end
   pub complains : Complains old new (complaint end)
 
+-- the words ask for a run over the files of this request: to forward, to hand packets on too, or to put the rows that are current
+abbrev pub AskRun : List (List ℕ) → Request → Type 0
+AskRun words q = (asked_in words ≡ Some (Forward q)) ⊎ (asked_in words ≡ Some (Deliver q)) ⊎ (asked_in words ≡ Some (Offload q))
+
 -- the words ask for a run over three files that the host holds: a good policy, good commands, and a sound trace within its limit
 pub record AreAdmitted (words : List (List ℕ)) (inputs : Option Inputs) : Type 0 where
-  pub local : Bool
   pub request : Request
-  pub asked : asked_in words ≡ Some (run_over local request)
+  pub asked : AskRun words request
   pub files : Inputs
   pub told : inputs ≡ Some files
   pub policy : List ℕ

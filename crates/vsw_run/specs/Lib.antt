@@ -11,6 +11,7 @@ pub mod Checks
 pub mod Engine
 pub mod ByRows
 pub mod Export
+pub mod Exporting
 pub mod IsRun
 pub mod Law
 pub mod Well

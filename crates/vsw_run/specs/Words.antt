@@ -3,7 +3,7 @@ use Rattle.std.specs.Prelude.{ℕ, ◌==◌, ◌&&◌, List, [], ◌∷◌, ◌+
 use Rattle.std.specs.List.{list_any, position_or_len}
 use Rattle.std.specs.Str.Parse.{digits_value}
 
--- what `forward` and `deliver` are asked for: the number of workers, and the names of the policy, the commands and the trace
+-- what `forward`, `deliver` and `offload` are asked for: the number of workers, and the names of the policy, the commands and the trace
 pub record Request : Type 0 where
   pub workers : ℕ
   pub policy : List ℕ
@@ -20,11 +20,12 @@ pub record Query : Type 0 where
   pub rows : List ℕ
   pub trace : List ℕ
 
--- what the words ask for: to forward, to forward and hand packets on between the ports, to check a report, to answer a trace from a rows file, or to generate so many
--- packets, which are drawn from a number
+-- what the words ask for: to forward, to forward and hand packets on between the ports, to forward and put the rows that are current, to check a report, to answer a
+-- trace from a rows file, or to generate so many packets, which are drawn from a number
 pub data Asked : Type 0 where
   Forward : Request → Asked
   Deliver : Request → Asked
+  Offload : Request → Asked
   Check : Claim → Asked
   Engine : Query → Asked
   Generate : (start packets : ℕ) → Asked
@@ -121,6 +122,10 @@ check_in words = option_and_then (λ n. claim_of n.workers n.names) (named_in wo
 abbrev pub plain_in : List (List ℕ) → Option (List (List ℕ))
 plain_in words = option_map (λ behind. before_dash words ++ behind) (behind_in (from_dash words))
 
+-- the words after `offload`: three names, and one worker
+abbrev pub offload_in : List (List ℕ) → Option Request
+offload_in words = option_and_then (request_of 1) (plain_in words)
+
 -- two file names, neither of them empty
 abbrev pub query_of : List (List ℕ) → Option Query
 query_of (r ∷ t ∷ []) = if list_any is_empty (r ∷ t ∷ []) then None else Some (record { rows = r; trace = t })
@@ -140,6 +145,7 @@ abbrev pub asked_by : List ℕ → List (List ℕ) → Option Asked
 asked_by command words =
     if bytes_eq command (codes "forward") then option_map Forward (forward_in words)
     else if bytes_eq command (codes "deliver") then option_map Deliver (forward_in words)
+    else if bytes_eq command (codes "offload") then option_map Offload (offload_in words)
     else if bytes_eq command (codes "check") then option_map Check (check_in words)
     else if bytes_eq command (codes "engine") then option_map Engine (engine_in words)
     else if bytes_eq command (codes "generate") then generate_in words

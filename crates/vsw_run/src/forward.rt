@@ -1,13 +1,13 @@
-//! The words of `forward` and of `deliver`: three names.
+//! The words of `forward`, of `deliver` and of `offload`: three names.
 
 ghost use Rattle.std.specs.Prelude.{◌≡◌, option_map};
 ghost use Rattle.vsw_run.specs.Seen.{names_seen, request_seen};
-ghost use Rattle.vsw_run.specs.Words.{forward_in, request_of};
+ghost use Rattle.vsw_run.specs.Words.{forward_in, offload_in, request_of};
 
-use crate::names::{Named, name_at, read_named};
+use crate::names::{Named, name_at, read_named, read_plain};
 use crate::words::Word;
 
-/// What `forward` and `deliver` are asked for.
+/// What `forward`, `deliver` and `offload` are asked for.
 #[derive(Clone, Copy)]
 pub struct Request<'a> {
     pub workers: u32,
@@ -16,9 +16,9 @@ pub struct Request<'a> {
     pub trace: &'a str,
 }
 
-/// The request, if these are three names and none is empty.
-fn with_names<'a>(named: &Named<'a>) -> Option<Request<'a>>
-    ensures { option_map request_seen result ≡ request_of named.now.workers (names_seen named.now) }
+/// The request of so many workers, if these are three names and none is empty.
+fn with_names<'a>(workers: u32, named: &Named<'a>) -> Option<Request<'a>>
+    ensures { option_map request_seen result ≡ request_of workers (names_seen named.now) }
 {
     let policy = name_at(named, 0)?;
     let commands = name_at(named, 1)?;
@@ -28,7 +28,7 @@ fn with_names<'a>(named: &Named<'a>) -> Option<Request<'a>>
         return None;
     }
     Some(Request {
-        workers: named.workers,
+        workers,
         policy,
         commands,
         trace,
@@ -39,5 +39,13 @@ fn with_names<'a>(named: &Named<'a>) -> Option<Request<'a>>
 pub fn read_forward(words: &[Word]) -> Option<Request<'_>>
     ensures { option_map request_seen result ≡ forward_in words.now }
 {
-    with_names(&read_named(words)?)
+    let named = read_named(words)?;
+    with_names(named.workers, &named)
+}
+
+/// What the words after `offload` ask for: a run of one worker.
+pub fn read_offload(words: &[Word]) -> Option<Request<'_>>
+    ensures { option_map request_seen result ≡ offload_in words.now }
+{
+    with_names(1, &read_plain(words)?)
 }

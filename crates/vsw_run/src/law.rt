@@ -2,7 +2,7 @@
 
 ghost use Rattle.vsw_run.specs.Export.{ExportAnswersAsLayers};
 ghost use Rattle.vsw_run.specs.Well.{DoneRanWell};
-ghost use Rattle.vsw_run.specs.Law.{DoneReadsAll, OneRun, OneStatus, OneText};
+ghost use Rattle.vsw_run.specs.Law.{DoneReadsAll, ExportsAsForwards, OneRun, OneStatus, OneText};
 ghost use Rattle.vsw_run.specs.Order.{RoundsAreTold};
 ghost use Rattle.vsw_run.specs.Statuses.{StatusNumbers};
 
@@ -26,9 +26,10 @@ pub fn order_laws()
     ensures told { RoundsAreTold }
 {}
 
-/// Rows that are exported at a history answer as the layers do there.
+/// Rows that are exported at a history answer as the layers do there. A run that exports ends as one does that forwards.
 pub fn export_laws()
     ensures layers { ExportAnswersAsLayers }
+    ensures ends { ExportsAsForwards }
 {}
 
 /// The number with which each status ends the process.

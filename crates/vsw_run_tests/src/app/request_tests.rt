@@ -24,6 +24,10 @@ fn told(alloc: Global, asked: &Option<Asked<'_>>) -> Result<String, AllocError> 
             "{} workers hand on, {} {} {}",
             r.workers, r.policy, r.commands, r.trace
         ),
+        Some(Asked::Offload(r)) => format!(in alloc;
+            "rows of {} worker, {} {} {}",
+            r.workers, r.policy, r.commands, r.trace
+        ),
         Some(Asked::Check(c)) => format!(in alloc;
             "{} of {} workers, {} {} {}",
             c.report, c.run.workers, c.run.policy, c.run.commands, c.run.trace
@@ -122,6 +126,41 @@ const DELIVERIES: [(&str, &str); 16] = [
 #[test]
 fn lines_of_a_delivery_name_three_files(rt: HostRuntime) -> Result<(), Fail> {
     let wrong = first_wrong(rt.alloc(), &DELIVERIES)?;
+    assert!(rt; wrong.is_none(), "{wrong:?}");
+    Ok(())
+}
+
+/// Lines that ask for rows.
+const OFFLOADS: [(&str, &str); 18] = [
+    ("vsw offload P C T", "rows of 1 worker, P C T"),
+    ("any offload - - -", "rows of 1 worker, - - -"),
+    ("vsw offload P C -- -T", "rows of 1 worker, P C -T"),
+    ("vsw offload -- P C T", "rows of 1 worker, P C T"),
+    ("vsw offload P C T --", "rows of 1 worker, P C T"),
+    (
+        "vsw offload -- --workers=2 -- -x",
+        "rows of 1 worker, --workers=2 -- -x",
+    ),
+    (
+        "vsw offload offload forward T",
+        "rows of 1 worker, offload forward T",
+    ),
+    ("vsw offload", "refused"),
+    ("vsw offload P C", "refused"),
+    ("vsw offload P C T R", "refused"),
+    ("vsw offload P C ", "refused"),
+    ("vsw offload P C -T", "refused"),
+    ("vsw offload --workers 1 P C T", "refused"),
+    ("vsw offload P C T --workers=1", "refused"),
+    ("vsw offload --rows P C T", "refused"),
+    ("vsw offload P C -- T U", "refused"),
+    ("vsw Offload P C T", "refused"),
+    ("vsw offloads P C T", "refused"),
+];
+
+#[test]
+fn lines_of_an_offload_name_three_files(rt: HostRuntime) -> Result<(), Fail> {
+    let wrong = first_wrong(rt.alloc(), &OFFLOADS)?;
     assert!(rt; wrong.is_none(), "{wrong:?}");
     Ok(())
 }

@@ -15,7 +15,7 @@ use Rattle.vsw_policy.specs.Sound.{Each, IsGoodRule, is_listed}
 use Rattle.vsw_config.specs.declared.file.PolicyFile.{PolicyFile}
 use Rattle.vsw_promise.specs.Ports.{PortSeen, ports_of}
 use Rattle.vsw_replay.specs.Switch.{AllStandAt, AreServed, IsAt, SwitchNow}
-use Rattle.vsw_app.proofs.Running.{all_listed, all_ports, all_rules}
+use Rattle.vsw_replay.proofs.Asking.{all_listed, all_ports, all_rules}
 
 -- ---- the callers are ready
 

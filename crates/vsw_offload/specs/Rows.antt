@@ -107,6 +107,7 @@ abbrev pub put_in : List ℕ → List (List ℕ) → List (List ℕ)
 put_in r [] = r ∷ []
 put_in r (s ∷ ss) = if is_before s r then s ∷ put_in r ss else if is_before r s then r ∷ s ∷ ss else s ∷ ss
 
+-- rows put in one after another
 abbrev pub in_order_behind : List (List ℕ) → List (List ℕ) → List (List ℕ)
 in_order_behind done [] = done
 in_order_behind done (r ∷ rs) = in_order_behind (put_in r done) rs

@@ -23,6 +23,7 @@ pub record Way : Type 0 where
   pub makes : Bool
   pub until : ℕ
 
+-- the way of the packets of an identity
 unfoldable pub way_of : List LayerSeen → Ufid → Way
 way_of ls id = record {
   verdict = (walk_of ls (plain id)).verdict;

@@ -146,6 +146,7 @@ pub record BreaksOff (q : Query) (old new : Outside) (files : List Opened) : Typ
   pub count : ℕ
   pub puts : Grows old.put new.put (take count text)
 
+-- nothing was put
 abbrev pub PutsNothing : Outside → Outside → Type 0
 PutsNothing old new = Grows old.put new.put []
 

@@ -28,15 +28,18 @@ policy_status (policy.Bad kind path) = status.Refused
 policy_status policy.Memory = status.Memory
 policy_status _ = status.Limit
 
+-- so it is of commands
 abbrev pub commands_status : CommandsFault → Status
 commands_status (commands.Bad line kind path) = status.Refused
 commands_status commands.Memory = status.Memory
 commands_status _ = status.Limit
 
+-- so it is of a report
 abbrev pub report_status : ReportFault → Status
 report_status (report.Line number) = status.Refused
 report_status report.ReportLimit = status.Limit
 
+-- so it is of rows
 abbrev pub rows_status : RowsFault → Status
 rows_status (rows.Bad bad.Memory) = status.Memory
 rows_status (rows.Bad why) = status.Refused
@@ -72,10 +75,11 @@ number_of status.Memory = 9
 abbrev pub fault_text : Kind → List Step → List ℕ
 fault_text kind path = kind_name kind ++ codes " " ++ path_text path ++ codes "\n"
 
+-- what is complained for want of memory
 abbrev pub memory_text : List ℕ
 memory_text = codes "vsw: memory\n"
 
--- what is complained of a policy and of commands
+-- what is complained of a policy
 abbrev pub policy_text : ConfigFault → List ℕ
 policy_text (policy.Bad kind path) = codes "vsw: refused policy " ++ fault_text kind path
 policy_text policy.PolicyLimit = codes "vsw: limit policy\n"
@@ -83,6 +87,7 @@ policy_text policy.PortsLimit = codes "vsw: limit ports\n"
 policy_text policy.ControllersLimit = codes "vsw: limit controllers\n"
 policy_text policy.Memory = memory_text
 
+-- what is complained of commands
 abbrev pub commands_text : CommandsFault → List ℕ
 commands_text (commands.Bad line kind path) = codes "vsw: refused commands " ++ decimal line ++ codes " " ++ fault_text kind path
 commands_text commands.CommandsLimit = codes "vsw: limit commands\n"

@@ -16,10 +16,11 @@ use Rattle.vsw_promise.specs.Jobs.{Setting}
 use Rattle.vsw_run.specs.Words.{Request}
 use Rattle.vsw_run.specs.Trace.{Reach, All, Fault, Stopped, Trace}
 
--- the most bytes of a policy file and of a commands file
+-- the most bytes of a policy file
 abbrev pub most_policy : ℕ
 most_policy = 4194304
 
+-- the most bytes of a commands file
 abbrev pub most_commands : ℕ
 most_commands = 16777216
 
@@ -65,6 +66,7 @@ abbrev pub ShowsPolicy : ConfigFault → Opened → Type 0
 ShowsPolicy policy_fault.PolicyLimit f = (most_policy < f.read) × (f.read ≤ most_policy + piece)
 ShowsPolicy why f = IsWhole f
 
+-- so it is of commands
 abbrev pub ShowsCommands : CommandsFault → Opened → Type 0
 ShowsCommands commands_fault.CommandsLimit f = (most_commands < f.read) × (f.read ≤ most_commands + piece)
 ShowsCommands why f = IsWhole f

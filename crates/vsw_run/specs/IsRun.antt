@@ -21,13 +21,15 @@ use Rattle.vsw_promise.specs.Jobs.{Setting}
 use Rattle.vsw_run.specs.Trace.{Tells, MayTell, most_records}
 use Rattle.vsw_run.specs.Words.{Request, Claim, Query, Asked, Forward, Deliver, Offload, Check, Engine, Generate, asked_in}
 
--- a text was put, or a front of it, or nothing
+-- a text was put
 abbrev pub Puts : Outside → Outside → List ℕ → Type 0
 Puts old new text = Grows old.put new.put text
 
+-- a front of a text was put
 abbrev pub PutsFront : Outside → Outside → List ℕ → Type 0
 PutsFront old new text = (count : ℕ) × Puts old new (take count text)
 
+-- nothing was put
 abbrev pub PutsNothing : Outside → Outside → Type 0
 PutsNothing old new = Puts old new []
 

@@ -46,10 +46,11 @@ abbrev pub is_dashed : List ℕ → Bool
 is_dashed (c ∷ d ∷ rest) = c == 45
 is_dashed _ = false
 
--- the words before the first dashed one, and the words from it on
+-- the words before the first dashed one
 abbrev pub before_dash : List (List ℕ) → List (List ℕ)
 before_dash words = take (position_or_len is_dashed words) words
 
+-- the words from the first dashed one on
 abbrev pub from_dash : List (List ℕ) → List (List ℕ)
 from_dash words = drop (position_or_len is_dashed words) words
 
@@ -63,6 +64,7 @@ pub record Opted : Type 0 where
   pub workers : ℕ
   pub rest : List (List ℕ)
 
+-- a number of workers, if there is one, and the words after it
 abbrev pub opted : List (List ℕ) → Option ℕ → Option Opted
 opted rest workers = option_map (λ n. record { workers = n; rest = rest }) workers
 
@@ -80,6 +82,7 @@ abbrev pub option_in : List (List ℕ) → Option Opted
 option_in [] = None
 option_in (word ∷ words) = if bytes_eq word (codes "--workers") then next_in words else opted words (joined_in word)
 
+-- a word without a byte
 abbrev pub is_empty : List ℕ → Bool
 is_empty word = length word == 0
 

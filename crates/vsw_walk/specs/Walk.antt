@@ -116,6 +116,7 @@ walk_of ls x = along x.id.dir x.control x.moment (crossed x.id.dir (placed 0 ls)
 abbrev pub after : Told → Walk → Walk
 after told w = record { verdict = w.verdict; stack = w.stack; kept = w.kept; changes = told.changes ++ w.changes; looked = told.looked ++ w.looked; due = sooner told.due w.due }
 
+-- the greatest moment
 abbrev pub greatest : ℕ
 greatest = 2 ^ 64 - 1
 

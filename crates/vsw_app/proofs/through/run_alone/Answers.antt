@@ -2,7 +2,8 @@ use Rattle.std.proofs.Common.{[], map, refl, subst, sym}
 use Rattle.vsw_promise.specs.Ports.{ports_of}
 use Rattle.vsw_promise.specs.Jobs.{Setting}
 use Rattle.vsw_replay.specs.Switch.{AreServed, IsAt, SwitchNow}
-use Rattle.vsw_app.proofs.Running.{all_listed, all_ports, all_rules, unstarted}
+use Rattle.vsw_app.proofs.Running.{unstarted}
+use Rattle.vsw_replay.proofs.Asking.{all_listed, all_ports, all_rules}
 use Rattle.vsw_app.proofs.through.run_alone.Goals as goal
 
 pub returns-in_default : goal.returns-in_default

@@ -166,6 +166,7 @@ fn spend(permits: &mut u64, entry: bool)
 }
 
 /// The packet crosses the layers, and its entry, where it is one, follows the history.
+#[inline(always)]
 fn enter(
     lookup: &Lookup<PortStory>,
     pass: &mut Pass<PortStory>,

@@ -55,6 +55,7 @@ fn place(macs: &[Mac], address: Option<Mac>) -> Option<u32>
 /// The port of a packet among ports with these addresses: outbound at the one that has the outermost
 /// source address, else inbound at the one that has the innermost destination address; `None` where
 /// neither is a port's. Of equal addresses the first counts.
+#[inline(always)]
 pub fn choose_port(macs: &[Mac], stack: &Stack) -> Option<Place>
     requires { length macs.now < 2 ^ 32 }
     ensures found { result ≡ choose macs.now stack.now }

@@ -38,8 +38,22 @@ fn judge_changes(layers: &[Layer], left: Option<(u32, u32)>, changes: &[Wanted])
     }
 }
 
+/// The first refusal of a wanted pair. Most packets want none.
+#[inline(always)]
+fn judge_all(layers: &[Layer], changes: &[Wanted]) -> Option<Stop>
+    requires { AllThere (map seen layers.now) changes.now }
+    ensures exact { result ≡ refusal_after (map seen layers.now) None changes.now }
+    ensures hold { result ≡ None → AllHold (map seen layers.now) changes.now }
+{
+    if changes.is_empty() {
+        return None;
+    }
+    judge_changes(layers, None, changes)
+}
+
 /// Why the packet is dropped after this walk of it, but for want of memory.
 #[tactic(auto, using(crate::proofs::Firsts::refusal_is))]
+#[inline(always)]
 pub fn judge(
     policy: &Policy,
     crossing: &Crossing,
@@ -56,5 +70,5 @@ pub fn judge(
     if is_walk_long(crossing, walked, scratch) {
         return Some(Stop::Long);
     }
-    judge_changes(policy.layers(), None, scratch.changes())
+    judge_all(policy.layers(), scratch.changes())
 }

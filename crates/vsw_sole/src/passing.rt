@@ -18,6 +18,7 @@ use vsw_port::Outcome;
 
 /// A frame crosses the layers of its port: the next call of the port's history. Where it passes, `bytes_of` tells its
 /// outgoing bytes. A drop changes nothing; `memory` tells when it may be for want of memory.
+#[inline(always)]
 pub fn transit(
     port: &mut SolePort,
     crossing: &Crossing,

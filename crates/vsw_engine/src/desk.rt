@@ -2,6 +2,7 @@
 
 ghost use Rattle.std.specs.Prelude.{◌≡◌, IfOk, length};
 
+use crate::sheet::Sheet;
 use std::alloc::Global;
 use vsw_base::NoMemory;
 use vsw_frame::FrameRoom;
@@ -22,7 +23,7 @@ pub(crate) struct Desk {
     pub page: Page,
     pub scratch: Vec<u8>,
     /// The lines of a batch.
-    pub text: Vec<u8>,
+    pub text: Sheet,
 }
 
 /// Room for the longest outgoing frame.
@@ -47,7 +48,7 @@ impl Desk {
             out,
             page: Page::new(alloc),
             scratch: Vec::new(alloc),
-            text: Vec::new(alloc),
+            text: Sheet::new(alloc),
         })
     }
 }

@@ -4,6 +4,7 @@
 mod desk;
 mod line;
 mod run;
+mod sheet;
 mod text;
 
 pub use run::answer_trace;

@@ -1,24 +1,25 @@
 //! The lines of packets, as rows answer them.
 
-ghost use Rattle.std.specs.Prelude.{◌≡◌, ◌<◌, ◌≤◌, ◌+◌, ◌^◌, IfSome, List, OnOk, Some, [], get_or, length};
+ghost use Rattle.std.specs.Prelude.{◌≡◌, ◌<◌, ◌+◌, ◌++◌, ◌^◌, IfSome, OnOk, Some, get_or, length};
 ghost use Rattle.vsw_base.specs.declared.flow.Crossing.{Crossing};
-ghost use Rattle.vsw_engine.specs.Private.Lines.{AddsAnswer, AddsLine, len_of};
+ghost use Rattle.vsw_engine.specs.Private.Lines.{AddsAnswer, AddsLine, HasRoom, line_text};
 ghost use Rattle.vsw_frame.specs.Frame.{parts};
-ghost use Rattle.vsw_offload.specs.Answered.{Answered, IsPacketOf, bytes_left, rows_at};
+ghost use Rattle.vsw_offload.specs.Answered.{Answered, IsPacketOf, bytes_given, bytes_told, fate_given, rows_at};
 ghost use Rattle.vsw_offload.specs.Rows.{macs_of, numbers_of};
 ghost use Rattle.vsw_promise.specs.Jobs.{aim_of};
 ghost use Rattle.vsw_run.specs.Engine.{AreEngineLines};
 
 use crate::desk::Desk;
+use crate::sheet::Sheet;
 use crate::text::{fate_line, loose_line, none_line};
 use vsw_base::{Fate, Moment, NoMemory, Place};
 use vsw_frame::{Frame, FrameRoom, read_frame};
 use vsw_header::choose_port;
-use vsw_offload::{AnswerRoom, Rows};
+use vsw_offload::{AnswerRoom, Given, Rows};
 use vsw_pcap::{Batch, Captured};
 use vsw_report::{LooseCause, Page};
 
-/// What the rows answer a frame. The bytes with which it leaves stand at the front of `out`.
+/// What the rows answer a frame. Bytes with which it leaves that aren't its own stand at the front of `out`.
 fn answer(
     rows: &Rows,
     place: Place,
@@ -26,23 +27,29 @@ fn answer(
     moment: Moment,
     room: &mut AnswerRoom,
     out: &mut Vec<u8>,
-) -> Option<Fate>
+) -> Option<Given>
     requires room { length out.old.items ≡ 65700 }
-    ensures answered { (x : Crossing) → IsPacketOf x place (parts frame.now) moment → Answered (rows_at rows.now place.port) x (parts frame.now) result (bytes_left result out.new.items) }
+    ensures answered { (x : Crossing) → IsPacketOf x place (parts frame.now) moment → Answered (rows_at rows.now place.port) x (parts frame.now) (fate_given result) (bytes_given (parts frame.now) result out.new.items) }
     ensures room { length out.new.items ≡ 65700 }
-    ensures len { IfSome result (λ fate. len_of fate ≤ 65700) }
+    ensures len { IfSome result (λ given. HasRoom given) }
 {
-    rows.answer_in(place, frame, moment, room, out)
+    rows.answer_own(place, frame, moment, room, out)
 }
 
-/// The bytes of a fate: of a pass those at the front of a room.
-fn bytes_of<'a>(fate: &Fate, out: &'a Vec<u8>) -> &'a [u8]
+/// The bytes of a fate: of a pass the frame's own, or those at the front of a room.
+fn bytes_of<'a>(given: &Given, frame: &Frame<'a>, out: &'a Vec<u8>) -> &'a [u8]
     requires room { length out.now.items ≡ 65700 }
-    requires len { len_of fate.now ≤ 65700 }
-    ensures { result.now ≡ bytes_left (Some fate.now) out.now.items }
+    requires len { HasRoom given.now }
+    ensures { result.now ≡ bytes_told given.now.own (parts frame.now) given.now.fate out.now.items }
 {
-    match fate {
-        Fate::Pass { len } => &out[..*len as usize],
+    match given.fate {
+        Fate::Pass { len } => {
+            if given.own {
+                frame.bytes()
+            } else {
+                &out[..len as usize]
+            }
+        }
         Fate::Drop(_) => &[],
     }
 }
@@ -52,6 +59,24 @@ fn number_at(numbers: &[u32], place: u32) -> u32
     ensures { result ≡ get_or numbers.now place 0 }
 {
     numbers[place as usize]
+}
+
+/// Adds the line of a packet that rows answer.
+fn write_given(
+    packet: u32,
+    port: u32,
+    given: &Given,
+    frame: &Frame<'_>,
+    out: &Vec<u8>,
+    page: &mut Page,
+    text: &mut Sheet,
+) -> Result<(), NoMemory>
+    requires room { length out.now.items ≡ 65700 }
+    requires len { HasRoom given.now }
+    ensures { OnOk result (text.new ≡ text.old ++ line_text packet port (Some given.now.fate) (bytes_told given.now.own (parts frame.now) given.now.fate out.now.items)) }
+{
+    let bytes = bytes_of(given, frame, out);
+    fate_line(text, page, packet, port, &given.fate, bytes)
 }
 
 /// Adds the line of a packet that goes to a port.
@@ -64,17 +89,17 @@ fn write_answer(
     room: &mut AnswerRoom,
     out: &mut Vec<u8>,
     page: &mut Page,
-    text: &mut Vec<u8>,
+    text: &mut Sheet,
 ) -> Result<(), NoMemory>
     requires place { place.port < length (numbers_of rows.now) }
     requires room { length out.old.items ≡ 65700 }
-    ensures adds { OnOk result (AddsAnswer rows.now packet moment place (parts frame.now) text.old.items text.new.items) }
+    ensures adds { OnOk result (AddsAnswer rows.now packet moment place (parts frame.now) text.old text.new) }
     ensures room { length out.new.items ≡ 65700 }
 {
     let number = number_at(rows.ports(), place.port);
     match answer(rows, place, frame, moment, room, out) {
         None => none_line(text, packet, number),
-        Some(fate) => fate_line(text, page, packet, number, &fate, bytes_of(&fate, out)),
+        Some(given) => write_given(packet, number, &given, frame, out, page, text),
     }
 }
 
@@ -88,10 +113,10 @@ fn write_line(
     out: &mut Vec<u8>,
     page: &mut Page,
     scratch: &mut Vec<u8>,
-    text: &mut Vec<u8>,
+    text: &mut Sheet,
 ) -> Result<(), NoMemory>
     requires room { length out.old.items ≡ 65700 }
-    ensures adds { OnOk result (AddsLine rows.now packet captured.now.moment (aim_of (macs_of rows.now) (record { moment = captured.now.moment; original = captured.now.original; bytes = captured.now.bytes.now })) text.old.items text.new.items) }
+    ensures adds { OnOk result (AddsLine rows.now packet captured.now.moment (aim_of (macs_of rows.now) (record { moment = captured.now.moment; original = captured.now.original; bytes = captured.now.bytes.now })) text.old text.new) }
     ensures room { length out.new.items ≡ 65700 }
 {
     if captured.bytes.len() < captured.original as usize {
@@ -119,7 +144,7 @@ pub(crate) fn write_lines(
 ) -> Result<(), NoMemory>
     requires numbers { first + length batch.now < 2 ^ 32 }
     requires room { length desk.old.out.items ≡ 65700 }
-    ensures lines { OnOk result (AreEngineLines rows.now first batch.now desk.new.text.items) }
+    ensures lines { OnOk result (AreEngineLines rows.now first batch.now desk.new.text) }
     ensures room { length desk.new.out.items ≡ 65700 }
 {
     desk.text.clear();

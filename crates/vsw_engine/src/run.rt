@@ -9,6 +9,7 @@ ghost use Rattle.vsw_reading.specs.Reads.{IsOpen};
 
 use crate::desk::Desk;
 use crate::line::write_lines;
+use crate::sheet::Sheet;
 use std::alloc::Global;
 use vsw_host::{Failed, Host, Source, Unopened};
 use vsw_offload::Rows;
@@ -26,8 +27,8 @@ const RECORDS_MOST: u32 = 1_048_576;
 const HEAD_LINE: &[u8] = b"vsw engine 1\n";
 
 /// Puts a text.
-fn put_text<H: Host>(host: &mut H, text: &Vec<u8>) -> Result<(), Failed>
-    ensures { DoesPut (H.outside host.old) (H.outside host.new) text.now.items result }
+fn put_text<H: Host>(host: &mut H, text: &Sheet) -> Result<(), Failed>
+    ensures { DoesPut (H.outside host.old) (H.outside host.new) text.now result }
 {
     host.put(text.as_slice())
 }

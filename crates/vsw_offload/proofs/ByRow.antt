@@ -1,14 +1,14 @@
 -- A frame is answered by the row of its key.
 use Rattle.std.proofs.Common.{◌≡◌, ◌≤◌, ◌<◌, ℕ, zero, suc, List, [], ◌∷◌, ◌++◌, true, false, true≢false, length, inl, inr, ap, sym, ◌∙◌, subst}
 use Rattle.std.specs.Prelude.{◌≢◌, IfNone, IfSome, None, Option, Some}
-use Rattle.vsw_base.specs.declared.fate.Fate.{Fate}
 use Rattle.vsw_base.specs.declared.fate.Verdict.TheVariants.{Pass}
 use Rattle.vsw_base.specs.declared.flow.Crossing.{Crossing}
 use Rattle.vsw_base.specs.declared.flow.Ufid.{Ufid}
 use Rattle.vsw_base.specs.declared.packet.Control.TheVariants as control
 use Rattle.vsw_base.specs.Frame.{Parts}
 use Rattle.vsw_offload.proofs.Judged.{key_part}
-use Rattle.vsw_offload.specs.Answered.{Answered, IsUnanswered, One, SaysOne, bytes_by, bytes_left, fate_by, rows_at}
+use Rattle.vsw_offload.specs.Answered.{Answered, IsUnanswered, One, SaysOne, bytes_by, bytes_given, bytes_told, fate_by, fate_given, rows_at}
+use Rattle.vsw_offload.specs.declared.answer.Given.{Given}
 use Rattle.vsw_offload.specs.Private.Finding.{HasNone, HasOne}
 use Rattle.vsw_offload.specs.Rows.{AreRows, IsPortRows, IsRow, Rise, key_of}
 use Rattle.vsw_offload.specs.declared.port_rows.PortRows.{PortRows}
@@ -55,12 +55,12 @@ none_of rows x key is none = inr (inl of)
     of r (One words front back among says) e =
         let never : key_of words ≡ key → ⊥ = each_at (λ w. key_of w ≡ key → ⊥) front words back (subst (λ rs. HasNone rs key) among none) in never (key_part words r says ∙ (ap (λ (i : Ufid). key_words i.dir i.stack) e ∙ sym is))
 
-pub by_found : (rows : List (List ℕ)) (x : Crossing) (p : Parts) (words out : List ℕ) (moment : ℕ) (id : Ufid) (result : Option Fate) → HasOne rows words → (r : IsRow words) → IsId id → key_of words ≡ key_words id.dir id.stack → x.id ≡ id → x.control ≡ control.None → x.moment ≡ moment
-    → IfSome result (λ f. moment ≤ r.row.until) → IfSome result (λ f. f ≡ fate_by r.row.acts p r.row.verdict) → IfSome result (λ f. bytes_left (Some f) out ≡ bytes_by r.row.acts p f) → IfNone result (r.row.until < moment)
-    → Answered rows x p result (bytes_left result out)
+pub by_found : (rows : List (List ℕ)) (x : Crossing) (p : Parts) (words out : List ℕ) (moment : ℕ) (id : Ufid) (result : Option Given) → HasOne rows words → (r : IsRow words) → IsId id → key_of words ≡ key_words id.dir id.stack → x.id ≡ id → x.control ≡ control.None → x.moment ≡ moment
+    → IfSome result (λ g. moment ≤ r.row.until) → IfSome result (λ g. g.fate ≡ fate_by r.row.acts p r.row.verdict) → IfSome result (λ g. bytes_told g.own p g.fate out ≡ bytes_by r.row.acts p g.fate) → IfNone result (r.row.until < moment)
+    → Answered rows x p (fate_given result) (bytes_given p result out)
 by_found rows x p words out moment id None one r is same i control at early fate bytes late =
     inr (inr (r.row, One words one.front one.back one.is r.says, sym (i ∙ of_id words id r is same), subst (λ n. r.row.until < n) (sym at) late))
-by_found rows x p words out moment id (Some f) one r is same i control at early fate bytes late = record {
+by_found rows x p words out moment id (Some g) one r is same i control at early fate bytes late = record {
   row = r.row;
   says = One words one.front one.back one.is r.says;
   may = record { id = i ∙ of_id words id r is same; control = control; moment = subst (λ n. n ≤ r.row.until) (sym at) early };

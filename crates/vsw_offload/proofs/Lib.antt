@@ -10,6 +10,7 @@ pub mod Placed
 pub mod Written
 pub mod Found
 pub mod ByRow
+pub mod Giving
 pub mod Cut
 pub mod Exact
 pub mod Alone

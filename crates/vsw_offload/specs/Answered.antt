@@ -1,5 +1,5 @@
 -- What the rows of a port answer a packet.
-use Rattle.std.specs.Prelude.{◌≡◌, ◌≢◌, ◌⊎◌, ◌<◌, ℕ, zero, suc, List, [], ◌∷◌, ◌++◌, true, take, Option, Some, None, IsSome, Result, Ok, Err}
+use Rattle.std.specs.Prelude.{◌≡◌, ◌≢◌, ◌⊎◌, ◌<◌, ℕ, zero, suc, List, [], ◌∷◌, ◌++◌, Bool, true, take, if◌then◌else◌, Option, Some, None, IsSome, Result, Ok, Err}
 use Rattle.vsw_base.specs.declared.fate.Cause.TheVariants as cause
 use Rattle.vsw_base.specs.declared.fate.Fate.{Fate}
 use Rattle.vsw_base.specs.declared.fate.Fate.TheVariants.{Pass, Drop}
@@ -12,6 +12,8 @@ use Rattle.vsw_base.specs.declared.packet.Control.TheVariants as control
 use Rattle.vsw_base.specs.Frame.{Parts, frame_of, sizes_of}
 use Rattle.vsw_base.specs.Shape.{is_stack}
 use Rattle.vsw_frame.specs.Bytes.{answer, outgoing}
+use Rattle.vsw_frame.specs.Tiles.{outermost}
+use Rattle.vsw_offload.specs.declared.answer.Given.{Given}
 use Rattle.vsw_offload.specs.Rows.{Rise}
 use Rattle.vsw_offload.specs.declared.port_rows.PortRows.{PortRows}
 use Rattle.vsw_policy.specs.Sound.{Each}
@@ -73,6 +75,21 @@ abbrev pub bytes_left : Option Fate → List ℕ → List ℕ
 bytes_left None out = []
 bytes_left (Some (Pass len)) out = take len out
 bytes_left (Some (Drop why)) out = []
+
+-- the bytes of a fate: of a pass the frame's own, or those at the front of a room
+abbrev pub bytes_told : Bool → Parts → Fate → List ℕ → List ℕ
+bytes_told own p (Pass len) out = if own then outermost p.levels else take len out
+bytes_told own p (Drop why) out = []
+
+-- the fate that was given, if one was
+abbrev pub fate_given : Option Given → Option Fate
+fate_given None = None
+fate_given (Some g) = Some g.fate
+
+-- and its bytes
+abbrev pub bytes_given : Parts → Option Given → List ℕ → List ℕ
+bytes_given p None out = []
+bytes_given p (Some g) out = bytes_told g.own p g.fate out
 
 -- a packet of a frame, at a port and a moment
 pub record IsPacketOf (x : Crossing) (place : Place) (p : Parts) (moment : ℕ) : Type 0 where

@@ -1,39 +1,57 @@
 //! What rows answer a frame.
 
-ghost use Rattle.std.specs.Prelude.{◌≡◌, ◌≤◌, ◌<◌, ◌+◌, IfNone, IfOk, IfSome, OnOk, IsTrue, List, Some, length, take, true, false};
+ghost use Rattle.std.specs.Prelude.{◌≡◌, ◌≤◌, ◌<◌, ◌+◌, ℕ, IfNone, IfSome, List, Ok, length, true, false};
+ghost use Rattle.vsw_base.specs.declared.fate.Fate.TheVariants as fate;
 ghost use Rattle.vsw_base.specs.declared.fate.Verdict.TheVariants as verdict;
 ghost use Rattle.vsw_base.specs.declared.flow.Crossing.{Crossing};
 ghost use Rattle.vsw_base.specs.declared.packet.Control.TheVariants as control;
+ghost use Rattle.vsw_base.specs.Shape.{encaps};
 ghost use Rattle.vsw_frame.specs.Bytes as bytes;
 ghost use Rattle.vsw_frame.specs.Frame.{parts};
+ghost use Rattle.vsw_frame.specs.Tiles.{outermost};
 ghost use Rattle.vsw_offload.specs.Answered as spec;
-ghost use Rattle.vsw_offload.specs.Answered.{Answered, IsPacketOf, bytes_by, bytes_left, fate_by, passed};
+ghost use Rattle.vsw_offload.specs.Answered.{Answered, IsPacketOf, bytes_by, bytes_given, bytes_told, fate_by, fate_given, passed};
+ghost use Rattle.vsw_offload.specs.Private.Saying.{SaysOf, SaysRow, bytes_with};
 ghost use Rattle.vsw_offload.specs.Rows.{AreRows};
 ghost use Rattle.vsw_rows.specs.Good.{Row};
-ghost use Rattle.vsw_rows.specs.Rows.{Says};
+ghost use Rattle.vsw_transpose.specs.declared.act.Act.{Act};
 ghost use Rattle.vsw_transpose.specs.Apply.{apply};
 ghost use Rattle.vsw_transpose.specs.Fits as fit;
+ghost use Rattle.vsw_words.specs.Doing.{AreOf};
 ghost use Rattle.vsw_words.specs.Key as key;
 ghost use Rattle.vsw_words.specs.Law.{IsId};
 
-use crate::finding::find;
+use crate::finding::find_by;
+use crate::guesses::Guesses;
 use crate::port_rows::PortRows;
-use vsw_base::{Cause, Control, Dir, Fate, Long, Moment, Place, Stack, Ufid, Verdict};
-use vsw_frame::{Frame, rewrite_to};
-use vsw_transpose::Transposition;
-use vsw_words::{Body, body_from, key_words};
+use vsw_base::{Cause, Control, Dir, Fate, Moment, Place, Stack, Ufid, Verdict};
+use vsw_frame::{Frame, own_bytes, rewrite_to};
+use vsw_words::{do_words, doing_of, key_words, until_in, verdict_in};
+
+/// Where the first act stands among the words of a body.
+const FIRST_ACT: usize = 3;
+
+/// The kind of an act that leaves its header as it is, in the low four bits of its first word.
+const IGNORE: u64 = 8;
+
+/// The fate that a row gives a frame.
+#[derive(Clone, Copy, Debug, PartialEq, Eq)]
+pub struct Given {
+    pub fate: Fate,
+    /// Whether it passes with its own bytes: nothing was written then.
+    pub own: bool,
+}
 
 /// Rooms in which answers are made. They live on: make them once.
 #[derive(Drop)]
 pub struct AnswerRoom {
     id: Ufid,
     key: [u64; 16],
-    body: Body,
     edited: Stack,
 }
 
 impl AnswerRoom {
-    /// It clears room for two stacks, for a key and for acts.
+    /// It clears room for two stacks and for a key.
     pub fn new() -> AnswerRoom {
         AnswerRoom {
             id: Ufid {
@@ -41,7 +59,6 @@ impl AnswerRoom {
                 stack: Stack::room(),
             },
             key: [0; 16],
-            body: Body::room(),
             edited: Stack::room(),
         }
     }
@@ -89,72 +106,120 @@ fn write_key(dir: Dir, frame: &Frame<'_>, id: &mut Ufid, out: &mut [u64; 16])
     key_words(id, out);
 }
 
-/// Reads what a row says of its packets.
-fn read_body(words: &[u64; 73], out: &mut Body)
-    requires { (r : Row) × Says words.now r }
-    ensures { (r : Row) → Says words.now r → (out.new.verdict ≡ r.verdict) × (out.new.by ≡ r.acts) × (out.new.until ≡ r.until) }
+fn dropped(cause: Cause) -> Given
+    ensures { result ≡ record { fate = fate.Drop cause; own = false } }
 {
-    if let Some(body) = words.last_chunk::<57>() {
-        body_from(body, out);
+    Given {
+        fate: Fate::Drop(cause),
+        own: false,
     }
 }
 
-/// Writes the stack that acts make of one that they fit.
-fn edit(stack: &Stack, by: &Transposition, out: &mut Stack)
-    requires { fit.fits by.now stack.now ≡ true }
-    ensures done { out.new ≡ apply by.now stack.now }
-    ensures edit { bytes.IsEdit stack.now out.new (fit.kept by.now) }
+/// A frame of which nothing is edited passes with its own bytes.
+fn unedited(frame: &Frame<'_>) -> Given
+    ensures given { result ≡ record { fate = fate.Pass (length (outermost (parts frame.now).levels)); own = true } }
+    ensures bytes { bytes.outgoing (parts frame.now) (parts frame.now).stack (encaps (parts frame.now).stack) ≡ outermost (parts frame.now).levels }
+    ensures answer { bytes.answer (parts frame.now) (parts frame.now).stack (encaps (parts frame.now).stack) ≡ Ok (length (outermost (parts frame.now).levels)) }
 {
-    // Both calls tell of what their type keeps: a stack's shape, and the order of a transposition's acts.
-    let (_headers, _acts) = (stack.headers(), by.acts());
-    by.apply_to(stack, out);
+    Given {
+        fate: Fate::Pass {
+            len: own_bytes(frame).len() as u32,
+        },
+        own: true,
+    }
 }
 
-/// Writes a frame's bytes as the acts edit its headers.
-fn rewrite(
-    frame: &Frame<'_>,
-    by: &Transposition,
-    edited: &mut Stack,
-    out: &mut [u8],
-) -> Result<usize, Long>
-    requires fits { fit.fits by.now (parts frame.now).stack ≡ true }
-    requires room { 65700 ≤ length out.old }
-    ensures answer { result ≡ bytes.answer (parts frame.now) (apply by.now (parts frame.now).stack) (fit.kept by.now) }
-    ensures written { OnOk result (out.new ≡ bytes.over (bytes.outgoing (parts frame.now) (apply by.now (parts frame.now).stack) (fit.kept by.now)) out.old) }
+/// Writes a frame's bytes with these headers, of which so many encapsulations were kept, unless they get too many.
+fn edited_to(frame: &Frame<'_>, edited: &Stack, kept: u8, out: &mut [u8]) -> Given
+    requires edit { bytes.IsEdit (parts frame.now).stack edited.now kept }
+    requires room { length out.old ≡ 65700 }
+    ensures fate { result.fate ≡ passed (bytes.answer (parts frame.now) edited.now kept) }
+    ensures own { result.own ≡ false }
+    ensures bytes { bytes_told result.own (parts frame.now) result.fate out.new ≡ bytes_with (parts frame.now) edited.now kept result.fate }
+{
+    match rewrite_to(frame, edited, kept, out) {
+        Ok(len) => Given {
+            fate: Fate::Pass { len: len as u32 },
+            own: false,
+        },
+        Err(_) => dropped(Cause::Long),
+    }
+}
+
+/// How many encapsulations of a frame the acts of the words keep. Most frames have none.
+#[inline(always)]
+fn kept_by(words: &[u64; 57], frame: &Frame<'_>) -> u8
+    requires body { (by : List Act) × (until : ℕ) × AreOf words.now verdict.Pass by until × (fit.fits by (parts frame.now).stack ≡ true) }
+    ensures { (by : List Act) (until : ℕ) → AreOf words.now verdict.Pass by until → fit.fits by (parts frame.now).stack ≡ true → result ≡ fit.kept by }
 {
     let stack = frame.stack();
-    edit(stack, by, edited);
-    rewrite_to(frame, edited, by.kept(), out)
+    // It tells the proof that the headers are those of a stack.
+    let _ = stack.headers();
+    let encaps = stack.encaps();
+    if encaps == 0 {
+        return 0;
+    }
+    encaps.saturating_sub(doing_of(words).pops)
 }
 
-/// A frame passes with its headers edited by the acts, unless it gets too long.
-fn pass(frame: &Frame<'_>, by: &Transposition, edited: &mut Stack, out: &mut [u8]) -> Fate
-    requires fits { fit.fits by.now (parts frame.now).stack ≡ true }
+/// A frame passes with its headers edited by the acts of the words, unless it gets too long.
+fn edit(words: &[u64; 57], frame: &Frame<'_>, edited: &mut Stack, out: &mut [u8]) -> Given
+    requires body { (by : List Act) × (until : ℕ) × AreOf words.now verdict.Pass by until × (fit.fits by (parts frame.now).stack ≡ true) }
     requires room { length out.old ≡ 65700 }
-    ensures fate { result ≡ passed (bytes.answer (parts frame.now) (apply by.now (parts frame.now).stack) (fit.kept by.now)) }
-    ensures bytes { bytes_left (Some result) out.new ≡ bytes_by by.now (parts frame.now) result }
+    ensures fate { (by : List Act) (until : ℕ) → AreOf words.now verdict.Pass by until → fit.fits by (parts frame.now).stack ≡ true → result.fate ≡ fate_by by (parts frame.now) verdict.Pass }
+    ensures bytes { (by : List Act) (until : ℕ) → AreOf words.now verdict.Pass by until → fit.fits by (parts frame.now).stack ≡ true → bytes_told result.own (parts frame.now) result.fate out.new ≡ bytes_by by (parts frame.now) result.fate }
+    ensures own { result.own ≡ false }
 {
-    match rewrite(frame, by, edited, out) {
-        Ok(len) => Fate::Pass { len: len as u32 },
-        Err(_) => Fate::Drop(Cause::Long),
+    let kept = kept_by(words, frame);
+    let stack = frame.stack();
+    // It tells the proof that the headers are those of a stack.
+    let _ = stack.headers();
+    do_words(words, stack, edited);
+    edited_to(frame, edited, kept, out)
+}
+
+/// Whether the first act of the words edits its header.
+#[inline(always)]
+fn is_edited_first(words: &[u64; 57]) -> bool {
+    words[FIRST_ACT] % 16 != IGNORE
+}
+
+/// A frame passes as the acts of the words make it.
+fn pass(words: &[u64; 57], frame: &Frame<'_>, edited: &mut Stack, out: &mut [u8]) -> Given
+    requires body { (by : List Act) × (until : ℕ) × AreOf words.now verdict.Pass by until × (fit.fits by (parts frame.now).stack ≡ true) }
+    requires room { length out.old ≡ 65700 }
+    ensures fate { (by : List Act) (until : ℕ) → AreOf words.now verdict.Pass by until → fit.fits by (parts frame.now).stack ≡ true → result.fate ≡ fate_by by (parts frame.now) verdict.Pass }
+    ensures bytes { (by : List Act) (until : ℕ) → AreOf words.now verdict.Pass by until → fit.fits by (parts frame.now).stack ≡ true → bytes_told result.own (parts frame.now) result.fate out.new ≡ bytes_by by (parts frame.now) result.fate }
+    ensures own { result.own ≡ true → result.fate ≡ fate.Pass (length (outermost (parts frame.now).levels)) }
+{
+    if is_edited_first(words) {
+        return edit(words, frame, edited, out);
+    }
+    // It tells the proof that the headers are those of a stack.
+    let _ = frame.stack().headers();
+    if doing_of(words).edits {
+        edit(words, frame, edited, out)
+    } else {
+        unedited(frame)
     }
 }
 
-/// The fate of a frame by what a row says, and its bytes, if it passes, at the front of the room.
-fn fate_of(frame: &Frame<'_>, body: &Body, edited: &mut Stack, out: &mut [u8]) -> Fate
-    requires fits { body.now.verdict ≡ verdict.Pass → fit.fits body.now.by (parts frame.now).stack ≡ true }
+/// What the words of a row's body make of a frame. Where it passes edited, its bytes stand at the front of the room.
+fn given_by(words: &[u64; 57], frame: &Frame<'_>, edited: &mut Stack, out: &mut [u8]) -> Given
+    requires body { (r : Row) × SaysOf words.now r (parts frame.now) }
     requires room { length out.old ≡ 65700 }
-    ensures fate { result ≡ fate_by body.now.by (parts frame.now) body.now.verdict }
-    ensures bytes { bytes_left (Some result) out.new ≡ bytes_by body.now.by (parts frame.now) result }
+    ensures fate { (r : Row) → SaysOf words.now r (parts frame.now) → result.fate ≡ fate_by r.acts (parts frame.now) r.verdict }
+    ensures bytes { (r : Row) → SaysOf words.now r (parts frame.now) → bytes_told result.own (parts frame.now) result.fate out.new ≡ bytes_by r.acts (parts frame.now) result.fate }
+    ensures own { result.own ≡ true → result.fate ≡ fate.Pass (length (outermost (parts frame.now).levels)) }
 {
-    match body.verdict {
-        Verdict::Pass => pass(frame, &body.by, edited, out),
+    match verdict_in(words) {
+        Verdict::Pass => pass(words, frame, edited, out),
         Verdict::Rule {
             controller,
             layer,
             group,
             rule,
-        } => Fate::Drop(Cause::Rule {
+        } => dropped(Cause::Rule {
             controller,
             layer,
             group,
@@ -164,7 +229,7 @@ fn fate_of(frame: &Frame<'_>, body: &Body, edited: &mut Stack, out: &mut [u8]) -
             controller,
             layer,
             dir,
-        } => Fate::Drop(Cause::Default {
+        } => dropped(Cause::Default {
             controller,
             layer,
             dir,
@@ -172,48 +237,71 @@ fn fate_of(frame: &Frame<'_>, body: &Body, edited: &mut Stack, out: &mut [u8]) -
     }
 }
 
-/// What a row of a frame's identity answers it up to its until.
+/// What the words of a row's body answer a frame up to their until.
+fn by_body(
+    words: &[u64; 57],
+    frame: &Frame<'_>,
+    moment: Moment,
+    edited: &mut Stack,
+    out: &mut [u8],
+) -> Option<Given>
+    requires body { (r : Row) × SaysOf words.now r (parts frame.now) }
+    requires room { length out.old ≡ 65700 }
+    ensures early { (r : Row) → SaysOf words.now r (parts frame.now) → IfSome result (λ g. moment ≤ r.until) }
+    ensures fate { (r : Row) → SaysOf words.now r (parts frame.now) → IfSome result (λ g. g.fate ≡ fate_by r.acts (parts frame.now) r.verdict) }
+    ensures bytes { (r : Row) → SaysOf words.now r (parts frame.now) → IfSome result (λ g. bytes_told g.own (parts frame.now) g.fate out.new ≡ bytes_by r.acts (parts frame.now) g.fate) }
+    ensures late { (r : Row) → SaysOf words.now r (parts frame.now) → IfNone result (r.until < moment) }
+    ensures own { IfSome result (λ g. g.own ≡ true → g.fate ≡ fate.Pass (length (outermost (parts frame.now).levels))) }
+{
+    if until_in(words).micros() < moment.micros() {
+        return None;
+    }
+    Some(given_by(words, frame, edited, out))
+}
+
+/// What a row of a frame's identity answers it.
 fn by_row(
     words: &[u64; 73],
     frame: &Frame<'_>,
     moment: Moment,
-    body: &mut Body,
     edited: &mut Stack,
     out: &mut [u8],
-) -> Option<Fate>
-    requires row { (r : Row) × Says words.now r × (r.verdict ≡ verdict.Pass → fit.fits r.acts (parts frame.now).stack ≡ true) }
+) -> Option<Given>
+    requires row { (r : Row) × SaysRow words.now r (parts frame.now) }
     requires room { length out.old ≡ 65700 }
-    ensures early { (r : Row) → Says words.now r → IfSome result (λ fate. moment ≤ r.until) }
-    ensures fate { (r : Row) → Says words.now r → IfSome result (λ fate. fate ≡ fate_by r.acts (parts frame.now) r.verdict) }
-    ensures bytes { (r : Row) → Says words.now r → IfSome result (λ fate. bytes_left (Some fate) out.new ≡ bytes_by r.acts (parts frame.now) fate) }
-    ensures late { (r : Row) → Says words.now r → IfNone result (r.until < moment) }
+    ensures early { (r : Row) → SaysRow words.now r (parts frame.now) → IfSome result (λ g. moment ≤ r.until) }
+    ensures fate { (r : Row) → SaysRow words.now r (parts frame.now) → IfSome result (λ g. g.fate ≡ fate_by r.acts (parts frame.now) r.verdict) }
+    ensures bytes { (r : Row) → SaysRow words.now r (parts frame.now) → IfSome result (λ g. bytes_told g.own (parts frame.now) g.fate out.new ≡ bytes_by r.acts (parts frame.now) g.fate) }
+    ensures late { (r : Row) → SaysRow words.now r (parts frame.now) → IfNone result (r.until < moment) }
+    ensures own { IfSome result (λ g. g.own ≡ true → g.fate ≡ fate.Pass (length (outermost (parts frame.now).levels))) }
 {
-    read_body(words, body);
-    if body.until.micros() < moment.micros() {
-        return None;
+    match words.last_chunk::<57>() {
+        None => None,
+        Some(body) => by_body(body, frame, moment, edited, out),
     }
-    Some(fate_of(frame, body, edited, out))
 }
 
 /// What rows answer a frame at a port and a moment.
 pub(crate) fn answer(
     ports: &[PortRows],
+    guesses: &Guesses,
     place: Place,
     frame: &Frame<'_>,
     moment: Moment,
     room: &mut AnswerRoom,
     out: &mut [u8],
-) -> Option<Fate>
+) -> Option<Given>
     requires are { AreRows ports.now }
     requires room { length out.old ≡ 65700 }
-    ensures { (x : Crossing) → IsPacketOf x place (parts frame.now) moment → Answered (spec.rows_at ports.now place.port) x (parts frame.now) result (bytes_left result out.new) }
+    ensures answered { (x : Crossing) → IsPacketOf x place (parts frame.now) moment → Answered (spec.rows_at ports.now place.port) x (parts frame.now) (fate_given result) (bytes_given (parts frame.now) result out.new) }
+    ensures own { IfSome result (λ g. g.own ≡ true → g.fate ≡ fate.Pass (length (outermost (parts frame.now).levels))) }
 {
     if !is_plain(frame) {
         return None;
     }
     write_key(place.dir, frame, &mut room.id, &mut room.key);
-    match find(rows_at(ports, place.port), &room.key) {
+    match find_by(rows_at(ports, place.port), guesses, &room.key) {
         None => None,
-        Some(words) => by_row(words, frame, moment, &mut room.body, &mut room.edited, out),
+        Some(words) => by_row(words, frame, moment, &mut room.edited, out),
     }
 }

@@ -5,6 +5,7 @@ ghost use Rattle.vsw_offload.specs.Private.Finding.{HasNone, HasOne};
 ghost use Rattle.vsw_offload.specs.Rows as spec;
 ghost use Rattle.vsw_offload.specs.Rows.{Rise, key_of};
 
+use crate::guesses::Guesses;
 use crate::order::is_less;
 
 /// The row in the middle, and those in front of it and behind it.
@@ -56,4 +57,38 @@ pub(crate) fn find<'a>(rows: &'a [[u64; 73]], key: &[u64; 16]) -> Option<&'a [u6
             }
         }
     }
+}
+
+/// The row at a place, if it has the key.
+#[inline(always)]
+fn at<'a>(rows: &'a [[u64; 73]], place: usize, key: &[u64; 16]) -> Option<&'a [u64; 73]>
+    ensures one { IfSome result (λ words. HasOne rows.now words.now) }
+    ensures key { IfSome result (λ words. key_of words.now ≡ key.now) }
+{
+    match rows.get(place) {
+        None => None,
+        Some(row) => { if has_key(row, key) { Some(row) } else { None } }
+    }
+}
+
+/// The same, where it is guessed, if one of the guesses is right.
+#[inline(always)]
+pub(crate) fn find_by<'a>(
+    rows: &'a [[u64; 73]],
+    guesses: &Guesses,
+    key: &[u64; 16],
+) -> Option<&'a [u64; 73]>
+    requires rise { Rise rows.now }
+    ensures one { IfSome result (λ words. HasOne rows.now words.now) }
+    ensures key { IfSome result (λ words. key_of words.now ≡ key.now) }
+    ensures none { IfNone result (HasNone rows.now key.now) }
+{
+    let (first, next) = guesses.of_key(key);
+    if let Some(row) = at(rows, first, key) {
+        return Some(row);
+    }
+    if let Some(row) = at(rows, next, key) {
+        return Some(row);
+    }
+    find(rows, key)
 }

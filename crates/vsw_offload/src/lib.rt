@@ -4,6 +4,7 @@
 mod answer;
 mod fault;
 mod finding;
+mod guesses;
 mod id;
 mod judging;
 mod law;
@@ -15,7 +16,7 @@ mod reading;
 mod rows;
 mod writing;
 
-pub use answer::AnswerRoom;
+pub use answer::{AnswerRoom, Given};
 pub use fault::BadRows;
 pub use id::id_of;
 pub use law::{file_laws, laws};

@@ -1,9 +1,11 @@
 //! The rows of a file.
 
-ghost use Rattle.std.specs.Prelude.{◌≡◌, ◌≤◌, IfOk, IfErr, List, length};
+ghost use Rattle.std.specs.Prelude.{◌≡◌, ◌≤◌, IfOk, IfErr, IfSome, List, length, take, true};
 ghost use Rattle.vsw_base.specs.declared.flow.Crossing.{Crossing};
+ghost use Rattle.vsw_base.specs.declared.fate.Fate.TheVariants.{Pass};
 ghost use Rattle.vsw_frame.specs.Frame.{parts};
-ghost use Rattle.vsw_offload.specs.Answered.{Answered, IsPacketOf, bytes_left, rows_at};
+ghost use Rattle.vsw_frame.specs.Tiles.{outermost};
+ghost use Rattle.vsw_offload.specs.Answered.{Answered, IsPacketOf, bytes_given, bytes_left, fate_given, rows_at};
 ghost use Rattle.vsw_offload.specs.Bad.{IsBadRows};
 ghost use Rattle.vsw_offload.specs.Rows as spec;
 ghost use Rattle.vsw_offload.specs.Rows.{AreRows, rows_bytes};
@@ -11,14 +13,15 @@ ghost use Rattle.vsw_policy.specs.Sound.{Each};
 ghost use Rattle.vsw_offload.specs.declared.fault.BadRows.TheVariants.{Memory};
 ghost use Rattle.vsw_offload.specs.declared.port_rows.PortRows.{PortRows};
 
-use crate::answer::{AnswerRoom, answer};
+use crate::answer::{AnswerRoom, Given, answer};
 use crate::fault::BadRows;
+use crate::guesses::Guesses;
 use crate::port_rows::PortRows;
 use crate::reading::read_file;
 use std::alloc::Global;
 use std::marker::Model;
 use vsw_base::{Fate, Items, Mac, Moment, NoMemory, Place};
-use vsw_frame::Frame;
+use vsw_frame::{Frame, own_bytes};
 
 /// The rows of a file. Those of each port stand in the order of their keys.
 #[derive(Drop)]
@@ -27,6 +30,8 @@ pub struct Rows {
     /// Their addresses and their numbers, each as a list.
     macs: Items<Mac>,
     numbers: Items<u32>,
+    /// Where rows of a key may stand.
+    guesses: Guesses,
 }
 
 impl Model for Rows {
@@ -74,11 +79,22 @@ fn with_lists(alloc: Global, ports: Items<PortRows>) -> Result<Rows, NoMemory>
 {
     let macs = macs_of(alloc, ports.as_slice())?;
     let numbers = numbers_of(alloc, ports.as_slice())?;
+    let guesses = Guesses::of(alloc, ports.as_slice())?;
     Ok(Rows {
         ports,
         macs,
         numbers,
+        guesses,
     })
+}
+
+/// Writes a frame's own bytes to the front of a room.
+fn write_own(frame: &Frame<'_>, out: &mut [u8])
+    requires room { length out.old ≡ 65700 }
+    ensures { take (length (outermost (parts frame.now).levels)) out.new ≡ outermost (parts frame.now).levels }
+{
+    let bytes = own_bytes(frame);
+    out[..bytes.len()].copy_from_slice(bytes);
 }
 
 impl Rows {
@@ -151,6 +167,38 @@ impl Rows {
         requires room { length out.old ≡ 65700 }
         ensures { (x : Crossing) → IsPacketOf x place (parts frame.now) moment → Answered (rows_at self.now place.port) x (parts frame.now) result (bytes_left result out.new) }
     {
-        answer(self.ports.as_slice(), place, frame, moment, room, out)
+        match self.answer_own(place, frame, moment, room, out) {
+            None => None,
+            Some(given) => {
+                if given.own {
+                    write_own(frame, out);
+                }
+                Some(given.fate)
+            }
+        }
+    }
+
+    /// The same, but for a frame that passes with its own bytes: these aren't written.
+    pub fn answer_own(
+        &self,
+        place: Place,
+        frame: &Frame<'_>,
+        moment: Moment,
+        room: &mut AnswerRoom,
+        out: &mut [u8],
+    ) -> Option<Given>
+        requires room { length out.old ≡ 65700 }
+        ensures answered { (x : Crossing) → IsPacketOf x place (parts frame.now) moment → Answered (rows_at self.now place.port) x (parts frame.now) (fate_given result) (bytes_given (parts frame.now) result out.new) }
+        ensures own { IfSome result (λ g. g.own ≡ true → g.fate ≡ Pass (length (outermost (parts frame.now).levels))) }
+    {
+        answer(
+            self.ports.as_slice(),
+            &self.guesses,
+            place,
+            frame,
+            moment,
+            room,
+            out,
+        )
     }
 }

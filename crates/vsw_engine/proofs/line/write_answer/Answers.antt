@@ -13,7 +13,7 @@ returns-in-None-clause-adds c =
     let p = parts c.args.frame.now in
     let x = crossing_by 0 c.args.packet c.args.place c.args.moment p in
     let port : c.number_at-number.result ≡ get_or (numbers_of c.args.rows.now) c.args.place.port 0 = c.number_at-number.ensures ∙ ap (λ ns. get_or ns c.args.place.port 0) c.ports.ensures.numbers in
-    on_ok c.none_line.result _ _ (answer_added c.args.rows.now c.args.packet c.args.moment c.args.place p c.number_at-number.result None [] c.args.text.now.items c.none_line.new.text.items port (c.in-None.ensures.answered x (is_packet c.args.packet c.args.place c.args.moment p))) c.none_line.ensures
+    on_ok c.none_line.result _ _ (answer_added c.args.rows.now c.args.packet c.args.moment c.args.place p c.number_at-number.result None [] c.args.text.now c.none_line.new.text port (c.in-None.ensures.answered x (is_packet c.args.packet c.args.place c.args.moment p))) c.none_line.ensures
 
 pub returns-in-Some-clause-adds : goal.returns-in-Some-clause-adds
 returns-in-Some-clause-adds c =
@@ -21,4 +21,4 @@ returns-in-Some-clause-adds c =
     let x = crossing_by 0 c.args.packet c.args.place c.args.moment p in
     let port : c.number_at-number.result ≡ get_or (numbers_of c.args.rows.now) c.args.place.port 0 = c.number_at-number.ensures ∙ ap (λ ns. get_or ns c.args.place.port 0) c.ports.ensures.numbers in
     let answered : Answered (rows_at c.args.rows.now c.args.place.port) x p (Some c.in-Some.fate) c.bytes_of.result.now = subst (Answered (rows_at c.args.rows.now c.args.place.port) x p (Some c.in-Some.fate)) (sym c.bytes_of.ensures) (c.in-Some.ensures.answered x (is_packet c.args.packet c.args.place c.args.moment p)) in
-    on_ok c.fate_line.result _ _ (answer_added c.args.rows.now c.args.packet c.args.moment c.args.place p c.number_at-number.result (Some c.in-Some.fate) c.bytes_of.result.now c.args.text.now.items c.fate_line.new.text.items port answered) c.fate_line.ensures
+    on_ok c.fate_line.result _ _ (answer_added c.args.rows.now c.args.packet c.args.moment c.args.place p c.number_at-number.result (Some c.in-Some.fate) c.bytes_of.result.now c.args.text.now c.fate_line.new.text port answered) c.fate_line.ensures

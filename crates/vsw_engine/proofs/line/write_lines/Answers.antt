@@ -9,6 +9,6 @@ loop-place-preserved c =
     let r : Record = record { moment = c.at.result.moment; original = c.at.result.original; bytes = c.at.result.bytes.now } in
     let within : n < length c.args.batch.now = omega (arith, c.loop-place-test.true, c.len-place-end.ensures, c.loop-place.auto.place-end) in
     record {
-      lines = lines_more c.args.rows.now c.args.first n c.args.batch.now r c.loop-place.desk.text.items c.write_line.new.text.items within c.at.ensures c.loop-place.invariant.lines c.in_ok-write_line.ensures.adds;
+      lines = lines_more c.args.rows.now c.args.first n c.args.batch.now r c.loop-place.desk.text c.write_line.new.text within c.at.ensures c.loop-place.invariant.lines c.in_ok-write_line.ensures.adds;
       room = c.write_line.ensures.room;
     }

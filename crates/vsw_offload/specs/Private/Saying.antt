@@ -1,0 +1,27 @@
+-- What the words of a row's body say of a frame.
+use Rattle.std.specs.Prelude.{◌≡◌, ℕ, List, [], true}
+use Rattle.vsw_base.specs.declared.fate.Fate.{Fate}
+use Rattle.vsw_base.specs.declared.fate.Fate.TheVariants.{Pass, Drop}
+use Rattle.vsw_base.specs.declared.fate.Verdict.TheVariants as verdict
+use Rattle.vsw_base.specs.declared.header.Header.{Header}
+use Rattle.vsw_base.specs.Frame.{Parts}
+use Rattle.vsw_frame.specs.Bytes.{outgoing}
+use Rattle.vsw_rows.specs.Good.{Row}
+use Rattle.vsw_rows.specs.Rows.{Says}
+use Rattle.vsw_transpose.specs.Fits as fit
+use Rattle.vsw_words.specs.Doing.{AreOf}
+
+-- the words are of this row's body, whose acts fit the frame where it passes
+pub record SaysOf (words : List ℕ) (r : Row) (p : Parts) : Type 0 where
+  pub are : AreOf words r.verdict r.acts r.until
+  pub fits : r.verdict ≡ verdict.Pass → fit.fits r.acts p.stack ≡ true
+
+-- the same of all words of the row
+pub record SaysRow (words : List ℕ) (r : Row) (p : Parts) : Type 0 where
+  pub says : Says words r
+  pub fits : r.verdict ≡ verdict.Pass → fit.fits r.acts p.stack ≡ true
+
+-- the bytes with which a frame of this fate leaves that has these headers, so many encapsulations kept. A dropped one leaves with none
+abbrev pub bytes_with : Parts → List Header → ℕ → Fate → List ℕ
+bytes_with p edited kept (Pass len) = outgoing p edited kept
+bytes_with p edited kept (Drop why) = []

@@ -1,5 +1,5 @@
 -- What rows answer, with its bytes in a room.
-use Rattle.std.proofs.Common.{◌≡◌, ◌≤◌, ℕ, List, ◌++◌, Bool, true, false, nat_lt, length, take, if◌then◌else◌, Option, Some, None, Ok, Err, refl, ap, arith, length-take}
+use Rattle.std.proofs.Common.{◌≡◌, ◌≤◌, ℕ, List, ◌++◌, Bool, true, false, nat_lt, length, take, if◌then◌else◌, Option, Some, None, Ok, Err, refl, ap, arith, length-take, true≢false}
 use Rattle.std.specs.Prelude.{IfSome, get_or}
 use Rattle.vsw_base.specs.declared.fate.Fate.{Fate}
 use Rattle.vsw_base.specs.declared.fate.Fate.TheVariants.{Pass, Drop}
@@ -9,7 +9,8 @@ use Rattle.vsw_base.specs.declared.flow.Crossing.{Crossing}
 use Rattle.vsw_base.specs.declared.flow.Place.{Place}
 use Rattle.vsw_base.specs.Frame.{Parts}
 use Rattle.vsw_frame.specs.Bytes.{outer_total, outgoing}
-use Rattle.vsw_offload.specs.Answered.{Answered, IsPacketOf, bytes_left, fate_by, passed, rows_at}
+use Rattle.vsw_offload.specs.Answered.{Answered, IsPacketOf, bytes_given, bytes_told, fate_by, fate_given, passed, rows_at}
+use Rattle.vsw_offload.specs.declared.answer.Given.{Given}
 use Rattle.vsw_offload.specs.Rows.{numbers_of}
 use Rattle.vsw_offload.specs.declared.port_rows.PortRows.{PortRows}
 use Rattle.vsw_promise.specs.Jobs.{crossing_by}
@@ -44,7 +45,11 @@ pass_short rows x p len out a =
     let long = pass_long a.row.acts p a.row.verdict len a.fate_is in
     omega (arith, long, ap length a.bytes_are, length-take len out)
 
-pub all_short : (rows : List (List ℕ)) (x : Crossing) (p : Parts) (fate : Option Fate) (out : List ℕ) (most : ℕ) → length out ≤ most → Answered rows x p fate (bytes_left fate out) → IfSome fate (λ f. len_of f ≤ most)
+pub all_short : (rows : List (List ℕ)) (x : Crossing) (p : Parts) (given : Option Given) (out : List ℕ) (most : ℕ) → length out ≤ most → Answered rows x p (fate_given given) (bytes_given p given out) → IfSome given (λ g. g.own ≡ false → len_of g.fate ≤ most)
 all_short rows x p None out most h a = tt
-all_short rows x p (Some (Drop why)) out most h a = omega arith
-all_short rows x p (Some (Pass len)) out most h a = let short = pass_short rows x p len out a in omega (arith, short, h)
+all_short rows x p (Some g) out most h a = by g.own g.fate a
+  where
+    by : (own : Bool) (fate : Fate) → Answered rows x p (Some fate) (bytes_told own p fate out) → own ≡ false → len_of fate ≤ most
+    by true fate a e = absurd (true≢false e)
+    by false (Drop why) a e = omega arith
+    by false (Pass len) a e = let short = pass_short rows x p len out a in omega (arith, short, h)

@@ -28,6 +28,7 @@ fn is_below(row: &[u64; 73], key: &[u64; 16]) -> bool
 }
 
 /// Whether a row has the key.
+#[inline(always)]
 fn has_key(row: &[u64; 73], key: &[u64; 16]) -> bool
     ensures told { result ≡ true → key_of row.now ≡ key.now }
     ensures back { key_of row.now ≡ key.now → result ≡ true }

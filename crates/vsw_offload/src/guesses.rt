@@ -1,17 +1,14 @@
 //! Guesses of where rows stand. A guess is tried before a row is looked for, so none has to be right.
 
-ghost use Rattle.std.specs.Prelude.{◌≤◌};
-
 use crate::port_rows::PortRows;
 use std::alloc::Global;
 use vsw_base::NoMemory;
-use vsw_words::slot_of;
 
 /// Slots for each row: with so many most rows have one of their own.
 const SPREAD: usize = 4;
 
-/// The fewest slots among which a key has one.
-const SLOTS_LEAST: u32 = 8;
+/// 2^64 over the golden ratio, an odd number (Knuth, The Art of Computer Programming, 6.4).
+const GOLDEN: u64 = 0x9e37_79b9_7f4a_7c15;
 
 /// What stands in a slot of no row. Rows of a port are fewer.
 const NONE: u32 = u32::MAX;
@@ -32,14 +29,28 @@ fn count(ports: &[PortRows]) -> usize {
     count
 }
 
+/// A hash with a word more.
+#[inline(always)]
+fn mixed(hash: u64, word: u64) -> u64 {
+    (hash.rotate_left(23) ^ word).wrapping_mul(GOLDEN)
+}
+
+/// The slot of a key. Words that are 0 in a frame without encapsulation are put together.
+#[inline(always)]
+fn slot_of(key: &[u64; 16], slots: u32) -> u32 {
+    let hash = mixed(key[0], key[8]);
+    let hash = mixed(hash, key[2] ^ key[11] ^ key[12]);
+    let hash = mixed(hash, key[3] ^ key[13] ^ key[14]);
+    let rest = key[1] ^ key[4] ^ key[5] ^ key[6] ^ key[7] ^ key[9] ^ key[10];
+    let hash = mixed(hash, rest);
+    ((hash >> 32) * u64::from(slots) >> 32) as u32
+}
+
 /// Notes the place of a row, unless others took its slot and the one behind.
 fn note(places: &mut Vec<u32>, slots: u32, row: &[u64; 73], place: u32) {
     let Some(key) = row.first_chunk::<16>() else {
         return;
     };
-    if slots < SLOTS_LEAST {
-        return;
-    }
     let slot = slot_of(key, slots) as usize;
     if !put(places, slot, place) {
         let _ = put(places, slot + 1, place);
@@ -87,9 +98,6 @@ impl Guesses {
     /// Two places at which a row of the key may stand.
     #[inline(always)]
     pub fn of_key(&self, key: &[u64; 16]) -> (usize, usize) {
-        if self.slots < SLOTS_LEAST {
-            return (usize::MAX, usize::MAX);
-        }
         let slot = slot_of(key, self.slots) as usize;
         (
             place_in(&self.places, slot),

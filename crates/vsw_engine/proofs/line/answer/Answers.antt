@@ -8,4 +8,4 @@ use Rattle.vsw_engine.proofs.line.answer.Goals as goal
 pub returns-clause-len : goal.returns-clause-len
 returns-clause-len c =
     let p = parts c.args.frame.now in
-    all_short (rows_at c.args.rows.now c.args.place.port) (crossing_by 0 0 c.args.place c.args.moment p) p c.answer_in.result c.answer_in.new.out 65700 (omega (arith, c.answer_in.auto.out, c.requires.room)) (c.answer_in.ensures (crossing_by 0 0 c.args.place c.args.moment p) (is_packet 0 c.args.place c.args.moment p))
+    all_short (rows_at c.args.rows.now c.args.place.port) (crossing_by 0 0 c.args.place c.args.moment p) p c.answer_own.result c.answer_own.new.out 65700 (omega (arith, c.answer_own.auto.out, c.requires.room)) (c.answer_own.ensures.answered (crossing_by 0 0 c.args.place c.args.moment p) (is_packet 0 c.args.place c.args.moment p))

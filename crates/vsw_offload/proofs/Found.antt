@@ -1,5 +1,5 @@
 -- A row is looked for from the middle.
-use Rattle.std.proofs.Common.{◌≡◌, ◌<◌, ℕ, zero, suc, List, [], ◌∷◌, ◌++◌, get_or, length, arith, true, false, true≢false, ap, sym, ◌∙◌, subst}
+use Rattle.std.proofs.Common.{◌≡◌, ◌<◌, ℕ, zero, suc, List, [], ◌∷◌, ◌++◌, get_or, length, arith, true, false, true≢false, refl, ap, sym, ◌∙◌, subst}
 use Rattle.std.specs.Prelude.{IfNone, IfSome, None, Option, Some}
 use Rattle.std.proofs.lemmas.List.{append_assoc}
 use Rattle.vsw_offload.proofs.Sorted.{less_not_self, less_trans, rise_behind, rise_split, rise_tail}
@@ -64,8 +64,8 @@ none_on (Some x) A B f h = tt
 none_on None A B f h = f h
 
 -- the row at a place is among the rows
-pub one_at : (rows : List (List ℕ)) (place : ℕ) (r : List ℕ) → place < length rows → ((d : List ℕ) → r ≡ get_or rows place d) → HasOne rows r
-one_at [] place r below at = absurd (grind (arith, below))
-one_at (f ∷ fs) zero r below at = record { front = []; back = fs; is = ap (λ (x : List ℕ). x ∷ fs) (sym (at [])) }
-one_at (f ∷ fs) (suc k) r below at =
-    let one = one_at fs k r (omega (arith, below)) at in record { front = f ∷ one.front; back = one.back; is = ap (λ (xs : List (List ℕ)). f ∷ xs) one.is }
+pub one_there : (rows : List (List ℕ)) (place : ℕ) → place < length rows → HasOne rows (get_or rows place [])
+one_there [] place below = absurd (grind (arith, below))
+one_there (f ∷ fs) zero below = record { front = []; back = fs; is = refl }
+one_there (f ∷ fs) (suc k) below =
+    let one = one_there fs k (omega (arith, below)) in record { front = f ∷ one.front; back = one.back; is = ap (λ (xs : List (List ℕ)). f ∷ xs) one.is }

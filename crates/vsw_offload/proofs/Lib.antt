@@ -11,6 +11,7 @@ pub mod Written
 pub mod Found
 pub mod ByRow
 pub mod Giving
+pub mod Remade
 pub mod Cut
 pub mod Exact
 pub mod Alone

@@ -2,3 +2,4 @@ pub mod Reading
 pub mod Writing
 pub mod Finding
 pub mod Saying
+pub mod Making

@@ -1,9 +1,11 @@
 //! What rows answer a frame.
 
-ghost use Rattle.std.specs.Prelude.{◌≡◌, ◌≤◌, ◌<◌, ◌+◌, ℕ, IfNone, IfSome, List, Ok, length, true, false};
+ghost use Rattle.std.specs.Prelude.{◌≡◌, ◌≤◌, ◌<◌, ◌+◌, ℕ, IfNone, IfSome, List, Ok, [], drop, get_or, length, true, false};
 ghost use Rattle.vsw_base.specs.declared.fate.Fate.TheVariants as fate;
 ghost use Rattle.vsw_base.specs.declared.fate.Verdict.TheVariants as verdict;
 ghost use Rattle.vsw_base.specs.declared.flow.Crossing.{Crossing};
+ghost use Rattle.vsw_base.specs.declared.flow.Ufid.{Ufid};
+ghost use Rattle.vsw_base.specs.declared.header.Header.{Header};
 ghost use Rattle.vsw_base.specs.declared.packet.Control.TheVariants as control;
 ghost use Rattle.vsw_base.specs.Shape.{encaps};
 ghost use Rattle.vsw_frame.specs.Bytes as bytes;
@@ -11,8 +13,9 @@ ghost use Rattle.vsw_frame.specs.Frame.{parts};
 ghost use Rattle.vsw_frame.specs.Tiles.{outermost};
 ghost use Rattle.vsw_offload.specs.Answered as spec;
 ghost use Rattle.vsw_offload.specs.Answered.{Answered, IsPacketOf, bytes_by, bytes_given, bytes_told, fate_by, fate_given, passed};
+ghost use Rattle.vsw_offload.specs.Private.Making.{AllMade, AreMade, IsMadeOf};
 ghost use Rattle.vsw_offload.specs.Private.Saying.{SaysOf, SaysRow, bytes_with};
-ghost use Rattle.vsw_offload.specs.Rows.{AreRows};
+ghost use Rattle.vsw_offload.specs.Rows.{AreRows, key_of};
 ghost use Rattle.vsw_rows.specs.Good.{Row};
 ghost use Rattle.vsw_transpose.specs.declared.act.Act.{Act};
 ghost use Rattle.vsw_transpose.specs.Apply.{apply};
@@ -21,10 +24,11 @@ ghost use Rattle.vsw_words.specs.Doing.{AreOf};
 ghost use Rattle.vsw_words.specs.Key as key;
 ghost use Rattle.vsw_words.specs.Law.{IsId};
 
-use crate::finding::find_by;
+use crate::finding::{find, guessed};
 use crate::guesses::Guesses;
+use crate::making::made_at;
 use crate::port_rows::PortRows;
-use vsw_base::{Cause, Control, Dir, Fate, Moment, Place, Stack, Ufid, Verdict};
+use vsw_base::{Cause, Control, Dir, Fate, Items, Moment, Place, Stack, Ufid, Verdict};
 use vsw_frame::{Frame, own_bytes, rewrite_to};
 use vsw_words::{do_words, doing_of, key_words, until_in, verdict_in};
 
@@ -162,20 +166,44 @@ fn kept_by(words: &[u64; 57], frame: &Frame<'_>) -> u8
     encaps.saturating_sub(doing_of(words).pops)
 }
 
-/// A frame passes with its headers edited by the acts of the words, unless it gets too long.
-fn edit(words: &[u64; 57], frame: &Frame<'_>, edited: &mut Stack, out: &mut [u8]) -> Given
+/// A frame passes with the headers that the acts of the words make, unless it gets too long.
+#[inline(always)]
+fn edit_made(words: &[u64; 57], made: &Stack, frame: &Frame<'_>, out: &mut [u8]) -> Given
     requires body { (by : List Act) × (until : ℕ) × AreOf words.now verdict.Pass by until × (fit.fits by (parts frame.now).stack ≡ true) }
+    requires made { IsMadeOf words.now made.now (parts frame.now).stack }
     requires room { length out.old ≡ 65700 }
     ensures fate { (by : List Act) (until : ℕ) → AreOf words.now verdict.Pass by until → fit.fits by (parts frame.now).stack ≡ true → result.fate ≡ fate_by by (parts frame.now) verdict.Pass }
     ensures bytes { (by : List Act) (until : ℕ) → AreOf words.now verdict.Pass by until → fit.fits by (parts frame.now).stack ≡ true → bytes_told result.own (parts frame.now) result.fate out.new ≡ bytes_by by (parts frame.now) result.fate }
     ensures own { result.own ≡ false }
 {
     let kept = kept_by(words, frame);
-    let stack = frame.stack();
     // It tells the proof that the headers are those of a stack.
-    let _ = stack.headers();
-    do_words(words, stack, edited);
-    edited_to(frame, edited, kept, out)
+    let _ = frame.stack().headers();
+    edited_to(frame, made, kept, out)
+}
+
+/// A frame passes with its headers edited by the acts of the words: those that were made, if they were.
+fn edit(
+    words: &[u64; 57],
+    made: Option<&Stack>,
+    frame: &Frame<'_>,
+    edited: &mut Stack,
+    out: &mut [u8],
+) -> Given
+    requires body { (by : List Act) × (until : ℕ) × AreOf words.now verdict.Pass by until × (fit.fits by (parts frame.now).stack ≡ true) }
+    requires made { IfSome made (λ m. IsMadeOf words.now m.now (parts frame.now).stack) }
+    requires room { length out.old ≡ 65700 }
+    ensures fate { (by : List Act) (until : ℕ) → AreOf words.now verdict.Pass by until → fit.fits by (parts frame.now).stack ≡ true → result.fate ≡ fate_by by (parts frame.now) verdict.Pass }
+    ensures bytes { (by : List Act) (until : ℕ) → AreOf words.now verdict.Pass by until → fit.fits by (parts frame.now).stack ≡ true → bytes_told result.own (parts frame.now) result.fate out.new ≡ bytes_by by (parts frame.now) result.fate }
+    ensures own { result.own ≡ false }
+{
+    match made {
+        Some(made) => edit_made(words, made, frame, out),
+        None => {
+            do_words(words, frame.stack(), edited);
+            edit_made(words, edited, frame, out)
+        }
+    }
 }
 
 /// Whether the first act of the words edits its header.
@@ -185,35 +213,49 @@ fn is_edited_first(words: &[u64; 57]) -> bool {
 }
 
 /// A frame passes as the acts of the words make it.
-fn pass(words: &[u64; 57], frame: &Frame<'_>, edited: &mut Stack, out: &mut [u8]) -> Given
+fn pass(
+    words: &[u64; 57],
+    made: Option<&Stack>,
+    frame: &Frame<'_>,
+    edited: &mut Stack,
+    out: &mut [u8],
+) -> Given
     requires body { (by : List Act) × (until : ℕ) × AreOf words.now verdict.Pass by until × (fit.fits by (parts frame.now).stack ≡ true) }
+    requires made { IfSome made (λ m. IsMadeOf words.now m.now (parts frame.now).stack) }
     requires room { length out.old ≡ 65700 }
     ensures fate { (by : List Act) (until : ℕ) → AreOf words.now verdict.Pass by until → fit.fits by (parts frame.now).stack ≡ true → result.fate ≡ fate_by by (parts frame.now) verdict.Pass }
     ensures bytes { (by : List Act) (until : ℕ) → AreOf words.now verdict.Pass by until → fit.fits by (parts frame.now).stack ≡ true → bytes_told result.own (parts frame.now) result.fate out.new ≡ bytes_by by (parts frame.now) result.fate }
     ensures own { result.own ≡ true → result.fate ≡ fate.Pass (length (outermost (parts frame.now).levels)) }
 {
     if is_edited_first(words) {
-        return edit(words, frame, edited, out);
+        return edit(words, made, frame, edited, out);
     }
     // It tells the proof that the headers are those of a stack.
     let _ = frame.stack().headers();
     if doing_of(words).edits {
-        edit(words, frame, edited, out)
+        edit(words, made, frame, edited, out)
     } else {
         unedited(frame)
     }
 }
 
 /// What the words of a row's body make of a frame. Where it passes edited, its bytes stand at the front of the room.
-fn given_by(words: &[u64; 57], frame: &Frame<'_>, edited: &mut Stack, out: &mut [u8]) -> Given
+fn given_by(
+    words: &[u64; 57],
+    made: Option<&Stack>,
+    frame: &Frame<'_>,
+    edited: &mut Stack,
+    out: &mut [u8],
+) -> Given
     requires body { (r : Row) × SaysOf words.now r (parts frame.now) }
+    requires made { IfSome made (λ m. IsMadeOf words.now m.now (parts frame.now).stack) }
     requires room { length out.old ≡ 65700 }
     ensures fate { (r : Row) → SaysOf words.now r (parts frame.now) → result.fate ≡ fate_by r.acts (parts frame.now) r.verdict }
     ensures bytes { (r : Row) → SaysOf words.now r (parts frame.now) → bytes_told result.own (parts frame.now) result.fate out.new ≡ bytes_by r.acts (parts frame.now) result.fate }
     ensures own { result.own ≡ true → result.fate ≡ fate.Pass (length (outermost (parts frame.now).levels)) }
 {
     match verdict_in(words) {
-        Verdict::Pass => pass(words, frame, edited, out),
+        Verdict::Pass => pass(words, made, frame, edited, out),
         Verdict::Rule {
             controller,
             layer,
@@ -240,12 +282,14 @@ fn given_by(words: &[u64; 57], frame: &Frame<'_>, edited: &mut Stack, out: &mut 
 /// What the words of a row's body answer a frame up to their until.
 fn by_body(
     words: &[u64; 57],
+    made: Option<&Stack>,
     frame: &Frame<'_>,
     moment: Moment,
     edited: &mut Stack,
     out: &mut [u8],
 ) -> Option<Given>
     requires body { (r : Row) × SaysOf words.now r (parts frame.now) }
+    requires made { IfSome made (λ m. IsMadeOf words.now m.now (parts frame.now).stack) }
     requires room { length out.old ≡ 65700 }
     ensures early { (r : Row) → SaysOf words.now r (parts frame.now) → IfSome result (λ g. moment ≤ r.until) }
     ensures fate { (r : Row) → SaysOf words.now r (parts frame.now) → IfSome result (λ g. g.fate ≡ fate_by r.acts (parts frame.now) r.verdict) }
@@ -256,18 +300,20 @@ fn by_body(
     if until_in(words).micros() < moment.micros() {
         return None;
     }
-    Some(given_by(words, frame, edited, out))
+    Some(given_by(words, made, frame, edited, out))
 }
 
 /// What a row of a frame's identity answers it.
 fn by_row(
     words: &[u64; 73],
+    made: Option<&Stack>,
     frame: &Frame<'_>,
     moment: Moment,
     edited: &mut Stack,
     out: &mut [u8],
 ) -> Option<Given>
     requires row { (r : Row) × SaysRow words.now r (parts frame.now) }
+    requires made { IfSome made (λ m. IsMadeOf (drop 16 words.now) m.now (parts frame.now).stack) }
     requires room { length out.old ≡ 65700 }
     ensures early { (r : Row) → SaysRow words.now r (parts frame.now) → IfSome result (λ g. moment ≤ r.until) }
     ensures fate { (r : Row) → SaysRow words.now r (parts frame.now) → IfSome result (λ g. g.fate ≡ fate_by r.acts (parts frame.now) r.verdict) }
@@ -277,13 +323,47 @@ fn by_row(
 {
     match words.last_chunk::<57>() {
         None => None,
-        Some(body) => by_body(body, frame, moment, edited, out),
+        Some(body) => by_body(body, made, frame, moment, edited, out),
     }
+}
+
+/// The headers that were made for the row at a place.
+#[inline(always)]
+fn made_for(made: &[Stack], at: usize) -> Option<&Stack>
+    ensures { IfSome result (λ m. (at < length made.now) × ((d : List Header) → m.now ≡ get_or made.now at d)) }
+{
+    made.get(at)
+}
+
+/// What the row at a place answers a frame of its identity.
+#[inline(always)]
+fn by_place(
+    rows: &[[u64; 73]],
+    made: &[Stack],
+    at: usize,
+    frame: &Frame<'_>,
+    moment: Moment,
+    edited: &mut Stack,
+    out: &mut [u8],
+) -> Option<Given>
+    requires within { at < length rows.now }
+    requires row { (r : Row) × SaysRow (get_or rows.now at []) r (parts frame.now) }
+    requires made { AreMade rows.now made.now }
+    requires id { (id : Ufid) × IsId id × (key_of (get_or rows.now at []) ≡ key.key_words id.dir id.stack) × (id.stack ≡ (parts frame.now).stack) }
+    requires room { length out.old ≡ 65700 }
+    ensures early { (r : Row) → SaysRow (get_or rows.now at []) r (parts frame.now) → IfSome result (λ g. moment ≤ r.until) }
+    ensures fate { (r : Row) → SaysRow (get_or rows.now at []) r (parts frame.now) → IfSome result (λ g. g.fate ≡ fate_by r.acts (parts frame.now) r.verdict) }
+    ensures bytes { (r : Row) → SaysRow (get_or rows.now at []) r (parts frame.now) → IfSome result (λ g. bytes_told g.own (parts frame.now) g.fate out.new ≡ bytes_by r.acts (parts frame.now) g.fate) }
+    ensures late { (r : Row) → SaysRow (get_or rows.now at []) r (parts frame.now) → IfNone result (r.until < moment) }
+    ensures own { IfSome result (λ g. g.own ≡ true → g.fate ≡ fate.Pass (length (outermost (parts frame.now).levels))) }
+{
+    by_row(&rows[at], made_for(made, at), frame, moment, edited, out)
 }
 
 /// What rows answer a frame at a port and a moment.
 pub(crate) fn answer(
     ports: &[PortRows],
+    made: &[Items<Stack>],
     guesses: &Guesses,
     place: Place,
     frame: &Frame<'_>,
@@ -292,6 +372,7 @@ pub(crate) fn answer(
     out: &mut [u8],
 ) -> Option<Given>
     requires are { AreRows ports.now }
+    requires made { AllMade ports.now made.now }
     requires room { length out.old ≡ 65700 }
     ensures answered { (x : Crossing) → IsPacketOf x place (parts frame.now) moment → Answered (spec.rows_at ports.now place.port) x (parts frame.now) (fate_given result) (bytes_given (parts frame.now) result out.new) }
     ensures own { IfSome result (λ g. g.own ≡ true → g.fate ≡ fate.Pass (length (outermost (parts frame.now).levels))) }
@@ -300,8 +381,15 @@ pub(crate) fn answer(
         return None;
     }
     write_key(place.dir, frame, &mut room.id, &mut room.key);
-    match find_by(rows_at(ports, place.port), guesses, &room.key) {
-        None => None,
-        Some(words) => by_row(words, frame, moment, &mut room.edited, out),
+    let rows = rows_at(ports, place.port);
+    match guessed(rows, guesses, &room.key) {
+        Some(at) => {
+            let made = made_at(made, place.port);
+            by_place(rows, made, at, frame, moment, &mut room.edited, out)
+        }
+        None => match find(rows, &room.key) {
+            None => None,
+            Some(words) => by_row(words, None, frame, moment, &mut room.edited, out),
+        },
     }
 }

@@ -1,6 +1,6 @@
 //! A row of a port is found by its key.
 
-ghost use Rattle.std.specs.Prelude.{◌≡◌, ◌++◌, ◌∷◌, [], IfNone, IfSome, true, false};
+ghost use Rattle.std.specs.Prelude.{◌≡◌, ◌<◌, ◌++◌, ◌∷◌, [], IfNone, IfSome, get_or, length, true, false};
 ghost use Rattle.vsw_offload.specs.Private.Finding.{HasNone, HasOne};
 ghost use Rattle.vsw_offload.specs.Rows as spec;
 ghost use Rattle.vsw_offload.specs.Rows.{Rise, key_of};
@@ -60,36 +60,27 @@ pub(crate) fn find<'a>(rows: &'a [[u64; 73]], key: &[u64; 16]) -> Option<&'a [u6
     }
 }
 
-/// The row at a place, if it has the key.
+/// Whether the row at a place has the key.
 #[inline(always)]
-fn at<'a>(rows: &'a [[u64; 73]], place: usize, key: &[u64; 16]) -> Option<&'a [u64; 73]>
-    ensures one { IfSome result (λ words. HasOne rows.now words.now) }
-    ensures key { IfSome result (λ words. key_of words.now ≡ key.now) }
+fn is_at(rows: &[[u64; 73]], place: usize, key: &[u64; 16]) -> bool
+    ensures within { result ≡ true → place < length rows.now }
+    ensures key { result ≡ true → key_of (get_or rows.now place []) ≡ key.now }
 {
-    match rows.get(place) {
-        None => None,
-        Some(row) => { if has_key(row, key) { Some(row) } else { None } }
-    }
+    place < rows.len() && has_key(&rows[place], key)
 }
 
-/// The same, where it is guessed, if one of the guesses is right.
+/// The place of the row of a key, if one of the guesses is right.
 #[inline(always)]
-pub(crate) fn find_by<'a>(
-    rows: &'a [[u64; 73]],
-    guesses: &Guesses,
-    key: &[u64; 16],
-) -> Option<&'a [u64; 73]>
-    requires rise { Rise rows.now }
-    ensures one { IfSome result (λ words. HasOne rows.now words.now) }
-    ensures key { IfSome result (λ words. key_of words.now ≡ key.now) }
-    ensures none { IfNone result (HasNone rows.now key.now) }
+pub(crate) fn guessed(rows: &[[u64; 73]], guesses: &Guesses, key: &[u64; 16]) -> Option<usize>
+    ensures within { IfSome result (λ place. place < length rows.now) }
+    ensures key { IfSome result (λ place. key_of (get_or rows.now place []) ≡ key.now) }
 {
     let (first, next) = guesses.of_key(key);
-    if let Some(row) = at(rows, first, key) {
-        return Some(row);
+    if is_at(rows, first, key) {
+        return Some(first);
     }
-    if let Some(row) = at(rows, next, key) {
-        return Some(row);
+    if is_at(rows, next, key) {
+        return Some(next);
     }
-    find(rows, key)
+    None
 }

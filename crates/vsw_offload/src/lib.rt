@@ -8,6 +8,7 @@ mod guesses;
 mod id;
 mod judging;
 mod law;
+mod making;
 mod number;
 mod order;
 mod placing;

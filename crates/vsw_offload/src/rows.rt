@@ -16,11 +16,12 @@ ghost use Rattle.vsw_offload.specs.declared.port_rows.PortRows.{PortRows};
 use crate::answer::{AnswerRoom, Given, answer};
 use crate::fault::BadRows;
 use crate::guesses::Guesses;
+use crate::making::made_of_ports;
 use crate::port_rows::PortRows;
 use crate::reading::read_file;
 use std::alloc::Global;
 use std::marker::Model;
-use vsw_base::{Fate, Items, Mac, Moment, NoMemory, Place};
+use vsw_base::{Fate, Items, Mac, Moment, NoMemory, Place, Stack};
 use vsw_frame::{Frame, own_bytes};
 
 /// The rows of a file. Those of each port stand in the order of their keys.
@@ -30,12 +31,15 @@ pub struct Rows {
     /// Their addresses and their numbers, each as a list.
     macs: Items<Mac>,
     numbers: Items<u32>,
+    /// The headers that their rows make of their packets.
+    made: Items<Items<Stack>>,
     /// Where rows of a key may stand.
     guesses: Guesses,
 }
 
 impl Model for Rows {
     ghost use Rattle.std.specs.Prelude.{◌≡◌, List};
+    ghost use Rattle.vsw_offload.specs.Private.Making.{AllMade};
     ghost use Rattle.vsw_offload.specs.Rows.{AreRows, macs_of, numbers_of};
     ghost use Rattle.vsw_offload.specs.declared.port_rows.PortRows.{PortRows};
 
@@ -43,7 +47,7 @@ impl Model for Rows {
 
     ghost view = { λ s. s.ports };
 
-    ghost invariant = { λ s. AreRows s.ports × (s.macs ≡ macs_of s.ports) × (s.numbers ≡ numbers_of s.ports) };
+    ghost invariant = { λ s. AreRows s.ports × (s.macs ≡ macs_of s.ports) × (s.numbers ≡ numbers_of s.ports) × AllMade s.ports s.made };
 }
 
 /// The addresses of ports, in their order.
@@ -79,11 +83,13 @@ fn with_lists(alloc: Global, ports: Items<PortRows>) -> Result<Rows, NoMemory>
 {
     let macs = macs_of(alloc, ports.as_slice())?;
     let numbers = numbers_of(alloc, ports.as_slice())?;
+    let made = made_of_ports(alloc, ports.as_slice())?;
     let guesses = Guesses::of(alloc, ports.as_slice())?;
     Ok(Rows {
         ports,
         macs,
         numbers,
+        made,
         guesses,
     })
 }
@@ -193,6 +199,7 @@ impl Rows {
     {
         answer(
             self.ports.as_slice(),
+            self.made.as_slice(),
             &self.guesses,
             place,
             frame,

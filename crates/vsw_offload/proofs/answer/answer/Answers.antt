@@ -1,37 +1,63 @@
-use Rattle.std.proofs.Common.{◌∙◌, ap, subst, sym, refl}
+use Rattle.std.proofs.Common.{◌∙◌, ap, get_or, subst, sym, refl}
+use Rattle.std.specs.Prelude.{[]}
 use Rattle.vsw_base.specs.declared.flow.Ufid.{Ufid}
 use Rattle.vsw_frame.specs.Frame.{parts}
 use Rattle.vsw_offload.specs.Private.Finding.{HasNone, HasOne}
-use Rattle.vsw_offload.specs.Answered.{rows_at}
+use Rattle.vsw_offload.specs.Private.Making.{AreMade, made_at}
 use Rattle.vsw_offload.specs.Private.Saying.{SaysRow}
+use Rattle.vsw_offload.specs.Answered.{rows_at}
 use Rattle.vsw_offload.specs.Rows.{IsRow, Rise}
-use Rattle.vsw_offload.proofs.ByRow.{by_found, fits_frame, has_control, none_of, row_among, rows_rise}
+use Rattle.vsw_offload.proofs.ByRow.{by_found, fits_frame, none_of, row_among, rows_rise}
+use Rattle.vsw_offload.proofs.Found.{one_there}
+use Rattle.vsw_offload.proofs.Remade.{of_port}
 use Rattle.vsw_words.specs.Key.{key_words}
 use Rattle.vsw_offload.proofs.answer.answer.Goals as goal
 
-pub find_by-requires : goal.find_by-requires
-find_by-requires c = record { rise = subst Rise (sym c.rows_at.ensures) (rows_rise c.args.ports.now c.args.place.port c.requires.are) }
+pub by_place-requires-clause-row : goal.by_place-requires-clause-row
+by_place-requires-clause-row c =
+    let words = get_or c.rows_at-rows.result.now c.in-Some.at [] in
+    let one : HasOne (rows_at c.args.ports.now c.args.place.port) words = subst (λ rs. HasOne rs words) c.rows_at-rows.ensures (one_there c.rows_at-rows.result.now c.in-Some.at c.in-Some.ensures.within) in
+    let r : IsRow words = row_among c.args.ports.now c.args.place.port words c.requires.are one in
+    let id : Ufid = record { dir = c.args.place.dir; stack = (parts c.args.frame.now).stack } in
+    (r.row, record { says = r.says; fits = fits_frame words id r c.write_key.ensures.id (c.in-Some.ensures.key ∙ c.write_key.ensures.key) })
 
-pub returns-then-not-is_plain-clause-answered : goal.returns-then-not-is_plain-clause-answered
-returns-then-not-is_plain-clause-answered c x of = has_control (rows_at c.args.ports.now c.args.place.port) x (λ e. c.if-not-is_plain.ensures.back (sym of.control ∙ e))
+pub by_place-requires-clause-made : goal.by_place-requires-clause-made
+by_place-requires-clause-made c =
+    let made = of_port c.args.ports.now c.args.made.now c.args.place.port c.requires.made in
+    subst (λ rs. AreMade rs c.made_at-made.result.now) (sym c.rows_at-rows.ensures) (subst (AreMade (rows_at c.args.ports.now c.args.place.port)) (sym c.made_at-made.ensures) made)
 
-pub returns-in-None-clause-answered : goal.returns-in-None-clause-answered
-returns-in-None-clause-answered c x of =
-    none_of (rows_at c.args.ports.now c.args.place.port) x c.write_key.new.out (c.write_key.ensures.key ∙ ap (λ (i : Ufid). key_words i.dir i.stack) (sym of.id)) (subst (λ rs. HasNone rs c.write_key.new.out) c.rows_at.ensures c.in-None.ensures.none)
+pub find-requires : goal.find-requires
+find-requires c = record { rise = subst Rise (sym c.rows_at-rows.ensures) (rows_rise c.args.ports.now c.args.place.port c.requires.are) }
+
+pub returns-in-None-find-clause-answered : goal.returns-in-None-find-clause-answered
+returns-in-None-find-clause-answered c x of =
+    none_of (rows_at c.args.ports.now c.args.place.port) x c.write_key.new.out (c.write_key.ensures.key ∙ ap (λ (i : Ufid). key_words i.dir i.stack) (sym of.id)) (subst (λ rs. HasNone rs c.write_key.new.out) c.rows_at-rows.ensures c.in-None-find.ensures.none)
 
 pub by_row-requires-clause-row : goal.by_row-requires-clause-row
 by_row-requires-clause-row c =
-    let one : HasOne (rows_at c.args.ports.now c.args.place.port) c.in-Some.words.now = subst (λ rs. HasOne rs c.in-Some.words.now) c.rows_at.ensures c.in-Some.ensures.one in
-    let r : IsRow c.in-Some.words.now = row_among c.args.ports.now c.args.place.port c.in-Some.words.now c.requires.are one in
+    let one : HasOne (rows_at c.args.ports.now c.args.place.port) c.in-Some-find.words.now = subst (λ rs. HasOne rs c.in-Some-find.words.now) c.rows_at-rows.ensures c.in-Some-find.ensures.one in
+    let r : IsRow c.in-Some-find.words.now = row_among c.args.ports.now c.args.place.port c.in-Some-find.words.now c.requires.are one in
     let id : Ufid = record { dir = c.args.place.dir; stack = (parts c.args.frame.now).stack } in
-    (r.row, record { says = r.says; fits = fits_frame c.in-Some.words.now id r c.write_key.ensures.id (c.in-Some.ensures.key ∙ c.write_key.ensures.key) })
+    (r.row, record { says = r.says; fits = fits_frame c.in-Some-find.words.now id r c.write_key.ensures.id (c.in-Some-find.ensures.key ∙ c.write_key.ensures.key) })
 
 pub returns-in-Some-clause-answered : goal.returns-in-Some-clause-answered
 returns-in-Some-clause-answered c x of =
     let rows = rows_at c.args.ports.now c.args.place.port in
-    let one : HasOne rows c.in-Some.words.now = subst (λ rs. HasOne rs c.in-Some.words.now) c.rows_at.ensures c.in-Some.ensures.one in
-    let r : IsRow c.in-Some.words.now = row_among c.args.ports.now c.args.place.port c.in-Some.words.now c.requires.are one in
+    let words = get_or c.rows_at-rows.result.now c.in-Some.at [] in
+    let one : HasOne rows words = subst (λ rs. HasOne rs words) c.rows_at-rows.ensures (one_there c.rows_at-rows.result.now c.in-Some.at c.in-Some.ensures.within) in
+    let r : IsRow words = row_among c.args.ports.now c.args.place.port words c.requires.are one in
     let id : Ufid = record { dir = c.args.place.dir; stack = (parts c.args.frame.now).stack } in
-    let row : SaysRow c.in-Some.words.now r.row (parts c.args.frame.now) = record { says = r.says; fits = fits_frame c.in-Some.words.now id r c.write_key.ensures.id (c.in-Some.ensures.key ∙ c.write_key.ensures.key) } in
-    by_found rows x (parts c.args.frame.now) c.in-Some.words.now c.by_row.new.out c.args.moment id c.by_row.result one r c.write_key.ensures.id (c.in-Some.ensures.key ∙ c.write_key.ensures.key) of.id (of.control ∙ c.if-not-is_plain.ensures.told refl) of.moment_is
+    let row : SaysRow words r.row (parts c.args.frame.now) = record { says = r.says; fits = fits_frame words id r c.write_key.ensures.id (c.in-Some.ensures.key ∙ c.write_key.ensures.key) } in
+    by_found rows x (parts c.args.frame.now) words c.by_place.new.out c.args.moment id c.by_place.result one r c.write_key.ensures.id (c.in-Some.ensures.key ∙ c.write_key.ensures.key) of.id (of.control ∙ c.if-not-is_plain.ensures.told refl) of.moment_is
+    (c.by_place.ensures.early r.row row) (c.by_place.ensures.fate r.row row) (c.by_place.ensures.bytes r.row row) (c.by_place.ensures.late r.row row)
+
+pub returns-in-Some-find-clause-answered : goal.returns-in-Some-find-clause-answered
+returns-in-Some-find-clause-answered c x of =
+    let rows = rows_at c.args.ports.now c.args.place.port in
+    let words = c.in-Some-find.words.now in
+    let one : HasOne rows words = subst (λ rs. HasOne rs words) c.rows_at-rows.ensures c.in-Some-find.ensures.one in
+    let r : IsRow words = row_among c.args.ports.now c.args.place.port words c.requires.are one in
+    let id : Ufid = record { dir = c.args.place.dir; stack = (parts c.args.frame.now).stack } in
+    let row : SaysRow words r.row (parts c.args.frame.now) = record { says = r.says; fits = fits_frame words id r c.write_key.ensures.id (c.in-Some-find.ensures.key ∙ c.write_key.ensures.key) } in
+    by_found rows x (parts c.args.frame.now) words c.by_row.new.out c.args.moment id c.by_row.result one r c.write_key.ensures.id (c.in-Some-find.ensures.key ∙ c.write_key.ensures.key) of.id (of.control ∙ c.if-not-is_plain.ensures.told refl) of.moment_is
     (c.by_row.ensures.early r.row row) (c.by_row.ensures.fate r.row row) (c.by_row.ensures.bytes r.row row) (c.by_row.ensures.late r.row row)

@@ -1,6 +1,9 @@
-use Rattle.std.proofs.Common.{◌≡◌, ℕ, List, length, drop}
+use Rattle.std.proofs.Common.{subst, sym}
+use Rattle.std.specs.Prelude.{IfSome}
 use Rattle.vsw_frame.specs.Frame.{parts}
 use Rattle.vsw_offload.proofs.Giving.{body_is}
+use Rattle.vsw_offload.proofs.Remade.{body_at}
+use Rattle.vsw_offload.specs.Private.Making.{IsMadeOf}
 use Rattle.vsw_offload.proofs.answer.by_row.Goals as goal
 
 pub by_body-requires-clause-body : goal.by_body-requires-clause-body
@@ -17,3 +20,6 @@ returns-in-Some-clause-bytes c r row = c.by_body.ensures.bytes r (body_is c.args
 
 pub returns-in-Some-clause-late : goal.returns-in-Some-clause-late
 returns-in-Some-clause-late c r row = c.by_body.ensures.late r (body_is c.args.words.now c.in-Some.body.now r (parts c.args.frame.now) c.told-words c.in-Some.ensures.cases.1.same row)
+
+pub by_body-requires-clause-made : goal.by_body-requires-clause-made
+by_body-requires-clause-made c = subst (λ b. IfSome c.args.made (λ m. IsMadeOf b m.now (parts c.args.frame.now).stack)) (sym (body_at c.args.words.now c.in-Some.body.now c.told-words c.in-Some.ensures.cases.1.same)) c.requires.made

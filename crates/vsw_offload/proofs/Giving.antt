@@ -1,5 +1,5 @@
 -- What the words of a row's body make of a frame.
-use Rattle.std.proofs.Common.{◌≡◌, ◌≤◌, ◌-◌, ℕ, List, ◌++◌, true, drop, length, ap, subst, sym, ◌∙◌, arith}
+use Rattle.std.proofs.Common.{◌≡◌, ◌≤◌, ◌-◌, ℕ, List, true, drop, length, ap, subst, sym, ◌∙◌, arith}
 use Rattle.vsw_base.specs.declared.header.Header.{Header}
 use Rattle.vsw_base.specs.Shape.{encaps, is_stack}
 use Rattle.vsw_frame.proofs.Fitting.{fits_edit}

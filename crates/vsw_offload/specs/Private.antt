@@ -3,3 +3,4 @@ pub mod Writing
 pub mod Finding
 pub mod Saying
 pub mod Making
+pub mod Noting

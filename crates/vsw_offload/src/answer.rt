@@ -14,6 +14,7 @@ ghost use Rattle.vsw_frame.specs.Tiles.{outermost};
 ghost use Rattle.vsw_offload.specs.Answered as spec;
 ghost use Rattle.vsw_offload.specs.Answered.{Answered, IsPacketOf, bytes_by, bytes_given, bytes_told, fate_by, fate_given, passed};
 ghost use Rattle.vsw_offload.specs.Private.Making.{AllMade, AreMade, IsMadeOf};
+ghost use Rattle.vsw_offload.specs.Private.Noting.{AllNoted};
 ghost use Rattle.vsw_offload.specs.Private.Saying.{SaysOf, SaysRow, bytes_with};
 ghost use Rattle.vsw_offload.specs.Rows.{AreRows, key_of};
 ghost use Rattle.vsw_rows.specs.Good.{Row};
@@ -213,6 +214,7 @@ fn is_edited_first(words: &[u64; 57]) -> bool {
 }
 
 /// A frame passes as the acts of the words make it.
+#[inline(always)]
 fn pass(
     words: &[u64; 57],
     made: Option<&Stack>,
@@ -240,6 +242,7 @@ fn pass(
 }
 
 /// What the words of a row's body make of a frame. Where it passes edited, its bytes stand at the front of the room.
+#[inline(always)]
 fn given_by(
     words: &[u64; 57],
     made: Option<&Stack>,
@@ -280,6 +283,7 @@ fn given_by(
 }
 
 /// What the words of a row's body answer a frame up to their until.
+#[inline(always)]
 fn by_body(
     words: &[u64; 57],
     made: Option<&Stack>,
@@ -304,6 +308,7 @@ fn by_body(
 }
 
 /// What a row of a frame's identity answers it.
+#[inline(always)]
 fn by_row(
     words: &[u64; 73],
     made: Option<&Stack>,
@@ -373,6 +378,8 @@ pub(crate) fn answer(
 ) -> Option<Given>
     requires are { AreRows ports.now }
     requires made { AllMade ports.now made.now }
+    requires slots { 8 ≤ guesses.now.slots }
+    requires noted { AllNoted guesses.now.places.items guesses.now.slots ports.now }
     requires room { length out.old ≡ 65700 }
     ensures answered { (x : Crossing) → IsPacketOf x place (parts frame.now) moment → Answered (spec.rows_at ports.now place.port) x (parts frame.now) (fate_given result) (bytes_given (parts frame.now) result out.new) }
     ensures own { IfSome result (λ g. g.own ≡ true → g.fate ≡ fate.Pass (length (outermost (parts frame.now).levels))) }
@@ -382,7 +389,11 @@ pub(crate) fn answer(
     }
     write_key(place.dir, frame, &mut room.id, &mut room.key);
     let rows = rows_at(ports, place.port);
-    match guessed(rows, guesses, &room.key) {
+    let slot = guesses.slot(&room.key);
+    if guesses.is_free(slot) {
+        return None;
+    }
+    match guessed(rows, guesses, slot, &room.key) {
         Some(at) => {
             let made = made_at(made, place.port);
             by_place(rows, made, at, frame, moment, &mut room.edited, out)

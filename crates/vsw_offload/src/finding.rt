@@ -71,11 +71,16 @@ fn is_at(rows: &[[u64; 73]], place: usize, key: &[u64; 16]) -> bool
 
 /// The place of the row of a key, if one of the guesses is right.
 #[inline(always)]
-pub(crate) fn guessed(rows: &[[u64; 73]], guesses: &Guesses, key: &[u64; 16]) -> Option<usize>
+pub(crate) fn guessed(
+    rows: &[[u64; 73]],
+    guesses: &Guesses,
+    slot: u32,
+    key: &[u64; 16],
+) -> Option<usize>
     ensures within { IfSome result (λ place. place < length rows.now) }
     ensures key { IfSome result (λ place. key_of (get_or rows.now place []) ≡ key.now) }
 {
-    let (first, next) = guesses.of_key(key);
+    let (first, next) = guesses.at(slot);
     if is_at(rows, first, key) {
         return Some(first);
     }

@@ -1,23 +1,23 @@
-//! Guesses of where rows stand. A guess is tried before a row is looked for, so none has to be right.
+//! Guesses of where rows stand. A guess is tried before a row is looked for, so none has to be right. But where nothing is noted there is no row.
+
+ghost use Rattle.std.specs.Prelude.{◌≡◌, ◌<◌, ◌≤◌, IfOk, length, true, false};
+ghost use Rattle.vsw_offload.specs.Private.Noting.{AllNoted, AreNoted, Keeps, is_taken};
+ghost use Rattle.vsw_offload.specs.Rows.{key_of};
+ghost use Rattle.vsw_words.specs.Slot as spec;
 
 use crate::port_rows::PortRows;
 use std::alloc::Global;
 use vsw_base::NoMemory;
+use vsw_words::slot_of;
 
-/// Slots for each row: with so many most rows have one of their own.
-const SPREAD: usize = 4;
-
-/// 2^64 over the golden ratio, an odd number (Knuth, The Art of Computer Programming, 6.4).
-const GOLDEN: u64 = 0x9e37_79b9_7f4a_7c15;
-
-/// What stands in a slot of no row. Rows of a port are fewer.
+/// What stands in a free slot. Rows of a port are fewer.
 const NONE: u32 = u32::MAX;
 
 /// Places of rows, those of each port counted from 0, in the slots of their keys or in the ones behind.
 #[derive(Drop)]
 pub(crate) struct Guesses {
-    places: Vec<u32>,
-    slots: u32,
+    pub places: Vec<u32>,
+    pub slots: u32,
 }
 
 /// How many rows all ports have.
@@ -29,54 +29,20 @@ fn count(ports: &[PortRows]) -> usize {
     count
 }
 
-/// A hash with a word more.
-#[inline(always)]
-fn mixed(hash: u64, word: u64) -> u64 {
-    (hash.rotate_left(23) ^ word).wrapping_mul(GOLDEN)
-}
-
-/// The slot of a key. Words that are 0 in a frame without encapsulation are put together.
-#[inline(always)]
-fn slot_of(key: &[u64; 16], slots: u32) -> u32 {
-    let hash = mixed(key[0], key[8]);
-    let hash = mixed(hash, key[2] ^ key[11] ^ key[12]);
-    let hash = mixed(hash, key[3] ^ key[13] ^ key[14]);
-    let rest = key[1] ^ key[4] ^ key[5] ^ key[6] ^ key[7] ^ key[9] ^ key[10];
-    let hash = mixed(hash, rest);
-    ((hash >> 32) * u64::from(slots) >> 32) as u32
-}
-
-/// Notes the place of a row, unless others took its slot and the one behind.
-fn note(places: &mut Vec<u32>, slots: u32, row: &[u64; 73], place: u32) {
-    let Some(key) = row.first_chunk::<16>() else {
-        return;
-    };
-    let slot = slot_of(key, slots) as usize;
-    if !put(places, slot, place) {
-        let _ = put(places, slot + 1, place);
+/// Slots for so many rows: with eight for each most of them have their own, and most other keys find theirs free.
+fn slots_for(rows: usize) -> u32
+    ensures { 8 ≤ result }
+{
+    if rows >= 1 << 27 {
+        return 1 << 30;
     }
-}
-
-/// Puts a place into a slot, if there is such a slot and it is free.
-fn put(places: &mut Vec<u32>, slot: usize, place: u32) -> bool {
-    if slot < places.len() && places[slot] == NONE {
-        places[slot] = place;
-        return true;
-    }
-    false
-}
-
-/// Notes the places of a port's rows.
-fn note_all(places: &mut Vec<u32>, slots: u32, rows: &[[u64; 73]]) {
-    let mut place: u32 = 0;
-    for row in rows {
-        note(places, slots, row, place);
-        place = place.saturating_add(1);
-    }
+    (8 * rows + 8) as u32
 }
 
 /// Free slots.
-fn free(alloc: Global, slots: u32) -> Result<Vec<u32>, NoMemory> {
+fn free(alloc: Global, slots: u32) -> Result<Vec<u32>, NoMemory>
+    ensures { IfOk result (λ places. length places.items ≡ slots) }
+{
     let mut places = Vec::new(alloc);
     match places.resize(slots as usize, NONE) {
         Ok(()) => Ok(places),
@@ -84,25 +50,70 @@ fn free(alloc: Global, slots: u32) -> Result<Vec<u32>, NoMemory> {
     }
 }
 
-impl Guesses {
-    /// Guesses for the rows of these ports.
-    pub fn of(alloc: Global, ports: &[PortRows]) -> Result<Guesses, NoMemory> {
-        let slots = count(ports).saturating_mul(SPREAD).min(1 << 30) as u32;
-        let mut places = free(alloc, slots)?;
-        for port in ports {
-            note_all(&mut places, slots, port.rows.as_slice());
-        }
-        Ok(Guesses { places, slots })
+/// Notes a place in a slot, if it is free.
+fn put(places: &mut Vec<u32>, slot: usize, place: u32) -> bool
+    requires within { slot < length places.old.items }
+    requires place { place < 4294967295 }
+    ensures taken { is_taken places.new.items slot ≡ true }
+    ensures kept { Keeps places.old.items places.new.items }
+    ensures long { length places.new.items ≡ length places.old.items }
+{
+    if places[slot] != NONE {
+        return false;
     }
+    places[slot] = place;
+    true
+}
 
-    /// Two places at which a row of the key may stand.
-    #[inline(always)]
-    pub fn of_key(&self, key: &[u64; 16]) -> (usize, usize) {
-        let slot = slot_of(key, self.slots) as usize;
-        (
-            place_in(&self.places, slot),
-            place_in(&self.places, slot + 1),
-        )
+/// The same, if there is such a slot.
+fn put_next(places: &mut Vec<u32>, slot: usize, place: u32)
+    requires place { place < 4294967295 }
+    ensures kept { Keeps places.old.items places.new.items }
+    ensures long { length places.new.items ≡ length places.old.items }
+{
+    if slot < places.len() {
+        let _ = put(places, slot, place);
+    }
+}
+
+/// Notes the place of a row, in its slot or the one behind.
+fn note(places: &mut Vec<u32>, slots: u32, row: &[u64; 73], place: u32)
+    requires slots { 8 ≤ slots }
+    requires long { length places.old.items ≡ slots }
+    requires place { place < 4294967295 }
+    ensures taken { is_taken places.new.items (spec.slot (key_of row.now) slots) ≡ true }
+    ensures kept { Keeps places.old.items places.new.items }
+    ensures long { length places.new.items ≡ length places.old.items }
+{
+    let Some(key) = row.first_chunk::<16>() else {
+        return;
+    };
+    let slot = slot_of(key, slots);
+    if !put(places, slot as usize, place) {
+        put_next(places, slot as usize + 1, place);
+    }
+}
+
+/// The next place. Behind the last one that can be noted it is the same.
+fn after(place: u32) -> u32
+    requires { place < 4294967295 }
+    ensures { result < 4294967295 }
+{
+    if place < NONE - 1 { place + 1 } else { place }
+}
+
+/// Notes the places of a port's rows.
+fn note_all(places: &mut Vec<u32>, slots: u32, rows: &[[u64; 73]])
+    requires slots { 8 ≤ slots }
+    requires long { length places.old.items ≡ slots }
+    ensures noted { AreNoted places.new.items slots rows.now }
+    ensures kept { Keeps places.old.items places.new.items }
+    ensures long { length places.new.items ≡ length places.old.items }
+{
+    let mut place: u32 = 0;
+    for row in rows {
+        note(places, slots, row, place);
+        place = after(place);
     }
 }
 
@@ -112,5 +123,49 @@ fn place_in(places: &[u32], slot: usize) -> usize {
     match places.get(slot) {
         Some(place) => *place as usize,
         None => usize::MAX,
+    }
+}
+
+impl Guesses {
+    /// Guesses for the rows of these ports.
+    pub fn of(alloc: Global, ports: &[PortRows]) -> Result<Guesses, NoMemory>
+        ensures slots { IfOk result (λ g. 8 ≤ g.slots) }
+        ensures noted { IfOk result (λ g. AllNoted g.places.items g.slots ports.now) }
+    {
+        let slots = slots_for(count(ports));
+        let mut places = free(alloc, slots)?;
+        for port in ports {
+            note_all(&mut places, slots, port.rows.as_slice());
+        }
+        Ok(Guesses { places, slots })
+    }
+
+    /// The slot of a key.
+    #[inline(always)]
+    pub fn slot(&self, key: &[u64; 16]) -> u32
+        requires { 8 ≤ self.now.slots }
+        ensures { result ≡ spec.slot key.now self.now.slots }
+    {
+        slot_of(key, self.slots)
+    }
+
+    /// Whether nothing is noted in a slot.
+    #[inline(always)]
+    pub fn is_free(&self, slot: u32) -> bool
+        ensures { result ≡ true → is_taken self.now.places.items slot ≡ false }
+    {
+        match self.places.get(slot as usize) {
+            Some(place) => *place == NONE,
+            None => false,
+        }
+    }
+
+    /// Two places at which a row of the slot's key may stand.
+    #[inline(always)]
+    pub fn at(&self, slot: u32) -> (usize, usize) {
+        (
+            place_in(&self.places, slot as usize),
+            place_in(&self.places, slot as usize + 1),
+        )
     }
 }

@@ -38,8 +38,9 @@ pub struct Rows {
 }
 
 impl Model for Rows {
-    ghost use Rattle.std.specs.Prelude.{◌≡◌, List};
+    ghost use Rattle.std.specs.Prelude.{◌≡◌, ◌≤◌, List};
     ghost use Rattle.vsw_offload.specs.Private.Making.{AllMade};
+    ghost use Rattle.vsw_offload.specs.Private.Noting.{AllNoted};
     ghost use Rattle.vsw_offload.specs.Rows.{AreRows, macs_of, numbers_of};
     ghost use Rattle.vsw_offload.specs.declared.port_rows.PortRows.{PortRows};
 
@@ -47,7 +48,7 @@ impl Model for Rows {
 
     ghost view = { λ s. s.ports };
 
-    ghost invariant = { λ s. AreRows s.ports × (s.macs ≡ macs_of s.ports) × (s.numbers ≡ numbers_of s.ports) × AllMade s.ports s.made };
+    ghost invariant = { λ s. AreRows s.ports × (s.macs ≡ macs_of s.ports) × (s.numbers ≡ numbers_of s.ports) × AllMade s.ports s.made × (8 ≤ s.guesses.slots) × AllNoted s.guesses.places.items s.guesses.slots s.ports };
 }
 
 /// The addresses of ports, in their order.

@@ -3,15 +3,24 @@ use Rattle.std.specs.Prelude.{[]}
 use Rattle.vsw_base.specs.declared.flow.Ufid.{Ufid}
 use Rattle.vsw_frame.specs.Frame.{parts}
 use Rattle.vsw_offload.specs.Private.Finding.{HasNone, HasOne}
-use Rattle.vsw_offload.specs.Private.Making.{AreMade, made_at}
+use Rattle.vsw_offload.specs.Private.Making.{AreMade}
 use Rattle.vsw_offload.specs.Private.Saying.{SaysRow}
 use Rattle.vsw_offload.specs.Answered.{rows_at}
 use Rattle.vsw_offload.specs.Rows.{IsRow, Rise}
 use Rattle.vsw_offload.proofs.ByRow.{by_found, fits_frame, none_of, row_among, rows_rise}
 use Rattle.vsw_offload.proofs.Found.{one_there}
+use Rattle.vsw_offload.proofs.Noted.{free_none, noted_at}
 use Rattle.vsw_offload.proofs.Remade.{of_port}
+use Rattle.vsw_offload.specs.Private.Noting.{is_taken}
 use Rattle.vsw_words.specs.Key.{key_words}
 use Rattle.vsw_offload.proofs.answer.answer.Goals as goal
+
+pub returns-then-is_free-clause-answered : goal.returns-then-is_free-clause-answered
+returns-then-is_free-clause-answered c x of =
+    let g = c.args.guesses.now in
+    let rows = rows_at c.args.ports.now c.args.place.port in
+    let free = ap (is_taken g.places.items) (sym c.slot-slot.ensures) ∙ c.if-is_free.ensures refl in
+    none_of rows x c.write_key.new.out (c.write_key.ensures.key ∙ ap (λ (i : Ufid). key_words i.dir i.stack) (sym of.id)) (free_none g.places.items g.slots rows c.write_key.new.out (noted_at g.places.items g.slots c.args.ports.now c.args.place.port c.requires.noted) free)
 
 pub by_place-requires-clause-row : goal.by_place-requires-clause-row
 by_place-requires-clause-row c =

@@ -39,7 +39,7 @@ pauses_of : (bytes : List ℕ) (all : List Record) → IsPassed bytes all → le
 pauses_of bytes all p few (inl short) = absurd (omega (arith, short.0, accepted_long bytes p.form p.header))
 pauses_of bytes all p few (inr w) = record { at = w.0; stops = w.1; few = omega (arith, few); last = λ e. absurd (omega (arith, e, few)) }
 
-pub shows_of : (start now : Outside) (name : List ℕ) (r : Reading) (bytes : List ℕ) (all : List Record) (first : ℕ) (st : Stop) → IsPassed bytes all → IsRead start now name r bytes all → length all ≡ first + length r.batch → first + 256 ≤ most_records → Says start now name r bytes all 256 st → ShowsStop start now name r bytes all first st
+pub shows_of : (start now : Outside) (name : List ℕ) (r : Reading) (bytes : List ℕ) (all : List Record) (first : ℕ) (st : Stop) → IsPassed bytes all → IsRead start now name r bytes all → length all ≡ first + length r.batch → first + 64 ≤ most_records → Says start now name r bytes all 64 st → ShowsStop start now name r bytes all first st
 shows_of start now name r bytes all first stop.Full p h size few says = (h, omega (arith, size, says), few)
 shows_of start now name r bytes all first stop.End p h size few says = (says.1, says.2, omega (arith, says.0, size, few))
 shows_of start now name r bytes all first stop.Fault p h size few says = (says.1, pauses_of bytes all p (omega (arith, says.0, size, few)) says.2)
@@ -82,7 +82,7 @@ bad_ends ports start now name file bytes all (Huge at) r p whole c few told = en
 
 -- ---- after the lines of a batch
 
-pub put_full : (ports : List PortRows) (start now : Outside) (name : List ℕ) (r : Reading) (first : ℕ) → IsPut ports start now name r first stop.Full → IsBetween ports start now name r (first + 256)
+pub put_full : (ports : List PortRows) (start now : Outside) (name : List ℕ) (r : Reading) (first : ℕ) → IsPut ports start now name r first stop.Full → IsBetween ports start now name r (first + 64)
 put_full ports start now name r first p =
     let s = p.at.shows in
     record { bytes = p.at.bytes; given = p.all; read = s.0; some = omega (arith, s.1); count = s.1; puts = p.at.puts }
@@ -155,10 +155,10 @@ batch_unwritten ports start now name r first st f = memory_ends ports start now 
 -- ---- the next batch
 
 -- behind whole batches, fewer records than a trace may have: there is room for one batch more
-pub room_for : (first k : ℕ) → first ≡ 256 * k → first ≤ 1048576 → (first ≡ 1048576 → ⊥) → first + 256 ≤ most_records
-room_for first k is few other = by (first + 256 - most_records) refl
+pub room_for : (first k : ℕ) → first ≡ 64 * k → first ≤ 1048576 → (first ≡ 1048576 → ⊥) → first + 64 ≤ most_records
+room_for first k is few other = by (first + 64 - most_records) refl
   where
-    by : (over : ℕ) → first + 256 - most_records ≡ over → first + 256 ≤ most_records
+    by : (over : ℕ) → first + 64 - most_records ≡ over → first + 64 ≤ most_records
     by zero e = omega (arith, e)
     by (suc n) e = absurd (omega (arith, e, is, few, other))
 
@@ -170,7 +170,7 @@ filled ports start old now name first st q r bytes b outputs reading passed show
   at = record { bytes = bytes; reading = reading; passed = passed; shows = shows; puts = told_read ports start old now b.given outputs b.puts };
 }
 
-pub next_filled : (ports : List PortRows) (start old now : Outside) (name : List ℕ) (first : ℕ) (st : Stop) (q r : Reading) → first + 256 ≤ most_records → SameOutputs old now → FillsSo old now (cleared q) r 256 (Ok st) → IsBetween ports start old name q first → IsFilled ports start now name r first st
+pub next_filled : (ports : List PortRows) (start old now : Outside) (name : List ℕ) (first : ℕ) (st : Stop) (q r : Reading) → first + 64 ≤ most_records → SameOutputs old now → FillsSo old now (cleared q) r 64 (Ok st) → IsBetween ports start old name q first → IsFilled ports start now name r first st
 next_filled ports start old now name first st q r few outputs fills b =
     let f = fills start name b.given (holds_cleared start old name q b.bytes b.given b.read) in
     let all : List Record = b.given ++ r.batch in
@@ -178,7 +178,7 @@ next_filled ports start old now name first st q r few outputs fills b =
     let passed = passed_read r.reader f.bytes all (omega (arith, total, b.some)) f.read.stands in
     filled ports start old now name first st q r f.bytes b outputs f.read.reading passed (shows_of start now name r f.bytes all first st passed f.read (omega (arith, total, b.count)) few f.says)
 
-pub next_unfilled : (ports : List PortRows) (start old now : Outside) (name : List ℕ) (first : ℕ) (e : NoMemory) (q r : Reading) → SameOutputs old now → FillsSo old now (cleared q) r 256 (Err e) → IsBetween ports start old name q first → AnswersTrace ports start now name ending.Memory
+pub next_unfilled : (ports : List PortRows) (start old now : Outside) (name : List ℕ) (first : ℕ) (e : NoMemory) (q r : Reading) → SameOutputs old now → FillsSo old now (cleared q) r 64 (Err e) → IsBetween ports start old name q first → AnswersTrace ports start now name ending.Memory
 next_unfilled ports start old now name first e q r outputs fills b =
     let f = fills start name b.given (holds_cleared start old name q b.bytes b.given b.read) in
     let all : List Record = b.given ++ r.batch in
@@ -245,18 +245,18 @@ small start now name r bytes all most stop.End says = omega (arith, says.0)
 small start now name r bytes all most stop.Fault says = omega (arith, says.0)
 small start now name r bytes all most (stop.Bad bad) says = omega (arith, says.0)
 
-pub near_filled : (old now : Outside) (from r : Reading) (first : ℕ) (st : Stop) → (k : ℕ) × (first ≡ 256 * k) → first + 256 ≤ most_records → IsOpen old from → FillsSo old now from r 256 (Ok st) → IsNear now r first st
+pub near_filled : (old now : Outside) (from r : Reading) (first : ℕ) (st : Stop) → (k : ℕ) × (first ≡ 64 * k) → first + 64 ≤ most_records → IsOpen old from → FillsSo old now from r 64 (Ok st) → IsNear now r first st
 near_filled old now from r first st whole few o fills =
     let f = fills o.start o.name o.given o.reads in
-    record { low = omega (arith, few); whole = whole; size = small o.start now o.name r f.bytes (o.given ++ r.batch) 256 st f.says; goes = by st f }
+    record { low = omega (arith, few); whole = whole; size = small o.start now o.name r f.bytes (o.given ++ r.batch) 64 st f.says; goes = by st f }
   where
-    by : (st : Stop) → StopsSo o.start now o.name r o.given 256 st → CanRead now r first st
+    by : (st : Stop) → StopsSo o.start now o.name r o.given 64 st → CanRead now r first st
     by stop.Full f = (record { start = o.start; name = o.name; given = o.given; reads = record { bytes = f.bytes; read = f.read } }, few)
     by stop.End f = tt
     by stop.Fault f = tt
     by (stop.Bad bad) f = tt
 
-pub near_none : (now : Outside) (r : Reading) (first : ℕ) (st : Stop) → (k : ℕ) × (first ≡ 256 * k) → first ≡ 1048576 → r.batch ≡ [] → (st ≡ stop.Full → ⊥) → IsNear now r first st
+pub near_none : (now : Outside) (r : Reading) (first : ℕ) (st : Stop) → (k : ℕ) × (first ≡ 64 * k) → first ≡ 1048576 → r.batch ≡ [] → (st ≡ stop.Full → ⊥) → IsNear now r first st
 near_none now r first st whole full none other = record { low = omega (arith, full); whole = whole; size = omega (arith, ap length none); goes = by st other }
   where
     by : (st : Stop) → (st ≡ stop.Full → ⊥) → CanRead now r first st
@@ -266,7 +266,7 @@ near_none now r first st whole full none other = record { low = omega (arith, fu
     by (stop.Bad bad) other = tt
 
 -- the next batch begins behind this one
-pub open_next : (old now : Outside) (r : Reading) (first : ℕ) (st : Stop) → st ≡ stop.Full → SameInputs old now → IsNear old r first st → IsOpen now r × (first + 256 ≤ 1048576) × ((k : ℕ) × (first + 256 ≡ 256 * k))
+pub open_next : (old now : Outside) (r : Reading) (first : ℕ) (st : Stop) → st ≡ stop.Full → SameInputs old now → IsNear old r first st → IsOpen now r × (first + 64 ≤ 1048576) × ((k : ℕ) × (first + 64 ≡ 64 * k))
 open_next old now r first st is same h =
     let n : IsNear now r first stop.Full = subst (IsNear now r first) is (near_put old now r first st same h) in
     (n.goes.0, n.goes.1, (n.whole.0 + 1, omega (arith, n.whole.1)))

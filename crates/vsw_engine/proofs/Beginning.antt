@@ -52,7 +52,7 @@ bad_passed bytes all (Cut at) seen c e = record { form = c.0.form; rest = c.0.re
 bad_passed bytes all (Huge at) seen c e = record { form = c.form; rest = c.rest; header = c.header; splits = c.splits }
 
 -- the first batch
-headed : (start now : Outside) (name : List ℕ) (r : Reading) (bytes : List ℕ) (st : Stop) → IsRead start now name r bytes r.batch → Says start now name r bytes r.batch 256 st → unheaded_of st r.seen ≡ None → IsPassed bytes r.batch
+headed : (start now : Outside) (name : List ℕ) (r : Reading) (bytes : List ℕ) (st : Stop) → IsRead start now name r bytes r.batch → Says start now name r bytes r.batch 64 st → unheaded_of st r.seen ≡ None → IsPassed bytes r.batch
 headed start now name r bytes stop.Full h says e = passed_read r.reader bytes r.batch (omega (arith, says)) h.stands
 headed start now name r bytes stop.End h says e = record { form = says.2.0; rest = []; header = says.2.1; splits = says.2.2 }
 headed start now name r bytes stop.Fault h says e = waits_passed bytes r.batch (omega (arith, less_seen r.seen e, h.seen)) says.2
@@ -135,7 +135,7 @@ bad_ends ports start now name r bytes all LinkType e since h g c d i =
 bad_ends ports start now name r bytes all (Cut at) e since h g c d i = absurd (cc i)
 bad_ends ports start now name r bytes all (Huge at) e since h g c d i = absurd (cc i)
 
-unheaded_ends : (ports : List PortRows) (start now : Outside) (name : List ℕ) (r : Reading) (bytes : List ℕ) (st : Stop) (e : Ending) → Since start now → IsRead start now name r bytes r.batch → Grows start.put now.put [] → Says start now name r bytes r.batch 256 st → unheaded_of st r.seen ≡ Some e → AnswersTrace ports start now name e
+unheaded_ends : (ports : List PortRows) (start now : Outside) (name : List ℕ) (r : Reading) (bytes : List ℕ) (st : Stop) (e : Ending) → Since start now → IsRead start now name r bytes r.batch → Grows start.put now.put [] → Says start now name r bytes r.batch 64 st → unheaded_of st r.seen ≡ Some e → AnswersTrace ports start now name e
 unheaded_ends ports start now name r bytes stop.Full e since h g says i = absurd (cc i)
 unheaded_ends ports start now name r bytes stop.End e since h g says i = absurd (cc i)
 unheaded_ends ports start now name r bytes stop.Fault e since h g says i = fault_ends ports start now name r.source.file bytes r.seen e since h.reading g says.1 h.seen (nat_lt r.seen 24) refl i
@@ -149,14 +149,14 @@ head_none ports start now name r st e i f = unheaded_ends ports start now name r
 opened_holds : (start now : Outside) (name : List ℕ) (r : Reading) → IsOpened start now name r → Holds start now name r []
 opened_holds start now name r o = record { bytes = []; read = subst (λ (w : List Record). IsRead start now name r [] w) (sym o.batch) o.read }
 
-pub first_filled : (start old now : Outside) (name : List ℕ) (q r : Reading) (st : Stop) → SameOutputs old now → FillsSo old now q r 256 (Ok st) → IsOpened start old name q → IsFirst start now name r st
+pub first_filled : (start old now : Outside) (name : List ℕ) (q r : Reading) (st : Stop) → SameOutputs old now → FillsSo old now q r 64 (Ok st) → IsOpened start old name q → IsFirst start now name r st
 first_filled start old now name q r st outputs fills o = record {
   since = since_read start old now o.since outputs;
   stops = fills start name [] (opened_holds start old name q o);
   puts = grows_read start old now [] outputs o.puts;
 }
 
-pub first_unfilled : (ports : List PortRows) (start old now : Outside) (name : List ℕ) (q r : Reading) (e : NoMemory) → SameOutputs old now → FillsSo old now q r 256 (Err e) → IsOpened start old name q → AnswersTrace ports start now name ending.Memory
+pub first_unfilled : (ports : List PortRows) (start old now : Outside) (name : List ℕ) (q r : Reading) (e : NoMemory) → SameOutputs old now → FillsSo old now q r 64 (Err e) → IsOpened start old name q → AnswersTrace ports start now name ending.Memory
 first_unfilled ports start old now name q r e outputs fills o =
     let f = fills start name [] (opened_holds start old name q o) in
     let bytes : List ℕ = f.bytes ++ f.more in

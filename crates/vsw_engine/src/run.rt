@@ -18,7 +18,7 @@ use vsw_reading::{HEADER_LEN, Reading, Stop, begin_reading, fill, peek};
 use vsw_run::Ending;
 
 /// Records of a batch. The lines of so many are in memory at a time.
-const BATCH: u32 = 256;
+const BATCH: u32 = 64;
 
 /// The most records of a trace.
 const RECORDS_MOST: u32 = 1_048_576;
@@ -61,7 +61,7 @@ fn put_batch<H: Host>(
 fn read_next<H: Host>(host: &mut H, reading: &mut Reading, first: u32) -> Result<Stop, Ending>
     requires near { IsOpen (H.outside host.old) reading.old }
     requires few { first ≤ 1048576 }
-    requires whole { (k : ℕ) × (first ≡ 256 * k) }
+    requires whole { (k : ℕ) × (first ≡ 64 * k) }
     ensures goes { (ports : List PortRows) (start : Outside) (name : List ℕ) → IsBetween ports start (H.outside host.old) name reading.old first → GoesOn ports start (H.outside host.new) name reading.new first result }
     ensures near { IfOk result (λ stop. IsNear (H.outside host.new) reading.new first stop) }
 {
@@ -89,8 +89,8 @@ fn run_batch<H: Host>(
 ) -> Result<Stop, Ending>
     requires near { IsNear (H.outside host.old) reading.old first stop }
     requires room { length desk.old.out.items ≡ 65700 }
-    ensures goes { (start : Outside) (name : List ℕ) → IsFilled rows.now start (H.outside host.old) name reading.old first stop → GoesOn rows.now start (H.outside host.new) name reading.new (first + 256) result }
-    ensures near { IfOk result (λ next. IsNear (H.outside host.new) reading.new (first + 256) next) }
+    ensures goes { (start : Outside) (name : List ℕ) → IsFilled rows.now start (H.outside host.old) name reading.old first stop → GoesOn rows.now start (H.outside host.new) name reading.new (first + 64) result }
+    ensures near { IfOk result (λ next. IsNear (H.outside host.new) reading.new (first + 64) next) }
     ensures room { length desk.new.out.items ≡ 65700 }
 {
     match put_batch(host, rows, reading, desk, first, stop) {

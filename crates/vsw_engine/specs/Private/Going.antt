@@ -39,7 +39,7 @@ IsShown start now name bytes bad = (at : ℕ) → bad ≡ Cut at → ReadsAll st
 
 -- what shows why the reading stopped after all of these records, of which those before the batch are so many
 abbrev pub ShowsStop : Outside → Outside → List ℕ → Reading → List ℕ → List Record → ℕ → Stop → Type 0
-ShowsStop start now name r bytes all first stop.Full = IsRead start now name r bytes all × (length all ≡ first + 256) × (first + 256 ≤ most_records)
+ShowsStop start now name r bytes all first stop.Full = IsRead start now name r bytes all × (length all ≡ first + 64) × (first + 64 ≤ most_records)
 ShowsStop start now name r bytes all first stop.End = ReadsAll start.inputs now.inputs name bytes × IsCapture bytes all None × (length all ≤ most_records)
 ShowsStop start now name r bytes all first stop.Fault = Rose start.input_faults now.input_faults × Pauses bytes all
 ShowsStop start now name r bytes all first (stop.Bad bad) = IsShown start now name bytes bad × IsCapture bytes all (Some bad) × (length all < most_records)
@@ -91,7 +91,7 @@ pub record IsOpened (start now : Outside) (name : List ℕ) (r : Reading) : Type
 -- its first batch was read, and nothing put
 pub record IsFirst (start now : Outside) (name : List ℕ) (r : Reading) (st : Stop) : Type 0 where
   pub since : Since start now
-  pub stops : StopsSo start now name r [] 256 st
+  pub stops : StopsSo start now name r [] 64 st
   pub puts : Grows start.put now.put []
 
 -- how a run ends whose first batch stopped before a header was accepted, where so many bytes were read, counted up to 24
@@ -107,7 +107,7 @@ unheaded_of (stop.Bad (Huge at)) seen = None
 
 -- a full batch is followed by another, for which the trace can be read on
 abbrev pub CanRead : Outside → Reading → ℕ → Stop → Type 0
-CanRead now r first stop.Full = IsOpen now r × (first + 256 ≤ most_records)
+CanRead now r first stop.Full = IsOpen now r × (first + 64 ≤ most_records)
 CanRead now r first stop.End = Unit {0}
 CanRead now r first stop.Fault = Unit {0}
 CanRead now r first (stop.Bad bad) = Unit {0}
@@ -115,6 +115,6 @@ CanRead now r first (stop.Bad bad) = Unit {0}
 -- a batch that was read
 pub record IsNear (now : Outside) (r : Reading) (first : ℕ) (st : Stop) : Type 0 where
   pub low : first ≤ most_records
-  pub whole : (k : ℕ) × (first ≡ 256 * k)
-  pub size : length r.batch ≤ 256
+  pub whole : (k : ℕ) × (first ≡ 64 * k)
+  pub size : length r.batch ≤ 64
   pub goes : CanRead now r first st

@@ -32,18 +32,18 @@ returns-in-Ok-clause-goes g c = λ ports start name b.
     let old = g.H.Host.outside c.args.host.now in
     let now = g.H.Host.outside c.fill.new.host in
     let r = c.args.reading.now in
-    next_filled ports start old now name c.args.first c.in-Ok.stop r c.fill.new.reading (room_for c.args.first c.requires.whole.0 c.requires.whole.1 c.requires.few c.if-first-eq-RECORDS_MOST.false) c.fill.ensures.outputs (fills_with old now r c.fill.new.reading c.clear.new.self 256 (Ok c.in-Ok.stop) c.clear.ensures c.in-Ok.ensures.fills) b
+    next_filled ports start old now name c.args.first c.in-Ok.stop r c.fill.new.reading (room_for c.args.first c.requires.whole.0 c.requires.whole.1 c.requires.few c.if-first-eq-RECORDS_MOST.false) c.fill.ensures.outputs (fills_with old now r c.fill.new.reading c.clear.new.self 64 (Ok c.in-Ok.stop) c.clear.ensures c.in-Ok.ensures.fills) b
 
 pub returns-in-Ok-clause-near : goal.returns-in-Ok-clause-near
 returns-in-Ok-clause-near g c =
     let old = g.H.Host.outside c.args.host.now in
     let now = g.H.Host.outside c.fill.new.host in
     let r = c.args.reading.now in
-    near_filled old now (cleared r) c.fill.new.reading c.args.first c.in-Ok.stop c.requires.whole (room_for c.args.first c.requires.whole.0 c.requires.whole.1 c.requires.few c.if-first-eq-RECORDS_MOST.false) (open_cleared old r c.requires.near) (fills_with old now r c.fill.new.reading c.clear.new.self 256 (Ok c.in-Ok.stop) c.clear.ensures c.in-Ok.ensures.fills)
+    near_filled old now (cleared r) c.fill.new.reading c.args.first c.in-Ok.stop c.requires.whole (room_for c.args.first c.requires.whole.0 c.requires.whole.1 c.requires.few c.if-first-eq-RECORDS_MOST.false) (open_cleared old r c.requires.near) (fills_with old now r c.fill.new.reading c.clear.new.self 64 (Ok c.in-Ok.stop) c.clear.ensures c.in-Ok.ensures.fills)
 
 pub returns-in-Err-clause-goes : goal.returns-in-Err-clause-goes
 returns-in-Err-clause-goes g c = λ ports start name b.
     let old = g.H.Host.outside c.args.host.now in
     let now = g.H.Host.outside c.fill.new.host in
     let r = c.args.reading.now in
-    next_unfilled ports start old now name c.args.first _ r c.fill.new.reading c.fill.ensures.outputs (fills_with old now r c.fill.new.reading c.clear.new.self 256 (Err _) c.clear.ensures c.in-Err.ensures.fills) b
+    next_unfilled ports start old now name c.args.first _ r c.fill.new.reading c.fill.ensures.outputs (fills_with old now r c.fill.new.reading c.clear.new.self 64 (Err _) c.clear.ensures c.in-Err.ensures.fills) b

@@ -5,7 +5,6 @@ ghost use Rattle.vsw_base.specs.declared.fate.Fate.TheVariants as fate;
 ghost use Rattle.vsw_base.specs.declared.fate.Verdict.TheVariants as verdict;
 ghost use Rattle.vsw_base.specs.declared.flow.Crossing.{Crossing};
 ghost use Rattle.vsw_base.specs.declared.flow.Ufid.{Ufid};
-ghost use Rattle.vsw_base.specs.declared.header.Header.{Header};
 ghost use Rattle.vsw_base.specs.declared.packet.Control.TheVariants as control;
 ghost use Rattle.vsw_base.specs.Shape.{encaps};
 ghost use Rattle.vsw_frame.specs.Bytes as bytes;
@@ -17,6 +16,7 @@ ghost use Rattle.vsw_offload.specs.Private.Making.{AllMade, AreMade, IsMadeOf};
 ghost use Rattle.vsw_offload.specs.Private.Noting.{AllNoted};
 ghost use Rattle.vsw_offload.specs.Private.Saying.{SaysOf, SaysRow, bytes_with};
 ghost use Rattle.vsw_offload.specs.Rows.{AreRows, key_of};
+ghost use Rattle.vsw_offload.specs.declared.making.Made.{Made};
 ghost use Rattle.vsw_rows.specs.Good.{Row};
 ghost use Rattle.vsw_transpose.specs.declared.act.Act.{Act};
 ghost use Rattle.vsw_transpose.specs.Apply.{apply};
@@ -27,17 +27,11 @@ ghost use Rattle.vsw_words.specs.Law.{IsId};
 
 use crate::finding::{find, guessed};
 use crate::guesses::Guesses;
-use crate::making::made_at;
+use crate::making::{Made, made_at};
 use crate::port_rows::PortRows;
 use vsw_base::{Cause, Control, Dir, Fate, Items, Moment, Place, Stack, Ufid, Verdict};
 use vsw_frame::{Frame, own_bytes, rewrite_to};
 use vsw_words::{do_words, doing_of, key_words, until_in, verdict_in};
-
-/// Where the first act stands among the words of a body.
-const FIRST_ACT: usize = 3;
-
-/// The kind of an act that leaves its header as it is, in the low four bits of its first word.
-const IGNORE: u64 = 8;
 
 /// The fate that a row gives a frame.
 #[derive(Clone, Copy, Debug, PartialEq, Eq)]
@@ -171,7 +165,7 @@ fn kept_by(words: &[u64; 57], frame: &Frame<'_>) -> u8
 #[inline(always)]
 fn edit_made(words: &[u64; 57], made: &Stack, frame: &Frame<'_>, out: &mut [u8]) -> Given
     requires body { (by : List Act) × (until : ℕ) × AreOf words.now verdict.Pass by until × (fit.fits by (parts frame.now).stack ≡ true) }
-    requires made { IsMadeOf words.now made.now (parts frame.now).stack }
+    requires made { (by : List Act) (until : ℕ) → AreOf words.now verdict.Pass by until → made.now ≡ apply by (parts frame.now).stack }
     requires room { length out.old ≡ 65700 }
     ensures fate { (by : List Act) (until : ℕ) → AreOf words.now verdict.Pass by until → fit.fits by (parts frame.now).stack ≡ true → result.fate ≡ fate_by by (parts frame.now) verdict.Pass }
     ensures bytes { (by : List Act) (until : ℕ) → AreOf words.now verdict.Pass by until → fit.fits by (parts frame.now).stack ≡ true → bytes_told result.own (parts frame.now) result.fate out.new ≡ bytes_by by (parts frame.now) result.fate }
@@ -183,41 +177,48 @@ fn edit_made(words: &[u64; 57], made: &Stack, frame: &Frame<'_>, out: &mut [u8])
     edited_to(frame, made, kept, out)
 }
 
-/// A frame passes with its headers edited by the acts of the words: those that were made, if they were.
-fn edit(
-    words: &[u64; 57],
-    made: Option<&Stack>,
-    frame: &Frame<'_>,
-    edited: &mut Stack,
-    out: &mut [u8],
-) -> Given
+/// A frame passes as it was made when the rows were read.
+#[inline(always)]
+fn pass_made(words: &[u64; 57], made: &Made, frame: &Frame<'_>, out: &mut [u8]) -> Given
     requires body { (by : List Act) × (until : ℕ) × AreOf words.now verdict.Pass by until × (fit.fits by (parts frame.now).stack ≡ true) }
-    requires made { IfSome made (λ m. IsMadeOf words.now m.now (parts frame.now).stack) }
+    requires made { IsMadeOf words.now made.now (parts frame.now).stack }
     requires room { length out.old ≡ 65700 }
     ensures fate { (by : List Act) (until : ℕ) → AreOf words.now verdict.Pass by until → fit.fits by (parts frame.now).stack ≡ true → result.fate ≡ fate_by by (parts frame.now) verdict.Pass }
     ensures bytes { (by : List Act) (until : ℕ) → AreOf words.now verdict.Pass by until → fit.fits by (parts frame.now).stack ≡ true → bytes_told result.own (parts frame.now) result.fate out.new ≡ bytes_by by (parts frame.now) result.fate }
-    ensures own { result.own ≡ false }
+    ensures own { result.own ≡ true → result.fate ≡ fate.Pass (length (outermost (parts frame.now).levels)) }
 {
-    match made {
-        Some(made) => edit_made(words, made, frame, out),
-        None => {
-            do_words(words, frame.stack(), edited);
-            edit_made(words, edited, frame, out)
-        }
+    // It tells the proof that the headers are those of a stack.
+    let _ = frame.stack().headers();
+    if made.own {
+        unedited(frame)
+    } else {
+        edit_made(words, &made.edited, frame, out)
     }
 }
 
-/// Whether the first act of the words edits its header.
-#[inline(always)]
-fn is_edited_first(words: &[u64; 57]) -> bool {
-    words[FIRST_ACT] % 16 != IGNORE
+/// A frame passes as the acts of the words make it.
+fn pass_anew(words: &[u64; 57], frame: &Frame<'_>, edited: &mut Stack, out: &mut [u8]) -> Given
+    requires body { (by : List Act) × (until : ℕ) × AreOf words.now verdict.Pass by until × (fit.fits by (parts frame.now).stack ≡ true) }
+    requires room { length out.old ≡ 65700 }
+    ensures fate { (by : List Act) (until : ℕ) → AreOf words.now verdict.Pass by until → fit.fits by (parts frame.now).stack ≡ true → result.fate ≡ fate_by by (parts frame.now) verdict.Pass }
+    ensures bytes { (by : List Act) (until : ℕ) → AreOf words.now verdict.Pass by until → fit.fits by (parts frame.now).stack ≡ true → bytes_told result.own (parts frame.now) result.fate out.new ≡ bytes_by by (parts frame.now) result.fate }
+    ensures own { result.own ≡ true → result.fate ≡ fate.Pass (length (outermost (parts frame.now).levels)) }
+{
+    // It tells the proof that the headers are those of a stack.
+    let _ = frame.stack().headers();
+    if doing_of(words).edits {
+        do_words(words, frame.stack(), edited);
+        edit_made(words, edited, frame, out)
+    } else {
+        unedited(frame)
+    }
 }
 
-/// A frame passes as the acts of the words make it.
+/// A frame passes as the acts of the words make it, or as it was made, if it was.
 #[inline(always)]
 fn pass(
     words: &[u64; 57],
-    made: Option<&Stack>,
+    made: Option<&Made>,
     frame: &Frame<'_>,
     edited: &mut Stack,
     out: &mut [u8],
@@ -229,15 +230,9 @@ fn pass(
     ensures bytes { (by : List Act) (until : ℕ) → AreOf words.now verdict.Pass by until → fit.fits by (parts frame.now).stack ≡ true → bytes_told result.own (parts frame.now) result.fate out.new ≡ bytes_by by (parts frame.now) result.fate }
     ensures own { result.own ≡ true → result.fate ≡ fate.Pass (length (outermost (parts frame.now).levels)) }
 {
-    if is_edited_first(words) {
-        return edit(words, made, frame, edited, out);
-    }
-    // It tells the proof that the headers are those of a stack.
-    let _ = frame.stack().headers();
-    if doing_of(words).edits {
-        edit(words, made, frame, edited, out)
-    } else {
-        unedited(frame)
+    match made {
+        Some(made) => pass_made(words, made, frame, out),
+        None => pass_anew(words, frame, edited, out),
     }
 }
 
@@ -245,7 +240,7 @@ fn pass(
 #[inline(always)]
 fn given_by(
     words: &[u64; 57],
-    made: Option<&Stack>,
+    made: Option<&Made>,
     frame: &Frame<'_>,
     edited: &mut Stack,
     out: &mut [u8],
@@ -286,7 +281,7 @@ fn given_by(
 #[inline(always)]
 fn by_body(
     words: &[u64; 57],
-    made: Option<&Stack>,
+    made: Option<&Made>,
     frame: &Frame<'_>,
     moment: Moment,
     edited: &mut Stack,
@@ -311,7 +306,7 @@ fn by_body(
 #[inline(always)]
 fn by_row(
     words: &[u64; 73],
-    made: Option<&Stack>,
+    made: Option<&Made>,
     frame: &Frame<'_>,
     moment: Moment,
     edited: &mut Stack,
@@ -332,10 +327,10 @@ fn by_row(
     }
 }
 
-/// The headers that were made for the row at a place.
+/// What was made of the packets of the row at a place.
 #[inline(always)]
-fn made_for(made: &[Stack], at: usize) -> Option<&Stack>
-    ensures { IfSome result (λ m. (at < length made.now) × ((d : List Header) → m.now ≡ get_or made.now at d)) }
+fn made_for(made: &[Made], at: usize) -> Option<&Made>
+    ensures { IfSome result (λ m. (at < length made.now) × ((d : Made) → m.now ≡ get_or made.now at d)) }
 {
     made.get(at)
 }
@@ -344,7 +339,7 @@ fn made_for(made: &[Stack], at: usize) -> Option<&Stack>
 #[inline(always)]
 fn by_place(
     rows: &[[u64; 73]],
-    made: &[Stack],
+    made: &[Made],
     at: usize,
     frame: &Frame<'_>,
     moment: Moment,
@@ -368,7 +363,7 @@ fn by_place(
 /// What rows answer a frame at a port and a moment.
 pub(crate) fn answer(
     ports: &[PortRows],
-    made: &[Items<Stack>],
+    made: &[Items<Made>],
     guesses: &Guesses,
     place: Place,
     frame: &Frame<'_>,

@@ -1,9 +1,9 @@
-//! The headers that the acts of rows make of those of their keys. They are made once, when a file is read: each packet of a row has its key's headers.
+//! What rows make of their packets. It is made once, when a file is read: each packet of a row has the headers of its key.
 
-ghost use Rattle.std.specs.Prelude.{◌≡◌, IfOk, List, ℕ, true};
+ghost use Rattle.std.specs.Prelude.{◌≡◌, IfOk, List, ℕ, false, true};
 ghost use Rattle.vsw_base.specs.declared.fate.Verdict.TheVariants.{Pass};
 ghost use Rattle.vsw_base.specs.declared.flow.Ufid.{Ufid};
-ghost use Rattle.vsw_offload.specs.Private.Making.{AllMade, AreMade, IsMade};
+ghost use Rattle.vsw_offload.specs.Private.Making.{AllMade, AreMade, EditsNone, IsMade};
 ghost use Rattle.vsw_offload.specs.Private.Making as spec;
 ghost use Rattle.vsw_offload.specs.Rows.{IsPortRows, IsRow};
 ghost use Rattle.vsw_policy.specs.Sound.{Each};
@@ -18,7 +18,15 @@ ghost use Rattle.vsw_words.specs.Law.{IsId};
 use crate::port_rows::PortRows;
 use std::alloc::Global;
 use vsw_base::{Dir, Items, NoMemory, Stack, Ufid, Verdict};
-use vsw_words::{do_words, identity_to, verdict_in};
+use vsw_words::{do_words, doing_of, identity_to, verdict_in};
+
+/// What is made of the packets of a row.
+#[derive(Drop)]
+pub(crate) struct Made {
+    pub edited: Stack,
+    /// Whether the row is a pass whose acts edit nothing.
+    pub own: bool,
+}
 
 /// Writes the headers that the acts of a pass make.
 fn make_pass(key: &[u64; 16], body: &[u64; 57], id: &mut Ufid, made: &mut Stack)
@@ -30,9 +38,18 @@ fn make_pass(key: &[u64; 16], body: &[u64; 57], id: &mut Ufid, made: &mut Stack)
     }
 }
 
-/// Writes the headers that a row's acts make, if it is a pass.
-fn make(words: &[u64; 73], id: &mut Ufid, made: &mut Stack)
-    requires { IsRow words.now }
+/// Whether the acts of a pass edit nothing.
+fn is_own(body: &[u64; 57]) -> bool
+    requires { (by : List Act) × (until : ℕ) × AreOf body.now Pass by until }
+    ensures { result ≡ true → EditsNone body.now }
+{
+    !doing_of(body).edits
+}
+
+/// Writes what is made of the packets of a row.
+fn make(words: &[u64; 73], id: &mut Ufid, made: &mut Made)
+    requires row { IsRow words.now }
+    requires own { made.old.own ≡ false }
     ensures { IsMade words.now made.new }
 {
     let Some(key) = words.first_chunk::<16>() else {
@@ -42,24 +59,30 @@ fn make(words: &[u64; 73], id: &mut Ufid, made: &mut Stack)
         return;
     };
     match verdict_in(body) {
-        Verdict::Pass => make_pass(key, body, id, made),
+        Verdict::Pass => {
+            make_pass(key, body, id, &mut made.edited);
+            made.own = is_own(body);
+        }
         Verdict::Rule { .. } => {}
         Verdict::Default { .. } => {}
     }
 }
 
-/// The headers that a row's acts make.
-fn made_of(words: &[u64; 73], id: &mut Ufid) -> Stack
+/// What is made of the packets of a row.
+fn made_of(words: &[u64; 73], id: &mut Ufid) -> Made
     requires { IsRow words.now }
     ensures { IsMade words.now result }
 {
-    let mut made = Stack::room();
+    let mut made = Made {
+        edited: Stack::room(),
+        own: false,
+    };
     make(words, id, &mut made);
     made
 }
 
-/// The headers that the acts of a port's rows make.
-fn made_of_port(alloc: Global, rows: &[[u64; 73]], id: &mut Ufid) -> Result<Items<Stack>, NoMemory>
+/// What is made of the packets of a port's rows.
+fn made_of_port(alloc: Global, rows: &[[u64; 73]], id: &mut Ufid) -> Result<Items<Made>, NoMemory>
     requires { Each IsRow rows.now }
     ensures { IfOk result (λ made. AreMade rows.now made) }
 {
@@ -72,11 +95,11 @@ fn made_of_port(alloc: Global, rows: &[[u64; 73]], id: &mut Ufid) -> Result<Item
     Ok(made)
 }
 
-/// The headers that the acts of the rows of ports make.
+/// What is made of the packets of the rows of ports.
 pub(crate) fn made_of_ports(
     alloc: Global,
     ports: &[PortRows],
-) -> Result<Items<Items<Stack>>, NoMemory>
+) -> Result<Items<Items<Made>>, NoMemory>
     requires { Each IsPortRows ports.now }
     ensures { IfOk result (λ made. AllMade ports.now made) }
 {
@@ -95,7 +118,7 @@ pub(crate) fn made_of_ports(
 }
 
 /// Those of the port at a place.
-pub(crate) fn made_at(made: &[Items<Stack>], place: u32) -> &[Stack]
+pub(crate) fn made_at(made: &[Items<Made>], place: u32) -> &[Made]
     ensures { result.now ≡ spec.made_at made.now place }
 {
     match made.split_first() {

@@ -16,12 +16,12 @@ ghost use Rattle.vsw_offload.specs.declared.port_rows.PortRows.{PortRows};
 use crate::answer::{AnswerRoom, Given, answer};
 use crate::fault::BadRows;
 use crate::guesses::Guesses;
-use crate::making::made_of_ports;
+use crate::making::{Made, made_of_ports};
 use crate::port_rows::PortRows;
 use crate::reading::read_file;
 use std::alloc::Global;
 use std::marker::Model;
-use vsw_base::{Fate, Items, Mac, Moment, NoMemory, Place, Stack};
+use vsw_base::{Fate, Items, Mac, Moment, NoMemory, Place};
 use vsw_frame::{Frame, own_bytes};
 
 /// The rows of a file. Those of each port stand in the order of their keys.
@@ -31,8 +31,8 @@ pub struct Rows {
     /// Their addresses and their numbers, each as a list.
     macs: Items<Mac>,
     numbers: Items<u32>,
-    /// The headers that their rows make of their packets.
-    made: Items<Items<Stack>>,
+    /// What their rows make of their packets.
+    made: Items<Items<Made>>,
     /// Where rows of a key may stand.
     guesses: Guesses,
 }

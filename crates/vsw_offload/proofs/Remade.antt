@@ -67,7 +67,7 @@ of_row (w ∷ ws) (x ∷ made) (suc k) e a below within at = of_row ws made k e 
 
 -- what is made of a key's headers is made of the frame's
 pub made_for : (words : List ℕ) (hs : List Header) (id : Ufid) (m : Made) → IsMade words m → IsId id → key_of words ≡ key_words id.dir id.stack → id.stack ≡ hs → IsMadeOf (drop 16 words) m hs
-made_for words hs id m is of key same = record { edited = λ by until are. is.edited id by until of key are ∙ ap (λ (g : List Header). apply by g) same; own = is.own }
+made_for words hs id m is of key same = record { edited = λ off by until are. is.edited off id by until of key are ∙ ap (λ (g : List Header). apply by g) same; own = is.own }
 
 pub not_edited : (b : Bool) → not b ≡ true → b ≡ false
 not_edited true e = absurd (true≢false (sym e))

@@ -23,8 +23,9 @@ use vsw_words::{do_words, doing_of, identity_to, verdict_in};
 /// What is made of the packets of a row.
 #[derive(Drop)]
 pub(crate) struct Made {
+    /// Their headers, if they are edited.
     pub edited: Stack,
-    /// Whether the row is a pass whose acts edit nothing.
+    /// Whether they pass, and the acts edit nothing.
     pub own: bool,
 }
 
@@ -60,8 +61,11 @@ fn make(words: &[u64; 73], id: &mut Ufid, made: &mut Made)
     };
     match verdict_in(body) {
         Verdict::Pass => {
-            make_pass(key, body, id, &mut made.edited);
-            made.own = is_own(body);
+            if is_own(body) {
+                made.own = true;
+            } else {
+                make_pass(key, body, id, &mut made.edited);
+            }
         }
         Verdict::Rule { .. } => {}
         Verdict::Default { .. } => {}

@@ -1,5 +1,5 @@
 -- Headers that the acts of rows make of those of their keys.
-use Rattle.std.specs.Prelude.{◌≡◌, ℕ, zero, suc, List, [], ◌∷◌, drop, true}
+use Rattle.std.specs.Prelude.{◌≡◌, ℕ, zero, suc, List, [], ◌∷◌, drop, true, false}
 use Rattle.vsw_base.specs.declared.fate.Verdict.TheVariants.{Pass}
 use Rattle.vsw_base.specs.declared.flow.Ufid.{Ufid}
 use Rattle.vsw_base.specs.declared.header.Header.{Header}
@@ -22,9 +22,9 @@ IsEdited words made = (id : Ufid) (by : List Act) (until : ℕ) → IsId id → 
 abbrev pub EditsNone : List ℕ → Type 0
 EditsNone body = (by : List Act) (until : ℕ) (hs : List Header) → AreOf body Pass by until → is_stack hs ≡ true → fit.fits by hs ≡ true → (apply by hs ≡ hs) × (fit.kept by ≡ encaps hs)
 
--- what was made is the row's
+-- what was made is the row's. Headers that aren't edited aren't made
 pub record IsMade (words : List ℕ) (made : Made) : Type 0 where
-  pub edited : IsEdited words made.edited
+  pub edited : made.own ≡ false → IsEdited words made.edited
   pub own : made.own ≡ true → EditsNone (drop 16 words)
 
 -- those of rows, one after the other. There may be fewer
@@ -47,5 +47,5 @@ made_at (e ∷ es) (suc n) = made_at es n
 
 -- for a pass of these words it is what the acts make of a stack
 pub record IsMadeOf (words : List ℕ) (made : Made) (stack : List Header) : Type 0 where
-  pub edited : (by : List Act) (until : ℕ) → AreOf words Pass by until → made.edited ≡ apply by stack
+  pub edited : made.own ≡ false → (by : List Act) (until : ℕ) → AreOf words Pass by until → made.edited ≡ apply by stack
   pub own : made.own ≡ true → EditsNone words

@@ -17,5 +17,6 @@ Keeps old new = (n : ℕ) → is_taken old n ≡ true → is_taken new n ≡ tru
 abbrev pub AreNoted : List ℕ → ℕ → List (List ℕ) → Type 0
 AreNoted places slots rows = Each (λ r. is_taken places (slot (key_of r) slots) ≡ true) rows
 
+-- and those of the rows of ports
 abbrev pub AllNoted : List ℕ → ℕ → List PortRows → Type 0
 AllNoted places slots ps = Each (λ p. AreNoted places slots p.rows) ps

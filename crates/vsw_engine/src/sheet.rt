@@ -1,14 +1,13 @@
 //! The lines of a batch, in a room that lives on.
 
-ghost use Rattle.std.specs.Prelude.{◌≡◌, ◌≤◌, ◌+◌, ◌-◌, ◌*◌, ◌++◌, ℕ, [], OnOk, IfOk, IfSome, codes, decimal, drop, length, take};
-ghost use Rattle.hex.specs.Hex.{encode_lower};
+ghost use Rattle.std.specs.Prelude.{◌≡◌, ◌≤◌, ◌+◌, ◌*◌, ◌++◌, ℕ, [], OnOk, IfOk, IfSome, codes, decimal, length, take};
 ghost use Rattle.vsw_engine.specs.Private.Lines.{front_text, pass_text};
 
 use crate::text::pass_before;
 use std::alloc::Global;
 use std::marker::Model;
 use vsw_base::NoMemory;
-use vsw_report::write_hex;
+use vsw_report::{put, put_hex, put_piece};
 
 /// Bytes of the front of a pass, up to its bytes, and some.
 const FRONT_LEN: usize = 64;
@@ -61,44 +60,6 @@ fn lengthen(room: &mut Vec<u8>, end: usize) -> Result<(), NoMemory>
         Ok(()) => Ok(()),
         Err(_) => Err(NoMemory),
     }
-}
-
-/// Writes bytes.
-#[inline(always)]
-fn put(page: &mut [u8], at: usize, bytes: &[u8]) -> usize
-    requires { at + length bytes.now ≤ length page.old }
-    ensures end { result ≡ at + length bytes.now }
-    ensures written { take (at + length bytes.now) page.new ≡ take at page.old ++ bytes.now }
-{
-    let end = at + bytes.len();
-    page[at..end].copy_from_slice(bytes);
-    end
-}
-
-/// Copies a piece that ends at `end` in its room. As many bytes are copied as it may have at most, so their number is
-/// known; what was copied too much is written over later.
-#[inline(always)]
-fn put_piece(page: &mut [u8], at: usize, room: &[u8], start: usize, end: usize) -> usize
-    requires start { start ≤ end }
-    requires room { start + end ≤ length room.now }
-    requires page { at + end ≤ length page.old }
-    ensures end { result ≡ at + (end - start) }
-    ensures written { take (at + (end - start)) page.new ≡ take at page.old ++ take (end - start) (drop start room.now) }
-{
-    page[at..at + end].copy_from_slice(&room[start..start + end]);
-    at + (end - start)
-}
-
-/// Writes two digits for each byte.
-#[inline(always)]
-fn put_hex(page: &mut [u8], at: usize, bytes: &[u8]) -> usize
-    requires { at + 2 * length bytes.now ≤ length page.old }
-    ensures end { result ≡ at + 2 * length bytes.now }
-    ensures written { take (at + 2 * length bytes.now) page.new ≡ take at page.old ++ encode_lower bytes.now }
-{
-    let end = at + 2 * bytes.len();
-    write_hex(bytes, &mut page[at..end]);
-    end
 }
 
 /// Writes the line of a pass up to its bytes.

@@ -17,6 +17,7 @@ mod text;
 mod told;
 
 pub use law::laws;
+pub use line::{put, put_hex, put_piece};
 pub use lines::Caller;
 pub use merging::{merge, merge_text};
 pub use merging_law::merging_laws;

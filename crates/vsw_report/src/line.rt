@@ -15,9 +15,9 @@ use vsw_policy::Reply;
 /// Bytes of a line at most, but for a packet's bytes. It has 69, and is copied with what stands behind it.
 pub const LINE_LEN: usize = 128;
 
-/// Writes bytes.
+/// Writes bytes at a place of a page, and answers where they end.
 #[inline(always)]
-fn put(page: &mut [u8], at: usize, bytes: &[u8]) -> usize
+pub fn put(page: &mut [u8], at: usize, bytes: &[u8]) -> usize
     requires { at + length bytes.now ≤ length page.old }
     ensures end { result ≡ at + length bytes.now }
     ensures written { take (at + length bytes.now) page.new ≡ take at page.old ++ bytes.now }
@@ -27,10 +27,10 @@ fn put(page: &mut [u8], at: usize, bytes: &[u8]) -> usize
     end
 }
 
-/// Copies a piece that ends at `end` in its room. As many bytes are copied as it may have at most, so their number is
+/// Copies to a place of a page a piece that ends at `end` in its room. As many bytes are copied as it may have at most, so their number is
 /// known; what was copied too much is written over later.
 #[inline(always)]
-fn put_piece(page: &mut [u8], at: usize, room: &[u8], start: usize, end: usize) -> usize
+pub fn put_piece(page: &mut [u8], at: usize, room: &[u8], start: usize, end: usize) -> usize
     requires start { start ≤ end }
     requires room { start + end ≤ length room.now }
     requires page { at + end ≤ length page.old }
@@ -41,9 +41,9 @@ fn put_piece(page: &mut [u8], at: usize, room: &[u8], start: usize, end: usize) 
     at + (end - start)
 }
 
-/// Writes two digits for each byte.
+/// Writes two digits for each byte at a place of a page, and answers where they end.
 #[inline(always)]
-fn put_hex(page: &mut [u8], at: usize, bytes: &[u8]) -> usize
+pub fn put_hex(page: &mut [u8], at: usize, bytes: &[u8]) -> usize
     requires { at + 2 * length bytes.now ≤ length page.old }
     ensures end { result ≡ at + 2 * length bytes.now }
     ensures written { take (at + 2 * length bytes.now) page.new ≡ take at page.old ++ encode_lower bytes.now }

@@ -119,7 +119,7 @@ def main(copies=1_000, seed=1, program=os.path.join(random_engine.ROOT, "vsw")):
             want = wanted(rows, trace)
             if random_engine.run(program, folder, rows, trace) != want:
                 wrong += 1
-                with open(f"/tmp/changed_rows_{at}", "wb") as file:
+                with open(os.path.join(tempfile.gettempdir(), f"changed_rows_{at}"), "wb") as file:
                     file.write(rows)
                 print(f"copy {at}: other than the plain reading, {want[2].strip() or 'no fault'}")
             counts[want[2].split()[3] if want[0] else "no fault"] += 1

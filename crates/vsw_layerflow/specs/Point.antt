@@ -6,6 +6,10 @@ use Rattle.vsw_layerflow.specs.declared.point.PointHasher.{PointHasher}
 abbrev pub folded : ℕ → ℕ
 folded n = (n / 2 ^ 61 % 2 ^ 64 + n % 2 ^ 61) % 2 ^ 64
 
+-- a polynomial at a point, before any word: 1, so that keys of other lengths are other polynomials
+abbrev pub begun : ℕ → PointHasher
+begun point = record { point = point; sum = 1 }
+
 -- with one coefficient more
 abbrev pub taken : PointHasher → ℕ → PointHasher
 taken h word = record { point = h.point; sum = folded ((h.sum * h.point % 2 ^ 128 + word) % 2 ^ 128) }

@@ -1,10 +1,11 @@
 //! A hasher for keys that strangers pick.
 //!
-//! The words of a key, of 32 bits each, are the coefficients of a polynomial modulo 2^61 - 1, and the hash is its value at a
-//! point that strangers don't know (Carter and Wegman, New hash functions and their use in authentication and set equality,
-//! 1981). Two keys of up to n words that differ agree at no more than n of some 2^60 points.
+//! The words of a key, of 32 bits each, are the coefficients of a polynomial modulo 2^61 - 1, whose value at a point that
+//! strangers don't know has the hash as its lowest 32 bits (Carter and Wegman, New hash functions and their use in
+//! authentication and set equality, 1981). Two keys of up to twelve words that differ have one hash at no more than one point
+//! in some thirty million. That is reckoned, not proved.
 
-ghost use Rattle.std.specs.Prelude.{◌≡◌, ◌≤◌, ◌+◌, length, fold};
+ghost use Rattle.std.specs.Prelude.{◌≡◌, ◌≤◌, ◌+◌, ◌%◌, ◌^◌, length, fold};
 ghost use Rattle.vsw_layerflow.specs.Point as spec;
 
 use std::hash::Hasher;
@@ -45,7 +46,9 @@ fn word_at(bytes: &[u8], at: usize) -> u32
 
 impl PointHasher {
     /// Nothing is taken in yet. The point is what these bits tell.
-    pub fn at(bits: u64) -> PointHasher {
+    pub fn at(bits: u64) -> PointHasher
+        ensures { result ≡ spec.begun (bits % 2 ^ 60) }
+    {
         PointHasher {
             point: bits % POINTS,
             sum: 1,
@@ -82,8 +85,6 @@ impl PointHasher {
 }
 
 impl Hasher for PointHasher {
-    ghost use Rattle.std.specs.Prelude.{◌%◌, ◌^◌};
-
     ghost write = { spec.written };
 
     ghost finish = { λ h. h.sum % 2 ^ 32 };

@@ -5,6 +5,7 @@ mod layers;
 mod look_tests;
 mod packets;
 mod samples;
+mod seed_tests;
 mod tcp_tests;
 mod trial;
 mod visit_tests;

@@ -12,6 +12,7 @@ pub mod Found
 pub mod ByRow
 pub mod Giving
 pub mod Remade
+pub mod Headed
 pub mod Noted
 pub mod Cut
 pub mod Exact

@@ -4,3 +4,4 @@ pub mod Finding
 pub mod Saying
 pub mod Making
 pub mod Noting
+pub mod Heading

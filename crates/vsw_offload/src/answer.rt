@@ -12,6 +12,7 @@ ghost use Rattle.vsw_frame.specs.Frame.{parts};
 ghost use Rattle.vsw_frame.specs.Tiles.{outermost};
 ghost use Rattle.vsw_offload.specs.Answered as spec;
 ghost use Rattle.vsw_offload.specs.Answered.{Answered, IsPacketOf, bytes_by, bytes_given, bytes_told, fate_by, fate_given, passed};
+ghost use Rattle.vsw_offload.specs.Private.Heading.{AllHeads};
 ghost use Rattle.vsw_offload.specs.Private.Making.{AllMade, AreMade, IsMadeOf};
 ghost use Rattle.vsw_offload.specs.Private.Noting.{AllNoted};
 ghost use Rattle.vsw_offload.specs.Private.Saying.{SaysOf, SaysRow, bytes_with};
@@ -27,6 +28,7 @@ ghost use Rattle.vsw_words.specs.Law.{IsId};
 
 use crate::finding::{find, guessed};
 use crate::guesses::Guesses;
+use crate::heads::{Head, heads_at, pass_own};
 use crate::making::{Made, made_at};
 use crate::port_rows::PortRows;
 use vsw_base::{Cause, Control, Dir, Fate, Items, Moment, Place, Stack, Ufid, Verdict};
@@ -364,6 +366,7 @@ fn by_place(
 pub(crate) fn answer(
     ports: &[PortRows],
     made: &[Items<Made>],
+    heads: &[Items<Head>],
     guesses: &Guesses,
     place: Place,
     frame: &Frame<'_>,
@@ -373,6 +376,7 @@ pub(crate) fn answer(
 ) -> Option<Given>
     requires are { AreRows ports.now }
     requires made { AllMade ports.now made.now }
+    requires heads { AllHeads ports.now heads.now }
     requires slots { 8 ≤ guesses.now.slots }
     requires noted { AllNoted guesses.now.places.items guesses.now.slots ports.now }
     requires room { length out.old ≡ 65700 }
@@ -383,6 +387,9 @@ pub(crate) fn answer(
         return None;
     }
     write_key(place.dir, frame, &mut room.id, &mut room.key);
+    if pass_own(heads_at(heads, place.port), &room.key, moment) {
+        return Some(unedited(frame));
+    }
     let rows = rows_at(ports, place.port);
     let slot = guesses.slot(&room.key);
     if guesses.is_free(slot) {

@@ -5,6 +5,7 @@ mod answer;
 mod fault;
 mod finding;
 mod guesses;
+mod heads;
 mod id;
 mod judging;
 mod law;

@@ -40,7 +40,7 @@ fn make_pass(key: &[u64; 16], body: &[u64; 57], id: &mut Ufid, made: &mut Stack)
 }
 
 /// Whether the acts of a pass edit nothing.
-fn is_own(body: &[u64; 57]) -> bool
+pub(crate) fn is_own(body: &[u64; 57]) -> bool
     requires { (by : List Act) × (until : ℕ) × AreOf body.now Pass by until }
     ensures { result ≡ true → EditsNone body.now }
 {

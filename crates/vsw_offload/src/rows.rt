@@ -16,6 +16,7 @@ ghost use Rattle.vsw_offload.specs.declared.port_rows.PortRows.{PortRows};
 use crate::answer::{AnswerRoom, Given, answer};
 use crate::fault::BadRows;
 use crate::guesses::Guesses;
+use crate::heads::{Head, heads_of_ports};
 use crate::making::{Made, made_of_ports};
 use crate::port_rows::PortRows;
 use crate::reading::read_file;
@@ -33,12 +34,15 @@ pub struct Rows {
     numbers: Items<u32>,
     /// What their rows make of their packets.
     made: Items<Items<Made>>,
+    /// Heads of those whose packets pass as they came.
+    heads: Items<Items<Head>>,
     /// Where rows of a key may stand.
     guesses: Guesses,
 }
 
 impl Model for Rows {
     ghost use Rattle.std.specs.Prelude.{◌≡◌, ◌≤◌, List};
+    ghost use Rattle.vsw_offload.specs.Private.Heading.{AllHeads};
     ghost use Rattle.vsw_offload.specs.Private.Making.{AllMade};
     ghost use Rattle.vsw_offload.specs.Private.Noting.{AllNoted};
     ghost use Rattle.vsw_offload.specs.Rows.{AreRows, macs_of, numbers_of};
@@ -48,7 +52,7 @@ impl Model for Rows {
 
     ghost view = { λ s. s.ports };
 
-    ghost invariant = { λ s. AreRows s.ports × (s.macs ≡ macs_of s.ports) × (s.numbers ≡ numbers_of s.ports) × AllMade s.ports s.made × (8 ≤ s.guesses.slots) × AllNoted s.guesses.places.items s.guesses.slots s.ports };
+    ghost invariant = { λ s. AreRows s.ports × (s.macs ≡ macs_of s.ports) × (s.numbers ≡ numbers_of s.ports) × AllMade s.ports s.made × AllHeads s.ports s.heads × (8 ≤ s.guesses.slots) × AllNoted s.guesses.places.items s.guesses.slots s.ports };
 }
 
 /// The addresses of ports, in their order.
@@ -85,12 +89,14 @@ fn with_lists(alloc: Global, ports: Items<PortRows>) -> Result<Rows, NoMemory>
     let macs = macs_of(alloc, ports.as_slice())?;
     let numbers = numbers_of(alloc, ports.as_slice())?;
     let made = made_of_ports(alloc, ports.as_slice())?;
+    let heads = heads_of_ports(alloc, ports.as_slice())?;
     let guesses = Guesses::of(alloc, ports.as_slice())?;
     Ok(Rows {
         ports,
         macs,
         numbers,
         made,
+        heads,
         guesses,
     })
 }
@@ -201,6 +207,7 @@ impl Rows {
         answer(
             self.ports.as_slice(),
             self.made.as_slice(),
+            self.heads.as_slice(),
             &self.guesses,
             place,
             frame,

@@ -3,17 +3,29 @@ use Rattle.std.specs.Prelude.{[]}
 use Rattle.vsw_base.specs.declared.flow.Ufid.{Ufid}
 use Rattle.vsw_frame.specs.Frame.{parts}
 use Rattle.vsw_offload.specs.Private.Finding.{HasNone, HasOne}
+use Rattle.vsw_offload.specs.Private.Heading.{AreHeads}
 use Rattle.vsw_offload.specs.Private.Making.{AreMade}
 use Rattle.vsw_offload.specs.Private.Saying.{SaysRow}
 use Rattle.vsw_offload.specs.Answered.{rows_at}
 use Rattle.vsw_offload.specs.Rows.{IsRow, Rise}
 use Rattle.vsw_offload.proofs.ByRow.{by_found, fits_frame, none_of, row_among, rows_rise}
 use Rattle.vsw_offload.proofs.Found.{one_there}
+use Rattle.vsw_offload.proofs.Headed.{of_port as heads_of, own_given}
 use Rattle.vsw_offload.proofs.Noted.{free_none, noted_at}
 use Rattle.vsw_offload.proofs.Remade.{of_port}
 use Rattle.vsw_offload.specs.Private.Noting.{is_taken}
 use Rattle.vsw_words.specs.Key.{key_words}
 use Rattle.vsw_offload.proofs.answer.answer.Goals as goal
+
+pub returns-then-pass_own-clause-answered : goal.returns-then-pass_own-clause-answered
+returns-then-pass_own-clause-answered c x of =
+    let p = parts c.args.frame.now in
+    let ps = c.args.ports.now in
+    let n = c.args.place.port in
+    let id : Ufid = record { dir = c.args.place.dir; stack = p.stack } in
+    let heads = subst (AreHeads (rows_at ps n)) (sym c.heads_at.ensures) (heads_of ps c.args.heads.now n c.requires.heads) in
+    own_given ps n x p c.write_key.new.out c.args.out.now c.args.moment id c.unedited.result c.requires.are (c.if-pass_own.ensures (rows_at ps n) heads refl) c.write_key.ensures.id c.write_key.ensures.key refl of.id (of.control ∙ c.if-not-is_plain.ensures.told refl) of.moment_is
+    c.unedited.ensures.given c.unedited.ensures.bytes c.unedited.ensures.answer
 
 pub returns-then-is_free-clause-answered : goal.returns-then-is_free-clause-answered
 returns-then-is_free-clause-answered c x of =

@@ -1,0 +1,20 @@
+use Rattle.std.proofs.Common.{◌≡◌, ◌<◌, ◌+◌, suc, ◌∷◌, ◌++◌, [], length, take, arith, subst, sym, ◌∙◌}
+use Rattle.vsw_offload.proofs.Headed.{port_more}
+use Rattle.vsw_offload.proofs.Remade.{ok_of, one_longer}
+use Rattle.vsw_offload.specs.Private.Heading.{AllHeads, AreHeads}
+use Rattle.vsw_offload.specs.declared.port_rows.PortRows.{PortRows}
+use Rattle.vsw_offload.proofs.heads.heads_of_ports.Goals as goal
+
+pub loop-port-preserved : goal.loop-port-preserved
+loop-port-preserved c =
+    let n = c.loop-port.port-index in
+    let more = c.in_ok-of_port.of_port in
+    let grown : c.push.new.self ≡ c.loop-port.heads ++ more ∷ [] = ok_of c.push.result _ (sym c.if-is_err.false ∙ c.is_err.ensures.value) c.push.ensures.ok in
+    let below : n < length c.args.ports.now = omega (arith, c.loop-port-test.true) in
+    let next : n + 1 ≡ suc n = omega arith in
+    let are : AreHeads c.port-item.result.rows more = subst (λ rs. AreHeads rs more) c.as_slice.ensures c.in_ok-of_port.ensures in
+    let there = subst (λ (q : PortRows). AreHeads q.rows more) c.port-item.is are in
+    record {
+      heads = subst (λ m. AllHeads (take (n + 1) c.args.ports.now) m) (sym grown) (subst (λ k. AllHeads (take k c.args.ports.now) (c.loop-port.heads ++ more ∷ [])) (sym next) (port_more c.args.ports.now n c.port-item.result c.loop-port.heads more c.loop-port.invariant.long below c.loop-port.invariant.heads there));
+      long = one_longer c.loop-port.heads c.push.new.self more n grown c.loop-port.invariant.long;
+    }

@@ -1,0 +1,251 @@
+//! Heads of rows whose packets pass as they came. A head stands where its key's slot is, or in the one behind, so most packets touch few other words of their row.
+
+ghost use Rattle.std.specs.Prelude.{◌≡◌, ◌≢◌, ◌≤◌, IfOk, IfSome, List, ℕ, get_or, true};
+ghost use Rattle.vsw_base.specs.declared.fate.Verdict.{Verdict};
+ghost use Rattle.vsw_base.specs.declared.fate.Verdict.TheVariants.{Pass};
+ghost use Rattle.vsw_offload.specs.Private.Finding.{HasOne};
+ghost use Rattle.vsw_offload.specs.Private.Heading as spec;
+ghost use Rattle.vsw_offload.specs.Private.Heading.{AllHeads, AreHeads, IsHead, IsHeadFor, IsHeadOf, PassesOwn, bare_of, head_key, no_head};
+ghost use Rattle.vsw_offload.specs.Private.Making.{EditsNone};
+ghost use Rattle.vsw_offload.specs.Rows.{IsPortRows, IsRow};
+ghost use Rattle.vsw_policy.specs.Sound.{Each};
+ghost use Rattle.vsw_transpose.specs.declared.act.Act.{Act};
+ghost use Rattle.vsw_words.specs.Doing.{AreOf};
+
+use crate::making::is_own;
+use crate::port_rows::PortRows;
+use std::alloc::Global;
+use vsw_base::{Items, Moment, NoMemory, Verdict};
+use vsw_words::{slot_of, until_in, verdict_in};
+
+/// What is known of a row whose packets pass as they came. The other words of its key are 0.
+#[derive(Clone, Copy)]
+pub(crate) struct Head {
+    /// The key's first word. Where it is 0 there is no row.
+    pub first: u64,
+    /// The addresses of the Ethernet header.
+    pub dst: u64,
+    pub src: u64,
+    /// Those of the IPv4 header, if there is one.
+    pub pair: u64,
+    /// The row's until.
+    pub until: u64,
+}
+
+const NO_HEAD: Head = Head {
+    first: 0,
+    dst: 0,
+    src: 0,
+    pair: 0,
+    until: 0,
+};
+
+/// Whether those words of a key are 0 that a head doesn't have.
+#[inline(always)]
+fn is_bare(key: &[u64; 16]) -> bool
+    ensures { result ≡ true → key.now ≡ bare_of key.now }
+{
+    let encapsulated = key[1] | key[4] | key[5] | key[6] | key[7] | key[9] | key[10];
+    let last = key[11] | key[12] | key[13] | key[14] | key[15];
+    encapsulated | last == 0
+}
+
+/// Whether a head is of a key, and its row's until isn't below a moment.
+#[inline(always)]
+fn is_for(head: &Head, key: &[u64; 16], moment: Moment) -> bool
+    ensures { result ≡ true → IsHeadFor head.now key.now moment }
+{
+    head.first == key[0]
+        && head.dst == key[2]
+        && head.src == key[3]
+        && head.pair == key[8]
+        && head.first != 0
+        && moment.micros() <= head.until
+}
+
+/// The same of the head in a slot.
+#[inline(always)]
+fn has_head(heads: &[Head], slot: usize, key: &[u64; 16], moment: Moment) -> bool
+    ensures { result ≡ true → IsHeadFor (get_or heads.now slot no_head) key.now moment }
+{
+    match heads.get(slot) {
+        None => false,
+        Some(head) => is_for(head, key, moment),
+    }
+}
+
+/// How many slots there are, if they are some.
+#[inline(always)]
+fn slots_of(heads: &[Head]) -> Option<u32>
+    ensures { IfSome result (λ slots. 8 ≤ slots) }
+{
+    if heads.len() < 8 || heads.len() > 1 << 30 {
+        return None;
+    }
+    Some(heads.len() as u32)
+}
+
+/// Whether one of the slots of a key tells that its packets pass as they came, at a moment.
+#[inline(always)]
+pub(crate) fn pass_own(heads: &[Head], key: &[u64; 16], moment: Moment) -> bool
+    ensures { (rows : List (List ℕ)) → AreHeads rows heads.now → result ≡ true → PassesOwn rows key.now moment }
+{
+    let Some(slots) = slots_of(heads) else {
+        return false;
+    };
+    if !is_bare(key) {
+        return false;
+    }
+    let slot = slot_of(key, slots) as usize;
+    if has_head(heads, slot, key, moment) {
+        return true;
+    }
+    has_head(heads, slot + 1, key, moment)
+}
+
+/// Whether the packets of a row with this body pass as they came.
+fn is_own_pass(body: &[u64; 57]) -> bool
+    requires { (v : Verdict) × (by : List Act) × (until : ℕ) × AreOf body.now v by until }
+    ensures pass { result ≡ true → (v : Verdict) (by : List Act) (until : ℕ) → AreOf body.now v by until → v ≡ Pass }
+    ensures none { result ≡ true → EditsNone body.now }
+{
+    match verdict_in(body) {
+        Verdict::Pass => is_own(body),
+        Verdict::Rule { .. } => false,
+        Verdict::Default { .. } => false,
+    }
+}
+
+/// A head of a key.
+fn head_with(key: &[u64; 16], until: Moment) -> Head
+    ensures key { head_key result ≡ bare_of key.now }
+    ensures until { result.until ≡ until }
+{
+    Head {
+        first: key[0],
+        dst: key[2],
+        src: key[3],
+        pair: key[8],
+        until: until.micros(),
+    }
+}
+
+/// The head of a row, if it has one.
+fn head_of(words: &[u64; 73]) -> Option<Head>
+    requires { IsRow words.now }
+    ensures { IfSome result (λ head. IsHead words.now head) }
+{
+    let Some(key) = words.first_chunk::<16>() else {
+        return None;
+    };
+    let Some(body) = words.last_chunk::<57>() else {
+        return None;
+    };
+    if !is_bare(key) {
+        return None;
+    }
+    if !is_own_pass(body) {
+        return None;
+    }
+    Some(head_with(key, until_in(body)))
+}
+
+/// Puts a head into a slot, if that is free.
+fn put(heads: &mut Vec<Head>, slot: usize, head: Head) -> bool
+    ensures { (rows : List (List ℕ)) → IsHeadOf rows head → AreHeads rows heads.old.items → AreHeads rows heads.new.items }
+{
+    if slot >= heads.len() {
+        return false;
+    }
+    if heads[slot].first != 0 {
+        return false;
+    }
+    heads[slot] = head;
+    true
+}
+
+/// Puts the head of a row into its slot, or into the one behind.
+fn add(heads: &mut Vec<Head>, slots: u32, words: &[u64; 73])
+    requires slots { 8 ≤ slots }
+    requires row { IsRow words.now }
+    ensures { (rows : List (List ℕ)) → HasOne rows words.now → AreHeads rows heads.old.items → AreHeads rows heads.new.items }
+{
+    let Some(key) = words.first_chunk::<16>() else {
+        return;
+    };
+    let Some(head) = head_of(words) else {
+        return;
+    };
+    let slot = slot_of(key, slots) as usize;
+    if !put(heads, slot, head) {
+        let _ = put(heads, slot + 1, head);
+    }
+}
+
+/// Slots for so many heads: with four for each most have their own.
+fn slots_for(rows: usize) -> u32
+    ensures { 8 ≤ result }
+{
+    if rows >= 1 << 27 {
+        return 1 << 29;
+    }
+    (4 * rows + 8) as u32
+}
+
+/// Free slots.
+fn free(alloc: Global, slots: u32) -> Result<Vec<Head>, NoMemory>
+    ensures { IfOk result (λ heads. (rows : List (List ℕ)) → AreHeads rows heads.items) }
+{
+    let mut heads = Vec::new(alloc);
+    match heads.resize(slots as usize, NO_HEAD) {
+        Ok(()) => Ok(heads),
+        Err(_) => Err(NoMemory),
+    }
+}
+
+/// The heads of a port's rows.
+fn heads_of_port(alloc: Global, rows: &[[u64; 73]]) -> Result<Items<Head>, NoMemory>
+    requires { Each IsRow rows.now }
+    ensures { IfOk result (λ heads. AreHeads rows.now heads) }
+{
+    let slots = slots_for(rows.len());
+    let mut heads = free(alloc, slots)?;
+    for row in rows {
+        add(&mut heads, slots, row);
+    }
+    Ok(Items::of(heads))
+}
+
+/// The heads of the rows of ports.
+pub(crate) fn heads_of_ports(
+    alloc: Global,
+    ports: &[PortRows],
+) -> Result<Items<Items<Head>>, NoMemory>
+    requires { Each IsPortRows ports.now }
+    ensures { IfOk result (λ heads. AllHeads ports.now heads) }
+{
+    let mut heads = Items::new(alloc);
+    for port in ports {
+        let of_port = heads_of_port(alloc, port.rows.as_slice())?;
+        if heads.push(of_port).is_err() {
+            return Err(NoMemory);
+        }
+    }
+    Ok(heads)
+}
+
+/// Those of the port at a place.
+pub(crate) fn heads_at(heads: &[Items<Head>], place: u32) -> &[Head]
+    ensures { result.now ≡ spec.heads_at heads.now place }
+{
+    match heads.split_first() {
+        None => &[],
+        Some((first, rest)) => {
+            if place == 0 {
+                first.as_slice()
+            } else {
+                heads_at(rest, place - 1)
+            }
+        }
+    }
+}

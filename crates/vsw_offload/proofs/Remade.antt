@@ -1,16 +1,16 @@
 -- Headers that the acts of rows make, one after the other.
 use Rattle.std.proofs.Common.{◌≡◌, ◌<◌, ◌-◌, ◌+◌, ℕ, zero, suc, List, [], ◌∷◌, ◌++◌, Bool, true, false, true≢false, not, refl, take, drop, length, length-append, get_or, Result, Ok, Err, ap, subst, sym, ◌∙◌, arith}
-use Rattle.std.specs.Prelude.{OnOk}
+use Rattle.std.specs.Prelude.{None, OnOk, Option, Some}
 use Rattle.std.specs.Result.{is_err}
 use Rattle.vsw_base.specs.declared.fate.Verdict.{Verdict}
 use Rattle.vsw_base.specs.declared.fate.Verdict.TheVariants.{Pass}
 use Rattle.vsw_base.specs.declared.flow.Ufid.{Ufid}
 use Rattle.vsw_base.specs.declared.header.Header.{Header}
 use Rattle.vsw_offload.proofs.Judged.{body_part, key_part}
-use Rattle.vsw_offload.specs.Private.Making.{AllMade, AreMade, IsMade, IsMadeOf, made_at}
+use Rattle.vsw_offload.specs.Private.Making.{AllMade, AreMade, ArePlaces, IsEdited, IsMadeOf, IsPlaceOf, Stay, made_at}
 use Rattle.vsw_offload.specs.Answered.{rows_at}
 use Rattle.vsw_offload.specs.Rows.{IsRow, key_of}
-use Rattle.vsw_offload.specs.declared.making.Made.{Made}
+use Rattle.vsw_offload.specs.declared.making.Edits.{Edits}
 use Rattle.vsw_offload.specs.declared.port_rows.PortRows.{PortRows}
 use Rattle.vsw_rows.specs.Good.{Row}
 use Rattle.vsw_transpose.specs.Apply.{apply}
@@ -32,42 +32,60 @@ pub needs : (words key body : List ℕ) (r : IsRow words) → key ≡ take 16 wo
 needs words key body r front back pass =
     (r.row, r.says.id, front ∙ key_part words r.row r.says, subst (λ (v : Verdict). AreOf body v r.row.acts r.row.until) (sym pass) (body_said words body r back), r.fits (sym pass))
 
--- one more
-pub made_more : (rows : List (List ℕ)) (place : ℕ) (made : List Made) (e : Made) → length made ≡ place → place < length rows → AreMade (take place rows) made → IsMade (get_or rows place []) e → AreMade (take (suc place) rows) (made ++ e ∷ [])
-made_more [] place made e l below a m = absurd (grind (arith, below))
-made_more (w ∷ ws) zero [] e l below a m = (m, tt)
-made_more (w ∷ ws) zero (x ∷ made) e l below a m = absurd (grind (arith, l))
-made_more (w ∷ ws) (suc k) [] e l below a m = absurd (grind (arith, l))
-made_more (w ∷ ws) (suc k) (x ∷ made) e l below a m = (a.0, made_more ws k made e (omega (arith, l)) (omega (arith, below)) a.1 m)
+-- ---- places of rows
 
-pub port_more : (ps : List PortRows) (place : ℕ) (p : PortRows) (made : List (List Made)) (e : List Made) → length made ≡ place → place < length ps → AllMade (take place ps) made → AreMade (get_or ps place p).rows e → AllMade (take (suc place) ps) (made ++ e ∷ [])
-port_more [] place p made e l below a m = absurd (grind (arith, below))
+-- one is pushed
+pushed : (P : ℕ → Option ℕ → Type 0) → ((n : ℕ) → P n None) → (ps : List (Option ℕ)) (p : Option ℕ) → ((n : ℕ) → P n (get_or ps n None)) → P (length ps) p → (n : ℕ) → P n (get_or (ps ++ p ∷ []) n None)
+pushed P none [] p all one zero = one
+pushed P none [] p all one (suc n) = none (suc n)
+pushed P none (q ∷ ps) p all one zero = all zero
+pushed P none (q ∷ ps) p all one (suc n) = pushed (λ m o. P (suc m) o) (λ m. none (suc m)) ps p (λ m. all (suc m)) one n
+
+-- places stay right while headers stay
+still : (words : List ℕ) (old new : List (List Header)) (p : Option ℕ) → Stay old new → IsPlaceOf words old p → IsPlaceOf words new p
+still words old new None stay is = tt
+still words old new (Some p) stay is = let (within, same) = stay p is.0 in (within, subst (IsEdited words) (sym same) is.1)
+
+pub more_places : (rows : List (List ℕ)) (places grown : List (Option ℕ)) (old new : List (List Header)) (p : Option ℕ) → ArePlaces rows places old → Stay old new → IsPlaceOf (get_or rows (length places) []) new p → grown ≡ places ++ p ∷ [] → ArePlaces rows grown new
+more_places rows places grown old new p are stay is same =
+    subst (λ gs. ArePlaces rows gs new) (sym same) (pushed (λ n o. IsPlaceOf (get_or rows n []) new o) (λ n. tt) places p (λ n. still (get_or rows n []) old new (get_or places n None) stay (are n)) is)
+
+-- headers that are put behind others stand there
+put_last : (hs : List (List Header)) (h : List Header) → (length hs < length (hs ++ h ∷ [])) × (get_or (hs ++ h ∷ []) (length hs) [] ≡ h)
+put_last [] h = (omega arith, refl)
+put_last (x ∷ hs) h = let (below, same) = put_last hs h in (omega (arith, below), same)
+
+pub placed : (old new : List (List Header)) (h : List Header) (place : ℕ) → new ≡ old ++ h ∷ [] → place ≡ length old → (place < length new) × (get_or new place [] ≡ h)
+placed old new h place grown at = subst (λ hs. (place < length hs) × (get_or hs place [] ≡ h)) (sym grown) (subst (λ n. (n < length (old ++ h ∷ [])) × (get_or (old ++ h ∷ []) n [] ≡ h)) (sym at) (put_last old h))
+
+-- ---- ports
+
+pub port_more : (ps : List PortRows) (place : ℕ) (p : PortRows) (edits : List Edits) (e : Edits) → length edits ≡ place → place < length ps → AllMade (take place ps) edits → AreMade (get_or ps place p).rows e → AllMade (take (suc place) ps) (edits ++ e ∷ [])
+port_more [] place p edits e l below a m = absurd (grind (arith, below))
 port_more (w ∷ ws) zero p [] e l below a m = (m, tt)
-port_more (w ∷ ws) zero p (x ∷ made) e l below a m = absurd (grind (arith, l))
+port_more (w ∷ ws) zero p (x ∷ edits) e l below a m = absurd (grind (arith, l))
 port_more (w ∷ ws) (suc k) p [] e l below a m = absurd (grind (arith, l))
-port_more (w ∷ ws) (suc k) p (x ∷ made) e l below a m = (a.0, port_more ws k p made e (omega (arith, l)) (omega (arith, below)) a.1 m)
+port_more (w ∷ ws) (suc k) p (x ∷ edits) e l below a m = (a.0, port_more ws k p edits e (omega (arith, l)) (omega (arith, below)) a.1 m)
 
 -- those of one port
-pub of_port : (ps : List PortRows) (made : List (List Made)) (n : ℕ) → AllMade ps made → AreMade (rows_at ps n) (made_at made n)
-of_port [] made n a = tt
-of_port (p ∷ ps) [] n a = none (rows_at (p ∷ ps) n)
-  where
-    none : (rows : List (List ℕ)) → AreMade rows []
-    none [] = tt
-    none (w ∷ ws) = tt
-of_port (p ∷ ps) (e ∷ es) zero a = a.0
-of_port (p ∷ ps) (e ∷ es) (suc n) a = of_port ps es n a.1
+pub of_port : (ps : List PortRows) (edits : List Edits) (n : ℕ) (e : Edits) → AllMade ps edits → made_at edits n ≡ Some e → AreMade (rows_at ps n) e
+of_port [] [] n e a is = absurd (cc is)
+of_port [] (x ∷ es) n e a is = absurd a
+of_port (p ∷ ps) [] n e a is = absurd (cc is)
+of_port (p ∷ ps) (x ∷ es) zero e a is = let same : x ≡ e = cc is in subst (AreMade p.rows) same a.0
+of_port (p ∷ ps) (x ∷ es) (suc n) e a is = of_port ps es n e a.1 is
 
--- those of one row
-pub of_row : (rows : List (List ℕ)) (made : List Made) (place : ℕ) (e : Made) → AreMade rows made → place < length rows → place < length made → ((d : Made) → e ≡ get_or made place d) → IsMade (get_or rows place []) e
-of_row [] made place e a below within at = absurd (grind (arith, below))
-of_row (w ∷ ws) [] place e a below within at = absurd (grind (arith, within))
-of_row (w ∷ ws) (x ∷ made) zero e a below within at = subst (IsMade w) (sym (at x)) a.0
-of_row (w ∷ ws) (x ∷ made) (suc k) e a below within at = of_row ws made k e a.1 (omega (arith, below)) (omega (arith, within)) at
+-- ---- headers
+
+-- those at the place of a row
+pub of_place : (rows : List (List ℕ)) (places : List (Option ℕ)) (stacks : List (List Header)) (at place : ℕ) (m : List Header) → ArePlaces rows places stacks → Some place ≡ get_or places at None → m ≡ get_or stacks place [] → IsEdited (get_or rows at []) m
+of_place rows places stacks at place m are here is =
+    let p : IsPlaceOf (get_or rows at []) stacks (Some place) = subst (IsPlaceOf (get_or rows at []) stacks) (sym here) (are at) in
+    subst (IsEdited (get_or rows at [])) (sym is) p.1
 
 -- what is made of a key's headers is made of the frame's
-pub made_for : (words : List ℕ) (hs : List Header) (id : Ufid) (m : Made) → IsMade words m → IsId id → key_of words ≡ key_words id.dir id.stack → id.stack ≡ hs → IsMadeOf (drop 16 words) m hs
-made_for words hs id m is of key same = record { edited = λ off by until are. is.edited off id by until of key are ∙ ap (λ (g : List Header). apply by g) same; own = is.own }
+pub made_for : (words : List ℕ) (hs : List Header) (id : Ufid) (m : List Header) → IsEdited words m → IsId id → key_of words ≡ key_words id.dir id.stack → id.stack ≡ hs → IsMadeOf (drop 16 words) m hs
+made_for words hs id m is of key same by until are = is id by until of key are ∙ ap (λ (g : List Header). apply by g) same
 
 pub not_edited : (b : Bool) → not b ≡ true → b ≡ false
 not_edited true e = absurd (true≢false (sym e))

@@ -5,6 +5,7 @@ ghost use Rattle.vsw_base.specs.declared.fate.Fate.TheVariants as fate;
 ghost use Rattle.vsw_base.specs.declared.fate.Verdict.TheVariants as verdict;
 ghost use Rattle.vsw_base.specs.declared.flow.Crossing.{Crossing};
 ghost use Rattle.vsw_base.specs.declared.flow.Ufid.{Ufid};
+ghost use Rattle.vsw_base.specs.declared.header.Header.{Header};
 ghost use Rattle.vsw_base.specs.declared.packet.Control.TheVariants as control;
 ghost use Rattle.vsw_base.specs.Shape.{encaps};
 ghost use Rattle.vsw_frame.specs.Bytes as bytes;
@@ -13,11 +14,10 @@ ghost use Rattle.vsw_frame.specs.Tiles.{outermost};
 ghost use Rattle.vsw_offload.specs.Answered as spec;
 ghost use Rattle.vsw_offload.specs.Answered.{Answered, IsPacketOf, bytes_by, bytes_given, bytes_told, fate_by, fate_given, passed};
 ghost use Rattle.vsw_offload.specs.Private.Heading.{AllHeads};
-ghost use Rattle.vsw_offload.specs.Private.Making.{AllMade, AreMade, IsMadeOf};
+ghost use Rattle.vsw_offload.specs.Private.Making.{AllMade, AreMade, IsEdited, IsMadeOf};
 ghost use Rattle.vsw_offload.specs.Private.Noting.{AllNoted};
 ghost use Rattle.vsw_offload.specs.Private.Saying.{SaysOf, SaysRow, bytes_with};
 ghost use Rattle.vsw_offload.specs.Rows.{AreRows, key_of};
-ghost use Rattle.vsw_offload.specs.declared.making.Made.{Made};
 ghost use Rattle.vsw_rows.specs.Good.{Row};
 ghost use Rattle.vsw_transpose.specs.declared.act.Act.{Act};
 ghost use Rattle.vsw_transpose.specs.Apply.{apply};
@@ -29,7 +29,7 @@ ghost use Rattle.vsw_words.specs.Law.{IsId};
 use crate::finding::{find, guessed};
 use crate::guesses::Guesses;
 use crate::heads::{Head, heads_at, pass_own};
-use crate::making::{Made, made_at};
+use crate::making::{Edits, edits_at, place_of};
 use crate::port_rows::PortRows;
 use vsw_base::{Cause, Control, Dir, Fate, Items, Moment, Place, Stack, Ufid, Verdict};
 use vsw_frame::{Frame, own_bytes, rewrite_to};
@@ -179,25 +179,6 @@ fn edit_made(words: &[u64; 57], made: &Stack, frame: &Frame<'_>, out: &mut [u8])
     edited_to(frame, made, kept, out)
 }
 
-/// A frame passes as it was made when the rows were read.
-#[inline(always)]
-fn pass_made(words: &[u64; 57], made: &Made, frame: &Frame<'_>, out: &mut [u8]) -> Given
-    requires body { (by : List Act) × (until : ℕ) × AreOf words.now verdict.Pass by until × (fit.fits by (parts frame.now).stack ≡ true) }
-    requires made { IsMadeOf words.now made.now (parts frame.now).stack }
-    requires room { length out.old ≡ 65700 }
-    ensures fate { (by : List Act) (until : ℕ) → AreOf words.now verdict.Pass by until → fit.fits by (parts frame.now).stack ≡ true → result.fate ≡ fate_by by (parts frame.now) verdict.Pass }
-    ensures bytes { (by : List Act) (until : ℕ) → AreOf words.now verdict.Pass by until → fit.fits by (parts frame.now).stack ≡ true → bytes_told result.own (parts frame.now) result.fate out.new ≡ bytes_by by (parts frame.now) result.fate }
-    ensures own { result.own ≡ true → result.fate ≡ fate.Pass (length (outermost (parts frame.now).levels)) }
-{
-    // It tells the proof that the headers are those of a stack.
-    let _ = frame.stack().headers();
-    if made.own {
-        unedited(frame)
-    } else {
-        edit_made(words, &made.edited, frame, out)
-    }
-}
-
 /// A frame passes as the acts of the words make it.
 fn pass_anew(words: &[u64; 57], frame: &Frame<'_>, edited: &mut Stack, out: &mut [u8]) -> Given
     requires body { (by : List Act) × (until : ℕ) × AreOf words.now verdict.Pass by until × (fit.fits by (parts frame.now).stack ≡ true) }
@@ -220,7 +201,7 @@ fn pass_anew(words: &[u64; 57], frame: &Frame<'_>, edited: &mut Stack, out: &mut
 #[inline(always)]
 fn pass(
     words: &[u64; 57],
-    made: Option<&Made>,
+    made: Option<&Stack>,
     frame: &Frame<'_>,
     edited: &mut Stack,
     out: &mut [u8],
@@ -233,7 +214,7 @@ fn pass(
     ensures own { result.own ≡ true → result.fate ≡ fate.Pass (length (outermost (parts frame.now).levels)) }
 {
     match made {
-        Some(made) => pass_made(words, made, frame, out),
+        Some(made) => edit_made(words, made, frame, out),
         None => pass_anew(words, frame, edited, out),
     }
 }
@@ -242,7 +223,7 @@ fn pass(
 #[inline(always)]
 fn given_by(
     words: &[u64; 57],
-    made: Option<&Made>,
+    made: Option<&Stack>,
     frame: &Frame<'_>,
     edited: &mut Stack,
     out: &mut [u8],
@@ -283,7 +264,7 @@ fn given_by(
 #[inline(always)]
 fn by_body(
     words: &[u64; 57],
-    made: Option<&Made>,
+    made: Option<&Stack>,
     frame: &Frame<'_>,
     moment: Moment,
     edited: &mut Stack,
@@ -308,7 +289,7 @@ fn by_body(
 #[inline(always)]
 fn by_row(
     words: &[u64; 73],
-    made: Option<&Made>,
+    made: Option<&Stack>,
     frame: &Frame<'_>,
     moment: Moment,
     edited: &mut Stack,
@@ -329,19 +310,41 @@ fn by_row(
     }
 }
 
-/// What was made of the packets of the row at a place.
+/// The headers at a place.
 #[inline(always)]
-fn made_for(made: &[Made], at: usize) -> Option<&Made>
-    ensures { IfSome result (λ m. (at < length made.now) × ((d : Made) → m.now ≡ get_or made.now at d)) }
+fn made_for(made: &[Stack], at: usize) -> Option<&Stack>
+    ensures { IfSome result (λ m. (at < length made.now) × ((d : List Header) → m.now ≡ get_or made.now at d)) }
 {
     made.get(at)
+}
+
+/// The headers that the row at a place makes.
+#[inline(always)]
+fn made_in(edits: &Edits, at: usize) -> Option<&Stack>
+    ensures { (rows : List (List ℕ)) → AreMade rows edits.now → IfSome result (λ m. IsEdited (get_or rows at []) m.now) }
+{
+    match place_of(edits.places.as_slice(), at) {
+        None => None,
+        Some(place) => made_for(edits.stacks.as_slice(), place as usize),
+    }
+}
+
+/// The same, if headers were made.
+#[inline(always)]
+fn made_at(edits: Option<&Edits>, at: usize) -> Option<&Stack>
+    ensures { (rows : List (List ℕ)) → IfSome edits.entry (λ e. AreMade rows e.now) → IfSome result (λ m. IsEdited (get_or rows at []) m.now) }
+{
+    match edits {
+        None => None,
+        Some(edits) => made_in(edits, at),
+    }
 }
 
 /// What the row at a place answers a frame of its identity.
 #[inline(always)]
 fn by_place(
     rows: &[[u64; 73]],
-    made: &[Made],
+    edits: Option<&Edits>,
     at: usize,
     frame: &Frame<'_>,
     moment: Moment,
@@ -350,7 +353,7 @@ fn by_place(
 ) -> Option<Given>
     requires within { at < length rows.now }
     requires row { (r : Row) × SaysRow (get_or rows.now at []) r (parts frame.now) }
-    requires made { AreMade rows.now made.now }
+    requires made { IfSome edits (λ e. AreMade rows.now e.now) }
     requires id { (id : Ufid) × IsId id × (key_of (get_or rows.now at []) ≡ key.key_words id.dir id.stack) × (id.stack ≡ (parts frame.now).stack) }
     requires room { length out.old ≡ 65700 }
     ensures early { (r : Row) → SaysRow (get_or rows.now at []) r (parts frame.now) → IfSome result (λ g. moment ≤ r.until) }
@@ -359,13 +362,14 @@ fn by_place(
     ensures late { (r : Row) → SaysRow (get_or rows.now at []) r (parts frame.now) → IfNone result (r.until < moment) }
     ensures own { IfSome result (λ g. g.own ≡ true → g.fate ≡ fate.Pass (length (outermost (parts frame.now).levels))) }
 {
-    by_row(&rows[at], made_for(made, at), frame, moment, edited, out)
+    let made = made_at(edits, at);
+    by_row(&rows[at], made, frame, moment, edited, out)
 }
 
 /// What rows answer a frame at a port and a moment.
 pub(crate) fn answer(
     ports: &[PortRows],
-    made: &[Items<Made>],
+    edits: &[Edits],
     heads: &[Items<Head>],
     guesses: &Guesses,
     place: Place,
@@ -375,7 +379,7 @@ pub(crate) fn answer(
     out: &mut [u8],
 ) -> Option<Given>
     requires are { AreRows ports.now }
-    requires made { AllMade ports.now made.now }
+    requires made { AllMade ports.now edits.now }
     requires heads { AllHeads ports.now heads.now }
     requires slots { 8 ≤ guesses.now.slots }
     requires noted { AllNoted guesses.now.places.items guesses.now.slots ports.now }
@@ -397,8 +401,8 @@ pub(crate) fn answer(
     }
     match guessed(rows, guesses, slot, &room.key) {
         Some(at) => {
-            let made = made_at(made, place.port);
-            by_place(rows, made, at, frame, moment, &mut room.edited, out)
+            let edits = edits_at(edits, place.port);
+            by_place(rows, edits, at, frame, moment, &mut room.edited, out)
         }
         None => match find(rows, &room.key) {
             None => None,

@@ -1,6 +1,6 @@
 //! Heads of rows whose packets pass as they came. A head stands where its key's slot is, or in the one behind, so most packets touch few other words of their row.
 
-ghost use Rattle.std.specs.Prelude.{◌≡◌, ◌≢◌, ◌≤◌, IfOk, IfSome, List, ℕ, get_or, true};
+ghost use Rattle.std.specs.Prelude.{◌≡◌, ◌≢◌, ◌≤◌, IfOk, IfSome, List, OnOk, ℕ, get_or, true};
 ghost use Rattle.vsw_base.specs.declared.fate.Verdict.{Verdict};
 ghost use Rattle.vsw_base.specs.declared.fate.Verdict.TheVariants.{Pass};
 ghost use Rattle.vsw_offload.specs.Private.Finding.{HasOne};
@@ -164,24 +164,6 @@ fn put(heads: &mut Vec<Head>, slot: usize, head: Head) -> bool
     true
 }
 
-/// Puts the head of a row into its slot, or into the one behind.
-fn add(heads: &mut Vec<Head>, slots: u32, words: &[u64; 73])
-    requires slots { 8 ≤ slots }
-    requires row { IsRow words.now }
-    ensures { (rows : List (List ℕ)) → HasOne rows words.now → AreHeads rows heads.old.items → AreHeads rows heads.new.items }
-{
-    let Some(key) = words.first_chunk::<16>() else {
-        return;
-    };
-    let Some(head) = head_of(words) else {
-        return;
-    };
-    let slot = slot_of(key, slots) as usize;
-    if !put(heads, slot, head) {
-        let _ = put(heads, slot + 1, head);
-    }
-}
-
 /// Slots for so many heads: with four for each most have their own.
 fn slots_for(rows: usize) -> u32
     ensures { 8 ≤ result }
@@ -192,15 +174,45 @@ fn slots_for(rows: usize) -> u32
     (4 * rows + 8) as u32
 }
 
-/// Free slots.
-fn free(alloc: Global, slots: u32) -> Result<Vec<Head>, NoMemory>
-    ensures { IfOk result (λ heads. (rows : List (List ℕ)) → AreHeads rows heads.items) }
+/// Makes the slots free, if they aren't made.
+fn make_slots(heads: &mut Vec<Head>, slots: u32) -> Result<(), NoMemory>
+    ensures { OnOk result ((rows : List (List ℕ)) → AreHeads rows heads.old.items → AreHeads rows heads.new.items) }
 {
-    let mut heads = Vec::new(alloc);
+    if heads.len() > 0 {
+        return Ok(());
+    }
     match heads.resize(slots as usize, NO_HEAD) {
-        Ok(()) => Ok(heads),
+        Ok(()) => Ok(()),
         Err(_) => Err(NoMemory),
     }
+}
+
+/// Puts a head into the slot of its key, or into the one behind.
+fn put_near(heads: &mut Vec<Head>, slots: u32, key: &[u64; 16], head: Head)
+    requires slots { 8 ≤ slots }
+    ensures { (rows : List (List ℕ)) → IsHeadOf rows head → AreHeads rows heads.old.items → AreHeads rows heads.new.items }
+{
+    let slot = slot_of(key, slots) as usize;
+    if !put(heads, slot, head) {
+        let _ = put(heads, slot + 1, head);
+    }
+}
+
+/// Puts the head of a row, if it has one.
+fn add(heads: &mut Vec<Head>, slots: u32, words: &[u64; 73]) -> Result<(), NoMemory>
+    requires slots { 8 ≤ slots }
+    requires row { IsRow words.now }
+    ensures { OnOk result ((rows : List (List ℕ)) → HasOne rows words.now → AreHeads rows heads.old.items → AreHeads rows heads.new.items) }
+{
+    let Some(key) = words.first_chunk::<16>() else {
+        return Ok(());
+    };
+    let Some(head) = head_of(words) else {
+        return Ok(());
+    };
+    make_slots(heads, slots)?;
+    put_near(heads, slots, key, head);
+    Ok(())
 }
 
 /// The heads of a port's rows.
@@ -209,9 +221,9 @@ fn heads_of_port(alloc: Global, rows: &[[u64; 73]]) -> Result<Items<Head>, NoMem
     ensures { IfOk result (λ heads. AreHeads rows.now heads) }
 {
     let slots = slots_for(rows.len());
-    let mut heads = free(alloc, slots)?;
+    let mut heads = Vec::new(alloc);
     for row in rows {
-        add(&mut heads, slots, row);
+        add(&mut heads, slots, row)?;
     }
     Ok(Items::of(heads))
 }

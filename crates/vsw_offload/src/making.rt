@@ -1,9 +1,11 @@
 //! What rows make of their packets. It is made once, when a file is read: each packet of a row has the headers of its key.
 
-ghost use Rattle.std.specs.Prelude.{◌≡◌, IfOk, List, ℕ, false, true};
+ghost use Rattle.std.specs.Prelude.{◌≡◌, ◌++◌, ◌∷◌, [], IfOk, IfSome, List, None, OnOk, Some, ℕ, get_or, length, true};
+ghost use Rattle.vsw_base.specs.declared.fate.Verdict.{Verdict};
 ghost use Rattle.vsw_base.specs.declared.fate.Verdict.TheVariants.{Pass};
 ghost use Rattle.vsw_base.specs.declared.flow.Ufid.{Ufid};
-ghost use Rattle.vsw_offload.specs.Private.Making.{AllMade, AreMade, EditsNone, IsMade};
+ghost use Rattle.vsw_base.specs.declared.header.Header.{Header};
+ghost use Rattle.vsw_offload.specs.Private.Making.{AllMade, AreMade, EditsNone, IsPlaceOf, Stay};
 ghost use Rattle.vsw_offload.specs.Private.Making as spec;
 ghost use Rattle.vsw_offload.specs.Rows.{IsPortRows, IsRow};
 ghost use Rattle.vsw_policy.specs.Sound.{Each};
@@ -20,13 +22,12 @@ use std::alloc::Global;
 use vsw_base::{Dir, Items, NoMemory, Stack, Ufid, Verdict};
 use vsw_words::{do_words, doing_of, identity_to, verdict_in};
 
-/// What is made of the packets of a row.
+/// The headers that the rows of a port make.
 #[derive(Drop)]
-pub(crate) struct Made {
-    /// Their headers, if they are edited.
-    pub edited: Stack,
-    /// Whether they pass, and the acts edit nothing.
-    pub own: bool,
+pub(crate) struct Edits {
+    /// For each row where they stand, if its packets pass edited.
+    pub places: Items<Option<u32>>,
+    pub stacks: Items<Stack>,
 }
 
 /// Writes the headers that the acts of a pass make.
@@ -47,92 +48,130 @@ pub(crate) fn is_own(body: &[u64; 57]) -> bool
     !doing_of(body).edits
 }
 
-/// Writes what is made of the packets of a row.
-fn make(words: &[u64; 73], id: &mut Ufid, made: &mut Made)
-    requires row { IsRow words.now }
-    requires own { made.old.own ≡ false }
-    ensures { IsMade words.now made.new }
+/// Whether the packets of a row with this body pass edited.
+fn is_edit(body: &[u64; 57]) -> bool
+    requires { (v : Verdict) × (by : List Act) × (until : ℕ) × AreOf body.now v by until }
+    ensures { result ≡ true → (v : Verdict) (by : List Act) (until : ℕ) → AreOf body.now v by until → v ≡ Pass }
 {
-    let Some(key) = words.first_chunk::<16>() else {
-        return;
-    };
-    let Some(body) = words.last_chunk::<57>() else {
-        return;
-    };
     match verdict_in(body) {
-        Verdict::Pass => {
-            if is_own(body) {
-                made.own = true;
-            } else {
-                make_pass(key, body, id, &mut made.edited);
-            }
-        }
-        Verdict::Rule { .. } => {}
-        Verdict::Default { .. } => {}
+        Verdict::Pass => !is_own(body),
+        Verdict::Rule { .. } => false,
+        Verdict::Default { .. } => false,
     }
 }
 
-/// What is made of the packets of a row.
-fn made_of(words: &[u64; 73], id: &mut Ufid) -> Made
-    requires { IsRow words.now }
-    ensures { IsMade words.now result }
+/// The place behind the last headers, if it can be told.
+fn place_behind(stacks: &[Stack]) -> Option<u32>
+    ensures { IfSome result (λ place. place ≡ length stacks.now) }
 {
-    let mut made = Made {
-        edited: Stack::room(),
-        own: false,
-    };
-    make(words, id, &mut made);
-    made
+    if stacks.len() >= 1 << 30 {
+        return None;
+    }
+    Some(stacks.len() as u32)
 }
 
-/// What is made of the packets of a port's rows.
-fn made_of_port(alloc: Global, rows: &[[u64; 73]], id: &mut Ufid) -> Result<Items<Made>, NoMemory>
-    requires { Each IsRow rows.now }
-    ensures { IfOk result (λ made. AreMade rows.now made) }
+/// Puts the headers behind the last ones that a row makes of its packets.
+fn push_pass(
+    key: &[u64; 16],
+    body: &[u64; 57],
+    id: &mut Ufid,
+    stacks: &mut Items<Stack>,
+) -> Result<(), NoMemory>
+    requires { (r : Row) × IsId r.id × (key.now ≡ key_words r.id.dir r.id.stack) × AreOf body.now Pass r.acts r.until × (fit.fits r.acts r.id.stack ≡ true) }
+    ensures { OnOk result ((made : List Header) × (stacks.new ≡ stacks.old ++ made ∷ []) × ((id : Ufid) (by : List Act) (until : ℕ) → IsId id → key.now ≡ key_words id.dir id.stack → AreOf body.now Pass by until → made ≡ apply by id.stack)) }
 {
-    let mut made = Items::new(alloc);
+    let mut made = Stack::room();
+    make_pass(key, body, id, &mut made);
+    match stacks.push(made) {
+        Ok(()) => Ok(()),
+        Err(_) => Err(NoMemory),
+    }
+}
+
+/// The same, if the row's packets pass edited. It answers where they stand.
+fn push_made(
+    words: &[u64; 73],
+    id: &mut Ufid,
+    stacks: &mut Items<Stack>,
+) -> Result<Option<u32>, NoMemory>
+    requires { IsRow words.now }
+    ensures place { IfOk result (λ place. IsPlaceOf words.now stacks.new place) }
+    ensures stay { IfOk result (λ place. Stay stacks.old stacks.new) }
+{
+    let Some(key) = words.first_chunk::<16>() else {
+        return Ok(None);
+    };
+    let Some(body) = words.last_chunk::<57>() else {
+        return Ok(None);
+    };
+    if !is_edit(body) {
+        return Ok(None);
+    }
+    let Some(place) = place_behind(stacks.as_slice()) else {
+        return Ok(None);
+    };
+    push_pass(key, body, id, stacks)?;
+    Ok(Some(place))
+}
+
+/// The headers that a port's rows make.
+fn edits_of_port(alloc: Global, rows: &[[u64; 73]], id: &mut Ufid) -> Result<Edits, NoMemory>
+    requires { Each IsRow rows.now }
+    ensures { IfOk result (λ edits. AreMade rows.now edits) }
+{
+    let mut places = Items::new(alloc);
+    let mut stacks = Items::new(alloc);
     for row in rows {
-        if made.push(made_of(row, id)).is_err() {
+        let place = push_made(row, id, &mut stacks)?;
+        if places.push(place).is_err() {
             return Err(NoMemory);
         }
     }
-    Ok(made)
+    Ok(Edits { places, stacks })
 }
 
-/// What is made of the packets of the rows of ports.
-pub(crate) fn made_of_ports(
-    alloc: Global,
-    ports: &[PortRows],
-) -> Result<Items<Items<Made>>, NoMemory>
+/// The headers that the rows of ports make.
+pub(crate) fn edits_of_ports(alloc: Global, ports: &[PortRows]) -> Result<Items<Edits>, NoMemory>
     requires { Each IsPortRows ports.now }
-    ensures { IfOk result (λ made. AllMade ports.now made) }
+    ensures { IfOk result (λ edits. AllMade ports.now edits) }
 {
     let mut id = Ufid {
         dir: Dir::Out,
         stack: Stack::room(),
     };
-    let mut made = Items::new(alloc);
+    let mut edits = Items::new(alloc);
     for port in ports {
-        let of_port = made_of_port(alloc, port.rows.as_slice(), &mut id)?;
-        if made.push(of_port).is_err() {
+        let of_port = edits_of_port(alloc, port.rows.as_slice(), &mut id)?;
+        if edits.push(of_port).is_err() {
             return Err(NoMemory);
         }
     }
-    Ok(made)
+    Ok(edits)
 }
 
 /// Those of the port at a place.
-pub(crate) fn made_at(made: &[Items<Made>], place: u32) -> &[Made]
-    ensures { result.now ≡ spec.made_at made.now place }
+pub(crate) fn edits_at(edits: &[Edits], place: u32) -> Option<&Edits>
+    ensures { IfSome result (λ e. spec.made_at edits.now place ≡ Some e.now) }
 {
-    match made.split_first() {
-        None => &[],
+    match edits.split_first() {
+        None => None,
         Some((first, rest)) => {
             if place == 0 {
-                first.as_slice()
+                Some(first)
             } else {
-                made_at(rest, place - 1)
+                edits_at(rest, place - 1)
             }
         }
+    }
+}
+
+/// Where the headers of the row at a place stand.
+#[inline(always)]
+pub(crate) fn place_of(places: &[Option<u32>], at: usize) -> Option<u32>
+    ensures { result ≡ get_or places.now at None }
+{
+    match places.get(at) {
+        None => None,
+        Some(place) => *place,
     }
 }

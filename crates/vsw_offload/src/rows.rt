@@ -17,7 +17,7 @@ use crate::answer::{AnswerRoom, Given, answer};
 use crate::fault::BadRows;
 use crate::guesses::Guesses;
 use crate::heads::{Head, heads_of_ports};
-use crate::making::{Made, made_of_ports};
+use crate::making::{Edits, edits_of_ports};
 use crate::port_rows::PortRows;
 use crate::reading::read_file;
 use std::alloc::Global;
@@ -32,8 +32,8 @@ pub struct Rows {
     /// Their addresses and their numbers, each as a list.
     macs: Items<Mac>,
     numbers: Items<u32>,
-    /// What their rows make of their packets.
-    made: Items<Items<Made>>,
+    /// The headers that their rows make.
+    edits: Items<Edits>,
     /// Heads of those whose packets pass as they came.
     heads: Items<Items<Head>>,
     /// Where rows of a key may stand.
@@ -52,7 +52,7 @@ impl Model for Rows {
 
     ghost view = { λ s. s.ports };
 
-    ghost invariant = { λ s. AreRows s.ports × (s.macs ≡ macs_of s.ports) × (s.numbers ≡ numbers_of s.ports) × AllMade s.ports s.made × AllHeads s.ports s.heads × (8 ≤ s.guesses.slots) × AllNoted s.guesses.places.items s.guesses.slots s.ports };
+    ghost invariant = { λ s. AreRows s.ports × (s.macs ≡ macs_of s.ports) × (s.numbers ≡ numbers_of s.ports) × AllMade s.ports s.edits × AllHeads s.ports s.heads × (8 ≤ s.guesses.slots) × AllNoted s.guesses.places.items s.guesses.slots s.ports };
 }
 
 /// The addresses of ports, in their order.
@@ -88,14 +88,14 @@ fn with_lists(alloc: Global, ports: Items<PortRows>) -> Result<Rows, NoMemory>
 {
     let macs = macs_of(alloc, ports.as_slice())?;
     let numbers = numbers_of(alloc, ports.as_slice())?;
-    let made = made_of_ports(alloc, ports.as_slice())?;
+    let edits = edits_of_ports(alloc, ports.as_slice())?;
     let heads = heads_of_ports(alloc, ports.as_slice())?;
     let guesses = Guesses::of(alloc, ports.as_slice())?;
     Ok(Rows {
         ports,
         macs,
         numbers,
-        made,
+        edits,
         heads,
         guesses,
     })
@@ -206,7 +206,7 @@ impl Rows {
     {
         answer(
             self.ports.as_slice(),
-            self.made.as_slice(),
+            self.edits.as_slice(),
             self.heads.as_slice(),
             &self.guesses,
             place,

@@ -1,11 +1,11 @@
 -- Headers that the acts of rows make of those of their keys.
-use Rattle.std.specs.Prelude.{◌≡◌, ℕ, zero, suc, List, [], ◌∷◌, drop, true, false}
+use Rattle.std.specs.Prelude.{◌≡◌, ◌<◌, ℕ, zero, suc, List, [], ◌∷◌, drop, get_or, length, true, Option, Some, None}
 use Rattle.vsw_base.specs.declared.fate.Verdict.TheVariants.{Pass}
 use Rattle.vsw_base.specs.declared.flow.Ufid.{Ufid}
 use Rattle.vsw_base.specs.declared.header.Header.{Header}
 use Rattle.vsw_base.specs.Shape.{encaps, is_stack}
 use Rattle.vsw_offload.specs.Rows.{key_of}
-use Rattle.vsw_offload.specs.declared.making.Made.{Made}
+use Rattle.vsw_offload.specs.declared.making.Edits.{Edits}
 use Rattle.vsw_offload.specs.declared.port_rows.PortRows.{PortRows}
 use Rattle.vsw_transpose.specs.declared.act.Act.{Act}
 use Rattle.vsw_transpose.specs.Apply.{apply}
@@ -22,30 +22,36 @@ IsEdited words made = (id : Ufid) (by : List Act) (until : ℕ) → IsId id → 
 abbrev pub EditsNone : List ℕ → Type 0
 EditsNone body = (by : List Act) (until : ℕ) (hs : List Header) → AreOf body Pass by until → is_stack hs ≡ true → fit.fits by hs ≡ true → (apply by hs ≡ hs) × (fit.kept by ≡ encaps hs)
 
--- what was made is the row's. Headers that aren't edited aren't made
-pub record IsMade (words : List ℕ) (made : Made) : Type 0 where
-  pub edited : made.own ≡ false → IsEdited words made.edited
-  pub own : made.own ≡ true → EditsNone (drop 16 words)
+-- at this place stand the headers that the row's acts make, if there is one
+abbrev pub IsPlaceOf : List ℕ → List (List Header) → Option ℕ → Type 0
+IsPlaceOf words stacks None = Unit {0}
+IsPlaceOf words stacks (Some place) = (place < length stacks) × IsEdited words (get_or stacks place [])
 
--- those of rows, one after the other. There may be fewer
-abbrev pub AreMade : List (List ℕ) → List Made → Type 0
-AreMade [] es = Unit {0}
-AreMade (w ∷ ws) [] = Unit {0}
-AreMade (w ∷ ws) (e ∷ es) = IsMade w e × AreMade ws es
+-- headers stay where they are
+abbrev pub Stay : List (List Header) → List (List Header) → Type 0
+Stay old new = (n : ℕ) → n < length old → (n < length new) × (get_or new n [] ≡ get_or old n [])
+
+-- the places of rows
+abbrev pub ArePlaces : List (List ℕ) → List (Option ℕ) → List (List Header) → Type 0
+ArePlaces rows places stacks = (n : ℕ) → IsPlaceOf (get_or rows n []) stacks (get_or places n None)
+
+-- what was made is of these rows
+abbrev pub AreMade : List (List ℕ) → Edits → Type 0
+AreMade rows e = ArePlaces rows e.places e.stacks
 
 -- those of the rows of ports
-abbrev pub AllMade : List PortRows → List (List Made) → Type 0
-AllMade [] es = Unit {0}
+abbrev pub AllMade : List PortRows → List Edits → Type 0
+AllMade [] [] = Unit {0}
+AllMade [] (e ∷ es) = ⊥
 AllMade (p ∷ ps) [] = Unit {0}
 AllMade (p ∷ ps) (e ∷ es) = AreMade p.rows e × AllMade ps es
 
 -- those of the port at a place
-abbrev pub made_at : List (List Made) → ℕ → List Made
-made_at [] n = []
-made_at (e ∷ es) zero = e
+abbrev pub made_at : List Edits → ℕ → Option Edits
+made_at [] n = None
+made_at (e ∷ es) zero = Some e
 made_at (e ∷ es) (suc n) = made_at es n
 
 -- for a pass of these words it is what the acts make of a stack
-pub record IsMadeOf (words : List ℕ) (made : Made) (stack : List Header) : Type 0 where
-  pub edited : made.own ≡ false → (by : List Act) (until : ℕ) → AreOf words Pass by until → made.edited ≡ apply by stack
-  pub own : made.own ≡ true → EditsNone words
+abbrev pub IsMadeOf : List ℕ → List Header → List Header → Type 0
+IsMadeOf words made stack = (by : List Act) (until : ℕ) → AreOf words Pass by until → made ≡ apply by stack

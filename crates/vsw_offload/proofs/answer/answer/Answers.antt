@@ -1,15 +1,15 @@
-use Rattle.std.proofs.Common.{◌∙◌, ap, get_or, subst, sym, refl}
-use Rattle.std.specs.Prelude.{[]}
+use Rattle.std.proofs.Common.{◌≡◌, ◌∙◌, ap, get_or, subst, sym, refl}
+use Rattle.std.specs.Prelude.{[], Some}
 use Rattle.vsw_base.specs.declared.flow.Ufid.{Ufid}
 use Rattle.vsw_frame.specs.Frame.{parts}
 use Rattle.vsw_offload.specs.Private.Finding.{HasNone, HasOne}
 use Rattle.vsw_offload.specs.Private.Heading.{AreHeads}
-use Rattle.vsw_offload.specs.Private.Making.{AreMade}
+use Rattle.vsw_offload.specs.Private.Making.{AreMade, made_at}
 use Rattle.vsw_offload.specs.Private.Saying.{SaysRow}
 use Rattle.vsw_offload.specs.Answered.{rows_at}
 use Rattle.vsw_offload.specs.Rows.{IsRow, Rise}
 use Rattle.vsw_offload.proofs.ByRow.{by_found, fits_frame, none_of, row_among, rows_rise}
-use Rattle.vsw_offload.proofs.Found.{one_there}
+use Rattle.vsw_offload.proofs.Found.{one_there, some_on}
 use Rattle.vsw_offload.proofs.Headed.{of_port as heads_of, own_given}
 use Rattle.vsw_offload.proofs.Noted.{free_none, noted_at}
 use Rattle.vsw_offload.proofs.Remade.{of_port}
@@ -44,8 +44,10 @@ by_place-requires-clause-row c =
 
 pub by_place-requires-clause-made : goal.by_place-requires-clause-made
 by_place-requires-clause-made c =
-    let made = of_port c.args.ports.now c.args.made.now c.args.place.port c.requires.made in
-    subst (λ rs. AreMade rs c.made_at-made.result.now) (sym c.rows_at-rows.ensures) (subst (AreMade (rows_at c.args.ports.now c.args.place.port)) (sym c.made_at-made.ensures) made)
+    let ps = c.args.ports.now in
+    let n = c.args.place.port in
+    some_on c.edits_at-edits.result (λ e. made_at c.args.edits.now n ≡ Some e.now) (λ e. AreMade c.rows_at-rows.result.now e.now)
+    (λ e is. subst (λ rs. AreMade rs e.now) (sym c.rows_at-rows.ensures) (of_port ps c.args.edits.now n e.now c.requires.made is)) c.edits_at-edits.ensures
 
 pub find-requires : goal.find-requires
 find-requires c = record { rise = subst Rise (sym c.rows_at-rows.ensures) (rows_rise c.args.ports.now c.args.place.port c.requires.are) }

@@ -6,4 +6,4 @@ pub loop-row-preserved : goal.loop-row-preserved
 loop-row-preserved c =
     let rows = c.args.rows.now in
     let below : c.loop-row.row-index < length rows = omega (arith, c.loop-row-test.true) in
-    c.add.ensures rows (one_there rows c.loop-row.row-index below) c.loop-row.invariant
+    c.in_ok-add.ensures rows (one_there rows c.loop-row.row-index below) c.loop-row.invariant

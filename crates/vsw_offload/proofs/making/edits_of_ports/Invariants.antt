@@ -1,9 +1,9 @@
 use Rattle.std.proofs.Common.{◌≡◌, length, take}
 use Rattle.vsw_offload.specs.Private.Making.{AllMade}
-use Rattle.vsw_offload.proofs.making.made_of_ports.Given as goal
+use Rattle.vsw_offload.proofs.making.edits_of_ports.Given as goal
 
 abbrev pub invariant-loop-port : goal.invariant-loop-port
 invariant-loop-port l = record {
-  made : AllMade (take l.port-index l.ports) l.made;
-  long : length l.made ≡ l.port-index;
+  made : AllMade (take l.port-index l.ports) l.edits;
+  long : length l.edits ≡ l.port-index;
 }

@@ -11,12 +11,12 @@ use vsw_base::NoMemory;
 use vsw_words::slot_of;
 
 /// What stands in a free slot. Rows of a port are fewer.
-const NONE: u32 = u32::MAX;
+const NONE: u16 = u16::MAX;
 
 /// Places of rows, those of each port counted from 0, in the slots of their keys or in the ones behind.
 #[derive(Drop)]
 pub(crate) struct Guesses {
-    pub places: Vec<u32>,
+    pub places: Vec<u16>,
     pub slots: u32,
 }
 
@@ -40,7 +40,7 @@ fn slots_for(rows: usize) -> u32
 }
 
 /// Free slots.
-fn free(alloc: Global, slots: u32) -> Result<Vec<u32>, NoMemory>
+fn free(alloc: Global, slots: u32) -> Result<Vec<u16>, NoMemory>
     ensures { IfOk result (λ places. length places.items ≡ slots) }
 {
     let mut places = Vec::new(alloc);
@@ -51,9 +51,9 @@ fn free(alloc: Global, slots: u32) -> Result<Vec<u32>, NoMemory>
 }
 
 /// Notes a place in a slot, if it is free.
-fn put(places: &mut Vec<u32>, slot: usize, place: u32) -> bool
+fn put(places: &mut Vec<u16>, slot: usize, place: u16) -> bool
     requires within { slot < length places.old.items }
-    requires place { place < 4294967295 }
+    requires place { place < 65535 }
     ensures taken { is_taken places.new.items slot ≡ true }
     ensures kept { Keeps places.old.items places.new.items }
     ensures long { length places.new.items ≡ length places.old.items }
@@ -66,8 +66,8 @@ fn put(places: &mut Vec<u32>, slot: usize, place: u32) -> bool
 }
 
 /// The same, if there is such a slot.
-fn put_next(places: &mut Vec<u32>, slot: usize, place: u32)
-    requires place { place < 4294967295 }
+fn put_next(places: &mut Vec<u16>, slot: usize, place: u16)
+    requires place { place < 65535 }
     ensures kept { Keeps places.old.items places.new.items }
     ensures long { length places.new.items ≡ length places.old.items }
 {
@@ -77,10 +77,10 @@ fn put_next(places: &mut Vec<u32>, slot: usize, place: u32)
 }
 
 /// Notes the place of a row, in its slot or the one behind.
-fn note(places: &mut Vec<u32>, slots: u32, row: &[u64; 73], place: u32)
+fn note(places: &mut Vec<u16>, slots: u32, row: &[u64; 73], place: u16)
     requires slots { 8 ≤ slots }
     requires long { length places.old.items ≡ slots }
-    requires place { place < 4294967295 }
+    requires place { place < 65535 }
     ensures taken { is_taken places.new.items (spec.slot (key_of row.now) slots) ≡ true }
     ensures kept { Keeps places.old.items places.new.items }
     ensures long { length places.new.items ≡ length places.old.items }
@@ -95,22 +95,22 @@ fn note(places: &mut Vec<u32>, slots: u32, row: &[u64; 73], place: u32)
 }
 
 /// The next place. Behind the last one that can be noted it is the same.
-fn after(place: u32) -> u32
-    requires { place < 4294967295 }
-    ensures { result < 4294967295 }
+fn after(place: u16) -> u16
+    requires { place < 65535 }
+    ensures { result < 65535 }
 {
     if place < NONE - 1 { place + 1 } else { place }
 }
 
 /// Notes the places of a port's rows.
-fn note_all(places: &mut Vec<u32>, slots: u32, rows: &[[u64; 73]])
+fn note_all(places: &mut Vec<u16>, slots: u32, rows: &[[u64; 73]])
     requires slots { 8 ≤ slots }
     requires long { length places.old.items ≡ slots }
     ensures noted { AreNoted places.new.items slots rows.now }
     ensures kept { Keeps places.old.items places.new.items }
     ensures long { length places.new.items ≡ length places.old.items }
 {
-    let mut place: u32 = 0;
+    let mut place: u16 = 0;
     for row in rows {
         note(places, slots, row, place);
         place = after(place);
@@ -119,7 +119,7 @@ fn note_all(places: &mut Vec<u32>, slots: u32, rows: &[[u64; 73]])
 
 /// The place in a slot.
 #[inline(always)]
-fn place_in(places: &[u32], slot: usize) -> usize {
+fn place_in(places: &[u16], slot: usize) -> usize {
     match places.get(slot) {
         Some(place) => *place as usize,
         None => usize::MAX,

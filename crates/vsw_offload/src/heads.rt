@@ -1,4 +1,4 @@
-//! Heads of rows whose packets pass as they came. A head stands where its key's slot is, or in the one behind, so most packets touch few other words of their row.
+//! Heads of rows whose packets pass as they came. A head stands in the slot of its key or in one of the two behind, so most packets touch nothing else of their row.
 
 ghost use Rattle.std.specs.Prelude.{◌≡◌, ◌≢◌, ◌≤◌, IfOk, IfSome, List, OnOk, ℕ, get_or, true};
 ghost use Rattle.vsw_base.specs.declared.fate.Verdict.{Verdict};
@@ -85,7 +85,7 @@ fn slots_of(heads: &[Head]) -> Option<u32>
     Some(heads.len() as u32)
 }
 
-/// Whether one of the slots of a key tells that its packets pass as they came, at a moment.
+/// Whether one of three slots tells of a key that its packets pass as they came, at a moment.
 #[inline(always)]
 pub(crate) fn pass_own(heads: &[Head], key: &[u64; 16], moment: Moment) -> bool
     ensures { (rows : List (List ℕ)) → AreHeads rows heads.now → result ≡ true → PassesOwn rows key.now moment }
@@ -100,7 +100,10 @@ pub(crate) fn pass_own(heads: &[Head], key: &[u64; 16], moment: Moment) -> bool
     if has_head(heads, slot, key, moment) {
         return true;
     }
-    has_head(heads, slot + 1, key, moment)
+    if has_head(heads, slot + 1, key, moment) {
+        return true;
+    }
+    has_head(heads, slot + 2, key, moment)
 }
 
 /// Whether the packets of a row with this body pass as they came.
@@ -187,15 +190,19 @@ fn make_slots(heads: &mut Vec<Head>, slots: u32) -> Result<(), NoMemory>
     }
 }
 
-/// Puts a head into the slot of its key, or into the one behind.
+/// Puts a head into the slot of its key, or into one of the two behind.
 fn put_near(heads: &mut Vec<Head>, slots: u32, key: &[u64; 16], head: Head)
     requires slots { 8 ≤ slots }
     ensures { (rows : List (List ℕ)) → IsHeadOf rows head → AreHeads rows heads.old.items → AreHeads rows heads.new.items }
 {
     let slot = slot_of(key, slots) as usize;
-    if !put(heads, slot, head) {
-        let _ = put(heads, slot + 1, head);
+    if put(heads, slot, head) {
+        return;
     }
+    if put(heads, slot + 1, head) {
+        return;
+    }
+    let _ = put(heads, slot + 2, head);
 }
 
 /// Puts the head of a row, if it has one.

@@ -7,7 +7,7 @@ use Rattle.vsw_words.specs.Slot.{slot}
 
 -- a place is noted in the slot
 abbrev pub is_taken : List ℕ → ℕ → Bool
-is_taken places n = not (get_or places n 4294967295 == 4294967295)
+is_taken places n = not (get_or places n 65535 == 65535)
 
 -- no slot was freed
 abbrev pub Keeps : List ℕ → List ℕ → Type 0

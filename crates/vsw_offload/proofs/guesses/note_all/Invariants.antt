@@ -7,5 +7,5 @@ invariant-loop-row l = record {
   noted : AreNoted l.places.items l.slots (take l.row-index l.rows);
   kept : Keeps l.fn.places.items l.places.items;
   long : length l.places.items ≡ length l.fn.places.items;
-  place : l.place < 4294967295;
+  place : l.place < 65535;
 }

@@ -30,6 +30,9 @@ rows_of [] n e = (tt, tt)
 rows_of (p ∷ ps) zero e = (e.0.each, e.0.rise)
 rows_of (p ∷ ps) (suc n) e = rows_of ps n e.1
 
+pub rows_are : (ps : List PortRows) (n : ℕ) → AreRows ps → Each IsRow (rows_at ps n)
+rows_are ps n are = (rows_of ps n are.each).0
+
 pub rows_rise : (ps : List PortRows) (n : ℕ) → AreRows ps → Rise (rows_at ps n)
 rows_rise ps n are = (rows_of ps n are.each).1
 

@@ -1,9 +1,8 @@
 -- What heads tell of their rows.
-use Rattle.std.proofs.Common.{◌≡◌, ◌≢◌, ◌≤◌, ◌<◌, ◌+◌, ℕ, zero, suc, List, [], ◌∷◌, ◌++◌, Bool, true, false, get_or, take, drop, length, set, replicate, nat_eq, bit_or, refl, ap, subst, sym, ◌∙◌, arith}
-use Rattle.std.specs.Prelude.{Ok, Option, Some}
+use Rattle.std.proofs.Common.{◌≡◌, ◌≤◌, ◌<◌, ℕ, zero, suc, List, [], ◌∷◌, ◌++◌, true, get_or, take, drop, length, nat_eq, bit_or, ap, subst, sym, ◌∙◌, arith}
+use Rattle.std.specs.Prelude.{IfSome, None, Option, Some}
 use Rattle.std.proofs.lemmas.Bool.{eqb-true}
 use Rattle.std.proofs.lemmas.Nat.{le_or_l, le_or_r}
-use Rattle.vsw_base.specs.declared.fate.Fate.TheVariants as fate
 use Rattle.vsw_base.specs.declared.fate.Verdict.{Verdict}
 use Rattle.vsw_base.specs.declared.fate.Verdict.TheVariants.{Pass}
 use Rattle.vsw_base.specs.declared.flow.Crossing.{Crossing}
@@ -11,23 +10,21 @@ use Rattle.vsw_base.specs.declared.flow.Ufid.{Ufid}
 use Rattle.vsw_base.specs.declared.header.Header.{Header}
 use Rattle.vsw_base.specs.declared.packet.Control.TheVariants as control
 use Rattle.vsw_base.specs.Frame.{Parts}
-use Rattle.vsw_base.specs.Shape.{encaps, is_stack}
-use Rattle.vsw_frame.specs.Bytes as bytes
-use Rattle.vsw_frame.specs.Tiles.{outermost}
-use Rattle.vsw_offload.proofs.ByRow.{by_found, fits_frame, row_among}
+use Rattle.vsw_base.specs.Shape.{is_stack}
+use Rattle.vsw_offload.proofs.ByRow.{by_found, each_at, fits_frame}
 use Rattle.vsw_offload.proofs.Judged.{body_part}
-use Rattle.vsw_offload.specs.Answered.{Answered, bytes_by, bytes_given, bytes_told, fate_by, fate_given, passed, rows_at}
+use Rattle.vsw_offload.specs.Answered.{Answered, bytes_by, bytes_given, bytes_told, fate_by, fate_given, rows_at}
 use Rattle.vsw_offload.specs.declared.answer.Given.{Given}
 use Rattle.vsw_offload.specs.declared.heads.Head.{Head}
+use Rattle.vsw_offload.specs.declared.making.Edits.{Edits}
 use Rattle.vsw_offload.specs.declared.port_rows.PortRows.{PortRows}
-use Rattle.vsw_offload.specs.Private.Finding.{HasOne}
-use Rattle.vsw_offload.specs.Private.Heading.{AllHeads, AreHeads, IsHead, IsHeadFor, IsHeadOf, PassesOwn, bare_of, head_key, heads_at, no_head}
-use Rattle.vsw_offload.specs.Rows.{AreRows, IsRow, key_of}
-use Rattle.vsw_rows.specs.Good.{Row}
-use Rattle.vsw_rows.specs.Rows.{Says}
+use Rattle.vsw_offload.specs.Private.Finding.{HasNone, HasOne}
+use Rattle.vsw_offload.specs.Private.Heading.{AllMade, AreHeads, AreMade, AtPlace, IsByHead, IsHeadFor, IsHeadOf, PassesBy, PassesFrame, bare_of, made_at, no_head}
+use Rattle.vsw_offload.specs.Private.Making.{IsPlaceOf}
+use Rattle.vsw_offload.specs.Rows.{IsRow, key_of}
+use Rattle.vsw_policy.specs.Sound.{Each}
 use Rattle.vsw_transpose.specs.Apply.{apply}
 use Rattle.vsw_transpose.specs.Fits as fit
-use Rattle.vsw_transpose.specs.declared.act.Act.{Act}
 use Rattle.vsw_words.specs.Doing.{AreOf}
 use Rattle.vsw_words.specs.Key.{key_words}
 use Rattle.vsw_words.specs.Law.{IsId}
@@ -72,71 +69,52 @@ is_bare k long test =
 
 -- ---- heads in slots
 
--- where no head is, none has to be right
-pub none_there : (rows : List (List ℕ)) → IsHeadOf rows no_head
-none_there rows is = absurd (is refl)
-
-pub none_in : (rows : List (List ℕ)) → AreHeads rows []
-none_in rows n = none_there rows
-
-empty : (slots n : ℕ) → get_or (replicate slots no_head) n no_head ≡ no_head
-empty zero n = refl
-empty (suc k) zero = refl
-empty (suc k) (suc n) = empty k n
-
-pub all_free : (rows : List (List ℕ)) (slots : ℕ) → AreHeads rows (replicate slots no_head)
-all_free rows slots n = subst (IsHeadOf rows) (sym (empty slots n)) (none_there rows)
-
--- one is put
-pub one_put : (rows : List (List ℕ)) (hs : List Head) (slot : ℕ) (h : Head) → IsHeadOf rows h → AreHeads rows hs → AreHeads rows (set hs slot h)
-one_put rows [] slot h of are n = are n
-one_put rows (x ∷ hs) zero h of are zero = of
-one_put rows (x ∷ hs) zero h of are (suc n) = are (suc n)
-one_put rows (x ∷ hs) (suc k) h of are zero = are zero
-one_put rows (x ∷ hs) (suc k) h of are (suc n) = one_put rows hs k h of (λ m. are (suc m)) n
-
-pub head_there : (rows : List (List ℕ)) (words : List ℕ) (h : Head) → HasOne rows words → IsHead words h → IsHeadOf rows h
-head_there rows words h one is = λ first. (words, one, is)
-
 -- the row of a head that is a key's
-pub passes : (rows : List (List ℕ)) (hs : List Head) (slot : ℕ) (key : List ℕ) (moment : ℕ) → AreHeads rows hs → key ≡ bare_of key → IsHeadFor (get_or hs slot no_head) key moment → PassesOwn rows key moment
-passes rows hs slot key moment are bare f =
-    let (words, one, h) = are slot f.is in
-    record { words = words; one = one; same = h.key ∙ (f.same ∙ sym bare); pass = h.pass; early = λ r says. subst (λ n. moment ≤ n) (sym (h.until r says)) f.early; none = h.none }
+pub passes : (rows : List (List ℕ)) (stacks : List (List Header)) (hs : List Head) (slot : ℕ) (key : List ℕ) (moment : ℕ) (h : Head) → AreHeads rows stacks hs → key ≡ bare_of key → (h ≡ get_or hs slot no_head) × IsHeadFor h key moment → PassesBy rows stacks key moment h.place
+passes rows stacks hs slot key moment h are bare (at, f) =
+    let of : IsHeadOf rows stacks h = subst (IsHeadOf rows stacks) (sym at) (are slot) in
+    let (words, one, is) = of f.is in
+    record { words = words; one = one; same = is.key ∙ (f.same ∙ sym bare); pass = is.pass; early = λ r says. subst (λ n. moment ≤ n) (sym (is.until r says)) f.early; none = is.none; made = is.made }
 
 -- ---- ports
 
-pub port_more : (ps : List PortRows) (place : ℕ) (p : PortRows) (heads : List (List Head)) (h : List Head) → length heads ≡ place → place < length ps → AllHeads (take place ps) heads → AreHeads (get_or ps place p).rows h → AllHeads (take (suc place) ps) (heads ++ h ∷ [])
-port_more [] place p heads h l below a m = absurd (grind (arith, below))
-port_more (w ∷ ws) zero p [] h l below a m = (m, tt)
-port_more (w ∷ ws) zero p (x ∷ heads) h l below a m = absurd (grind (arith, l))
-port_more (w ∷ ws) (suc k) p [] h l below a m = absurd (grind (arith, l))
-port_more (w ∷ ws) (suc k) p (x ∷ heads) h l below a m = (a.0, port_more ws k p heads h (omega (arith, l)) (omega (arith, below)) a.1 m)
+pub port_more : (ps : List PortRows) (place : ℕ) (p : PortRows) (edits : List Edits) (e : Edits) → length edits ≡ place → place < length ps → AllMade (take place ps) edits → AreMade (get_or ps place p).rows e → AllMade (take (suc place) ps) (edits ++ e ∷ [])
+port_more [] place p edits e l below a m = absurd (grind (arith, below))
+port_more (w ∷ ws) zero p [] e l below a m = (m, tt)
+port_more (w ∷ ws) zero p (x ∷ edits) e l below a m = absurd (grind (arith, l))
+port_more (w ∷ ws) (suc k) p [] e l below a m = absurd (grind (arith, l))
+port_more (w ∷ ws) (suc k) p (x ∷ edits) e l below a m = (a.0, port_more ws k p edits e (omega (arith, l)) (omega (arith, below)) a.1 m)
 
-pub of_port : (ps : List PortRows) (heads : List (List Head)) (n : ℕ) → AllHeads ps heads → AreHeads (rows_at ps n) (heads_at heads n)
-of_port [] [] n a = none_in []
-of_port [] (h ∷ hs) n a = absurd a
-of_port (p ∷ ps) [] n a = none_in (rows_at (p ∷ ps) n)
-of_port (p ∷ ps) (h ∷ hs) zero a = a.0
-of_port (p ∷ ps) (h ∷ hs) (suc n) a = of_port ps hs n a.1
+-- those of one port
+pub of_port : (ps : List PortRows) (edits : List Edits) (n : ℕ) (e : Edits) → AllMade ps edits → made_at edits n ≡ Some e → AreMade (rows_at ps n) e
+of_port [] [] n e a is = absurd (cc is)
+of_port [] (x ∷ es) n e a is = absurd a
+of_port (p ∷ ps) [] n e a is = absurd a
+of_port (p ∷ ps) (x ∷ es) zero e a is = let same : x ≡ e = cc is in subst (AreMade p.rows) same a.0
+of_port (p ∷ ps) (x ∷ es) (suc n) e a is = of_port ps es n e a.1 is
+
+-- a port of which nothing is made is none
+pub no_port : (ps : List PortRows) (edits : List Edits) (n : ℕ) (key : List ℕ) → AllMade ps edits → made_at edits n ≡ None → HasNone (rows_at ps n) key
+no_port [] es n key a is = tt
+no_port (p ∷ ps) [] n key a is = absurd a
+no_port (p ∷ ps) (x ∷ es) zero key a is = absurd (cc is)
+no_port (p ∷ ps) (x ∷ es) (suc n) key a is = no_port ps es n key a.1 is
 
 -- ---- what is answered
 
--- a pass that edits nothing has the fate and the bytes of the frame's own
-own_fate : (by : List Act) (p : Parts) (v : Verdict) (n : ℕ) → v ≡ Pass → apply by p.stack ≡ p.stack → fit.kept by ≡ encaps p.stack → bytes.answer p p.stack (encaps p.stack) ≡ Ok n → fate.Pass n ≡ fate_by by p v
-own_fate by p v n pass same kept good =
-    let is : bytes.answer p (apply by p.stack) (fit.kept by) ≡ Ok n = (λ z. bytes.answer p (same z) (kept z)) ∙ good in
-    sym (ap passed is) ∙ ap (fate_by by p) (sym pass)
+pub row_in : (rows : List (List ℕ)) (words : List ℕ) → Each IsRow rows → HasOne rows words → IsRow words
+row_in rows words each one = each_at IsRow one.front words one.back (subst (Each IsRow) one.is each)
 
-pub own_given : (ps : List PortRows) (n : ℕ) (x : Crossing) (p : Parts) (key out : List ℕ) (moment : ℕ) (id : Ufid) (g : Given) → AreRows ps → PassesOwn (rows_at ps n) key moment → IsId id → key ≡ key_words id.dir id.stack → id.stack ≡ p.stack → x.id ≡ id → x.control ≡ control.None → x.moment ≡ moment
-    → g ≡ record { fate = fate.Pass (length (outermost p.levels)); own = true } → bytes.outgoing p p.stack (encaps p.stack) ≡ outermost p.levels → bytes.answer p p.stack (encaps p.stack) ≡ Ok (length (outermost p.levels))
-    → Answered (rows_at ps n) x p (fate_given (Some g)) (bytes_given p (Some g) out)
-own_given ps n x p key out moment id g are o is same stack i control at given leaves good =
-    by_found (rows_at ps n) x p o.words out moment id (Some g) o.one r is here i control at (o.early r.row r.says) fates all tt
+-- what is known of the row of a key is so of a frame
+pub of_frame : (p : Parts) (rows : List (List ℕ)) (stacks : List (List Header)) (key : List ℕ) (moment : ℕ) (place : Option ℕ) (id : Ufid) (o : PassesBy rows stacks key moment place) (r : IsRow o.words) → IsId id → key ≡ key_words id.dir id.stack → id.stack ≡ p.stack → PassesFrame p stacks place r.row
+of_frame p rows stacks key moment place id o r is same stack = record {
+  pass = pass;
+  form = r.says.body.form;
+  fits = fits;
+  none = λ e. o.none e r.row.acts r.row.until p.stack of shape fits;
+  made = at place o.made;
+}
   where
-    r : IsRow o.words
-    r = row_among ps n o.words are o.one
-
     here : key_of o.words ≡ key_words id.dir id.stack
     here = o.same ∙ same
 
@@ -152,14 +130,14 @@ own_given ps n x p key out moment id g are o is same stack i control at given le
     fits : fit.fits r.row.acts p.stack ≡ true
     fits = ap (fit.fits r.row.acts) (sym stack) ∙ fits_frame o.words id r is here pass
 
-    stays : (apply r.row.acts p.stack ≡ p.stack) × (fit.kept r.row.acts ≡ encaps p.stack)
-    stays = o.none r.row.acts r.row.until p.stack of shape fits
+    at : (q : Option ℕ) → IsPlaceOf o.words stacks q → AtPlace stacks q (apply r.row.acts p.stack)
+    at None i = tt
+    at (Some n) i = (i.0, i.1 id r.row.acts r.row.until is here of ∙ ap (apply r.row.acts) stack)
 
-    fates : g.fate ≡ fate_by r.row.acts p r.row.verdict
-    fates = ap (λ (w : Given). w.fate) given ∙ own_fate r.row.acts p r.row.verdict (length (outermost p.levels)) pass stays.0 stays.1 good
+pub by_head_is : (p : Parts) (rows : List (List ℕ)) (stacks : List (List Header)) (key : List ℕ) (moment : ℕ) (place : Option ℕ) (result : Option Given) (out : List ℕ) (o : PassesBy rows stacks key moment place) (r : IsRow o.words)
+    → IfSome result (λ g. g.fate ≡ fate_by r.row.acts p r.row.verdict) → IfSome result (λ g. bytes_told g.own p g.fate out ≡ bytes_by r.row.acts p g.fate) → IfSome result (λ g. IsByHead rows key moment p g out)
+by_head_is p rows stacks key moment place None out o r fate bytes = tt
+by_head_is p rows stacks key moment place (Some g) out o r fate bytes = record { words = o.words; one = o.one; same = o.same; is = r; early = o.early r.row r.says; fate = fate; bytes = bytes }
 
-    own : bytes_told true p (fate.Pass (length (outermost p.levels))) out ≡ bytes_by r.row.acts p (fate.Pass (length (outermost p.levels)))
-    own = sym leaves ∙ (λ z. bytes.outgoing p (sym stays.0 z) (sym stays.1 z))
-
-    all : bytes_told g.own p g.fate out ≡ bytes_by r.row.acts p g.fate
-    all = subst (λ (w : Given). bytes_told w.own p w.fate out ≡ bytes_by r.row.acts p w.fate) (sym given) own
+pub found_by_head : (rows : List (List ℕ)) (x : Crossing) (p : Parts) (key out : List ℕ) (moment : ℕ) (id : Ufid) (g : Given) → IsByHead rows key moment p g out → IsId id → key ≡ key_words id.dir id.stack → x.id ≡ id → x.control ≡ control.None → x.moment ≡ moment → Answered rows x p (fate_given (Some g)) (bytes_given p (Some g) out)
+found_by_head rows x p key out moment id g h is same i control at = by_found rows x p h.words out moment id (Some g) h.one h.is is (h.same ∙ same) i control at h.early h.fate h.bytes tt

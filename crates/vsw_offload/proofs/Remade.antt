@@ -7,11 +7,8 @@ use Rattle.vsw_base.specs.declared.fate.Verdict.TheVariants.{Pass}
 use Rattle.vsw_base.specs.declared.flow.Ufid.{Ufid}
 use Rattle.vsw_base.specs.declared.header.Header.{Header}
 use Rattle.vsw_offload.proofs.Judged.{body_part, key_part}
-use Rattle.vsw_offload.specs.Private.Making.{AllMade, AreMade, ArePlaces, IsEdited, IsMadeOf, IsPlaceOf, Stay, made_at}
-use Rattle.vsw_offload.specs.Answered.{rows_at}
+use Rattle.vsw_offload.specs.Private.Making.{ArePlaces, IsEdited, IsMadeOf, IsPlaceOf, Stay}
 use Rattle.vsw_offload.specs.Rows.{IsRow, key_of}
-use Rattle.vsw_offload.specs.declared.making.Edits.{Edits}
-use Rattle.vsw_offload.specs.declared.port_rows.PortRows.{PortRows}
 use Rattle.vsw_rows.specs.Good.{Row}
 use Rattle.vsw_transpose.specs.Apply.{apply}
 use Rattle.vsw_transpose.specs.Fits as fit
@@ -58,30 +55,7 @@ put_last (x ∷ hs) h = let (below, same) = put_last hs h in (omega (arith, belo
 pub placed : (old new : List (List Header)) (h : List Header) (place : ℕ) → new ≡ old ++ h ∷ [] → place ≡ length old → (place < length new) × (get_or new place [] ≡ h)
 placed old new h place grown at = subst (λ hs. (place < length hs) × (get_or hs place [] ≡ h)) (sym grown) (subst (λ n. (n < length (old ++ h ∷ [])) × (get_or (old ++ h ∷ []) n [] ≡ h)) (sym at) (put_last old h))
 
--- ---- ports
-
-pub port_more : (ps : List PortRows) (place : ℕ) (p : PortRows) (edits : List Edits) (e : Edits) → length edits ≡ place → place < length ps → AllMade (take place ps) edits → AreMade (get_or ps place p).rows e → AllMade (take (suc place) ps) (edits ++ e ∷ [])
-port_more [] place p edits e l below a m = absurd (grind (arith, below))
-port_more (w ∷ ws) zero p [] e l below a m = (m, tt)
-port_more (w ∷ ws) zero p (x ∷ edits) e l below a m = absurd (grind (arith, l))
-port_more (w ∷ ws) (suc k) p [] e l below a m = absurd (grind (arith, l))
-port_more (w ∷ ws) (suc k) p (x ∷ edits) e l below a m = (a.0, port_more ws k p edits e (omega (arith, l)) (omega (arith, below)) a.1 m)
-
--- those of one port
-pub of_port : (ps : List PortRows) (edits : List Edits) (n : ℕ) (e : Edits) → AllMade ps edits → made_at edits n ≡ Some e → AreMade (rows_at ps n) e
-of_port [] [] n e a is = absurd (cc is)
-of_port [] (x ∷ es) n e a is = absurd a
-of_port (p ∷ ps) [] n e a is = absurd (cc is)
-of_port (p ∷ ps) (x ∷ es) zero e a is = let same : x ≡ e = cc is in subst (AreMade p.rows) same a.0
-of_port (p ∷ ps) (x ∷ es) (suc n) e a is = of_port ps es n e a.1 is
-
 -- ---- headers
-
--- those at the place of a row
-pub of_place : (rows : List (List ℕ)) (places : List (Option ℕ)) (stacks : List (List Header)) (at place : ℕ) (m : List Header) → ArePlaces rows places stacks → Some place ≡ get_or places at None → m ≡ get_or stacks place [] → IsEdited (get_or rows at []) m
-of_place rows places stacks at place m are here is =
-    let p : IsPlaceOf (get_or rows at []) stacks (Some place) = subst (IsPlaceOf (get_or rows at []) stacks) (sym here) (are at) in
-    subst (IsEdited (get_or rows at [])) (sym is) p.1
 
 -- what is made of a key's headers is made of the frame's
 pub made_for : (words : List ℕ) (hs : List Header) (id : Ufid) (m : List Header) → IsEdited words m → IsId id → key_of words ≡ key_words id.dir id.stack → id.stack ≡ hs → IsMadeOf (drop 16 words) m hs

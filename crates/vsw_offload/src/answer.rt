@@ -1,6 +1,6 @@
 //! What rows answer a frame.
 
-ghost use Rattle.std.specs.Prelude.{◌≡◌, ◌≤◌, ◌<◌, ◌+◌, ℕ, IfNone, IfSome, List, Ok, [], drop, get_or, length, true, false};
+ghost use Rattle.std.specs.Prelude.{◌≡◌, ◌≤◌, ◌<◌, ◌+◌, ℕ, IfNone, IfSome, List, Ok, Some, [], drop, get_or, length, true, false};
 ghost use Rattle.vsw_base.specs.declared.fate.Fate.TheVariants as fate;
 ghost use Rattle.vsw_base.specs.declared.fate.Verdict.TheVariants as verdict;
 ghost use Rattle.vsw_base.specs.declared.flow.Crossing.{Crossing};
@@ -13,25 +13,27 @@ ghost use Rattle.vsw_frame.specs.Frame.{parts};
 ghost use Rattle.vsw_frame.specs.Tiles.{outermost};
 ghost use Rattle.vsw_offload.specs.Answered as spec;
 ghost use Rattle.vsw_offload.specs.Answered.{Answered, IsPacketOf, bytes_by, bytes_given, bytes_told, fate_by, fate_given, passed};
-ghost use Rattle.vsw_offload.specs.Private.Heading.{AllHeads};
-ghost use Rattle.vsw_offload.specs.Private.Making.{AllMade, AreMade, IsEdited, IsMadeOf};
+ghost use Rattle.vsw_offload.specs.Private.Heading.{AllMade, AreMade, IsByHead, PassesFrame};
+ghost use Rattle.vsw_offload.specs.Private.Making.{IsEdited, IsMadeOf};
 ghost use Rattle.vsw_offload.specs.Private.Noting.{AllNoted};
 ghost use Rattle.vsw_offload.specs.Private.Saying.{SaysOf, SaysRow, bytes_with};
-ghost use Rattle.vsw_offload.specs.Rows.{AreRows, key_of};
+ghost use Rattle.vsw_offload.specs.Rows.{AreRows, IsRow, key_of};
+ghost use Rattle.vsw_policy.specs.Sound.{Each};
 ghost use Rattle.vsw_rows.specs.Good.{Row};
 ghost use Rattle.vsw_transpose.specs.declared.act.Act.{Act};
 ghost use Rattle.vsw_transpose.specs.Apply.{apply};
 ghost use Rattle.vsw_transpose.specs.Fits as fit;
+ghost use Rattle.vsw_transpose.specs.Form.{is_form};
 ghost use Rattle.vsw_words.specs.Doing.{AreOf};
 ghost use Rattle.vsw_words.specs.Key as key;
 ghost use Rattle.vsw_words.specs.Law.{IsId};
 
 use crate::finding::{find, guessed};
 use crate::guesses::Guesses;
-use crate::heads::{Head, heads_at, pass_own};
+use crate::heads::head_for;
 use crate::making::{Edits, edits_at, place_of};
 use crate::port_rows::PortRows;
-use vsw_base::{Cause, Control, Dir, Fate, Items, Moment, Place, Stack, Ufid, Verdict};
+use vsw_base::{Cause, Control, Dir, Fate, Moment, Place, Stack, Ufid, Verdict};
 use vsw_frame::{Frame, own_bytes, rewrite_to};
 use vsw_words::{do_words, doing_of, key_words, until_in, verdict_in};
 
@@ -329,22 +331,11 @@ fn made_in(edits: &Edits, at: usize) -> Option<&Stack>
     }
 }
 
-/// The same, if headers were made.
-#[inline(always)]
-fn made_at(edits: Option<&Edits>, at: usize) -> Option<&Stack>
-    ensures { (rows : List (List ℕ)) → IfSome edits.entry (λ e. AreMade rows e.now) → IfSome result (λ m. IsEdited (get_or rows at []) m.now) }
-{
-    match edits {
-        None => None,
-        Some(edits) => made_in(edits, at),
-    }
-}
-
 /// What the row at a place answers a frame of its identity.
 #[inline(always)]
 fn by_place(
     rows: &[[u64; 73]],
-    edits: Option<&Edits>,
+    edits: &Edits,
     at: usize,
     frame: &Frame<'_>,
     moment: Moment,
@@ -353,7 +344,7 @@ fn by_place(
 ) -> Option<Given>
     requires within { at < length rows.now }
     requires row { (r : Row) × SaysRow (get_or rows.now at []) r (parts frame.now) }
-    requires made { IfSome edits (λ e. AreMade rows.now e.now) }
+    requires made { AreMade rows.now edits.now }
     requires id { (id : Ufid) × IsId id × (key_of (get_or rows.now at []) ≡ key.key_words id.dir id.stack) × (id.stack ≡ (parts frame.now).stack) }
     requires room { length out.old ≡ 65700 }
     ensures early { (r : Row) → SaysRow (get_or rows.now at []) r (parts frame.now) → IfSome result (λ g. moment ≤ r.until) }
@@ -362,15 +353,91 @@ fn by_place(
     ensures late { (r : Row) → SaysRow (get_or rows.now at []) r (parts frame.now) → IfNone result (r.until < moment) }
     ensures own { IfSome result (λ g. g.own ≡ true → g.fate ≡ fate.Pass (length (outermost (parts frame.now).levels))) }
 {
-    let made = made_at(edits, at);
+    let made = made_in(edits, at);
     by_row(&rows[at], made, frame, moment, edited, out)
+}
+
+/// A frame without encapsulations passes with these headers.
+#[inline(always)]
+fn edit_bare(made: &Stack, frame: &Frame<'_>, out: &mut [u8]) -> Given
+    requires bare { encaps (parts frame.now).stack ≡ 0 }
+    requires edit { (by : List Act) × (is_form by ≡ true) × (fit.fits by (parts frame.now).stack ≡ true) × (made.now ≡ apply by (parts frame.now).stack) }
+    requires room { length out.old ≡ 65700 }
+    ensures fate { (by : List Act) → is_form by ≡ true → fit.fits by (parts frame.now).stack ≡ true → made.now ≡ apply by (parts frame.now).stack → result.fate ≡ fate_by by (parts frame.now) verdict.Pass }
+    ensures bytes { (by : List Act) → is_form by ≡ true → fit.fits by (parts frame.now).stack ≡ true → made.now ≡ apply by (parts frame.now).stack → bytes_told result.own (parts frame.now) result.fate out.new ≡ bytes_by by (parts frame.now) result.fate }
+    ensures own { result.own ≡ false }
+{
+    // It tells the proof that the headers are those of a stack.
+    let _ = frame.stack().headers();
+    edited_to(frame, made, 0, out)
+}
+
+/// Whether a frame has no encapsulation.
+#[inline(always)]
+fn is_bare(frame: &Frame<'_>) -> bool
+    ensures { result ≡ true → encaps (parts frame.now).stack ≡ 0 }
+{
+    frame.stack().encaps() == 0
+}
+
+/// What headers at a place make of a frame.
+#[inline(always)]
+fn by_stack(stacks: &[Stack], place: u32, frame: &Frame<'_>, out: &mut [u8]) -> Option<Given>
+    requires frame { (r : Row) × PassesFrame (parts frame.now) stacks.now (Some place) r }
+    requires room { length out.old ≡ 65700 }
+    ensures fate { (r : Row) → PassesFrame (parts frame.now) stacks.now (Some place) r → IfSome result (λ g. g.fate ≡ fate_by r.acts (parts frame.now) r.verdict) }
+    ensures bytes { (r : Row) → PassesFrame (parts frame.now) stacks.now (Some place) r → IfSome result (λ g. bytes_told g.own (parts frame.now) g.fate out.new ≡ bytes_by r.acts (parts frame.now) g.fate) }
+    ensures own { IfSome result (λ g. g.own ≡ false) }
+{
+    if !is_bare(frame) {
+        return None;
+    }
+    match made_for(stacks, place as usize) {
+        None => None,
+        Some(made) => Some(edit_bare(made, frame, out)),
+    }
+}
+
+/// What a head of its key answers a frame.
+#[inline(always)]
+fn by_head(stacks: &[Stack], place: Option<u32>, frame: &Frame<'_>, out: &mut [u8]) -> Option<Given>
+    requires frame { (r : Row) × PassesFrame (parts frame.now) stacks.now place r }
+    requires room { length out.old ≡ 65700 }
+    ensures fate { (r : Row) → PassesFrame (parts frame.now) stacks.now place r → IfSome result (λ g. g.fate ≡ fate_by r.acts (parts frame.now) r.verdict) }
+    ensures bytes { (r : Row) → PassesFrame (parts frame.now) stacks.now place r → IfSome result (λ g. bytes_told g.own (parts frame.now) g.fate out.new ≡ bytes_by r.acts (parts frame.now) g.fate) }
+    ensures own { IfSome result (λ g. g.own ≡ true → g.fate ≡ fate.Pass (length (outermost (parts frame.now).levels))) }
+{
+    match place {
+        None => Some(unedited(frame)),
+        Some(place) => by_stack(stacks, place, frame, out),
+    }
+}
+
+/// What is answered from heads alone.
+#[inline(always)]
+fn by_heads(
+    edits: &Edits,
+    words: &[u64; 16],
+    frame: &Frame<'_>,
+    moment: Moment,
+    out: &mut [u8],
+) -> Option<Given>
+    requires made { (rows : List (List ℕ)) × AreMade rows edits.now × Each IsRow rows }
+    requires id { (id : Ufid) × IsId id × (words.now ≡ key.key_words id.dir id.stack) × (id.stack ≡ (parts frame.now).stack) }
+    requires room { length out.old ≡ 65700 }
+    ensures answered { (rows : List (List ℕ)) → AreMade rows edits.now → Each IsRow rows → (id : Ufid) → IsId id → words.now ≡ key.key_words id.dir id.stack → id.stack ≡ (parts frame.now).stack → IfSome result (λ g. IsByHead rows words.now moment (parts frame.now) g out.new) }
+    ensures own { IfSome result (λ g. g.own ≡ true → g.fate ≡ fate.Pass (length (outermost (parts frame.now).levels))) }
+{
+    match head_for(edits.heads.as_slice(), words, moment) {
+        None => None,
+        Some(head) => by_head(edits.stacks.as_slice(), head.place, frame, out),
+    }
 }
 
 /// What rows answer a frame at a port and a moment.
 pub(crate) fn answer(
     ports: &[PortRows],
     edits: &[Edits],
-    heads: &[Items<Head>],
     guesses: &Guesses,
     place: Place,
     frame: &Frame<'_>,
@@ -380,7 +447,6 @@ pub(crate) fn answer(
 ) -> Option<Given>
     requires are { AreRows ports.now }
     requires made { AllMade ports.now edits.now }
-    requires heads { AllHeads ports.now heads.now }
     requires slots { 8 ≤ guesses.now.slots }
     requires noted { AllNoted guesses.now.places.items guesses.now.slots ports.now }
     requires room { length out.old ≡ 65700 }
@@ -391,8 +457,11 @@ pub(crate) fn answer(
         return None;
     }
     write_key(place.dir, frame, &mut room.id, &mut room.key);
-    if pass_own(heads_at(heads, place.port), &room.key, moment) {
-        return Some(unedited(frame));
+    let Some(edits) = edits_at(edits, place.port) else {
+        return None;
+    };
+    if let Some(given) = by_heads(edits, &room.key, frame, moment, out) {
+        return Some(given);
     }
     let rows = rows_at(ports, place.port);
     let slot = guesses.slot(&room.key);
@@ -400,10 +469,7 @@ pub(crate) fn answer(
         return None;
     }
     match guessed(rows, guesses, slot, &room.key) {
-        Some(at) => {
-            let edits = edits_at(edits, place.port);
-            by_place(rows, edits, at, frame, moment, &mut room.edited, out)
-        }
+        Some(at) => by_place(rows, edits, at, frame, moment, &mut room.edited, out),
         None => match find(rows, &room.key) {
             None => None,
             Some(words) => by_row(words, None, frame, moment, &mut room.edited, out),

@@ -1,24 +1,23 @@
-//! Heads of rows whose packets pass as they came. A head stands in the slot of its key or in one of the two behind, so most packets touch nothing else of their row.
+//! Heads of rows whose packets pass. A head stands in the slot of its key or in one of the two behind, so most packets touch nothing else of their row.
 
-ghost use Rattle.std.specs.Prelude.{◌≡◌, ◌≢◌, ◌≤◌, IfOk, IfSome, List, OnOk, ℕ, get_or, true};
+ghost use Rattle.std.specs.Prelude.{◌≡◌, ◌≢◌, ◌≤◌, IfOk, IfSome, List, None, OnOk, ℕ, get_or, true};
 ghost use Rattle.vsw_base.specs.declared.fate.Verdict.{Verdict};
 ghost use Rattle.vsw_base.specs.declared.fate.Verdict.TheVariants.{Pass};
+ghost use Rattle.vsw_base.specs.declared.header.Header.{Header};
 ghost use Rattle.vsw_offload.specs.Private.Finding.{HasOne};
-ghost use Rattle.vsw_offload.specs.Private.Heading as spec;
-ghost use Rattle.vsw_offload.specs.Private.Heading.{AllHeads, AreHeads, IsHead, IsHeadFor, IsHeadOf, PassesOwn, bare_of, head_key, no_head};
-ghost use Rattle.vsw_offload.specs.Private.Making.{EditsNone};
-ghost use Rattle.vsw_offload.specs.Rows.{IsPortRows, IsRow};
+ghost use Rattle.vsw_offload.specs.Private.Heading.{AreHeads, IsHead, IsHeadFor, IsHeadOf, PassesBy, bare_of, head_key, no_head};
+ghost use Rattle.vsw_offload.specs.Private.Making.{ArePlaces, EditsNone, IsPlaceOf};
+ghost use Rattle.vsw_offload.specs.Rows.{IsRow};
 ghost use Rattle.vsw_policy.specs.Sound.{Each};
 ghost use Rattle.vsw_transpose.specs.declared.act.Act.{Act};
 ghost use Rattle.vsw_words.specs.Doing.{AreOf};
 
-use crate::making::is_own;
-use crate::port_rows::PortRows;
+use crate::making::{is_own, place_of};
 use std::alloc::Global;
 use vsw_base::{Items, Moment, NoMemory, Verdict};
 use vsw_words::{slot_of, until_in, verdict_in};
 
-/// What is known of a row whose packets pass as they came. The other words of its key are 0.
+/// What is known of a row whose packets pass. The other words of its key are 0.
 #[derive(Clone, Copy)]
 pub(crate) struct Head {
     /// The key's first word. Where it is 0 there is no row.
@@ -30,6 +29,8 @@ pub(crate) struct Head {
     pub pair: u64,
     /// The row's until.
     pub until: u64,
+    /// Where the headers stand that the row makes. Without them it edits nothing.
+    pub place: Option<u32>,
 }
 
 const NO_HEAD: Head = Head {
@@ -38,6 +39,7 @@ const NO_HEAD: Head = Head {
     src: 0,
     pair: 0,
     until: 0,
+    place: None,
 };
 
 /// Whether those words of a key are 0 that a head doesn't have.
@@ -63,14 +65,20 @@ fn is_for(head: &Head, key: &[u64; 16], moment: Moment) -> bool
         && moment.micros() <= head.until
 }
 
-/// The same of the head in a slot.
+/// The head in a slot, if it is of a key, and its row's until isn't below a moment.
 #[inline(always)]
-fn has_head(heads: &[Head], slot: usize, key: &[u64; 16], moment: Moment) -> bool
-    ensures { result ≡ true → IsHeadFor (get_or heads.now slot no_head) key.now moment }
+fn head_in<'a>(heads: &'a [Head], slot: usize, key: &[u64; 16], moment: Moment) -> Option<&'a Head>
+    ensures { IfSome result (λ h. (h.now ≡ get_or heads.now slot no_head) × IsHeadFor h.now key.now moment) }
 {
     match heads.get(slot) {
-        None => false,
-        Some(head) => is_for(head, key, moment),
+        None => None,
+        Some(head) => {
+            if is_for(head, key, moment) {
+                Some(head)
+            } else {
+                None
+            }
+        }
     }
 }
 
@@ -85,44 +93,46 @@ fn slots_of(heads: &[Head]) -> Option<u32>
     Some(heads.len() as u32)
 }
 
-/// Whether one of three slots tells of a key that its packets pass as they came, at a moment.
+/// The head of a key at a moment, if it stands in one of three slots.
 #[inline(always)]
-pub(crate) fn pass_own(heads: &[Head], key: &[u64; 16], moment: Moment) -> bool
-    ensures { (rows : List (List ℕ)) → AreHeads rows heads.now → result ≡ true → PassesOwn rows key.now moment }
+pub(crate) fn head_for<'a>(heads: &'a [Head], key: &[u64; 16], moment: Moment) -> Option<&'a Head>
+    ensures { (rows : List (List ℕ)) (stacks : List (List Header)) → AreHeads rows stacks heads.now → IfSome result (λ h. PassesBy rows stacks key.now moment h.now.place) }
 {
-    let Some(slots) = slots_of(heads) else {
-        return false;
-    };
+    let slots = slots_of(heads)?;
     if !is_bare(key) {
-        return false;
+        return None;
     }
     let slot = slot_of(key, slots) as usize;
-    if has_head(heads, slot, key, moment) {
-        return true;
+    if let Some(head) = head_in(heads, slot, key, moment) {
+        return Some(head);
     }
-    if has_head(heads, slot + 1, key, moment) {
-        return true;
+    if let Some(head) = head_in(heads, slot + 1, key, moment) {
+        return Some(head);
     }
-    has_head(heads, slot + 2, key, moment)
+    head_in(heads, slot + 2, key, moment)
 }
 
-/// Whether the packets of a row with this body pass as they came.
-fn is_own_pass(body: &[u64; 57]) -> bool
+/// Whether the packets of a row with this body pass, and as they came if no headers are made of them.
+fn is_known(body: &[u64; 57], place: Option<u32>) -> bool
     requires { (v : Verdict) × (by : List Act) × (until : ℕ) × AreOf body.now v by until }
     ensures pass { result ≡ true → (v : Verdict) (by : List Act) (until : ℕ) → AreOf body.now v by until → v ≡ Pass }
-    ensures none { result ≡ true → EditsNone body.now }
+    ensures none { result ≡ true → place ≡ None → EditsNone body.now }
 {
     match verdict_in(body) {
-        Verdict::Pass => is_own(body),
+        Verdict::Pass => match place {
+            None => is_own(body),
+            Some(_) => true,
+        },
         Verdict::Rule { .. } => false,
         Verdict::Default { .. } => false,
     }
 }
 
 /// A head of a key.
-fn head_with(key: &[u64; 16], until: Moment) -> Head
+fn head_with(key: &[u64; 16], until: Moment, place: Option<u32>) -> Head
     ensures key { head_key result ≡ bare_of key.now }
     ensures until { result.until ≡ until }
+    ensures place { result.place ≡ place }
 {
     Head {
         first: key[0],
@@ -130,13 +140,14 @@ fn head_with(key: &[u64; 16], until: Moment) -> Head
         src: key[3],
         pair: key[8],
         until: until.micros(),
+        place,
     }
 }
 
-/// The head of a row, if it has one.
-fn head_of(words: &[u64; 73]) -> Option<Head>
+/// The head of a row, if it has one. The headers that it makes stand at the place.
+fn head_of(words: &[u64; 73], place: Option<u32>) -> Option<Head>
     requires { IsRow words.now }
-    ensures { IfSome result (λ head. IsHead words.now head) }
+    ensures { (stacks : List (List Header)) → IsPlaceOf words.now stacks place → IfSome result (λ head. IsHead words.now stacks head) }
 {
     let Some(key) = words.first_chunk::<16>() else {
         return None;
@@ -147,15 +158,15 @@ fn head_of(words: &[u64; 73]) -> Option<Head>
     if !is_bare(key) {
         return None;
     }
-    if !is_own_pass(body) {
+    if !is_known(body, place) {
         return None;
     }
-    Some(head_with(key, until_in(body)))
+    Some(head_with(key, until_in(body), place))
 }
 
 /// Puts a head into a slot, if that is free.
 fn put(heads: &mut Vec<Head>, slot: usize, head: Head) -> bool
-    ensures { (rows : List (List ℕ)) → IsHeadOf rows head → AreHeads rows heads.old.items → AreHeads rows heads.new.items }
+    ensures { (rows : List (List ℕ)) (stacks : List (List Header)) → IsHeadOf rows stacks head → AreHeads rows stacks heads.old.items → AreHeads rows stacks heads.new.items }
 {
     if slot >= heads.len() {
         return false;
@@ -167,19 +178,19 @@ fn put(heads: &mut Vec<Head>, slot: usize, head: Head) -> bool
     true
 }
 
-/// Slots for so many heads: with four for each most have their own.
+/// Slots for so many heads: with three for each nearly all find theirs or one behind it.
 fn slots_for(rows: usize) -> u32
     ensures { 8 ≤ result }
 {
     if rows >= 1 << 27 {
         return 1 << 29;
     }
-    (4 * rows + 8) as u32
+    (3 * rows + 8) as u32
 }
 
 /// Makes the slots free, if they aren't made.
 fn make_slots(heads: &mut Vec<Head>, slots: u32) -> Result<(), NoMemory>
-    ensures { OnOk result ((rows : List (List ℕ)) → AreHeads rows heads.old.items → AreHeads rows heads.new.items) }
+    ensures { OnOk result ((rows : List (List ℕ)) (stacks : List (List Header)) → AreHeads rows stacks heads.old.items → AreHeads rows stacks heads.new.items) }
 {
     if heads.len() > 0 {
         return Ok(());
@@ -193,7 +204,7 @@ fn make_slots(heads: &mut Vec<Head>, slots: u32) -> Result<(), NoMemory>
 /// Puts a head into the slot of its key, or into one of the two behind.
 fn put_near(heads: &mut Vec<Head>, slots: u32, key: &[u64; 16], head: Head)
     requires slots { 8 ≤ slots }
-    ensures { (rows : List (List ℕ)) → IsHeadOf rows head → AreHeads rows heads.old.items → AreHeads rows heads.new.items }
+    ensures { (rows : List (List ℕ)) (stacks : List (List Header)) → IsHeadOf rows stacks head → AreHeads rows stacks heads.old.items → AreHeads rows stacks heads.new.items }
 {
     let slot = slot_of(key, slots) as usize;
     if put(heads, slot, head) {
@@ -206,15 +217,20 @@ fn put_near(heads: &mut Vec<Head>, slots: u32, key: &[u64; 16], head: Head)
 }
 
 /// Puts the head of a row, if it has one.
-fn add(heads: &mut Vec<Head>, slots: u32, words: &[u64; 73]) -> Result<(), NoMemory>
+fn add(
+    heads: &mut Vec<Head>,
+    slots: u32,
+    words: &[u64; 73],
+    place: Option<u32>,
+) -> Result<(), NoMemory>
     requires slots { 8 ≤ slots }
     requires row { IsRow words.now }
-    ensures { OnOk result ((rows : List (List ℕ)) → HasOne rows words.now → AreHeads rows heads.old.items → AreHeads rows heads.new.items) }
+    ensures { OnOk result ((rows : List (List ℕ)) (stacks : List (List Header)) → HasOne rows words.now → IsPlaceOf words.now stacks place → AreHeads rows stacks heads.old.items → AreHeads rows stacks heads.new.items) }
 {
     let Some(key) = words.first_chunk::<16>() else {
         return Ok(());
     };
-    let Some(head) = head_of(words) else {
+    let Some(head) = head_of(words, place) else {
         return Ok(());
     };
     make_slots(heads, slots)?;
@@ -222,49 +238,21 @@ fn add(heads: &mut Vec<Head>, slots: u32, words: &[u64; 73]) -> Result<(), NoMem
     Ok(())
 }
 
-/// The heads of a port's rows.
-fn heads_of_port(alloc: Global, rows: &[[u64; 73]]) -> Result<Items<Head>, NoMemory>
+/// The heads of a port's rows, of which these are the places of their headers.
+pub(crate) fn heads_of_port(
+    alloc: Global,
+    rows: &[[u64; 73]],
+    places: &[Option<u32>],
+) -> Result<Items<Head>, NoMemory>
     requires { Each IsRow rows.now }
-    ensures { IfOk result (λ heads. AreHeads rows.now heads) }
+    ensures { IfOk result (λ heads. (stacks : List (List Header)) → ArePlaces rows.now places.now stacks → AreHeads rows.now stacks heads) }
 {
     let slots = slots_for(rows.len());
     let mut heads = Vec::new(alloc);
+    let mut at: usize = 0;
     for row in rows {
-        add(&mut heads, slots, row)?;
+        add(&mut heads, slots, row, place_of(places, at))?;
+        at += 1;
     }
     Ok(Items::of(heads))
-}
-
-/// The heads of the rows of ports.
-pub(crate) fn heads_of_ports(
-    alloc: Global,
-    ports: &[PortRows],
-) -> Result<Items<Items<Head>>, NoMemory>
-    requires { Each IsPortRows ports.now }
-    ensures { IfOk result (λ heads. AllHeads ports.now heads) }
-{
-    let mut heads = Items::new(alloc);
-    for port in ports {
-        let of_port = heads_of_port(alloc, port.rows.as_slice())?;
-        if heads.push(of_port).is_err() {
-            return Err(NoMemory);
-        }
-    }
-    Ok(heads)
-}
-
-/// Those of the port at a place.
-pub(crate) fn heads_at(heads: &[Items<Head>], place: u32) -> &[Head]
-    ensures { result.now ≡ spec.heads_at heads.now place }
-{
-    match heads.split_first() {
-        None => &[],
-        Some((first, rest)) => {
-            if place == 0 {
-                first.as_slice()
-            } else {
-                heads_at(rest, place - 1)
-            }
-        }
-    }
 }

@@ -1,12 +1,13 @@
-//! What rows make of their packets. It is made once, when a file is read: each packet of a row has the headers of its key.
+//! What is made of rows once, when a file is read: the headers that they make, since each packet of a row has the headers of its key, and their heads.
 
-ghost use Rattle.std.specs.Prelude.{◌≡◌, ◌++◌, ◌∷◌, [], IfOk, IfSome, List, None, OnOk, Some, ℕ, get_or, length, true};
+ghost use Rattle.std.specs.Prelude.{◌≡◌, ◌++◌, ◌∷◌, [], IfNone, IfOk, IfSome, List, None, OnOk, Some, ℕ, get_or, length, true};
 ghost use Rattle.vsw_base.specs.declared.fate.Verdict.{Verdict};
 ghost use Rattle.vsw_base.specs.declared.fate.Verdict.TheVariants.{Pass};
 ghost use Rattle.vsw_base.specs.declared.flow.Ufid.{Ufid};
 ghost use Rattle.vsw_base.specs.declared.header.Header.{Header};
-ghost use Rattle.vsw_offload.specs.Private.Making.{AllMade, AreMade, EditsNone, IsPlaceOf, Stay};
-ghost use Rattle.vsw_offload.specs.Private.Making as spec;
+ghost use Rattle.vsw_offload.specs.Private.Heading as spec;
+ghost use Rattle.vsw_offload.specs.Private.Heading.{AllMade, AreMade};
+ghost use Rattle.vsw_offload.specs.Private.Making.{ArePlaces, EditsNone, IsPlaceOf, Stay};
 ghost use Rattle.vsw_offload.specs.Rows.{IsPortRows, IsRow};
 ghost use Rattle.vsw_policy.specs.Sound.{Each};
 ghost use Rattle.vsw_rows.specs.Good.{Row};
@@ -17,15 +18,18 @@ ghost use Rattle.vsw_words.specs.Doing.{AreOf};
 ghost use Rattle.vsw_words.specs.Key.{key_words};
 ghost use Rattle.vsw_words.specs.Law.{IsId};
 
+use crate::heads::{Head, heads_of_port};
 use crate::port_rows::PortRows;
 use std::alloc::Global;
 use vsw_base::{Dir, Items, NoMemory, Stack, Ufid, Verdict};
 use vsw_words::{do_words, doing_of, identity_to, verdict_in};
 
-/// The headers that the rows of a port make.
+/// What is made of the rows of a port when a file is read.
 #[derive(Drop)]
 pub(crate) struct Edits {
-    /// For each row where they stand, if its packets pass edited.
+    /// Heads of rows whose packets pass, in slots of their keys.
+    pub heads: Items<Head>,
+    /// For each row where the headers stand that it makes, if its packets pass edited.
     pub places: Items<Option<u32>>,
     pub stacks: Items<Stack>,
 }
@@ -114,23 +118,42 @@ fn push_made(
     Ok(Some(place))
 }
 
-/// The headers that a port's rows make.
-fn edits_of_port(alloc: Global, rows: &[[u64; 73]], id: &mut Ufid) -> Result<Edits, NoMemory>
+/// Puts the headers that rows make behind others, and answers for each row where they stand.
+fn places_of(
+    alloc: Global,
+    rows: &[[u64; 73]],
+    id: &mut Ufid,
+    stacks: &mut Items<Stack>,
+) -> Result<Items<Option<u32>>, NoMemory>
     requires { Each IsRow rows.now }
-    ensures { IfOk result (λ edits. AreMade rows.now edits) }
+    ensures { IfOk result (λ places. ArePlaces rows.now places stacks.new) }
 {
     let mut places = Items::new(alloc);
-    let mut stacks = Items::new(alloc);
     for row in rows {
-        let place = push_made(row, id, &mut stacks)?;
+        let place = push_made(row, id, stacks)?;
         if places.push(place).is_err() {
             return Err(NoMemory);
         }
     }
-    Ok(Edits { places, stacks })
+    Ok(places)
 }
 
-/// The headers that the rows of ports make.
+/// What is made of a port's rows.
+fn edits_of_port(alloc: Global, rows: &[[u64; 73]], id: &mut Ufid) -> Result<Edits, NoMemory>
+    requires { Each IsRow rows.now }
+    ensures { IfOk result (λ edits. AreMade rows.now edits) }
+{
+    let mut stacks = Items::new(alloc);
+    let places = places_of(alloc, rows, id, &mut stacks)?;
+    let heads = heads_of_port(alloc, rows, places.as_slice())?;
+    Ok(Edits {
+        heads,
+        places,
+        stacks,
+    })
+}
+
+/// What is made of the rows of ports.
 pub(crate) fn edits_of_ports(alloc: Global, ports: &[PortRows]) -> Result<Items<Edits>, NoMemory>
     requires { Each IsPortRows ports.now }
     ensures { IfOk result (λ edits. AllMade ports.now edits) }
@@ -151,7 +174,8 @@ pub(crate) fn edits_of_ports(alloc: Global, ports: &[PortRows]) -> Result<Items<
 
 /// Those of the port at a place.
 pub(crate) fn edits_at(edits: &[Edits], place: u32) -> Option<&Edits>
-    ensures { IfSome result (λ e. spec.made_at edits.now place ≡ Some e.now) }
+    ensures some { IfSome result (λ e. spec.made_at edits.now place ≡ Some e.now) }
+    ensures none { IfNone result (spec.made_at edits.now place ≡ None) }
 {
     match edits.split_first() {
         None => None,

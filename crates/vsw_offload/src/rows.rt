@@ -16,7 +16,6 @@ ghost use Rattle.vsw_offload.specs.declared.port_rows.PortRows.{PortRows};
 use crate::answer::{AnswerRoom, Given, answer};
 use crate::fault::BadRows;
 use crate::guesses::Guesses;
-use crate::heads::{Head, heads_of_ports};
 use crate::making::{Edits, edits_of_ports};
 use crate::port_rows::PortRows;
 use crate::reading::read_file;
@@ -32,18 +31,15 @@ pub struct Rows {
     /// Their addresses and their numbers, each as a list.
     macs: Items<Mac>,
     numbers: Items<u32>,
-    /// The headers that their rows make.
+    /// What is made of their rows.
     edits: Items<Edits>,
-    /// Heads of those whose packets pass as they came.
-    heads: Items<Items<Head>>,
     /// Where rows of a key may stand.
     guesses: Guesses,
 }
 
 impl Model for Rows {
     ghost use Rattle.std.specs.Prelude.{◌≡◌, ◌≤◌, List};
-    ghost use Rattle.vsw_offload.specs.Private.Heading.{AllHeads};
-    ghost use Rattle.vsw_offload.specs.Private.Making.{AllMade};
+    ghost use Rattle.vsw_offload.specs.Private.Heading.{AllMade};
     ghost use Rattle.vsw_offload.specs.Private.Noting.{AllNoted};
     ghost use Rattle.vsw_offload.specs.Rows.{AreRows, macs_of, numbers_of};
     ghost use Rattle.vsw_offload.specs.declared.port_rows.PortRows.{PortRows};
@@ -52,7 +48,7 @@ impl Model for Rows {
 
     ghost view = { λ s. s.ports };
 
-    ghost invariant = { λ s. AreRows s.ports × (s.macs ≡ macs_of s.ports) × (s.numbers ≡ numbers_of s.ports) × AllMade s.ports s.edits × AllHeads s.ports s.heads × (8 ≤ s.guesses.slots) × AllNoted s.guesses.places.items s.guesses.slots s.ports };
+    ghost invariant = { λ s. AreRows s.ports × (s.macs ≡ macs_of s.ports) × (s.numbers ≡ numbers_of s.ports) × AllMade s.ports s.edits × (8 ≤ s.guesses.slots) × AllNoted s.guesses.places.items s.guesses.slots s.ports };
 }
 
 /// The addresses of ports, in their order.
@@ -89,14 +85,12 @@ fn with_lists(alloc: Global, ports: Items<PortRows>) -> Result<Rows, NoMemory>
     let macs = macs_of(alloc, ports.as_slice())?;
     let numbers = numbers_of(alloc, ports.as_slice())?;
     let edits = edits_of_ports(alloc, ports.as_slice())?;
-    let heads = heads_of_ports(alloc, ports.as_slice())?;
     let guesses = Guesses::of(alloc, ports.as_slice())?;
     Ok(Rows {
         ports,
         macs,
         numbers,
         edits,
-        heads,
         guesses,
     })
 }
@@ -207,7 +201,6 @@ impl Rows {
         answer(
             self.ports.as_slice(),
             self.edits.as_slice(),
-            self.heads.as_slice(),
             &self.guesses,
             place,
             frame,

@@ -1,12 +1,10 @@
 -- Headers that the acts of rows make of those of their keys.
-use Rattle.std.specs.Prelude.{◌≡◌, ◌<◌, ℕ, zero, suc, List, [], ◌∷◌, drop, get_or, length, true, Option, Some, None}
+use Rattle.std.specs.Prelude.{◌≡◌, ◌<◌, ℕ, List, [], drop, get_or, length, true, Option, Some, None}
 use Rattle.vsw_base.specs.declared.fate.Verdict.TheVariants.{Pass}
 use Rattle.vsw_base.specs.declared.flow.Ufid.{Ufid}
 use Rattle.vsw_base.specs.declared.header.Header.{Header}
 use Rattle.vsw_base.specs.Shape.{encaps, is_stack}
 use Rattle.vsw_offload.specs.Rows.{key_of}
-use Rattle.vsw_offload.specs.declared.making.Edits.{Edits}
-use Rattle.vsw_offload.specs.declared.port_rows.PortRows.{PortRows}
 use Rattle.vsw_transpose.specs.declared.act.Act.{Act}
 use Rattle.vsw_transpose.specs.Apply.{apply}
 use Rattle.vsw_transpose.specs.Fits as fit
@@ -34,23 +32,6 @@ Stay old new = (n : ℕ) → n < length old → (n < length new) × (get_or new 
 -- the places of rows
 abbrev pub ArePlaces : List (List ℕ) → List (Option ℕ) → List (List Header) → Type 0
 ArePlaces rows places stacks = (n : ℕ) → IsPlaceOf (get_or rows n []) stacks (get_or places n None)
-
--- what was made is of these rows
-abbrev pub AreMade : List (List ℕ) → Edits → Type 0
-AreMade rows e = ArePlaces rows e.places e.stacks
-
--- those of the rows of ports
-abbrev pub AllMade : List PortRows → List Edits → Type 0
-AllMade [] [] = Unit {0}
-AllMade [] (e ∷ es) = ⊥
-AllMade (p ∷ ps) [] = Unit {0}
-AllMade (p ∷ ps) (e ∷ es) = AreMade p.rows e × AllMade ps es
-
--- those of the port at a place
-abbrev pub made_at : List Edits → ℕ → Option Edits
-made_at [] n = None
-made_at (e ∷ es) zero = Some e
-made_at (e ∷ es) (suc n) = made_at es n
 
 -- for a pass of these words it is what the acts make of a stack
 abbrev pub IsMadeOf : List ℕ → List Header → List Header → Type 0

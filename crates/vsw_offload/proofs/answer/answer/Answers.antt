@@ -1,31 +1,44 @@
-use Rattle.std.proofs.Common.{◌≡◌, ◌∙◌, ap, get_or, subst, sym, refl}
-use Rattle.std.specs.Prelude.{[], Some}
+use Rattle.std.proofs.Common.{◌∙◌, ap, get_or, subst, sym, refl}
+use Rattle.std.specs.Prelude.{[]}
 use Rattle.vsw_base.specs.declared.flow.Ufid.{Ufid}
 use Rattle.vsw_frame.specs.Frame.{parts}
 use Rattle.vsw_offload.specs.Private.Finding.{HasNone, HasOne}
-use Rattle.vsw_offload.specs.Private.Heading.{AreHeads}
-use Rattle.vsw_offload.specs.Private.Making.{AreMade, made_at}
+use Rattle.vsw_offload.specs.Private.Heading.{AreMade}
 use Rattle.vsw_offload.specs.Private.Saying.{SaysRow}
 use Rattle.vsw_offload.specs.Answered.{rows_at}
 use Rattle.vsw_offload.specs.Rows.{IsRow, Rise}
-use Rattle.vsw_offload.proofs.ByRow.{by_found, fits_frame, none_of, row_among, rows_rise}
-use Rattle.vsw_offload.proofs.Found.{one_there, some_on}
-use Rattle.vsw_offload.proofs.Headed.{of_port as heads_of, own_given}
+use Rattle.vsw_offload.proofs.ByRow.{by_found, fits_frame, none_of, row_among, rows_are, rows_rise}
+use Rattle.vsw_offload.proofs.Found.{one_there}
+use Rattle.vsw_offload.proofs.Headed.{found_by_head, no_port, of_port}
 use Rattle.vsw_offload.proofs.Noted.{free_none, noted_at}
-use Rattle.vsw_offload.proofs.Remade.{of_port}
 use Rattle.vsw_offload.specs.Private.Noting.{is_taken}
 use Rattle.vsw_words.specs.Key.{key_words}
 use Rattle.vsw_offload.proofs.answer.answer.Goals as goal
 
-pub returns-then-pass_own-clause-answered : goal.returns-then-pass_own-clause-answered
-returns-then-pass_own-clause-answered c x of =
+pub returns-in_default-clause-answered : goal.returns-in_default-clause-answered
+returns-in_default-clause-answered c x of =
+    none_of (rows_at c.args.ports.now c.args.place.port) x c.write_key.new.out (c.write_key.ensures.key ∙ ap (λ (i : Ufid). key_words i.dir i.stack) (sym of.id)) (no_port c.args.ports.now c.args.edits.now c.args.place.port c.write_key.new.out c.requires.made c.in_default.ensures.none)
+
+pub returns-in-Some-by_heads-clause-answered : goal.returns-in-Some-by_heads-clause-answered
+returns-in-Some-by_heads-clause-answered c x of =
     let p = parts c.args.frame.now in
     let ps = c.args.ports.now in
     let n = c.args.place.port in
     let id : Ufid = record { dir = c.args.place.dir; stack = p.stack } in
-    let heads = subst (AreHeads (rows_at ps n)) (sym c.heads_at.ensures) (heads_of ps c.args.heads.now n c.requires.heads) in
-    own_given ps n x p c.write_key.new.out c.args.out.now c.args.moment id c.unedited.result c.requires.are (c.if-pass_own.ensures (rows_at ps n) heads refl) c.write_key.ensures.id c.write_key.ensures.key refl of.id (of.control ∙ c.if-not-is_plain.ensures.told refl) of.moment_is
-    c.unedited.ensures.given c.unedited.ensures.bytes c.unedited.ensures.answer
+    let made = of_port ps c.args.edits.now n c.in-Some.edits.now c.requires.made c.in-Some.ensures.some in
+    let by = c.in-Some-by_heads.ensures.answered (rows_at ps n) made (rows_are ps n c.requires.are) id c.write_key.ensures.id c.write_key.ensures.key refl in
+    found_by_head (rows_at ps n) x p c.write_key.new.out c.by_heads.new.out c.args.moment id c.in-Some-by_heads.given by c.write_key.ensures.id c.write_key.ensures.key of.id (of.control ∙ c.if-not-is_plain.ensures.told refl) of.moment_is
+
+pub by_heads-requires-clause-made : goal.by_heads-requires-clause-made
+by_heads-requires-clause-made c =
+    let ps = c.args.ports.now in
+    let n = c.args.place.port in
+    (rows_at ps n, of_port ps c.args.edits.now n c.in-Some.edits.now c.requires.made c.in-Some.ensures.some, rows_are ps n c.requires.are)
+
+pub by_heads-requires-clause-id : goal.by_heads-requires-clause-id
+by_heads-requires-clause-id c =
+    let id : Ufid = record { dir = c.args.place.dir; stack = (parts c.args.frame.now).stack } in
+    (id, c.write_key.ensures.id, c.write_key.ensures.key, refl)
 
 pub returns-then-is_free-clause-answered : goal.returns-then-is_free-clause-answered
 returns-then-is_free-clause-answered c x of =
@@ -36,18 +49,16 @@ returns-then-is_free-clause-answered c x of =
 
 pub by_place-requires-clause-row : goal.by_place-requires-clause-row
 by_place-requires-clause-row c =
-    let words = get_or c.rows_at-rows.result.now c.in-Some.at [] in
-    let one : HasOne (rows_at c.args.ports.now c.args.place.port) words = subst (λ rs. HasOne rs words) c.rows_at-rows.ensures (one_there c.rows_at-rows.result.now c.in-Some.at c.in-Some.ensures.within) in
+    let words = get_or c.rows_at-rows.result.now c.in-Some-guessed.at [] in
+    let one : HasOne (rows_at c.args.ports.now c.args.place.port) words = subst (λ rs. HasOne rs words) c.rows_at-rows.ensures (one_there c.rows_at-rows.result.now c.in-Some-guessed.at c.in-Some-guessed.ensures.within) in
     let r : IsRow words = row_among c.args.ports.now c.args.place.port words c.requires.are one in
     let id : Ufid = record { dir = c.args.place.dir; stack = (parts c.args.frame.now).stack } in
-    (r.row, record { says = r.says; fits = fits_frame words id r c.write_key.ensures.id (c.in-Some.ensures.key ∙ c.write_key.ensures.key) })
+    (r.row, record { says = r.says; fits = fits_frame words id r c.write_key.ensures.id (c.in-Some-guessed.ensures.key ∙ c.write_key.ensures.key) })
 
 pub by_place-requires-clause-made : goal.by_place-requires-clause-made
 by_place-requires-clause-made c =
-    let ps = c.args.ports.now in
-    let n = c.args.place.port in
-    some_on c.edits_at-edits.result (λ e. made_at c.args.edits.now n ≡ Some e.now) (λ e. AreMade c.rows_at-rows.result.now e.now)
-    (λ e is. subst (λ rs. AreMade rs e.now) (sym c.rows_at-rows.ensures) (of_port ps c.args.edits.now n e.now c.requires.made is)) c.edits_at-edits.ensures
+    let made = of_port c.args.ports.now c.args.edits.now c.args.place.port c.in-Some.edits.now c.requires.made c.in-Some.ensures.some in
+    subst (λ rs. AreMade rs c.in-Some.edits.now) (sym c.rows_at-rows.ensures) made
 
 pub find-requires : goal.find-requires
 find-requires c = record { rise = subst Rise (sym c.rows_at-rows.ensures) (rows_rise c.args.ports.now c.args.place.port c.requires.are) }
@@ -63,15 +74,15 @@ by_row-requires-clause-row c =
     let id : Ufid = record { dir = c.args.place.dir; stack = (parts c.args.frame.now).stack } in
     (r.row, record { says = r.says; fits = fits_frame c.in-Some-find.words.now id r c.write_key.ensures.id (c.in-Some-find.ensures.key ∙ c.write_key.ensures.key) })
 
-pub returns-in-Some-clause-answered : goal.returns-in-Some-clause-answered
-returns-in-Some-clause-answered c x of =
+pub returns-in-Some-guessed-clause-answered : goal.returns-in-Some-guessed-clause-answered
+returns-in-Some-guessed-clause-answered c x of =
     let rows = rows_at c.args.ports.now c.args.place.port in
-    let words = get_or c.rows_at-rows.result.now c.in-Some.at [] in
-    let one : HasOne rows words = subst (λ rs. HasOne rs words) c.rows_at-rows.ensures (one_there c.rows_at-rows.result.now c.in-Some.at c.in-Some.ensures.within) in
+    let words = get_or c.rows_at-rows.result.now c.in-Some-guessed.at [] in
+    let one : HasOne rows words = subst (λ rs. HasOne rs words) c.rows_at-rows.ensures (one_there c.rows_at-rows.result.now c.in-Some-guessed.at c.in-Some-guessed.ensures.within) in
     let r : IsRow words = row_among c.args.ports.now c.args.place.port words c.requires.are one in
     let id : Ufid = record { dir = c.args.place.dir; stack = (parts c.args.frame.now).stack } in
-    let row : SaysRow words r.row (parts c.args.frame.now) = record { says = r.says; fits = fits_frame words id r c.write_key.ensures.id (c.in-Some.ensures.key ∙ c.write_key.ensures.key) } in
-    by_found rows x (parts c.args.frame.now) words c.by_place.new.out c.args.moment id c.by_place.result one r c.write_key.ensures.id (c.in-Some.ensures.key ∙ c.write_key.ensures.key) of.id (of.control ∙ c.if-not-is_plain.ensures.told refl) of.moment_is
+    let row : SaysRow words r.row (parts c.args.frame.now) = record { says = r.says; fits = fits_frame words id r c.write_key.ensures.id (c.in-Some-guessed.ensures.key ∙ c.write_key.ensures.key) } in
+    by_found rows x (parts c.args.frame.now) words c.by_place.new.out c.args.moment id c.by_place.result one r c.write_key.ensures.id (c.in-Some-guessed.ensures.key ∙ c.write_key.ensures.key) of.id (of.control ∙ c.if-not-is_plain.ensures.told refl) of.moment_is
     (c.by_place.ensures.early r.row row) (c.by_place.ensures.fate r.row row) (c.by_place.ensures.bytes r.row row) (c.by_place.ensures.late r.row row)
 
 pub returns-in-Some-find-clause-answered : goal.returns-in-Some-find-clause-answered

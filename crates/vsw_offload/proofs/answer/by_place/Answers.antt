@@ -12,4 +12,4 @@ by_row-requires-clause-made c =
     let words = get_or rows c.args.at [] in
     let (id, is, key, same) = c.requires.id in
     let hs = (parts c.args.frame.now).stack in
-    some_on c.made_at-made.result (λ m. IsEdited words m.now) (λ m. IsMadeOf (drop 16 words) m.now hs) (λ m h. made_for words hs id m.now h is key same) (c.made_at-made.ensures rows c.requires.made)
+    some_on c.made_in-made.result (λ m. IsEdited words m.now) (λ m. IsMadeOf (drop 16 words) m.now hs) (λ m h. made_for words hs id m.now h is key same) (c.made_in-made.ensures rows c.requires.made)

@@ -1,6 +1,7 @@
 use Rattle.std.proofs.Common.{◌≡◌, ◌<◌, ◌+◌, suc, ◌∷◌, ◌++◌, [], length, take, arith, subst, sym, ◌∙◌}
-use Rattle.vsw_offload.proofs.Remade.{ok_of, one_longer, port_more}
-use Rattle.vsw_offload.specs.Private.Making.{AllMade, AreMade}
+use Rattle.vsw_offload.proofs.Headed.{port_more}
+use Rattle.vsw_offload.proofs.Remade.{ok_of, one_longer}
+use Rattle.vsw_offload.specs.Private.Heading.{AllMade, AreMade}
 use Rattle.vsw_offload.specs.declared.port_rows.PortRows.{PortRows}
 use Rattle.vsw_offload.proofs.making.edits_of_ports.Goals as goal
 

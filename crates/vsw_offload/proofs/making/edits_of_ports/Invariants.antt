@@ -1,5 +1,5 @@
 use Rattle.std.proofs.Common.{◌≡◌, length, take}
-use Rattle.vsw_offload.specs.Private.Making.{AllMade}
+use Rattle.vsw_offload.specs.Private.Heading.{AllMade}
 use Rattle.vsw_offload.proofs.making.edits_of_ports.Given as goal
 
 abbrev pub invariant-loop-port : goal.invariant-loop-port

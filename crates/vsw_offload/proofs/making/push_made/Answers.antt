@@ -1,4 +1,4 @@
-use Rattle.std.proofs.Common.{◌≡◌, List, ℕ, length, subst, sym, ◌∙◌}
+use Rattle.std.proofs.Common.{List, ℕ, length, subst, sym, ◌∙◌}
 use Rattle.vsw_base.specs.declared.fate.Verdict.TheVariants.{Pass}
 use Rattle.vsw_offload.proofs.Remade.{body_at, body_said, needs, placed}
 use Rattle.vsw_words.specs.Doing.{AreOf}

@@ -1,12 +1,9 @@
 use Rattle.std.proofs.Common.{subst, sym, ◌∙◌}
 use Rattle.vsw_base.specs.declared.fate.Verdict.{Verdict}
 use Rattle.vsw_words.specs.Doing.{AreOf}
-use Rattle.vsw_offload.proofs.heads.is_own_pass.Goals as goal
+use Rattle.vsw_offload.proofs.heads.is_known.Goals as goal
 
 pub is_own-requires : goal.is_own-requires
 is_own-requires c =
     let (v, by, until, are) = c.requires in
     (by, until, subst (λ (w : Verdict). AreOf c.args.body.now w by until) (sym (c.verdict_in.ensures v by until are) ∙ c.in-Pass.is) are)
-
-pub returns-in-Pass-clause-pass : goal.returns-in-Pass-clause-pass
-returns-in-Pass-clause-pass c = λ own v by until are. sym (c.verdict_in.ensures v by until are) ∙ c.in-Pass.is

@@ -1,6 +1,6 @@
 use Rattle.std.proofs.Common.{◌≡◌, length}
 use Rattle.vsw_offload.specs.Private.Making.{ArePlaces}
-use Rattle.vsw_offload.proofs.making.edits_of_port.Given as goal
+use Rattle.vsw_offload.proofs.making.places_of.Given as goal
 
 abbrev pub invariant-loop-row : goal.invariant-loop-row
 invariant-loop-row l = record {

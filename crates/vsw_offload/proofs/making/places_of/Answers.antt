@@ -1,7 +1,7 @@
 use Rattle.std.proofs.Common.{◌≡◌, ◌∷◌, ◌++◌, [], get_or, subst, sym, ◌∙◌}
 use Rattle.vsw_offload.proofs.Remade.{more_places, ok_of, one_longer}
 use Rattle.vsw_offload.specs.Private.Making.{IsPlaceOf}
-use Rattle.vsw_offload.proofs.making.edits_of_port.Goals as goal
+use Rattle.vsw_offload.proofs.making.places_of.Goals as goal
 
 pub loop-row-preserved : goal.loop-row-preserved
 loop-row-preserved c =

@@ -1,6 +1,7 @@
+pub mod Added
 pub mod Answered
+pub mod Asking
 pub mod Lives
 pub mod Obeyed
 pub mod Passed
-pub mod Asking
 pub mod Workers

@@ -1,0 +1,5 @@
+mod Brought
+mod Looking
+mod Opened
+mod Steps
+mod Working

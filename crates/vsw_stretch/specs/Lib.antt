@@ -1,0 +1,7 @@
+pub mod Hands
+pub mod Leading
+pub mod Posts
+pub mod Rings
+pub mod Running
+pub mod Seats
+pub mod Stretch

@@ -24,14 +24,14 @@ mod ring_tests;
 mod round_tests;
 mod samples;
 #[cfg(test)]
+mod schedule_tests;
+#[cfg(test)]
 mod stretch_tests;
 mod stretching;
-#[cfg(test)]
-mod schedule_tests;
 #[cfg(test)]
 mod workers_tests;
 
 pub use carrying::{Load, Packet};
 pub use refusing::{Notes, Refusing};
-pub use stretching::{Counting, Note, Stepping, Turn};
 pub use samples::{commands, life, packets, replies};
+pub use stretching::{Counting, Note, Stepping, Turn};

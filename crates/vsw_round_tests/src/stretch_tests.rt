@@ -78,7 +78,15 @@ fn run<R: Threads + Wait + Sync>(
 fn four_hands_keep_step_through_many_rounds(rt: HostRuntime) {
     let went = run(&rt, rt.alloc(), 4, 500, 1_000).expect(&rt, "memory");
     let how = How::Ran { whole: true };
-    assert_eq!(rt; went, Went { how, given: 500, told: 500, in_order: true });
+    assert_eq!(rt;
+        went,
+        Went {
+            how,
+            given: 500,
+            told: 500,
+            in_order: true
+        }
+    );
 }
 
 #[test]
@@ -93,12 +101,28 @@ fn lead_that_stops_ends_all_hands(rt: HostRuntime) {
 fn hands_without_rounds_come_back(rt: HostRuntime) {
     let went = run(&rt, rt.alloc(), 2, 0, 1).expect(&rt, "memory");
     let how = How::Ran { whole: true };
-    assert_eq!(rt; went, Went { how, given: 0, told: 0, in_order: true });
+    assert_eq!(rt;
+        went,
+        Went {
+            how,
+            given: 0,
+            told: 0,
+            in_order: true
+        }
+    );
 }
 
 #[test]
 fn rounds_without_hands_are_told_by_nobody(rt: HostRuntime) {
     let went = run(&rt, rt.alloc(), 0, 7, 100).expect(&rt, "memory");
     let how = How::Ran { whole: true };
-    assert_eq!(rt; went, Went { how, given: 7, told: 7, in_order: true });
+    assert_eq!(rt;
+        went,
+        Went {
+            how,
+            given: 7,
+            told: 7,
+            in_order: true
+        }
+    );
 }

@@ -1,15 +1,15 @@
 -- From the ends of the rings to what a stretch did.
-use Rattle.std.proofs.Common.{◌≡◌, ◌+◌, ℕ, suc, List, [], ◌∷◌, ◌++◌, Option, Some, None, Bool, true, false, ap, arith, length, map, refl, subst, sym, ◌∙◌}
+use Rattle.std.proofs.Common.{◌≡◌, ◌+◌, suc, List, [], ◌∷◌, ◌++◌, Option, Some, None, ap, arith, length, map, refl, subst, sym, ◌∙◌}
 use mathlib.Core.List.{IsPrefix}
-use Rattle.vsw_rings.specs.Rings.{IsRing, SameDrain, SameFeed, fed, has_ended, is_at_end, taken}
+use Rattle.vsw_rings.specs.Rings.{IsRing, SameDrain, SameFeed, fed, taken}
 use Rattle.vsw_rings.specs.declared.drain.Drain.{Drain}
 use Rattle.vsw_rings.specs.declared.feed.Feed.{Feed}
 use Rattle.vsw_stretch.specs.Hands.{AllDid, AreFronts, AreThere, DidAll, hands_in, nothing}
-use Rattle.vsw_stretch.specs.Leading.{AreSame, HasLed}
+use Rattle.vsw_stretch.specs.Leading.{AreSame}
 use Rattle.vsw_stretch.specs.Posts.{AllEnd, Each, IsNew, given_by, told_by}
 use Rattle.vsw_stretch.specs.Rings.{AllAgree, AreOpened, ArePaired}
-use Rattle.vsw_stretch.specs.Running.{AllServed, AreFresh, Went, seat}
-use Rattle.vsw_stretch.specs.Stretch.{HasRun, Stretched}
+use Rattle.vsw_stretch.specs.Running.{AllServed, AreFresh, Went}
+use Rattle.vsw_stretch.specs.Stretch.{Stretched}
 use Rattle.vsw_stretch.specs.declared.how.How.{How}
 use Rattle.vsw_stretch.specs.declared.how.How.TheVariants.{Refused, Ran}
 use Rattle.vsw_stretch.specs.declared.post.Post.{Post}

@@ -1,7 +1,7 @@
 -- Both ends of the hands' rings.
-use Rattle.std.specs.Prelude.{◌≡◌, List, [], ◌∷◌, Option, Some, None, true}
+use Rattle.std.specs.Prelude.{◌≡◌, List, [], ◌∷◌, Option, Some, true}
 use mathlib.Core.List.{IsPrefix}
-use Rattle.vsw_rings.specs.Rings.{IsRing, fed, has_ended, is_at_end, taken}
+use Rattle.vsw_rings.specs.Rings.{IsRing, fed, is_at_end, taken}
 use Rattle.vsw_stretch.specs.Posts.{IsNew}
 use Rattle.vsw_stretch.specs.Seats.{IsUnused}
 use Rattle.vsw_stretch.specs.declared.post.Post.{Post}

@@ -1,5 +1,5 @@
 -- The hands in their threads, and the leading thread beside them.
-use Rattle.std.specs.Prelude.{◌≡◌, List, [], ◌∷◌, Option, Some, None}
+use Rattle.std.specs.Prelude.{◌≡◌, List, [], ◌∷◌, Option, Some}
 use Rattle.vsw_stretch.specs.Leading.{HasLed}
 use Rattle.vsw_stretch.specs.Posts.{AllEnd}
 use Rattle.vsw_stretch.specs.Seats.{IsFresh, Served}

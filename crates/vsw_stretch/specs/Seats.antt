@@ -1,5 +1,5 @@
 -- A hand at its rings.
-use Rattle.std.specs.Prelude.{◌≡◌, ◌++◌, ◌∷◌, [], List, true, false}
+use Rattle.std.specs.Prelude.{◌≡◌, ◌++◌, ◌∷◌, [], true, false}
 use Rattle.vsw_rings.specs.Rings.{SameDrain, SameFeed, fed, has_ended, is_at_end, taken}
 use Rattle.vsw_stretch.specs.Hands.{DidAll}
 use Rattle.vsw_stretch.specs.declared.seat.Ends.{Ends}

@@ -3,7 +3,7 @@ use Rattle.std.proofs.Common.{◌≡◌, ℕ, ◌==◌, nat_le, Bool, true, fals
 use Rattle.std.specs.Map.{keys_of, values_of, lookup}
 use Rattle.vsw_layerflow.specs.declared.pair.Probe.{Probe}
 use Rattle.vsw_layerflow.specs.declared.pair.Pair.{Pair}
-use Rattle.vsw_layerflow.specs.Pairs.{front, back, same_probe, holds, holder, numbered, number_of, put_by_number, AllApart}
+use Rattle.vsw_layerflow.specs.Pairs.{front, back, same_probe, holds, holder, numbered, number_of, put_by_number, AllApart, AreRising}
 use Rattle.vsw_layerflow.specs.Index.{entered, IsIndex}
 use Rattle.vsw_layerflow.proofs.Order.{other_number, other_number-rest, rising-put, few-put}
 use Rattle.vsw_layerflow.proofs.Lists.{head_is, tail_is, same_is, same_self}
@@ -100,17 +100,17 @@ apart-put p (q ∷ ps) h f b n =
     let number_apart = numbered-put q.number p ps n2 ∙ h.2 in
     elim (nat_le p.number q.number) as (λ t. AllApart (if t then p ∷ q ∷ ps else q ∷ put_by_number p ps)) [ true ↦ (f, b, n, h) | false ↦ (front_apart, back_apart, number_apart, rest) ]
 
-pub added : (es : List (ℕ × Pair)) (ls : List (Probe × ℕ)) (p : Pair) (ms : List (Probe × ℕ)) → IsIndex es ls
+pub added-by : (es : List (ℕ × Pair)) (p : Pair) (ms : List (Probe × ℕ)) → keys_of es ≡ map number_of (values_of es) → AllApart (values_of es) → AreRising (values_of es)
     → holder (front p) (values_of es) ≡ None → holder (back p) (values_of es) ≡ None → numbered p.number (values_of es) ≡ None → length (values_of es) < 2 ^ 32 - 1
-    → ((k : Probe) → lookup (same_probe k) ms ≡ cond (same_probe (back p) k) (Some p.number) (cond (same_probe (front p) k) (Some p.number) (lookup (same_probe k) ls)))
+    → ((k : Probe) → lookup (same_probe k) ms ≡ cond (same_probe (back p) k) (Some p.number) (cond (same_probe (front p) k) (Some p.number) (option_map number_of (holder k (values_of es)))))
     → IsIndex (entered (p.number, p) es) ms
-added es ls p ms h f b n w u =
-    let v = values-entered p es h.keyed in
+added-by es p ms keyed apart rising f b n w u =
+    let v = values-entered p es keyed in
     record {
-      keyed = keyed-entered p es h.keyed;
+      keyed = keyed-entered p es keyed;
       indexed = at;
-      apart = rw v (apart-put p (values_of es) h.apart f b n);
-      rising = rw v (rising-put p (values_of es) h.rising n);
+      apart = rw v (apart-put p (values_of es) apart f b n);
+      rising = rw v (rising-put p (values_of es) rising n);
       few = rw v (few-put p (values_of es) w);
     }
   where
@@ -133,4 +133,10 @@ added es ls p ms h f b n w u =
     by k false false s t = let o : holds k p ≡ false = rw (t, s) refl in rw (holder-put k p (values_of es) o) refl
 
     at : (k : Probe) → lookup (same_probe k) ms ≡ option_map number_of (holder k (values_of (entered (p.number, p) es)))
-    at k = rw (u k, h.indexed k, values-entered p es h.keyed) (by k (same_probe (back p) k) (same_probe (front p) k) refl refl)
+    at k = rw (u k, values-entered p es keyed) (by k (same_probe (back p) k) (same_probe (front p) k) refl refl)
+
+pub added : (es : List (ℕ × Pair)) (ls : List (Probe × ℕ)) (p : Pair) (ms : List (Probe × ℕ)) → IsIndex es ls
+    → holder (front p) (values_of es) ≡ None → holder (back p) (values_of es) ≡ None → numbered p.number (values_of es) ≡ None → length (values_of es) < 2 ^ 32 - 1
+    → ((k : Probe) → lookup (same_probe k) ms ≡ cond (same_probe (back p) k) (Some p.number) (cond (same_probe (front p) k) (Some p.number) (lookup (same_probe k) ls)))
+    → IsIndex (entered (p.number, p) es) ms
+added es ls p ms h f b n w u = added-by es p ms h.keyed h.apart h.rising f b n w (λ k. u k ∙ rw (h.indexed k) refl)

@@ -43,7 +43,7 @@ numbered-filter f n (p ∷ ps) h = by (n == p.number) (f p) refl refl (numbered-
     by false true s t ih = rw (t, s) ih
     by false false s t ih = rw (t, s) ih
 
-apart-filter : (f : Pair → Bool) (ps : List Pair) → AllApart ps → AllApart (filter f ps)
+pub apart-filter : (f : Pair → Bool) (ps : List Pair) → AllApart ps → AllApart (filter f ps)
 apart-filter f [] h = tt
 apart-filter f (p ∷ ps) h = by (f p) refl (apart-filter f ps h.3)
   where
@@ -59,7 +59,7 @@ values-filter f (e ∷ es) = by (f e.1) refl (values-filter f es)
     by true t ih = rw (t, ih) refl
     by false t ih = rw t ih
 
-keyed-filter : (f : Pair → Bool) (es : List (ℕ × Pair)) → keys_of es ≡ map number_of (values_of es) → keys_of (filter (λ e. f e.1) es) ≡ map number_of (values_of (filter (λ e. f e.1) es))
+pub keyed-filter : (f : Pair → Bool) (es : List (ℕ × Pair)) → keys_of es ≡ map number_of (values_of es) → keys_of (filter (λ e. f e.1) es) ≡ map number_of (values_of (filter (λ e. f e.1) es))
 keyed-filter f [] h = refl
 keyed-filter f (e ∷ es) h = by (f e.1) refl (keyed-filter f es (tail_is h))
   where
@@ -88,7 +88,7 @@ kept f es fs ls ms h e some none =
     by q None s = none q s
     by q (Some p) s = some q p s ∙ elim (f p) as (λ b. cond b (Some p.number) None ≡ option_map number_of (cond b (Some p) None)) [ true ↦ refl | false ↦ refl ]
 
-held : (k : Probe) (n : ℕ) (p : Pair) (ps : List Pair) → AllApart ps → numbered n ps ≡ Some p → holds k p ≡ true → holder k ps ≡ Some p
+pub held : (k : Probe) (n : ℕ) (p : Pair) (ps : List Pair) → AllApart ps → numbered n ps ≡ Some p → holds k p ≡ true → holder k ps ≡ Some p
 held k n p [] h e t = grind arith
 held k n p (q ∷ ps) h e t = by (n == q.number) (holds k q) refl refl (λ g. held k n p ps h.3 g t)
   where
@@ -120,7 +120,7 @@ remove-filter n (e ∷ es) h a = by (n == e.1.number) refl (remove-filter n es (
         rw (i, s, none-without n es m) refl
     by false s ih = rw (i, s, ih) refl
 
-number-found : (n : ℕ) (p : Pair) (ps : List Pair) → numbered n ps ≡ Some p → (n == p.number) ≡ true
+pub number-found : (n : ℕ) (p : Pair) (ps : List Pair) → numbered n ps ≡ Some p → (n == p.number) ≡ true
 number-found n p [] e = grind arith
 number-found n p (q ∷ ps) e = by (n == q.number) refl (number-found n p ps)
   where
@@ -130,7 +130,7 @@ number-found n p (q ∷ ps) e = by (n == q.number) refl (number-found n p ps)
         rw (← i) s
     by false s ih = ih (sym (ap (λ b. if b then Some q else numbered n ps) s) ∙ e)
 
-holder-holds : (k : Probe) (p : Pair) (ps : List Pair) → holder k ps ≡ Some p → holds k p ≡ true
+pub holder-holds : (k : Probe) (p : Pair) (ps : List Pair) → holder k ps ≡ Some p → holds k p ≡ true
 holder-holds k p [] e = grind arith
 holder-holds k p (q ∷ ps) e = by (holds k q) refl (holder-holds k p ps)
   where

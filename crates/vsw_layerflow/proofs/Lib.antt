@@ -6,3 +6,4 @@ pub mod Kept
 pub mod InOrder
 pub mod Taken
 pub mod Unordered
+pub mod Replaced

@@ -6,9 +6,10 @@ ghost use Rattle.vsw_layerflow.specs.Pairs.{pair_of, turned, touched, without, n
 ghost use Rattle.vsw_layerflow.specs.Life.{is_over};
 
 use crate::maps::{
-    keep_known, keep_living, keep_others, keep_unmarked, put_pair, put_place, set_use, take_place,
+    drop_pair, keep_known, keep_living, keep_others, keep_unmarked, lead_over, put_pair, put_place,
+    set_use, take_place,
 };
-use crate::pair::{Pair, Probe, probes_agree};
+use crate::pair::{Look, Pair, Probe, probes_agree};
 use crate::seed::{HashSeed, Seeded};
 use indexmap::IndexMap;
 use std::alloc::Global;
@@ -71,8 +72,15 @@ impl Flows {
         ensures { option_copied result ≡ pair_of dir key.now self.now.pairs }
     {
         probes_agree();
-        let number = self.places.get(&Probe::of(dir, key))?;
+        let number = self.places.get(Look { dir, key })?;
         self.pairs.get(&(*number as u64))
+    }
+
+    /// The pair of this number.
+    pub fn of_number(&self, number: u32) -> Option<&Pair>
+        ensures { option_copied result ≡ numbered number self.now.pairs }
+    {
+        self.pairs.get(&(number as u64))
     }
 
     /// Takes room for one more pair.
@@ -98,12 +106,25 @@ impl Flows {
         ensures last { AllBelow pair.number self.old.pairs → self.new.pairs ≡ self.old.pairs ++ pair ∷ [] }
         ensures spare { self.old.spare ≤ self.new.spare + 1 }
     {
-        let front = pair.front();
-        let back = pair.back();
-        let number = pair.number;
+        put_pair(&mut self.pairs, &pair);
+        put_place(&mut self.places, pair.front(), pair.number);
+        put_place(&mut self.places, pair.back(), pair.number);
+    }
+
+    /// The pair of this number goes, and one of a new number comes, at its place by number. It takes no memory.
+    pub fn replace(&mut self, number: u32, pair: &Pair)
+        requires room { 1 ≤ self.old.spare }
+        requires forward_free { pair_of pair.now.dir pair.now.forward (without number self.old.pairs) ≡ None }
+        requires reverse_free { pair_of (turned pair.now.dir) pair.now.reverse (without number self.old.pairs) ≡ None }
+        requires number_new { numbered pair.now.number (without number self.old.pairs) ≡ None }
+        requires few { length (without number self.old.pairs) < 2 ^ 32 - 1 }
+        ensures replaced { self.new.pairs ≡ put_by_number pair.now (without number self.old.pairs) }
+        ensures last { AllBelow pair.now.number (without number self.old.pairs) → self.new.pairs ≡ without number self.old.pairs ++ pair.now ∷ [] }
+        ensures spare { self.old.spare ≤ self.new.spare + 1 }
+    {
+        lead_over(&mut self.places, &self.pairs, number, pair);
+        drop_pair(&mut self.pairs, number);
         put_pair(&mut self.pairs, pair);
-        put_place(&mut self.places, front, number);
-        put_place(&mut self.places, back, number);
     }
 
     /// The pair of this number gets another state and last use.
@@ -119,11 +140,12 @@ impl Flows {
         ensures gone { self.new.pairs ≡ without number self.old.pairs }
         ensures spare { self.old.spare ≤ self.new.spare }
     {
-        let Some(pair) = self.pairs.swap_remove(&(number as u64)) else {
+        let Some(pair) = self.pairs.get(&(number as u64)) else {
             return;
         };
         take_place(&mut self.places, pair.front());
         take_place(&mut self.places, pair.back());
+        drop_pair(&mut self.pairs, number);
     }
 
     /// The pairs that this rule made go; answers how many. The others stay in order.

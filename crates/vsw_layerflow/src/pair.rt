@@ -4,10 +4,11 @@ ghost use Rattle.std.specs.Prelude.{◌≡◌, ◌<◌, fold};
 ghost use Rattle.std.proofs.Common.{rules};
 ghost use Rattle.std.specs.Cmp.Rules.{hashing};
 ghost use Rattle.vsw_layerflow.specs.declared.pair.Probe.{Probe};
-ghost use Rattle.vsw_layerflow.specs.Pairs.{front, back, turned, same_probe, probe};
+ghost use Rattle.vsw_layerflow.specs.Pairs.{front, back, holds, turned, same_probe, probe};
 ghost use Rattle.vsw_layerflow.specs.Life.{life, due, is_over};
-ghost use Rattle.vsw_layerflow.specs.Hashed.{address_input, addresses_input, after_four, dir_bit, fields_number};
+ghost use Rattle.vsw_layerflow.specs.Hashed.{probe_input, address_input, addresses_input, after_four, dir_bit, fields_number};
 
+use indexmap::Equivalent;
 use std::hash::{Hash, Hasher};
 use vsw_base::{Addr, Dir, Ip4, LayerKey, Moment, Set, Track};
 
@@ -48,16 +49,57 @@ impl Hash for Probe {
 
     ghost respects_eq = { Prim.search (hashing, rules) };
 
-    // Few words are fed, three where the addresses are of IPv4, as each takes two multiplications.
     fn hash<H: Hasher>(&self, state: &mut H) {
-        state.write_u128(fields_number(self));
-        hash_addresses(&self.key.src, &self.key.dst, state);
+        hash_look(self.dir, &self.key, state);
     }
 }
 
+/// A probe whose key isn't copied.
+#[derive(Clone, Copy, PartialEq, Eq)]
+pub(crate) struct Look<'a> {
+    pub dir: Dir,
+    pub key: &'a LayerKey,
+}
+
+impl Hash for Look<'_> {
+    ghost use Rattle.vsw_layerflow.specs.Hashed.{probe_input};
+    ghost use Rattle.vsw_layerflow.specs.Pairs.{probe};
+
+    ghost hash_input = { λ q. probe_input (probe q.dir q.key.now) };
+
+    ghost respects_eq = { Prim.search (hashing, rules) };
+
+    fn hash<H: Hasher>(&self, state: &mut H) {
+        hash_look(self.dir, self.key, state);
+    }
+}
+
+impl Equivalent<Probe> for Look<'_> {
+    ghost use Rattle.vsw_layerflow.specs.contracts.pair.ProbeEq.TheImpl.Laws.{lawful};
+    ghost use Rattle.vsw_layerflow.specs.Pairs.{probe};
+
+    ghost equivalent = { λ q. ⟦<Probe as PartialEq>⟧.eq (probe q.dir q.key.now) };
+
+    ghost respects_hash = { Prim.search (hashing, rules) };
+
+    ghost respects_eq = { λ q. lawful.laws.congr (probe q.dir q.key.now) };
+
+    fn equivalent(&self, key: &Probe) -> bool {
+        self.dir == key.dir && *self.key == key.key
+    }
+}
+
+/// Feeds a direction and a key: few words, three where the addresses are of IPv4, as each takes two multiplications.
+fn hash_look<H: Hasher>(dir: Dir, key: &LayerKey, state: &mut H)
+    ensures { state.new ≡ fold H.write state.old (probe_input (probe dir key.now)) }
+{
+    state.write_u128(fields_number(dir, key));
+    hash_addresses(&key.src, &key.dst, state);
+}
+
 /// All of a probe but its addresses, as one number, which `fields_number` of specs/Hashed.antt defines.
-fn fields_number(probe: &Probe) -> u128
-    ensures { result ≡ fields_number probe.now }
+fn fields_number(dir: Dir, key: &LayerKey) -> u128
+    ensures { result ≡ fields_number (probe dir key.now) }
 {
     let LayerKey {
         encaps,
@@ -68,10 +110,10 @@ fn fields_number(probe: &Probe) -> u128
         src_port,
         dst_port,
         ..
-    } = probe.key;
+    } = *key;
     let vnis = u64::from(vni_outer) * 0x1_0000_0000 + u64::from(vni_second);
     let ports = u32::from(src_port) * 0x1_0000 + u32::from(dst_port);
-    let rest = u64::from(dir_bit(probe.dir)) * 0x100_0000_0000_0000
+    let rest = u64::from(dir_bit(dir)) * 0x100_0000_0000_0000
         + u64::from(encaps) * 0x1_0000_0000_0000
         + u64::from(proto) * 0x100_0000_0000
         + u64::from(part) * 0x1_0000_0000
@@ -153,7 +195,7 @@ impl Probe {
 }
 
 /// The other direction.
-fn turned(dir: Dir) -> Dir
+pub(crate) fn turned(dir: Dir) -> Dir
     ensures { result ≡ turned dir }
 {
     match dir {
@@ -203,6 +245,14 @@ impl Pair {
         let life = life(self.state, idle, linger);
         self.last_use.micros().saturating_add(life) <= now.micros()
     }
+}
+
+/// Whether the pair is found by this.
+pub(crate) fn is_held(probe: &Probe, pair: &Pair) -> bool
+    ensures { result ≡ holds probe.now pair.now }
+{
+    probes_agree();
+    pair.front() == *probe || pair.back() == *probe
 }
 
 /// Equal probes are those of one direction and one key.

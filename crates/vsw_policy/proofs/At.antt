@@ -37,6 +37,17 @@ at-within P [] i h = absurd h
 at-within P (z ∷ zs) zero h = omega arith
 at-within P (z ∷ zs) (suc i) h = let ih = at-within P zs i h in omega (arith, ih)
 
+-- two changes of one layer are one
+pub at-changed : (P : LayerSeen → Type 0) (f : LayerSeen → LayerSeen) (ls : List LayerSeen) (i : ℕ) → At i P (changed_at i f ls) → At i (λ l. P (f l)) ls
+at-changed P f [] i h = absurd h
+at-changed P f (l ∷ ls) zero h = h
+at-changed P f (l ∷ ls) (suc i) h = at-changed P f ls i h
+
+pub changed-twice : (f g : LayerSeen → LayerSeen) (ls : List LayerSeen) (i : ℕ) → changed_at i (λ l. g (f l)) ls ≡ changed_at i g (changed_at i f ls)
+changed-twice f g [] i = refl
+changed-twice f g (l ∷ ls) zero = refl
+changed-twice f g (l ∷ ls) (suc i) = ap (λ ks. l ∷ ks) (changed-twice f g ls i)
+
 -- a change of another layer
 pub at-beside : (P : LayerSeen → Type 0) (f : LayerSeen → LayerSeen) (ls : List LayerSeen) (i k : ℕ) → k ≢ i → At k P ls → At k P (changed_at i f ls)
 at-beside P f [] i k other h = absurd h

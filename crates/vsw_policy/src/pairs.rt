@@ -42,3 +42,14 @@ pub fn remove_at(layers: &mut Vec<Layer>, place: usize, number: u32)
 {
     layers[place].remove_pair(number);
 }
+
+pub fn replace_at(layers: &mut Vec<Layer>, place: usize, number: u32, pair: &Pair)
+    requires within { place < length layers.old.items }
+    requires room { 1 ≤ get_or (map room layers.old.items) place 0 }
+    requires suits { At place (CanTake pair.now) (changed_at place (without_pair number) (map seen layers.old.items)) }
+    ensures replaced { map seen layers.new.items ≡ changed_at place (with_pair pair.now) (changed_at place (without_pair number) (map seen layers.old.items)) }
+    ensures room { get_or (map room layers.old.items) place 0 ≤ get_or (map room layers.new.items) place 0 + 1 }
+    ensures rooms { (k : ℕ) → k ≢ place → get_or (map room layers.old.items) k 0 ≤ get_or (map room layers.new.items) k 0 }
+{
+    layers[place].replace_pair(number, pair);
+}

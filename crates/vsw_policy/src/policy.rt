@@ -11,7 +11,7 @@ use crate::Layer;
 use crate::changes::change;
 use crate::command::Command;
 use crate::judge::judge;
-use crate::pairs::{add_at, remove_at, reserve_at, touch_at};
+use crate::pairs::{add_at, remove_at, replace_at, reserve_at, touch_at};
 use crate::refusal::Refusal;
 use std::alloc::Global;
 use std::marker::Model;
@@ -162,5 +162,18 @@ impl Policy {
         ensures controllers { self.new.controllers ≡ self.old.controllers }
     {
         remove_at(&mut self.ordered, place, number);
+    }
+
+    /// A pair of the layer at a place goes, and a pair comes that has the layer's next number. It takes no memory.
+    pub fn replace_pair(&mut self, place: usize, number: u32, pair: &Pair)
+        requires within { place < length self.old.layers }
+        requires room { 1 ≤ room_at self.old place }
+        requires suits { At place (CanTake pair.now) (changed_at place (without_pair number) self.old.layers) }
+        ensures replaced { self.new.layers ≡ changed_at place (with_pair pair.now) (changed_at place (without_pair number) self.old.layers) }
+        ensures room { room_at self.old place ≤ room_at self.new place + 1 }
+        ensures rooms { (k : ℕ) → k ≢ place → room_at self.old k ≤ room_at self.new k }
+        ensures controllers { self.new.controllers ≡ self.old.controllers }
+    {
+        replace_at(&mut self.ordered, place, number, pair);
     }
 }

@@ -6,4 +6,4 @@ use Rattle.vsw_layerflow.proofs.maps.put_pair.Goals as goal
 pub returns-clause-entries : goal.returns-clause-entries
 returns-clause-entries c =
     when_ok c.insert.result (c.insert.ensures.succeeds c.requires.room) c.insert.ensures.entries
-    ∙ insert_entry-new nat_eq c.args.pairs.now c.args.pair.number c.args.pair c.requires.absent
+    ∙ insert_entry-new nat_eq c.args.pairs.now c.args.pair.now.number c.args.pair.now c.requires.absent

@@ -21,8 +21,8 @@ invariant_of-self c =
     let b = rw (← v) at c.requires.reverse_free in
     let n = rw (← v) at c.requires.number_new in
     let w = rw (← v) at c.requires.few in
-    let i = rw c.front-front.ensures at c.put_place.ensures.place in
-    let j = rw c.back-back.ensures at c.put_place-2.ensures.place in
+    let i = rw c.front.ensures at c.put_place.ensures.place in
+    let j = rw c.back.ensures at c.put_place-2.ensures.place in
     let u = λ (k : Probe). j k ∙ ap (λ (o : Option ℕ). cond (same_probe (back p) k) (Some p.number) o) (i k) in
     rw c.put_pair.ensures.entries (added-in_order c.self.inside.pairs.entries c.self.inside.places.entries p _ c.self.invariant f b n w u)
 

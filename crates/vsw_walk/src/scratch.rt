@@ -16,6 +16,7 @@ ghost use Rattle.vsw_walk.specs.Walk.{due_of, leaving};
 ghost use Rattle.vsw_walk.specs.declared.scratch.Wanted.TheVariants.{Make, Touch};
 
 use crate::turns::Turns;
+use crate::wanted::{edits, plain_pair};
 use crate::{reverse_set, set_of, wanted_pair};
 use std::alloc::Global;
 use std::marker::Model;
@@ -268,6 +269,14 @@ impl Scratch {
         ensures { GoesOn rule.now.action (Make layer (wanted_pair number dir control moment self.old.stack group rule.now) ∷ []) self.old self.new kept result }
     {
         let met = self.stack.key();
+        if !edits(&rule.action) {
+            let left = self.go_on(&rule.action, kept);
+            self.wanted.push_reserved(Wanted::Make {
+                layer,
+                pair: plain_pair(number, group, rule, dir, control, moment, &met),
+            });
+            return left;
+        }
         let back = reverse_set(&set_of(&rule.action), self.stack.stack());
         let left = self.go_on(&rule.action, kept);
         let after = self.stack.key();

@@ -1,6 +1,6 @@
 //! The pair that a stateful rule wants.
 
-ghost use Rattle.std.specs.Prelude.{◌≡◌, List};
+ghost use Rattle.std.specs.Prelude.{◌≡◌, List, false};
 ghost use Rattle.vsw_rule.specs.Edit.{edited};
 ghost use Rattle.vsw_header.specs.Key.{key_from};
 ghost use Rattle.vsw_rule.specs.Field as field;
@@ -94,6 +94,23 @@ pub fn reverse_set(set: &Set, stack: &Stack) -> Set
     }
 }
 
+/// Nothing is written.
+#[inline(always)]
+fn nothing() -> Set
+    ensures { result ≡ spec.nothing }
+{
+    Set {
+        dst_mac: None,
+        src_mac: None,
+        src_ip: None,
+        dst_ip: None,
+        src_port: None,
+        dst_port: None,
+        src_ip6: None,
+        dst_ip6: None,
+    }
+}
+
 /// What the action writes into inner headers.
 #[inline(always)]
 pub fn set_of(action: &Action) -> Set
@@ -101,16 +118,7 @@ pub fn set_of(action: &Action) -> Set
 {
     match action {
         Action::Edit { set, .. } => *set,
-        Action::Allow | Action::Drop => Set {
-            dst_mac: None,
-            src_mac: None,
-            src_ip: None,
-            dst_ip: None,
-            src_port: None,
-            dst_port: None,
-            src_ip6: None,
-            dst_ip6: None,
-        },
+        Action::Allow | Action::Drop => nothing(),
     }
 }
 
@@ -151,6 +159,46 @@ pub fn wanted_pair(
         forward_set: set_of(&rule.action),
         reverse: mirror(left),
         reverse_set: *back,
+        state: first_state(met, control, dir),
+        last_use: moment,
+    }
+}
+
+/// Whether the action edits packets. Else nothing is written, and the stack stays.
+#[inline(always)]
+pub(crate) fn edits(action: &Action) -> bool
+    ensures set { result ≡ false → spec.set_of action.now ≡ spec.nothing }
+    ensures stack { result ≡ false → (hs : List Header) → edited action.now hs ≡ hs }
+{
+    match action {
+        Action::Edit { .. } => true,
+        Action::Allow | Action::Drop => false,
+    }
+}
+
+/// The pair of this number that a stateful rule of a group wants for a packet of this key that it doesn't edit.
+#[inline(always)]
+pub(crate) fn plain_pair(
+    number: u32,
+    group: u16,
+    rule: &Rule,
+    dir: Dir,
+    control: Control,
+    moment: Moment,
+    met: &LayerKey,
+) -> Pair
+    requires { spec.set_of rule.now.action ≡ spec.nothing }
+    ensures { (hs : List Header) → met.now ≡ key_from hs → edited rule.now.action hs ≡ hs → result ≡ spec.wanted_pair number dir control moment hs group rule.now }
+{
+    Pair {
+        number,
+        group,
+        rule: rule.number,
+        dir,
+        forward: *met,
+        forward_set: nothing(),
+        reverse: mirror(met),
+        reverse_set: nothing(),
         state: first_state(met, control, dir),
         last_use: moment,
     }

@@ -17,3 +17,4 @@ pub mod Values
 pub mod Numbers
 pub mod Held
 pub mod Unedited
+pub mod Judged

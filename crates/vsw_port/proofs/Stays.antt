@@ -1,5 +1,5 @@
 -- The pairs that stay in a layer where one leaves.
-use Rattle.std.proofs.Common.{◌≡◌, ◌-◌, ℕ, suc, ◌==◌, Bool, true, false, not, cond, List, [], ◌∷◌, length, Option, Some, None, option_map, is_some, refl, sym, ap, ◌∙◌, arith, true≢false}
+use Rattle.std.proofs.Common.{◌≡◌, ◌-◌, ℕ, suc, ◌==◌, Bool, true, false, not, cond, ◌||◌, List, [], ◌∷◌, length, Option, Some, None, option_map, is_some, refl, sym, ap, subst, ◌∙◌, arith, true≢false}
 use Rattle.std.specs.Prelude.{if◌then◌else◌}
 use Rattle.std.specs.List.{slice_get}
 use Rattle.std.proofs.lemmas.Map.Entries.{option_filter}
@@ -10,8 +10,9 @@ use Rattle.vsw_port.specs.Private.Threaded.{HasLeft, LeftThere, left_at, other_t
 use Rattle.vsw_policy.specs.Layer.{LayerSeen}
 use Rattle.vsw_layerflow.specs.declared.pair.Pair.{Pair}
 use Rattle.vsw_layerflow.specs.declared.pair.Probe.{Probe}
-use Rattle.vsw_layerflow.specs.Pairs.{AllApart, back, holder, pair_of, number_of, numbered, without}
-use Rattle.vsw_layerflow.proofs.Kept.{holder-filter, without-none}
+use Rattle.vsw_layerflow.specs.Pairs.{AllApart, back, front, holder, holds, pair_of, probe, same_probe, number_of, numbered, turned, without}
+use Rattle.vsw_layerflow.proofs.Kept.{held, holder-filter, number-found, without-none}
+use Rattle.vsw_layerflow.proofs.Lists.{same_self, unmapped}
 
 -- one less stays, where the pair that leaves was there
 count_without : (n : ℕ) (ps : List Pair) → AllApart ps → is_some (numbered n ps) ≡ true → suc (length (without n ps)) ≡ length ps
@@ -40,6 +41,18 @@ some_stays None ps q h a e = ap (option_map number_of) e
 some_stays (Some n) ps q h a e =
     ap (option_map number_of) (holder-filter (λ p. not (n == p.number)) q ps a ∙ ap (option_filter (λ p. not (n == p.number))) e)
     ∙ elim (n == h.number) as (λ b. option_map number_of (cond (not b) (Some h) None) ≡ (if b then None else Some h.number)) [ true ↦ refl | false ↦ refl ]
+
+or_right : (a b : Bool) → b ≡ true → (a || b) ≡ true
+or_right true b e = refl
+or_right false b e = e
+
+-- the pair that leaves holds what replies of this one look for: nobody who stays does
+pub left_frees : (left : Option ℕ) (n : ℕ) (ps : List Pair) (q p : Pair) → left ≡ Some n → AllApart ps → numbered n ps ≡ Some q → q.dir ≡ p.dir → q.reverse ≡ p.reverse → holder (back p) (staying left ps) ≡ None
+left_frees left n ps q p e a m d r =
+    let same : back q ≡ back p = λ j. probe (turned (d j)) (r j) in
+    let own : holds (back q) q ≡ true = or_right (same_probe (front q) (back q)) (same_probe (back q) (back q)) (same_self (back q)) in
+    let there : holder (back p) ps ≡ Some q = held (back p) n q ps a m (subst (λ k. holds k q ≡ true) same own) in
+    unmapped _ (some_stays left ps (back p) q a there ∙ rw (e, number-found n q ps m) refl)
 
 -- whom the probe of replies finds, told by a search among all pairs
 pub none_takes : (left : Option ℕ) (ps : List Pair) (p : Pair) (q : Probe) (o : Option Pair) → AllApart ps → q ≡ back p → o ≡ pair_of q.dir q.key ps → o ≡ None → None ≡ option_map number_of (holder (back p) (staying left ps))

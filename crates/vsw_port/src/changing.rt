@@ -1,6 +1,6 @@
 //! The changes of the layers.
 
-ghost use Rattle.std.specs.Prelude.{◌≡◌, ◌∷◌, List};
+ghost use Rattle.std.specs.Prelude.{◌≡◌, ◌∷◌, List, false, true};
 ghost use Rattle.vsw_port.specs.Can.{AllRoom, AreApart, CanAll, CanDo, HasRoom};
 ghost use Rattle.vsw_port.specs.Cross.{all_done, done};
 ghost use Rattle.vsw_port.specs.WalkWanted.{Wanted};
@@ -27,6 +27,27 @@ fn change(policy: &mut Policy, wanted: &Wanted)
     }
 }
 
+/// Makes two changes at once, where the second makes a pair in the layer that one leaves by the first. Whether it does.
+fn change_both(policy: &mut Policy, first: &Wanted, second: &Wanted) -> bool
+    requires can { CanDo first.now policy.old.layers × CanDo second.now (done first.now policy.old.layers) }
+    requires room { HasRoom second.now policy.old }
+    ensures done { result ≡ true → policy.new.layers ≡ done second.now (done first.now policy.old.layers) }
+    ensures same { result ≡ false → policy.new ≡ policy.old }
+    ensures controllers { policy.new.controllers ≡ policy.old.controllers }
+    ensures rooms { (ws : List Wanted) → AreApart (second.now ∷ ws) → AllRoom ws policy.old → AllRoom ws policy.new }
+{
+    match (first, second) {
+        (Wanted::Leave { layer, number }, Wanted::Make { layer: at, pair }) => {
+            if layer != at {
+                return false;
+            }
+            policy.replace_pair(*layer as usize, *number, pair);
+            true
+        }
+        _ => false,
+    }
+}
+
 /// Makes all changes, in their order. It takes no memory.
 pub fn change_all(policy: &mut Policy, changes: &[Wanted])
     requires can { CanAll changes.now policy.old.layers }
@@ -38,6 +59,12 @@ pub fn change_all(policy: &mut Policy, changes: &[Wanted])
     let [wanted, rest @ ..] = changes else {
         return;
     };
+    if let [second, others @ ..] = rest {
+        if change_both(policy, wanted, second) {
+            change_all(policy, others);
+            return;
+        }
+    }
     change(policy, wanted);
     change_all(policy, rest);
 }

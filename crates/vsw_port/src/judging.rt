@@ -2,7 +2,8 @@
 
 ghost use Rattle.std.specs.Prelude.{◌≡◌, None, map};
 ghost use Rattle.vsw_port.specs.Admit.{stop_of};
-ghost use Rattle.vsw_port.specs.Holds.{AllHold};
+ghost use Rattle.vsw_port.specs.Holds.{AllHold, HoldsOf};
+ghost use Rattle.vsw_port.specs.Private.Threaded as threaded;
 ghost use Rattle.vsw_port.specs.Private.Threaded.{AllThere, LeftThere, refusal_after};
 ghost use Rattle.vsw_port.specs.Walked.{IsWalk};
 ghost use Rattle.vsw_base.specs.declared.fate.Verdict.TheVariants.{Pass};
@@ -16,26 +17,42 @@ use vsw_base::{Crossing, Verdict};
 use vsw_policy::{Layer, Policy};
 use vsw_walk::{Scratch, Walked, Wanted};
 
-/// The first refusal of a wanted pair. The pair that leaves a layer is told right before.
-fn judge_changes(layers: &[Layer], left: Option<(u32, u32)>, changes: &[Wanted]) -> Option<Stop>
+/// Why the layers don't take the pair that is wanted, if one is. The pair that leaves a layer is told right before.
+fn refusal_by(layers: &[Layer], left: Option<(u32, u32)>, change: &Wanted) -> Option<Stop>
     requires left { LeftThere (map seen layers.now) left }
+    ensures exact { result ≡ threaded.refusal_by (map seen layers.now) left change.now }
+    ensures holds { result ≡ None → HoldsOf (map seen layers.now) change.now }
+{
+    match change {
+        Wanted::Make { layer, pair } => refused_at(layers, *layer, left, pair),
+        Wanted::Touch { .. } | Wanted::Leave { .. } => None,
+    }
+}
+
+/// The place of the layer that a pair leaves by the change, and the pair's number.
+fn left_by(change: &Wanted) -> Option<(u32, u32)>
+    ensures { result ≡ threaded.left_by change.now }
+{
+    match change {
+        Wanted::Make { .. } | Wanted::Touch { .. } => None,
+        Wanted::Leave { layer, number } => Some((*layer, *number)),
+    }
+}
+
+/// The first refusal of a wanted pair.
+fn judge_changes(layers: &[Layer], changes: &[Wanted]) -> Option<Stop>
     requires there { AllThere (map seen layers.now) changes.now }
-    ensures exact { result ≡ refusal_after (map seen layers.now) left changes.now }
+    ensures exact { result ≡ refusal_after (map seen layers.now) None changes.now }
     ensures hold { result ≡ None → AllHold (map seen layers.now) changes.now }
 {
-    let [change, rest @ ..] = changes else {
-        return None;
-    };
-    match change {
-        Wanted::Make { layer, pair } => {
-            if let Some(stop) = refused_at(layers, *layer, left, pair) {
-                return Some(stop);
-            }
-            judge_changes(layers, None, rest)
+    let mut left = None;
+    for change in changes {
+        if let Some(stop) = refusal_by(layers, left, change) {
+            return Some(stop);
         }
-        Wanted::Touch { .. } => judge_changes(layers, None, rest),
-        Wanted::Leave { layer, number } => judge_changes(layers, Some((*layer, *number)), rest),
+        left = left_by(change);
     }
+    None
 }
 
 /// The first refusal of a wanted pair. Most packets want none.
@@ -48,7 +65,7 @@ fn judge_all(layers: &[Layer], changes: &[Wanted]) -> Option<Stop>
     if changes.is_empty() {
         return None;
     }
-    judge_changes(layers, None, changes)
+    judge_changes(layers, changes)
 }
 
 /// Why the packet is dropped after this walk of it, but for want of memory.

@@ -1,6 +1,6 @@
 //! A pair that is wanted of a layer.
 
-ghost use Rattle.std.specs.Prelude.{◌≡◌, ◌<◌, ◌^◌, None, Some, false, length, map, nat_le, option_copied, option_map};
+ghost use Rattle.std.specs.Prelude.{◌≡◌, ◌<◌, ◌^◌, None, Some, false, true, length, map, nat_le, option_copied, option_map};
 ghost use Rattle.std.specs.List.{slice_get};
 ghost use Rattle.vsw_port.specs.Admit as spec;
 ghost use Rattle.vsw_port.specs.Admit.{staying};
@@ -11,6 +11,7 @@ ghost use Rattle.vsw_policy.specs.Layer.{LayerSeen, seen};
 ghost use Rattle.vsw_layerflow.specs.Pairs.{AllApart, back, holder, number_of};
 
 use crate::stop::Stop;
+use vsw_layerflow::pair::probes_agree;
 use vsw_layerflow::{Flows, Pair};
 use vsw_policy::Layer;
 
@@ -36,11 +37,31 @@ fn other_than(left: Option<u32>, number: u32) -> Option<u32>
     }
 }
 
+/// Whether it is the pair that leaves that holds what replies of this one look for.
+fn leaves_free(flows: &Flows, left: Option<u32>, pair: &Pair) -> bool
+    requires apart { AllApart flows.now.pairs }
+    ensures { result ≡ true → holder (back pair.now) (staying left flows.now.pairs) ≡ None }
+{
+    let Some(number) = left else {
+        return false;
+    };
+    let Some(gone) = flows.of_number(number) else {
+        return false;
+    };
+    // It tells the proof what equal keys are.
+    probes_agree();
+    gone.dir == pair.dir && gone.reverse == pair.reverse
+}
+
 /// The number of the pair that stays and holds what replies of this one look for.
 fn taker(flows: &Flows, left: Option<u32>, pair: &Pair) -> Option<u32>
     requires apart { AllApart flows.now.pairs }
     ensures { result ≡ option_map number_of (holder (back pair.now) (staying left flows.now.pairs)) }
 {
+    // A look by number takes less than one by key.
+    if leaves_free(flows, left, pair) {
+        return None;
+    }
     let probe = pair.back();
     match flows.find(probe.dir, &probe.key) {
         None => None,

@@ -15,6 +15,18 @@ abbrev pub left_at : ℕ → Option (ℕ × ℕ) → Option ℕ
 left_at place None = None
 left_at place (Some left) = if place == left.0 then Some left.1 else None
 
+-- the refusal of the pair that a change makes, if it makes one
+abbrev pub refusal_by : List LayerSeen → Option (ℕ × ℕ) → Wanted → Option Stop
+refusal_by ls left (Make place p) = refused_at (slice_get ls place) (left_at place left) p
+refusal_by ls left (Touch place number state last) = None
+refusal_by ls left (Leave place number) = None
+
+-- the place of the layer that a pair leaves by a change, and the pair's number
+abbrev pub left_by : Wanted → Option (ℕ × ℕ)
+left_by (Make place p) = None
+left_by (Touch place number state last) = None
+left_by (Leave place number) = Some (place, number)
+
 abbrev pub or_next : Option Stop → Option Stop → Option Stop
 or_next (Some stop) next = Some stop
 or_next None next = next

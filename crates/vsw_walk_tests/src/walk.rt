@@ -4,6 +4,7 @@ mod flow_tests;
 mod layers;
 mod look_tests;
 mod packets;
+mod replace_tests;
 mod samples;
 mod seed_tests;
 mod tcp_tests;

@@ -3,6 +3,7 @@
 ghost use Rattle.std.specs.Prelude.{◌≡◌, ◌+◌, [], None, IsTrue};
 ghost use Rattle.vsw_layerflow.specs.Pairs.{AllBelow, numbered, put_by_number};
 
+use crate::walk::replace_tests::{Keys, replace_first};
 use crate::walk::wrong::Wrong;
 use std::alloc::Global;
 use vsw_base::{Addr, Dir, Ip4, LayerKey, Moment, Set, Track};
@@ -27,11 +28,11 @@ fn key(src: u32, dst: u32, src_port: u16, dst_port: u16) -> LayerKey {
 }
 
 /// 10.0.0.5, port 40000, to 10.0.0.9, port 80, and back.
-fn there() -> LayerKey {
+pub fn there() -> LayerKey {
     key(0x0a00_0005, 0x0a00_0009, 40000, 80)
 }
 
-fn back() -> LayerKey {
+pub fn back() -> LayerKey {
     key(0x0a00_0009, 0x0a00_0005, 80, 40000)
 }
 
@@ -49,7 +50,7 @@ fn set() -> Set {
 }
 
 /// A pair of rule 7 in group 2, last used a second after the epoch.
-fn pair(number: u32, dir: Dir, forward: LayerKey, reverse: LayerKey) -> Pair
+pub fn pair(number: u32, dir: Dir, forward: LayerKey, reverse: LayerKey) -> Pair
     ensures { result.number ≡ number }
 {
     Pair {
@@ -97,7 +98,7 @@ fn put_new(flows: &mut Flows, pair: Pair) -> bool
 
 /// Adds a pair whose number is the greatest.
 #[tactic(auto, using(vsw_layerflow::proofs::Order::below_new))]
-fn put(flows: &mut Flows, pair: Pair) -> bool
+pub fn put(flows: &mut Flows, pair: Pair) -> bool
     requires number_last { AllBelow pair.number flows.old.pairs }
     ensures number_last { AllBelow (pair.number + 1) flows.new.pairs }
 {
@@ -147,7 +148,7 @@ fn reopen_thirds(flows: &mut Flows) -> bool
 }
 
 /// The number and the state of a pair, where one is found.
-type Found = Option<(u32, Track)>;
+pub type Found = Option<(u32, Track)>;
 
 fn found(flows: &Flows, dir: Dir, key: &LayerKey) -> Found {
     let pair = flows.find(dir, key)?;
@@ -155,7 +156,7 @@ fn found(flows: &Flows, dir: Dir, key: &LayerKey) -> Found {
 }
 
 /// What the keys of `there` and `back` lead to, each out and in.
-type Both = (Found, Found, Found, Found);
+pub type Both = (Found, Found, Found, Found);
 
 fn found_by_both(flows: &Flows) -> Both {
     (
@@ -167,7 +168,7 @@ fn found_by_both(flows: &Flows) -> Both {
 }
 
 /// The key of `there` from the next port.
-fn there_from_next() -> LayerKey {
+pub fn there_from_next() -> LayerKey {
     key(0x0a00_0005, 0x0a00_0009, 40001, 80)
 }
 
@@ -202,7 +203,7 @@ fn open_all(flows: &mut Flows, count: u32) {
 
 /// What is done to pairs, or seen of them, and what must come of it.
 #[derive(Clone, Copy)]
-enum Step {
+pub enum Step {
     /// The pair of this number gets a state and a moment of its last use.
     Touch(u32, Track, u64),
     Remove(u32),
@@ -273,7 +274,7 @@ fn try_steps(flows: &mut Flows, steps: &[Step]) -> Result<(), Wrong> {
 
 /// The pairs that are there before the first step.
 #[derive(Clone, Copy)]
-enum First {
+pub enum First {
     /// One pair, of `there` and `back`.
     One,
     /// Pair 7 came before pair 3, whose keys are `there_from_next`.
@@ -286,6 +287,8 @@ enum First {
     Below(u32),
     /// A full layer, of which each third pair was opened again.
     Reopened,
+    /// One pair, of `there` and `back`, and then pair 1 for the one of this number.
+    Replaced(u32, Keys),
 }
 
 fn reopened(flows: &mut Flows) -> bool
@@ -304,6 +307,7 @@ fn begin(flows: &mut Flows, first: First) -> bool
         First::ByRules => open_by_rules(flows),
         First::Below(count) => fill(flows, count),
         First::Reopened => reopened(flows),
+        First::Replaced(number, keys) => replace_first(flows, number, keys),
     }
 }
 
@@ -317,14 +321,14 @@ fn try_behind(flows: &mut Flows, first: First, steps: &[Step]) -> Result<(), Wro
     try_steps(flows, steps)
 }
 
-fn tried(alloc: Global, first: First, steps: &[Step]) -> Result<(), Wrong> {
+pub fn tried(alloc: Global, first: First, steps: &[Step]) -> Result<(), Wrong> {
     try_behind(&mut Flows::new(alloc), first, steps)
 }
 
 // What `there` and `back` lead to: nothing, or pair 0, which goes out.
-const NOTHING: Both = (None, None, None, None);
+pub const NOTHING: Both = (None, None, None, None);
 
-const OPENING: Both = (
+pub const OPENING: Both = (
     Some((0, Track::Opening)),
     None,
     None,

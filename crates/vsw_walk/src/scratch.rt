@@ -268,15 +268,38 @@ impl Scratch {
         requires changes { length self.old.changes + 1 ≤ 256 }
         ensures { GoesOn rule.now.action (Make layer (wanted_pair number dir control moment self.old.stack group rule.now) ∷ []) self.old self.new kept result }
     {
-        let met = self.stack.key();
-        if !edits(&rule.action) {
-            let left = self.go_on(&rule.action, kept);
-            self.wanted.push_reserved(Wanted::Make {
-                layer,
-                pair: plain_pair(number, group, rule, dir, control, moment, &met),
-            });
-            return left;
+        if edits(&rule.action) {
+            return self.make_edited(layer, number, group, rule, dir, control, moment, kept);
         }
+        let met = self.stack.key();
+        let left = self.go_on(&rule.action, kept);
+        self.wanted.push_reserved(Wanted::Make {
+            layer,
+            pair: plain_pair(number, group, rule, dir, control, moment, &met),
+        });
+        left
+    }
+
+    /// The same, where the rule may edit the packet: replies have the key with which it goes on, and get undone what is written.
+    #[inline(never)]
+    fn make_edited(
+        &mut self,
+        layer: u32,
+        number: u32,
+        group: u16,
+        rule: &Rule,
+        dir: Dir,
+        control: Control,
+        moment: Moment,
+        kept: u8,
+    ) -> u8
+        requires can { IsTrue (can_do rule.now.action self.old.stack) }
+        requires few { length self.old.looked ≤ 128 }
+        requires room { length self.old.edits < length self.old.looked }
+        requires changes { length self.old.changes + 1 ≤ 256 }
+        ensures { GoesOn rule.now.action (Make layer (wanted_pair number dir control moment self.old.stack group rule.now) ∷ []) self.old self.new kept result }
+    {
+        let met = self.stack.key();
         let back = reverse_set(&set_of(&rule.action), self.stack.stack());
         let left = self.go_on(&rule.action, kept);
         let after = self.stack.key();

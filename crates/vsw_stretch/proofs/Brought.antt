@@ -5,10 +5,10 @@ use Rattle.vsw_rings.specs.Rings.{IsRing, SameDrain, SameFeed, fed, taken}
 use Rattle.vsw_rings.specs.declared.drain.Drain.{Drain}
 use Rattle.vsw_rings.specs.declared.feed.Feed.{Feed}
 use Rattle.vsw_stretch.specs.Hands.{AllDid, AreFronts, AreThere, DidAll, hands_in, nothing}
-use Rattle.vsw_stretch.specs.Leading.{AreSame}
-use Rattle.vsw_stretch.specs.Posts.{AllEnd, Each, IsNew, given_by, told_by}
-use Rattle.vsw_stretch.specs.Rings.{AllAgree, AreOpened, ArePaired}
-use Rattle.vsw_stretch.specs.Running.{AllServed, AreFresh, Went}
+use Rattle.vsw_stretch.specs.Private.Leading.{AreSame}
+use Rattle.vsw_stretch.specs.Private.Posts.{AllEnd, Each, IsNew, given_by, told_by}
+use Rattle.vsw_stretch.specs.Private.Rings.{AllAgree, AreOpened, ArePaired}
+use Rattle.vsw_stretch.specs.Private.Running.{AllServed, AreFresh, Went}
 use Rattle.vsw_stretch.specs.Stretch.{Stretched}
 use Rattle.vsw_stretch.specs.declared.how.How.{How}
 use Rattle.vsw_stretch.specs.declared.how.How.TheVariants.{Refused, Ran}

@@ -1,6 +1,6 @@
 -- Ends of rings at which nothing was done, or one thing more.
 use Rattle.std.proofs.Common.{◌≡◌, List, [], ◌∷◌, ◌++◌, refl, sym, ◌∙◌, ap}
-use Rattle.vsw_stretch.specs.Posts.{AllLook, AllTake, Takes}
+use Rattle.vsw_stretch.specs.Private.Posts.{AllLook, AllTake, Takes}
 use Rattle.vsw_stretch.specs.declared.post.Post.{Post}
 
 module _ {T : Type 0} where

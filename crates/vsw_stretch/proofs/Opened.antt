@@ -1,7 +1,7 @@
 -- Rings that were opened.
 use Rattle.std.proofs.Common.{◌≡◌, ◌+◌, ◌<◌, ◌≤◌, ℕ, List, [], ◌∷◌, ◌++◌, Option, Some, None, ap, arith, length, subst, sym, ◌∙◌}
 use Rattle.vsw_stretch.proofs.Steps.{length_more}
-use Rattle.vsw_stretch.specs.Rings.{AreOpened}
+use Rattle.vsw_stretch.specs.Private.Rings.{AreOpened}
 use Rattle.vsw_stretch.specs.declared.post.Post.{Post}
 use Rattle.vsw_stretch.specs.declared.seat.Ends.{Ends}
 

@@ -2,8 +2,8 @@
 use Rattle.std.proofs.Common.{◌≡◌, ◌+◌, ◌-◌, ◌<◌, ℕ, suc, List, [], ◌∷◌, ◌++◌, length, map, refl, sym, ◌∙◌, ap, subst, arith, Bool, true, false, MatchBool}
 use Rattle.vsw_rings.specs.Rings.{SameDrain, SameFeed, fed, has_ended, is_at_end, taken}
 use Rattle.vsw_stretch.specs.Hands.{AreFronts, HaveMore, added}
-use Rattle.vsw_stretch.specs.Leading.{AreSame, HasLed, IsLed, WasLed}
-use Rattle.vsw_stretch.specs.Posts.{Each, AllEnd, AllGive, AllLook, AllTake, CanGive, CanTake, IsNew, given_by, told_by}
+use Rattle.vsw_stretch.specs.Private.Leading.{AreSame, HasLed, IsLed, WasLed}
+use Rattle.vsw_stretch.specs.Private.Posts.{Each, AllEnd, AllGive, AllLook, AllTake, CanGive, CanTake, IsNew, given_by, told_by}
 use Rattle.vsw_stretch.specs.declared.post.Post.{Post}
 use Rattle.vsw_stretch.proofs.Looking.{nil_behind}
 use Rattle.vsw_stretch.proofs.Working.{drain_on, feed_on}

@@ -4,7 +4,7 @@ use Rattle.vsw_rings.specs.Rings.{SameDrain, SameFeed, fed, is_at_end, taken}
 use Rattle.vsw_rings.specs.declared.drain.Drain.{Drain}
 use Rattle.vsw_rings.specs.declared.feed.Feed.{Feed}
 use Rattle.vsw_stretch.specs.Hands.{DidAll}
-use Rattle.vsw_stretch.specs.Seats.{Serves, Tells}
+use Rattle.vsw_stretch.specs.Private.Seats.{Serves, Tells}
 use Rattle.vsw_stretch.specs.declared.seat.Seat.{Seat}
 
 module _ {T P : Type 0} where

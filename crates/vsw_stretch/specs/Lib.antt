@@ -1,7 +1,3 @@
 pub mod Hands
-pub mod Leading
-pub mod Posts
-pub mod Rings
-pub mod Running
-pub mod Seats
+pub mod Private
 pub mod Stretch

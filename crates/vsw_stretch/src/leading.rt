@@ -1,8 +1,8 @@
 //! The leading thread's part: it gives shares, takes what is told, and ends the rings.
 
 ghost use Rattle.std.specs.Prelude.{◌+◌, ◌-◌, ◌<◌, ℕ, List, MatchBool, map};
-ghost use Rattle.vsw_stretch.specs.Leading.{HasLed, IsLed, WasLed};
-ghost use Rattle.vsw_stretch.specs.Posts.{Each, IsNew, given_by, told_by};
+ghost use Rattle.vsw_stretch.specs.Private.Leading.{HasLed, IsLed, WasLed};
+ghost use Rattle.vsw_stretch.specs.Private.Posts.{Each, IsNew, given_by, told_by};
 ghost use Rattle.vsw_stretch.specs.declared.post.Post.{Post};
 
 use crate::Lead;

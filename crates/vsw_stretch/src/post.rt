@@ -1,7 +1,7 @@
 //! The ends of a hand's rings that the leading thread has.
 
 ghost use Rattle.std.specs.Prelude.{◌≡◌, ◌<◌, ◌+◌, ◌++◌, ◌∷◌, [], List, length, true};
-ghost use Rattle.vsw_stretch.specs.Posts.{AllEnd, AllGive, AllLook, AllTake, CanGive, CanTake, Each, Ends, Gives, Looks, Takes};
+ghost use Rattle.vsw_stretch.specs.Private.Posts.{AllEnd, AllGive, AllLook, AllTake, CanGive, CanTake, Each, Ends, Gives, Looks, Takes};
 
 use std::sync::Wait;
 use vsw_rings::{Drain, Feed, Taken};

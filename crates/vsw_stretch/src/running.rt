@@ -1,8 +1,8 @@
 //! The hands in their threads, and the leading thread beside them.
 
 ghost use Rattle.std.specs.Prelude.{◌≡◌, ◌∷◌, [], map};
-ghost use Rattle.vsw_stretch.specs.Posts.{Each, IsNew, given_by, told_by};
-ghost use Rattle.vsw_stretch.specs.Running.{AllServed, AreFresh, Went};
+ghost use Rattle.vsw_stretch.specs.Private.Posts.{Each, IsNew, given_by, told_by};
+ghost use Rattle.vsw_stretch.specs.Private.Running.{AllServed, AreFresh, Went};
 
 use crate::barrier::Barrier;
 use crate::how::How;

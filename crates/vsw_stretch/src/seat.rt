@@ -1,6 +1,6 @@
 //! A hand at its rings.
 
-ghost use Rattle.vsw_stretch.specs.Seats.{CanTell, IsFresh, Served, Tells};
+ghost use Rattle.vsw_stretch.specs.Private.Seats.{CanTell, IsFresh, Served, Tells};
 
 use crate::Hand;
 use crate::barrier::Barrier;

@@ -1,8 +1,8 @@
 //! Threads are started, one for each hand, and joined.
 
 ghost use Rattle.std.specs.Prelude.{◌≡◌, IfErr, IfOk, OnErr, OnOk};
-ghost use Rattle.vsw_stretch.specs.Posts.{AllEnd, CanGive, Each};
-ghost use Rattle.vsw_stretch.specs.Seats.{IsFresh, Served};
+ghost use Rattle.vsw_stretch.specs.Private.Posts.{AllEnd, CanGive, Each};
+ghost use Rattle.vsw_stretch.specs.Private.Seats.{IsFresh, Served};
 
 use crate::Hand;
 use crate::barrier::Barrier;
@@ -19,7 +19,7 @@ pub(crate) struct Serving<W, S, T> {
 }
 
 impl<W: Hand<S, T>, S, T> Promise<Seat<W, S, T>> for Serving<W, S, T> {
-    ghost use Rattle.vsw_stretch.specs.Seats.{Served};
+    ghost use Rattle.vsw_stretch.specs.Private.Seats.{Served};
 
     ghost kept_by = { λ p r. Served W.does p.was.value r };
 }

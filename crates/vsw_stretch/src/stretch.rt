@@ -2,10 +2,10 @@
 
 ghost use Rattle.std.specs.Prelude.{◌≡◌, ◌++◌, ◌∷◌, [], Some, length, IfOk, OnErr, OnOk, map};
 ghost use Rattle.vsw_stretch.specs.Hands.{AreThere, nothing};
-ghost use Rattle.vsw_stretch.specs.Posts.{Each, IsNew, given_by, told_by};
-ghost use Rattle.vsw_stretch.specs.Running.{AllServed, AreFresh, Went};
+ghost use Rattle.vsw_stretch.specs.Private.Posts.{Each, IsNew, given_by, told_by};
+ghost use Rattle.vsw_stretch.specs.Private.Running.{AllServed, AreFresh, Went};
 ghost use Rattle.vsw_stretch.specs.Stretch.{Stretched};
-ghost use Rattle.vsw_stretch.specs.Rings.{AllAgree, AreOpened, ArePaired};
+ghost use Rattle.vsw_stretch.specs.Private.Rings.{AllAgree, AreOpened, ArePaired};
 
 use crate::barrier::Barrier;
 use crate::how::How;

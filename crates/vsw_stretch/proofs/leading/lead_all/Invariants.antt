@@ -1,5 +1,5 @@
 use Rattle.std.proofs.Common.{◌≤◌}
-use Rattle.vsw_stretch.specs.Leading.{IsLed}
+use Rattle.vsw_stretch.specs.Private.Leading.{IsLed}
 use Rattle.vsw_stretch.proofs.leading.lead_all.Given as goal
 
 abbrev pub invariant-loop : goal.invariant-loop

@@ -1,4 +1,4 @@
-use Rattle.vsw_stretch.specs.Seats.{Serves}
+use Rattle.vsw_stretch.specs.Private.Seats.{Serves}
 use Rattle.vsw_stretch.proofs.seat.serve.Given as goal
 
 abbrev pub invariant-loop : goal.invariant-loop

@@ -1,5 +1,5 @@
 use Rattle.std.proofs.Common.{◌≤◌, ◌-◌, length}
-use Rattle.vsw_stretch.specs.Rings.{AreOpened}
+use Rattle.vsw_stretch.specs.Private.Rings.{AreOpened}
 use Rattle.vsw_stretch.proofs.stretch.open_all.Given as goal
 
 abbrev pub invariant-loop-alloc : goal.invariant-loop-alloc

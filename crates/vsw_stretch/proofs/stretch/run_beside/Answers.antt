@@ -1,5 +1,5 @@
 use Rattle.std.proofs.Common.{◌≡◌, rules, subst}
-use Rattle.vsw_stretch.specs.Running.{AllServed, Went}
+use Rattle.vsw_stretch.specs.Private.Running.{AllServed, Went}
 use Rattle.vsw_stretch.proofs.stretch.run_beside.Goals as goal
 
 pub returns-clause-served : goal.returns-clause-served

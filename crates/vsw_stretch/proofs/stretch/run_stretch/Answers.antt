@@ -1,7 +1,7 @@
 use Rattle.std.proofs.Common.{◌∙◌, map, subst, sym}
 use Rattle.vsw_stretch.specs.Hands.{nothing}
-use Rattle.vsw_stretch.specs.Posts.{given_by}
-use Rattle.vsw_stretch.specs.Rings.{AllAgree, ArePaired}
+use Rattle.vsw_stretch.specs.Private.Posts.{given_by}
+use Rattle.vsw_stretch.specs.Private.Rings.{AllAgree, ArePaired}
 use Rattle.vsw_stretch.proofs.Brought.{fresh_of, given_none, new_of, paired_all, same_after, stretched, there_after, told_none}
 use Rattle.vsw_stretch.proofs.stretch.run_stretch.Goals as goal
 

@@ -2,7 +2,7 @@
 use Rattle.std.specs.Prelude.{◌≡◌, ◌+◌, ℕ, List, [], ◌∷◌, length, map, Bool, true}
 use Rattle.vsw_rings.specs.Rings.{has_ended}
 use Rattle.vsw_stretch.specs.Hands.{AreFronts}
-use Rattle.vsw_stretch.specs.Posts.{Each, CanGive, CanTake, IsSame, given_by, told_by}
+use Rattle.vsw_stretch.specs.Private.Posts.{Each, CanGive, CanTake, IsSame, given_by, told_by}
 use Rattle.vsw_stretch.specs.declared.post.Post.{Post}
 
 -- ends of the same rings

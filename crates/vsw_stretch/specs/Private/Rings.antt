@@ -2,8 +2,8 @@
 use Rattle.std.specs.Prelude.{◌≡◌, List, [], ◌∷◌, Option, Some, true}
 use mathlib.Core.List.{IsPrefix}
 use Rattle.vsw_rings.specs.Rings.{IsRing, fed, is_at_end, taken}
-use Rattle.vsw_stretch.specs.Posts.{IsNew}
-use Rattle.vsw_stretch.specs.Seats.{IsUnused}
+use Rattle.vsw_stretch.specs.Private.Posts.{IsNew}
+use Rattle.vsw_stretch.specs.Private.Seats.{IsUnused}
 use Rattle.vsw_stretch.specs.declared.post.Post.{Post}
 use Rattle.vsw_stretch.specs.declared.seat.Ends.{Ends}
 

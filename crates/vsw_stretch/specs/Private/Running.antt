@@ -1,8 +1,8 @@
 -- The hands in their threads, and the leading thread beside them.
 use Rattle.std.specs.Prelude.{◌≡◌, List, [], ◌∷◌, Option, Some}
-use Rattle.vsw_stretch.specs.Leading.{HasLed}
-use Rattle.vsw_stretch.specs.Posts.{AllEnd}
-use Rattle.vsw_stretch.specs.Seats.{IsFresh, Served}
+use Rattle.vsw_stretch.specs.Private.Leading.{HasLed}
+use Rattle.vsw_stretch.specs.Private.Posts.{AllEnd}
+use Rattle.vsw_stretch.specs.Private.Seats.{IsFresh, Served}
 use Rattle.vsw_stretch.specs.declared.how.How.{How}
 use Rattle.vsw_stretch.specs.declared.how.How.TheVariants.{Refused, Ran}
 use Rattle.vsw_stretch.specs.declared.post.Post.{Post}

@@ -1,0 +1,5 @@
+pub mod Leading
+pub mod Posts
+pub mod Rings
+pub mod Running
+pub mod Seats

@@ -134,7 +134,11 @@ fn run_beside<
             requires fresh { AreFresh hands.now.items ends.now.items }
             requires new { Each IsNew posts.now.items }
             requires begins { L.leads lead.now with.now (map given_by posts.now.items) (map told_by posts.now.items) }
-            ensures names { (result.1.ghost_name ≡ hands.entry.ghost_name) × (result.2.ghost_name ≡ ends.entry.ghost_name) × (result.3.ghost_name ≡ lead.entry.ghost_name) × (result.4.ghost_name ≡ with.entry.ghost_name) × (result.5.ghost_name ≡ posts.entry.ghost_name) }
+            ensures hands_back { result.1.ghost_name ≡ hands.entry.ghost_name }
+            ensures ends_back { result.2.ghost_name ≡ ends.entry.ghost_name }
+            ensures lead_back { result.3.ghost_name ≡ lead.entry.ghost_name }
+            ensures with_back { result.4.ghost_name ≡ with.entry.ghost_name }
+            ensures posts_back { result.5.ghost_name ≡ posts.entry.ghost_name }
             ensures served { AllServed W.does hands.entry.now.items ends.entry.now.items result.1.now.items result.2.now.items }
             ensures went { Went L.leads result.0 posts.entry.now.items lead.entry.now with.entry.now result.3.now result.4.now result.5.now.items }
         {

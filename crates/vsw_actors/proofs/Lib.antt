@@ -5,6 +5,7 @@ pub mod Lanes
 pub mod Rounds
 pub mod Seats
 pub mod Turning
+pub mod Picking
 pub mod Sharing
 pub mod Steps
 pub use Rattle.vsw_many.proofs.Actors

@@ -1,5 +1,5 @@
 -- A job that is given to its caller.
-use Rattle.std.proofs.Common.{◌≡◌, ◌<◌, ◌≤◌, ℕ, zero, suc, ◌+◌, ◌==◌, Bool, true, false, if◌then◌else◌, List, [], ◌∷◌, ◌++◌, length, map, filter, get_or, replicate, slice_set, Vec, Result, Ok, Err, OnOk, refl, ap, ap₂, sym, ◌∙◌, subst, arith, append-nil, ne_eqb, eq-eqb}
+use Rattle.std.proofs.Common.{◌≡◌, ◌<◌, ℕ, zero, suc, ◌+◌, ◌==◌, true, false, if◌then◌else◌, List, [], ◌∷◌, ◌++◌, length, map, get_or, replicate, slice_set, Vec, Result, Ok, Err, OnOk, refl, ap, ap₂, sym, ◌∙◌, subst, arith, append-nil, ne_eqb, eq-eqb}
 use Rattle.std.specs.Prelude.{⊤}
 use Rattle.std.proofs.lemmas.List.Elements.{filter-append}
 use Rattle.vsw_actors.specs.Actors.{placed_of}
@@ -18,7 +18,7 @@ use Rattle.vsw_actors.specs.declared.work.Work.{Work}
 -- ---- one more job of a caller
 
 -- an element at the end of the list at a place
-abbrev put_at : {A : Type 0} → ℕ → A → List (List A) → List (List A)
+abbrev pub put_at : {A : Type 0} → ℕ → A → List (List A) → List (List A)
 put_at i x [] = []
 put_at zero x (xs ∷ xss) = (xs ++ x ∷ []) ∷ xss
 put_at (suc i) x (xs ∷ xss) = xs ∷ put_at i x xss
@@ -41,7 +41,7 @@ above cs js t first zero lt = refl
 above cs js t first (suc n) lt = ap₂ (λ x y. x ∷ y) (other cs first js t (λ e. omega (arith, e, lt))) (above cs js t (suc first) n (omega (arith, lt)))
 
 -- a job at the end of its caller's share is one more that is dealt
-put_dealt : (cs : List ℕ) (js : List jobs.Placed) (t : jobs.Placed) (first n i : ℕ) → i < n → job_doer cs t.1 ≡ first + i → put_at i t (map (λ k. deal cs k js) (counted first n)) ≡ map (λ k. deal cs k (js ++ t ∷ [])) (counted first n)
+pub put_dealt : (cs : List ℕ) (js : List jobs.Placed) (t : jobs.Placed) (first n i : ℕ) → i < n → job_doer cs t.1 ≡ first + i → put_at i t (map (λ k. deal cs k js) (counted first n)) ≡ map (λ k. deal cs k (js ++ t ∷ [])) (counted first n)
 put_dealt cs js t first zero i lt e = absurd (omega (arith, lt))
 put_dealt cs js t first (suc n) zero lt e =
     let here : job_doer cs t.1 ≡ first = omega (arith, e) in
@@ -50,7 +50,7 @@ put_dealt cs js t first (suc n) (suc i) lt e = ap₂ (λ x y. x ∷ y) (sym (oth
 
 -- ---- shares
 
-map_end : {A B : Type 0} (f : A → B) (xs : List A) (x : A) → map f (xs ++ x ∷ []) ≡ map f xs ++ f x ∷ []
+pub map_end : {A B : Type 0} (f : A → B) (xs : List A) (x : A) → map f (xs ++ x ∷ []) ≡ map f xs ++ f x ∷ []
 map_end f [] x = refl
 map_end f (y ∷ xs) x = ap (λ w. f y ∷ w) (map_end f xs x)
 
@@ -65,7 +65,7 @@ length_shared : {G : Type 0} (xs : List (Vec (Placed Work) G)) → length (share
 length_shared [] = refl
 length_shared (x ∷ xs) = ap suc (length_shared xs)
 
-length_map_counted : {A : Type 0} (f : ℕ → A) (first n : ℕ) → length (map f (counted first n)) ≡ n
+pub length_map_counted : {A : Type 0} (f : ℕ → A) (first n : ℕ) → length (map f (counted first n)) ≡ n
 length_map_counted f first zero = refl
 length_map_counted f first (suc n) = ap suc (length_map_counted f (suc first) n)
 
@@ -78,17 +78,18 @@ given cs js xs i x y j (Ok u) lt here e so_far doer =
     let at : job_doer cs (job_in j.job) ≡ 0 + i = omega (arith, doer) in
     shared_set xs i x y j lt here e ∙ (ap (put_at i (placed_of job_in j)) so_far ∙ put_dealt cs js (placed_of job_in j) 0 (16 + length cs) i within at)
 
-work_set : {G : Type 0} (ports : ℕ) (cs : List ℕ) (xs : List (Vec (Placed Work) G)) (i : ℕ) (x y : Vec (Placed Work) G) (j : Placed Work) → x ≡ get_or xs i x → y.items ≡ x.items ++ j ∷ [] → IsWork ports cs j → AreWork ports cs xs → AreWork ports cs (slice_set xs i y)
-work_set {G} ports cs [] i x y j here e w a = tt
-work_set {G} ports cs (z ∷ zs) zero x y j here e w a =
-    let before : Each (IsWork ports cs) x.items = subst (λ (v : Vec (Placed Work) G). Each (IsWork ports cs) v.items) (sym here) a.0 in
-    (subst (Each (IsWork ports cs)) (sym e) (each_append (IsWork ports cs) x.items (j ∷ []) before (w, tt)), a.1)
-work_set {G} ports cs (z ∷ zs) (suc i) x y j here e w a = (a.0, work_set ports cs zs i x y j here e w a.1)
+-- what holds of all in each list still does with one more of which it holds
+pub each_set : {A G : Type 0} (Q : A → Type 0) (xs : List (Vec A G)) (i : ℕ) (x y : Vec A G) (j : A) → x ≡ get_or xs i x → y.items ≡ x.items ++ j ∷ [] → Q j → Each (λ v. Each Q v.items) xs → Each (λ v. Each Q v.items) (slice_set xs i y)
+each_set {A} {G} Q [] i x y j here e q a = tt
+each_set {A} {G} Q (z ∷ zs) zero x y j here e q a =
+    let before : Each Q x.items = subst (λ (v : Vec A G). Each Q v.items) (sym here) a.0 in
+    (subst (Each Q) (sym e) (each_append Q x.items (j ∷ []) before (q, tt)), a.1)
+each_set {A} {G} Q (z ∷ zs) (suc i) x y j here e q a = (a.0, each_set Q zs i x y j here e q a.1)
 
 -- work was given
 pub given_work : {G : Type 0} (ports : ℕ) (cs : List ℕ) (xs : List (Vec (Placed Work) G)) (i : ℕ) (x y : Vec (Placed Work) G) (j : Placed Work) (r : Result ⊤ NoMemory) → x ≡ get_or xs i x → OnOk r (y.items ≡ x.items ++ j ∷ []) → IsWork ports cs j → AreWork ports cs xs → OnOk r (AreWork ports cs (slice_set xs i y))
 given_work ports cs xs i x y j (Err f) here e w a = tt
-given_work ports cs xs i x y j (Ok u) here e w a = work_set ports cs xs i x y j here e w a
+given_work ports cs xs i x y j (Ok u) here e w a = each_set (IsWork ports cs) xs i x y j here e w a
 
 -- ---- no jobs
 

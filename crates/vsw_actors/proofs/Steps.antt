@@ -84,10 +84,10 @@ lines_next cs numbers places lines first i x l s t u e lt here at so_far one =
     let there = line_there lines (commands_at first lines) places i x l e lt here at in
     deals_join cs s t u (lines_to numbers lines first i) (beside numbers l) (lines_to numbers lines first (i + 1)) (ap (lines_to numbers lines first) (next i) ∙ take_more (beside numbers) (commands_at first lines) i l there) so_far one
 
-there_within : (lines : List Line) (n : ℕ) (l : Line) → slice_get lines n ≡ Some l → n < length lines
-there_within [] n l e = absurd (cc e)
-there_within (k ∷ ks) zero l e = omega arith
-there_within (k ∷ ks) (suc n) l e = omega (arith, there_within ks n l e)
+pub there_within : {A : Type 0} (xs : List A) (n : ℕ) (x : A) → slice_get xs n ≡ Some x → n < length xs
+there_within [] n x e = absurd (cc e)
+there_within (y ∷ ys) zero x e = omega arith
+there_within (y ∷ ys) (suc n) x e = omega (arith, there_within ys n x e)
 
 -- a round's command stands in the file
 pub line_within : (lines cs : List Line) (places : List ℕ) (i x : ℕ) → map (λ place. slice_get lines place) places ≡ map Some cs → i < length places → x ≡ get_or places i x → x < length lines
@@ -96,11 +96,11 @@ line_within lines [] (p ∷ ps) i x e lt here = absurd (cc e)
 line_within lines (c ∷ cs) (p ∷ ps) zero x e lt here = let first : slice_get lines p ≡ Some c = cc e in there_within lines x c (ap (slice_get lines) here ∙ first)
 line_within lines (c ∷ cs) (p ∷ ps) (suc i) x e lt here = line_within lines cs ps i x (cc e) (omega (arith, lt)) here
 
--- what holds of each line holds of one
-pub line_each : (P : Line → Type 0) (lines : List Line) (n : ℕ) (l : Line) → slice_get lines n ≡ Some l → Each P lines → P l
-line_each P [] n l e a = absurd (cc e)
-line_each P (k ∷ ks) zero l e a = let same : k ≡ l = cc e in subst P same a.0
-line_each P (k ∷ ks) (suc n) l e a = line_each P ks n l e a.1
+-- what holds of each holds of one
+pub each_there : {A : Type 0} (P : A → Type 0) (xs : List A) (n : ℕ) (x : A) → slice_get xs n ≡ Some x → Each P xs → P x
+each_there P [] n x e a = absurd (cc e)
+each_there P (y ∷ ys) zero x e a = let same : y ≡ x = cc e in subst P same a.0
+each_there P (y ∷ ys) (suc n) x e a = each_there P ys n x e a.1
 
 lines_step : (numbers : List ℕ) (l : Line) (a b : Bool) (xs ys : List Line) → beside numbers l ≡ (if b then (place_of l.port numbers, Ask l) ∷ [] else []) → flat_map (beside numbers) xs ≡ map (λ l. (place_of l.port numbers, Ask l)) ys
     → flat_map (beside numbers) (if a then l ∷ xs else xs) ≡ map (λ l. (place_of l.port numbers, Ask l)) (if a && b then l ∷ ys else ys)
@@ -134,7 +134,7 @@ packet_more first (suc i) (p ∷ ps) r at =
     let here : suc first + i ≡ first + suc i = omega arith in
     ap (λ w. (first, p) ∷ w) (packet_more (suc first) i ps r at ∙ ap (λ n. numbered (suc first) (take i ps) ++ (n, r) ∷ []) here)
 
-packets_more : {A : Type 0} (f : ℕ × Record → List A) (first i : ℕ) (packets : List Record) (r : Record) → slice_get packets i ≡ Some r → flat_map f (numbered first (take (i + 1) packets)) ≡ flat_map f (numbered first (take i packets)) ++ f (first + i, r)
+pub packets_more : {A : Type 0} (f : ℕ × Record → List A) (first i : ℕ) (packets : List Record) (r : Record) → slice_get packets i ≡ Some r → flat_map f (numbered first (take (i + 1) packets)) ≡ flat_map f (numbered first (take i packets)) ++ f (first + i, r)
 packets_more f first i packets r at =
     ap (λ n. flat_map f (numbered first (take n packets))) (next i)
     ∙ (ap (flat_map f) (packet_more first i packets r at)

@@ -4,6 +4,7 @@ pub mod Lanes
 pub mod Private
 pub mod Rows
 pub mod Deal
+pub mod Picks
 pub mod Work
 pub use Rattle.vsw_many.specs.Actors as ManyActors
 pub use Rattle.vsw_many.specs.Passes

@@ -1,6 +1,6 @@
 //! An actor of a round: what it has to do, over all ports, and how far it is.
 
-ghost use Rattle.std.specs.Prelude.{◌≡◌, ◌<◌, ◌≤◌, ◌+◌, ◌-◌, ◌++◌, ℕ, List, [], length};
+ghost use Rattle.std.specs.Prelude.{◌≡◌, ◌<◌, ◌≤◌, ◌+◌, ◌-◌, ◌++◌, ℕ, List, [], drop, length, take};
 ghost use Rattle.vsw_many.specs.Phases.{Track};
 ghost use Rattle.vsw_actors.specs.Lanes.{AreFit, AreTold, IsOwn, IsTaken, fronts_of};
 ghost use Rattle.vsw_actors.specs.Actors.{AreAlike, AreMine, Begins, DoesAll, HasDone, IsRoomy};
@@ -87,12 +87,45 @@ impl<'a, J, P: Port<J>> Actor<'a, J, P> {
         }
     }
 
-    /// Its lanes at the end of a round, and its jobs, whose rooms serve again.
+    /// Goes on with a round in which the first `next` jobs are done.
+    pub fn resume(
+        number: u64,
+        ports: &'a [P],
+        lanes: Vec<Lane<P::Station>>,
+        jobs: Vec<Placed<J>>,
+        next: usize,
+        parcel: P::Parcel,
+    ) -> Actor<'a, J, P>
+        requires ports { (length ports.now ≡ length lanes.items) × (length ports.now < 65536) }
+        requires few { length jobs.items < 4294967296 }
+        requires next { next ≤ length jobs.items }
+        requires fit { AreFit P.pass_in P.is_of P.permits number (length (drop next jobs.items)) ports.now lanes.items }
+        requires mine { AreMine P.port_in P.job_in P.takes number ports.now (drop next jobs.items) }
+        requires done { HasDone P.port_in P.locals P.pass_in P.job_in P.tells number ports.now (fronts_of P.pass_in lanes.items) lanes.items (take next jobs.items) }
+        requires alike { AreAlike P.locals ports.now }
+        requires roomy { IsRoomy P.fits ports.now parcel }
+        ensures { result ≡ (record { number = number; ports = ports.now; histories = fronts_of P.pass_in lanes.items }, take next jobs.items, drop next jobs.items) }
+    {
+        Actor {
+            number,
+            ports,
+            lanes,
+            jobs,
+            next,
+            parcel,
+        }
+    }
+
+    /// Its lanes at the end of a round, or of a part of it, and its jobs, whose rooms serve again.
     pub fn end(self) -> (Vec<Lane<P::Station>>, Vec<Placed<J>>)
     where
         P::Parcel: Drop,
         ensures fit { AreFit P.pass_in P.is_of P.permits self.entry.0.number (length self.entry.2) self.entry.0.ports result.0.items }
         ensures done { HasDone P.port_in P.locals P.pass_in P.job_in P.tells self.entry.0.number self.entry.0.ports self.entry.0.histories result.0.items self.entry.1 }
+        ensures ports { (length self.entry.0.ports ≡ length result.0.items) × (length self.entry.0.ports < 65536) }
+        ensures fronts { fronts_of P.pass_in result.0.items ≡ self.entry.0.histories }
+        ensures mine { AreMine P.port_in P.job_in P.takes self.entry.0.number self.entry.0.ports self.entry.2 }
+        ensures few { length result.1.items < 4294967296 }
         ensures jobs { result.1.items ≡ self.entry.1 ++ self.entry.2 }
     {
         let Actor { lanes, jobs, .. } = self;

@@ -3,7 +3,7 @@
 ghost use Rattle.std.specs.Prelude.{◌≡◌, ◌≤◌, ◌<◌, ◌%◌, [], IfOk, length};
 ghost use Rattle.vsw_header.specs.FlowSum.{flow_sum_of};
 ghost use Rattle.vsw_promise.specs.Jobs.{aim_of, loose_after, placed_packet};
-ghost use Rattle.vsw_actors.specs.Private.Aims.{IsCarried, captured_of, loose_in, placed_in};
+ghost use Rattle.vsw_actors.specs.Private.Aims.{IsBrought, IsCarried, captured_of, loose_in, placed_in};
 
 use crate::work::Packet;
 use vsw_base::{Mac, Stack};
@@ -38,6 +38,7 @@ pub(crate) fn aim<'a>(
     ensures placed { placed_in result ≡ placed_packet workers number captured.now.moment [] (aim_of macs.now (captured_of captured.now)) }
     ensures loose { loose_in number result ≡ loose_after number (aim_of macs.now (captured_of captured.now)) }
     ensures fit { IfOk result (λ packet. IsCarried (length macs.now) packet) }
+    ensures brought { IfOk result (IsBrought workers number captured.now) }
 {
     if captured.bytes.len() < captured.original as usize {
         return Err(LooseCause::Snapped);

@@ -42,7 +42,10 @@ fn no_jobs<'a>(alloc: Global, callers: usize) -> Result<Vec<Vec<Placed<Work<'a>>
 }
 
 /// Puts a packet at the end of a share.
-fn put_packet<'a>(share: &mut Vec<Placed<Work<'a>>>, packet: &Packet<'a>) -> Result<(), NoMemory>
+pub(crate) fn put_packet<'a>(
+    share: &mut Vec<Placed<Work<'a>>>,
+    packet: &Packet<'a>,
+) -> Result<(), NoMemory>
     ensures { OnOk result (share.new.items ≡ share.old.items ++ packet_job packet.now ∷ []) }
 {
     let place = packet.place.port as usize;
@@ -152,7 +155,7 @@ fn deal_lines<'a>(
 }
 
 /// Puts a loose packet at the end of those that are told.
-fn tell(loose: &mut Vec<Loose>, packet: Loose) -> Result<(), NoMemory>
+pub(crate) fn tell(loose: &mut Vec<Loose>, packet: Loose) -> Result<(), NoMemory>
     ensures { OnOk result (loose.new.items ≡ loose.old.items ++ packet ∷ []) }
 {
     match loose.push(packet) {

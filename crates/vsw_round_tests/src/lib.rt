@@ -12,6 +12,8 @@ mod line_tests;
 #[cfg(test)]
 mod order_tests;
 #[cfg(test)]
+mod pick_tests;
+#[cfg(test)]
 mod ports_samples;
 #[cfg(test)]
 mod ports_tests;

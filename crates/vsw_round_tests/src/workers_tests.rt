@@ -5,7 +5,7 @@ ghost use Rattle.std.specs.Prelude.{take, drop, ◌≤◌};
 use std::alloc::Global;
 use std::sync::Wait;
 use std::sync::atomic::{AtomicU64, Ordering};
-use vsw_workers::{Forwarder, Gate, run_round};
+use vsw_workers::{Forwarder, Gate, do_some, run_round};
 
 /// How often an actor looks for the other one before it gives up.
 const TURNS: u32 = 100_000_000;
@@ -166,6 +166,23 @@ fn each_job_is_told_by_its_actors_place_and_its_number(rt: HostRuntime) {
     assert_eq!(rt; written, [123, 0, 23]);
     assert_eq!(rt; read(&watch.entered), [3, 0, 2]);
     assert_eq!(rt; read(&watch.left), [3, 0, 2]);
+    assert_eq!(rt; watch.wrong.load(Ordering::SeqCst), 0);
+}
+
+#[test]
+fn jobs_done_a_part_at_a_time_are_told_by_the_numbers_given(rt: HostRuntime) {
+    let watch = Watch {
+        entered: words(),
+        left: words(),
+        wrong: AtomicU64::new(0),
+    };
+    let mut clerk = new_clerk(9, 0);
+    do_some(&rt, rt.alloc(), 2, 0, 2, &mut clerk, &watch);
+    assert_eq!(rt; clerk.written, 12);
+    assert_eq!(rt; read(&watch.left), [0, 0, 2]);
+    do_some(&rt, rt.alloc(), 2, 2, 5, &mut clerk, &watch);
+    assert_eq!(rt; clerk.written, 123);
+    assert_eq!(rt; read(&watch.left), [0, 0, 3]);
     assert_eq!(rt; watch.wrong.load(Ordering::SeqCst), 0);
 }
 

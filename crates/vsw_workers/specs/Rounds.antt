@@ -1,5 +1,5 @@
 -- Rounds of actors: what one job does, and what a whole round has done.
-use Rattle.std.specs.Prelude.{◌≡◌, List, [], ◌∷◌, ◌++◌}
+use Rattle.std.specs.Prelude.{◌≡◌, ℕ, List, [], ◌∷◌, ◌++◌, take, drop}
 
 -- an actor A is told by three views: what it is, the jobs that it has done and those that are left to do
 module _ {A W J : Type 0} (what : A → W) (done todo : A → List J) where
@@ -14,6 +14,10 @@ module _ {A W J : Type 0} (what : A → W) (done todo : A → List J) where
   -- some jobs later: done and left are together the same jobs in the same order
   abbrev pub GoesOn : A → A → Type 0
   GoesOn before after = (what after ≡ what before) × (done after ++ todo after ≡ done before ++ todo before)
+
+  -- the first jobs that were left, at most so many, are done in their order, and no other; the actor is what it was
+  abbrev pub DoesSome : ℕ → A → A → Type 0
+  DoesSome most before after = (what after ≡ what before) × (done after ≡ done before ++ take most (todo before)) × (todo after ≡ drop most (todo before))
 
   -- a round later: each job that was left is done, once and in order, and the actor is what it was
   abbrev pub Finishes : A → A → Type 0

@@ -5,4 +5,4 @@ mod actor;
 mod round;
 
 pub use actor::{Forwarder, Gate};
-pub use round::{run_in_turn, run_round};
+pub use round::{do_some, run_in_turn, run_round};

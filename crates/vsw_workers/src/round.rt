@@ -1,7 +1,7 @@
 //! One round: all jobs of all actors, each actor in a thread of its own or one after the other.
 
 ghost use Rattle.std.specs.Prelude.{◌≡◌, ℕ, List, ◌<◌, length, slice_index_or};
-ghost use Rattle.vsw_workers.specs.Rounds.{Finishes, AllFinish};
+ghost use Rattle.vsw_workers.specs.Rounds.{AllFinish, DoesSome, Finishes};
 
 use crate::{Forwarder, Gate};
 use std::alloc::Global;
@@ -84,6 +84,29 @@ fn run_actor<R: Wait, F: Forwarder, G: Gate>(
 {
     let number = (place % 0x1_0000_0000) as u32;
     for job in 0..actor.left() {
+        gate.enter(number, job);
+        actor.job(rt, alloc);
+        gate.leave(number, job);
+    }
+}
+
+/// Does the next jobs of an actor: `most` of them, or all that are left. The gate is told `number` for the actor, and for the jobs
+/// the numbers from `from` on, modulo 2^32.
+pub fn do_some<R: Wait, F: Forwarder, G: Gate>(
+    rt: &R,
+    alloc: Global,
+    number: u32,
+    from: u32,
+    most: u32,
+    actor: &mut F,
+    gate: &G,
+)
+    ensures { DoesSome F.what F.done F.todo most actor.old actor.new }
+{
+    let left = actor.left();
+    let count = if left < most { left } else { most };
+    for place in 0..count {
+        let job = from.wrapping_add(place);
         gate.enter(number, job);
         actor.job(rt, alloc);
         gate.leave(number, job);

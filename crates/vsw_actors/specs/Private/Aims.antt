@@ -42,6 +42,13 @@ line_job place l = record { place = place; job = work.Line l }
 abbrev pub IsCarried : ℕ → Packet → Type 0
 IsCarried ports p = (p.worker < 16) × (p.place.port < ports) × (parts : Parts) × (frame_of p.bytes.now ≡ Ok parts)
 
+-- one of so many workers brings what was captured, as packet n
+pub record IsBrought (workers n : ℕ) (c : Captured) (p : Packet) : Type 0 where
+  pub worker : p.worker < workers
+  pub number : p.number ≡ n
+  pub moment : p.micros ≡ c.moment
+  pub bytes : p.bytes.now ≡ c.bytes.now
+
 -- the job that a command is, if it runs beside the packets
 abbrev pub beside : List ℕ → Line → List Placed
 beside numbers l = if l.during then (place_of l.port numbers, Ask l) ∷ [] else []

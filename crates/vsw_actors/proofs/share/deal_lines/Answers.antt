@@ -4,7 +4,7 @@ use Rattle.vsw_policy.specs.Obey.{rules_given}
 use Rattle.vsw_policy.specs.Sound.{Each, IsGoodRule, is_listed}
 use Rattle.vsw_promise.specs.Schedule.{commands_at}
 use Rattle.vsw_actors.specs.Deal.{shared}
-use Rattle.vsw_actors.proofs.Steps.{line_each, line_within, lines_all, lines_next, read_there}
+use Rattle.vsw_actors.proofs.Steps.{each_there, line_within, lines_all, lines_next, read_there}
 use Rattle.vsw_actors.proofs.share.deal_lines.Goals as goal
 
 pub line-line-requires : goal.line-line-requires
@@ -27,13 +27,13 @@ loop-place-preserved c =
     }
 
 pub deal_line-requires-clause-port : goal.deal_line-requires-clause-port
-deal_line-requires-clause-port c = line_each (λ (l : Line). is_listed c.args.numbers.now l.port ≡ true) c.args.schedule.now _ c.line-line.result.now c.line-line.ensures c.requires.ports
+deal_line-requires-clause-port c = each_there (λ (l : Line). is_listed c.args.numbers.now l.port ≡ true) c.args.schedule.now _ c.line-line.result.now c.line-line.ensures c.requires.ports
 
 pub deal_line-requires-clause-controller : goal.deal_line-requires-clause-controller
-deal_line-requires-clause-controller c = line_each (λ (l : Line). is_listed c.args.controllers.now l.controller ≡ true) c.args.schedule.now _ c.line-line.result.now c.line-line.ensures c.requires.controllers
+deal_line-requires-clause-controller c = each_there (λ (l : Line). is_listed c.args.controllers.now l.controller ≡ true) c.args.schedule.now _ c.line-line.result.now c.line-line.ensures c.requires.controllers
 
 pub deal_line-requires-clause-rules : goal.deal_line-requires-clause-rules
-deal_line-requires-clause-rules c = line_each (λ (l : Line). Each IsGoodRule (rules_given l.command)) c.args.schedule.now _ c.line-line.result.now c.line-line.ensures c.requires.rules
+deal_line-requires-clause-rules c = each_there (λ (l : Line). Each IsGoodRule (rules_given l.command)) c.args.schedule.now _ c.line-line.result.now c.line-line.ensures c.requires.rules
 
 pub returns-clause-dealt : goal.returns-clause-dealt
 returns-clause-dealt c =

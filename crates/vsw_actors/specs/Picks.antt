@@ -1,0 +1,52 @@
+-- Packets of a batch, told by their places in it, and what workers carry of them.
+use Rattle.std.specs.Prelude.{◌≡◌, ◌≤◌, ◌<◌, ◌+◌, ℕ, suc, List, [], ◌∷◌, length, map, Option, Some, None, Ok, Vec}
+use Rattle.std.specs.List.{slice_get}
+use Rattle.vsw_base.specs.declared.flow.Place.{Place}
+use Rattle.vsw_base.specs.Frame.{Parts, frame_of}
+use Rattle.vsw_pcap.specs.declared.capture.Record.{Record}
+use Rattle.vsw_policy.specs.Sound.{Each}
+use Rattle.vsw_port.specs.Calls.{Carry, Job}
+use Rattle.vsw_port.specs.Order.{counted}
+use Rattle.vsw_promise.specs.Jobs.{crossing_by}
+use Rattle.vsw_promise.specs.Jobs as jobs
+use Rattle.vsw_actors.specs.Work.{parts_in}
+use Rattle.vsw_actors.specs.declared.pick.Pick.{Pick}
+
+-- packet n, this record, as this worker carries it to a place. Where there is no record, a packet of no bytes
+abbrev pub carried_by : ℕ → ℕ → Place → Option Record → Job
+carried_by worker n place None = Carry (crossing_by worker n place 0 (parts_in [])) (parts_in [])
+carried_by worker n place (Some r) = Carry (crossing_by worker n place r.moment (parts_in r.bytes)) (parts_in r.bytes)
+
+-- the job that a pick is to this worker, where the first packet of the batch has the number `first`
+abbrev pub picked_job : ℕ → ℕ → List Record → Pick → jobs.Placed
+picked_job worker first packets p = (p.place.port, carried_by worker (first + p.at) p.place (slice_get packets p.at))
+
+-- the jobs that these picks are to this worker
+abbrev pub picked_jobs : ℕ → ℕ → List Record → List Pick → List jobs.Placed
+picked_jobs worker first packets ps = map (picked_job worker first packets) ps
+
+-- the jobs of each worker's picks, from worker k on
+abbrev pub picked : {G : Type 0} → ℕ → ℕ → List Record → List (Vec Pick G) → List (List jobs.Placed)
+picked k first packets [] = []
+picked k first packets (v ∷ vs) = picked_jobs k first packets v.items ∷ picked (suc k) first packets vs
+
+-- what each of these workers is dealt of the jobs, beside these controllers
+abbrev pub dealt_to : ℕ → List ℕ → List jobs.Placed → List (List jobs.Placed)
+dealt_to workers cs js = map (λ k. jobs.deal cs k js) (counted 0 workers)
+
+-- the pick is of a packet of the batch, whose bytes are a frame, and goes to one of so many ports
+pub record IsPick (ports : ℕ) (packets : List Record) (p : Pick) : Type 0 where
+  pub port : p.place.port < ports
+  pub within : p.at < length packets
+  pub captured : Record
+  pub parts : Parts
+  pub there : slice_get packets p.at ≡ Some captured
+  pub frame : frame_of captured.bytes ≡ Ok parts
+
+-- all picks of all workers are such
+abbrev pub ArePicks : {G : Type 0} → ℕ → List Record → List (Vec Pick G) → Type 0
+ArePicks ports packets vs = Each (λ v. Each (IsPick ports packets) v.items) vs
+
+-- no worker has more picks than this
+abbrev pub AtMost : {G : Type 0} → ℕ → List (Vec Pick G) → Type 0
+AtMost n vs = Each (λ v. length v.items ≤ n) vs

@@ -1,4 +1,3 @@
-pub mod Added
 pub mod Answered
 pub mod Asking
 pub mod Lives

@@ -4,4 +4,4 @@ pub mod OnePacket
 pub mod Replies
 pub mod Carrying
 pub mod Refusing
-pub mod Stretching
+pub mod Adding

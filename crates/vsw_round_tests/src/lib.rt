@@ -1,8 +1,11 @@
 //! Reports that were worked out by hand, beside the definitions of vsw_promise, each evaluated where it is proved; tests of ports, of the order
-//! of commands, and of the report's text; of actors, over ports that have memory for no command; and of rings.
+//! of commands, and of the report's text; of actors, over ports that have memory for no command; of rings; and of hands in threads that stay.
 #![tactic(auto)]
 
+mod adding;
 mod carrying;
+#[cfg(test)]
+mod hands_tests;
 #[cfg(test)]
 mod hex_tests;
 #[cfg(test)]
@@ -28,12 +31,9 @@ mod samples;
 #[cfg(test)]
 mod schedule_tests;
 #[cfg(test)]
-mod stretch_tests;
-mod stretching;
-#[cfg(test)]
 mod workers_tests;
 
+pub use adding::{Adding, Counting, Part, Sum};
 pub use carrying::{Load, Packet};
 pub use refusing::{Notes, Refusing};
 pub use samples::{commands, life, packets, replies};
-pub use stretching::{Counting, Note, Stepping, Turn};

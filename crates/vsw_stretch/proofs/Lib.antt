@@ -1,5 +1,0 @@
-mod Brought
-mod Looking
-mod Opened
-mod Steps
-mod Working

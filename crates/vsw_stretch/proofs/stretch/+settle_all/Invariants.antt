@@ -1,5 +1,0 @@
-use Rattle.std.proofs.Common.{length}
-use Rattle.vsw_stretch.proofs.stretch.+settle_all.Given as goal
-
-abbrev pub decreases-settle_all : goal.decreases-settle_all
-decreases-settle_all g l = length l.ends.now

@@ -1,5 +1,6 @@
 pub mod Doing
 pub mod Ending
+pub mod Pieces
 pub mod Hops
 pub mod Lanes
 pub mod Rounds

@@ -5,6 +5,7 @@ pub mod Private
 pub mod Rows
 pub mod Deal
 pub mod Picks
+pub mod Going
 pub mod Work
 pub use Rattle.vsw_many.specs.Actors as ManyActors
 pub use Rattle.vsw_many.specs.Passes

@@ -3,6 +3,7 @@
 
 mod actor;
 mod aim;
+mod going;
 mod hop;
 mod lane;
 mod law;
@@ -18,11 +19,12 @@ mod share;
 mod work;
 
 pub use actor::{Actor, Begun, Placed};
+pub use going::carry_on;
 pub use lane::{Lane, step, step_at};
 pub use law::actor_laws;
 pub use pick::{Pick, deal_picks, jobs_of};
 pub use port::Port;
-pub use reconciler::RowPort;
+pub use reconciler::{RowPort, reconcile_rows};
 pub use round::Lineup;
 pub use rows::run_rows;
 pub use share::deal;

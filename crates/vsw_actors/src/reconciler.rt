@@ -86,6 +86,14 @@ impl<'a, P: RowPort> Reconciler<'a, P> {
     }
 }
 
+/// Reconciles rows of these ports in the round of this number, as many as a round does.
+pub fn reconcile_rows<P: RowPort, R: Wait>(rt: &R, ports: &[P], round: u32) {
+    let mut reconciler = Reconciler::begin(ports, round);
+    for row in 0..reconciler.left() {
+        reconciler.job(rt);
+    }
+}
+
 /// How many rows of these ports are reconciled in a round.
 fn count_jobs<P: RowPort>(ports: &[P]) -> u32 {
     match ports.split_first() {

@@ -71,11 +71,11 @@ are_asked h s lines run same a = subst (Each (λ l. is_listed s.policy.controlle
 
 -- ---- where the ports of a run stand
 
-record IsThere (h : HarbourSeen) (ps : List PortSeen) (ds : List DockSeen) (hs gs : List (List Event)) : Type 0 where
-  like : AreLike ps ds
-  same : gs ≡ hs
+pub record IsThere (h : HarbourSeen) (ps : List PortSeen) (ds : List DockSeen) (hs gs : List (List Event)) : Type 0 where
+  pub like : AreLike ps ds
+  pub same : gs ≡ hs
 
-is_there : (h : HarbourSeen) (workers n : ℕ) (ps : List PortSeen) (ds : List DockSeen) (hs gs : List (List Event)) → AreJournals n (ports_in ds) gs gs → AllStandAt workers ps hs (ports_now h ds gs) → IsThere h ps ds hs gs
+pub is_there : (h : HarbourSeen) (workers n : ℕ) (ps : List PortSeen) (ds : List DockSeen) (hs gs : List (List Event)) → AreJournals n (ports_in ds) gs gs → AllStandAt workers ps hs (ports_now h ds gs) → IsThere h ps ds hs gs
 is_there h workers n [] [] [] [] j a = record { like = tt; same = refl }
 is_there h workers n (p ∷ ps) (d ∷ ds) (k ∷ hs) (g ∷ gs) j a =
     let rest = is_there h workers n ps ds hs gs j.3 a.1 in
@@ -91,7 +91,7 @@ is_there h workers n (p ∷ ps) (d ∷ ds) hs [] j a = absurd j
 is_there h workers n (p ∷ ps) (d ∷ ds) [] (g ∷ gs) j a = absurd a
 
 -- the policy's controllers are those of its first port
-controllers_so : (cs ns : List ℕ) (ps : List PortSeen) (ds : List DockSeen) → 0 < length ds → AreLike ps ds → Each (λ p. p.controllers ≡ cs) ps → Each (λ d. d.live.looking.1.controllers ≡ ns) ds → cs ≡ ns
+pub controllers_so : (cs ns : List ℕ) (ps : List PortSeen) (ds : List DockSeen) → 0 < length ds → AreLike ps ds → Each (λ p. p.controllers ≡ cs) ps → Each (λ d. d.live.looking.1.controllers ≡ ns) ds → cs ≡ ns
 controllers_so cs ns [] [] some a k m = absurd (omega (arith, some))
 controllers_so cs ns (p ∷ ps) (d ∷ ds) some a k m = sym k.0 ∙ (ap (λ o. o.controllers) a.0.opening ∙ m.0)
 controllers_so cs ns [] (d ∷ ds) some a k m = absurd a
@@ -127,7 +127,7 @@ stand_next h workers n [] (d ∷ ds) hs ks (g ∷ gs) j r a = absurd r
 stand_next h workers n (p ∷ ps) [] hs ks [] j r a = absurd r
 stand_next h workers n (p ∷ ps) [] hs ks (g ∷ gs) j r a = absurd j
 
-at_next : (h : HarbourSeen) (s : Setting) (hs ks gs : List (List Event)) → AreJournals (callers h) (ports_in h.docks) gs gs → AreHistories (ports_of s.policy) gs → IsAt s hs (switch_now h ks) → IsAt s gs (switch_now h gs)
+pub at_next : (h : HarbourSeen) (s : Setting) (hs ks gs : List (List Event)) → AreJournals (callers h) (ports_in h.docks) gs gs → AreHistories (ports_of s.policy) gs → IsAt s hs (switch_now h ks) → IsAt s gs (switch_now h gs)
 at_next h s hs ks gs j r a = record { workers = a.workers; some = a.some; few = a.few; locals = a.locals; ports = stand_next h s.workers (callers h) (ports_of s.policy) h.docks hs ks gs j r a.ports; loose = refl }
 
 -- ---- the round

@@ -36,7 +36,7 @@ use Rattle.vsw_crew.proofs.Quiet.{same_first}
 
 -- ---- a row begins
 
-fronts_are : (k : ℕ) (ds : List DockSeen) (hs : List (List Event)) (row : List (Lane StationSeen)) → RowStands k ds hs (no_calls ds) row → fronts_of pass_in row ≡ hs
+pub fronts_are : (k : ℕ) (ds : List DockSeen) (hs : List (List Event)) (row : List (Lane StationSeen)) → RowStands k ds hs (no_calls ds) row → fronts_of pass_in row ≡ hs
 fronts_are k [] [] [] s = refl
 fronts_are k (d ∷ ds) (h ∷ hs) (l ∷ ls) s =
     let front : take l.base l.station.pass.view.front ≡ h = ap (λ f. take l.base f) s.0.rest.front ∙ (ap (λ n. take n h) s.0.base ∙ take_whole h) in
@@ -46,7 +46,7 @@ fronts_are k [] (h ∷ hs) ls s = absurd s
 fronts_are k (d ∷ ds) [] ls s = absurd s
 fronts_are k (d ∷ ds) (h ∷ hs) [] s = absurd s
 
-row_begins : (k : ℕ) (ds : List DockSeen) (hs : List (List Event)) (row : List (Lane StationSeen)) → RowStands k ds hs (no_calls ds) row → Begins port_in pass_in tells k ds row
+pub row_begins : (k : ℕ) (ds : List DockSeen) (hs : List (List Event)) (row : List (Lane StationSeen)) → RowStands k ds hs (no_calls ds) row → Begins port_in pass_in tells k ds row
 row_begins k [] [] [] s = tt
 row_begins k (d ∷ ds) (h ∷ hs) (l ∷ ls) s =
     let front : l.station.pass.view.front ≡ h = s.0.rest.front in
@@ -56,7 +56,7 @@ row_begins k [] (h ∷ hs) ls s = absurd s
 row_begins k (d ∷ ds) [] ls s = absurd s
 row_begins k (d ∷ ds) (h ∷ hs) [] s = absurd s
 
-as_long : (k : ℕ) (ds : List DockSeen) (hs : List (List Event)) (row : List (Lane StationSeen)) → RowStands k ds hs (no_calls ds) row → length ds ≡ length row
+pub as_long : (k : ℕ) (ds : List DockSeen) (hs : List (List Event)) (row : List (Lane StationSeen)) → RowStands k ds hs (no_calls ds) row → length ds ≡ length row
 as_long k [] [] [] s = refl
 as_long k (d ∷ ds) (h ∷ hs) (l ∷ ls) s = ap suc (as_long k ds hs ls s.1)
 as_long k [] [] (l ∷ ls) s = absurd s
@@ -82,7 +82,7 @@ mine h numbers macs listed asks k (a ∷ as_) i o w = (
 
 -- ---- a row that has done its share
 
-worked_lanes : (k : ℕ) (ds : List DockSeen) (ts : List Track) (ls : List (Lane StationSeen)) → AreTold port_in pass_in tells ds ls ts → AreFit pass_in is_of permits k 0 ds ls → AreWorking k ds (no_calls ds) ts ls
+pub worked_lanes : (k : ℕ) (ds : List DockSeen) (ts : List Track) (ls : List (Lane StationSeen)) → AreTold port_in pass_in tells ds ls ts → AreFit pass_in is_of permits k 0 ds ls → AreWorking k ds (no_calls ds) ts ls
 worked_lanes k [] [] [] a f = tt
 worked_lanes k (d ∷ ds) (t ∷ ts) (l ∷ ls) a f = (record { of = f.0.station; now = a.0.now; tells_all = a.0.calls }, worked_lanes k ds ts ls a.1 f.1)
 worked_lanes k [] [] (l ∷ ls) a f = absurd f

@@ -53,13 +53,13 @@ lines_are workers place (p ∷ ps) jobs (h ∷ hs) (m ∷ ms) [] rows t = absurd
 
 -- ---- the same jobs
 
-numbers_are : (h : HarbourSeen) (s : Setting) → IsOfRun h s → numbers_in h ≡ numbers_of s.policy
+pub numbers_are : (h : HarbourSeen) (s : Setting) → IsOfRun h s → numbers_in h ≡ numbers_of s.policy
 numbers_are h s run = sym (numbers_like (ports_of s.policy) h.docks run.ports)
 
 pub macs_are : (h : HarbourSeen) (s : Setting) → IsOfRun h s → macs_in h ≡ macs_of s.policy
 macs_are h s run = sym (macs_like (ports_of s.policy) h.docks run.ports)
 
-jobs_are : (h : HarbourSeen) (s : Setting) (lines : List Line) (first : ℕ) (packets : List Record) → IsOfRun h s → s.commands ≡ lines → jobs_here h lines first packets ≡ placed_lines (numbers_of s.policy) s.commands first ++ own_jobs s first packets
+pub jobs_are : (h : HarbourSeen) (s : Setting) (lines : List Line) (first : ℕ) (packets : List Record) → IsOfRun h s → s.commands ≡ lines → jobs_here h lines first packets ≡ placed_lines (numbers_of s.policy) s.commands first ++ own_jobs s first packets
 jobs_are h s lines first packets run same =
     ap₂ (λ x y. x ++ y) (ap₂ (λ ns ls. placed_lines ns ls first) (numbers_are h s run) (sym same)) (ap₂ (λ n ms. placed_packets n false ms [] (numbered first packets)) (sym run.workers) (macs_are h s run))
 
@@ -110,7 +110,7 @@ crew_did h s hs first packets jobs firsts begun rows run served apart same b d =
       texts_are = lines_are s.workers 0 ps before hs d.quiet.histories b.calls d.did.rows done;
     }
 
-worked : (h : HarbourSeen) (s : Setting) (hs : List (List Event)) (first : ℕ) (packets : List Record) (jobs : List Placed) (befores : List ℕ) (firsts : List (List (List TextLine))) (loose : List Loose) (begun rows : List (List (Lane StationSeen))) → IsOfRun h s → AreServed s → are_distinct (numbers_of s.policy) ≡ true
+pub worked : (h : HarbourSeen) (s : Setting) (hs : List (List Event)) (first : ℕ) (packets : List Record) (jobs : List Placed) (befores : List ℕ) (firsts : List (List (List TextLine))) (loose : List Loose) (begun rows : List (List (Lane StationSeen))) → IsOfRun h s → AreServed s → are_distinct (numbers_of s.policy) ≡ true
     → jobs ≡ placed_lines (numbers_of s.policy) s.commands first ++ own_jobs s first packets → befores ≡ map length hs → loose ≡ loose_among (macs_of s.policy) (numbered first packets) → (b : HasBegun h s hs first firsts begun) → DidBeside h b.middles jobs rows → HasWorked h s hs first packets befores firsts loose rows
 unfolding crew_did
 worked h s hs first packets jobs befores firsts loose begun rows run served apart same counts told b d =

@@ -13,5 +13,12 @@ mod Joining
 mod Gone
 mod Told
 mod Between
+mod Carrying
+mod Sharing
+mod Giving
+mod Picking
+mod Owing
+mod Returning
+mod Shifts
 pub use Rattle.vsw_switch.proofs.Totals
 pub use Rattle.vsw_switch.proofs.Running

@@ -125,7 +125,7 @@ many_rows h rows e = omega (arith, as_many rows, e)
 
 -- ---- rows behind a reference
 
-back : {A : Type 0} (n : ℕ) (xs new : List A) → n ≡ length xs → length new ≡ length xs → take n (new ++ drop (length new) xs) ≡ new
+pub back : {A : Type 0} (n : ℕ) (xs new : List A) → n ≡ length xs → length new ≡ length xs → take n (new ++ drop (length new) xs) ≡ new
 back zero [] [] e f = refl
 back (suc n) [] [] e f = refl
 back zero (x ∷ xs) (y ∷ new) e f = absurd (omega (arith, e))

@@ -110,14 +110,14 @@ is_rising h s hs first packets befores afters lines firsts loose rows t =
 -- ---- the text
 
 -- what is to be known of the lines, so that their text is the round's
-record IsText (h : HarbourSeen) (numbers : List ℕ) (s : Setting) (hs : List (List Event)) (first : ℕ) (packets : List Record) (befores afters listed : List ℕ) (lines firsts : List (List (List TextLine))) (gs : List (List Event)) (texts : List (List (List TextLine))) : Type 0 where
-  numbers_are : map (λ p. p.number) (ports_of s.policy) ≡ numbers
-  before : map length hs ≡ befores
-  after : map length gs ≡ afters
-  same : texts_by_port h.workers h.controllers listed lines firsts (length numbers) ≡ texts
-  tells : CrewTells s first packets hs gs texts
+pub record IsText (h : HarbourSeen) (numbers : List ℕ) (s : Setting) (hs : List (List Event)) (first : ℕ) (packets : List Record) (befores afters listed : List ℕ) (lines firsts : List (List (List TextLine))) (gs : List (List Event)) (texts : List (List (List TextLine))) : Type 0 where
+  pub numbers_are : map (λ p. p.number) (ports_of s.policy) ≡ numbers
+  pub before : map length hs ≡ befores
+  pub after : map length gs ≡ afters
+  pub same : texts_by_port h.workers h.controllers listed lines firsts (length numbers) ≡ texts
+  pub tells : CrewTells s first packets hs gs texts
 
-is_text : (h : HarbourSeen) (numbers macs listed asks : List ℕ) (s : Setting) (hs : List (List Event)) (first : ℕ) (packets : List Record) (befores afters : List ℕ) (lines firsts : List (List (List TextLine))) (loose : List Loose) (rows : List (List (Lane StationSeen))) → IsHarbour h numbers macs listed asks → Each IsWhole rows
+pub is_text : (h : HarbourSeen) (numbers macs listed asks : List ℕ) (s : Setting) (hs : List (List Event)) (first : ℕ) (packets : List Record) (befores afters : List ℕ) (lines firsts : List (List (List TextLine))) (loose : List Loose) (rows : List (List (Lane StationSeen))) → IsHarbour h numbers macs listed asks → Each IsWhole rows
     → AreAsked s → (t : IsTaken h s hs first packets befores afters lines firsts loose rows) → IsText h numbers s hs first packets befores afters listed lines firsts t.done.histories t.done.texts
 is_text h numbers macs listed asks s hs first packets befores afters lines firsts loose rows i whole asked t =
     let w = t.done in

@@ -2,6 +2,8 @@ pub mod Texts
 pub mod Private
 pub mod Crew
 pub mod Told
+pub mod Shares
+pub mod Shift
 pub use Rattle.vsw_switch.specs.Round
 pub use Rattle.vsw_switch.specs.Close
 pub use Rattle.vsw_switch.specs.Switch

@@ -3,3 +3,6 @@ pub mod Ports
 pub mod Rows
 pub mod Round
 pub mod Telling
+pub mod Carrying
+pub mod Shifting
+pub mod Owing

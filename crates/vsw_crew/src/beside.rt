@@ -73,7 +73,7 @@ fn meet_for<'g, 'w, J: Naming, G, R: Wait>(
 }
 
 /// All callers meet the ports, and may then ask commands before the packets of the next round.
-fn meet_after<'g, J: Naming, G, R: Wait>(
+pub(crate) fn meet_after<'g, J: Naming, G, R: Wait>(
     rt: &R,
     harbour: &Harbour<'g, J, G>,
     rows: &mut Vec<Vec<Lane<Station>>>,

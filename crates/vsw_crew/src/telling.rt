@@ -20,7 +20,7 @@ use vsw_harbour::{Harbour, Lane, Naming, Station};
 use vsw_report::Loose;
 
 /// Appends the text of a round, out of the lines of all callers and the controllers' of the commands before the packets.
-fn say<'g, J: Naming, G>(
+pub(crate) fn say<'g, J: Naming, G>(
     harbour: &Harbour<'g, J, G>,
     first: u32,
     befores: &[u32],

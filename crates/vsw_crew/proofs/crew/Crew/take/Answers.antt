@@ -1,0 +1,36 @@
+use Rattle.std.proofs.Common.{ap, subst, sym, ◌∙◌}
+use Rattle.vsw_harbour.specs.HarbourOpening.{rows_in}
+use Rattle.vsw_harbour.specs.Harbour.{HarbourSeen}
+use Rattle.vsw_harbour.proofs.Gathering.{harbour_is}
+use Rattle.vsw_policy.specs.Sound.{Each}
+use Rattle.vsw_crew.specs.Crew.{seen_by}
+use Rattle.vsw_crew.specs.Private.Rows.{AreGone}
+use Rattle.vsw_crew.proofs.Shifts.{began, may_owe, owes_some, rows_left, served_on, tells_owed}
+use Rattle.vsw_crew.proofs.crew.Crew.take.Goals as goal
+
+pub returns-in_err-worked-clause-served : goal.returns-in_err-worked-clause-served
+returns-in_err-worked-clause-served g c = λ gs lines a. served_on c.self.inside.harbour.now c.args.self.now _ _ c.self.view_is gs lines a
+
+pub owe-requires-clause-worked : goal.owe-requires-clause-worked
+owe-requires-clause-worked g c = may_owe c.self.inside.harbour.now c.args.underway c.args.pool.now c.in_ok-worked.worked (began c.self.inside.harbour.now c.args.self.now _ c.args.underway c.args.pool.now c.self.view_is c.requires.out) c.in_ok-worked.ensures.worked
+
+pub returns-in_err-owed-clause-served : goal.returns-in_err-owed-clause-served
+returns-in_err-owed-clause-served g c = λ gs lines a. served_on c.self.inside.harbour.now c.args.self.now _ _ c.self.view_is gs lines a
+
+pub invariant_of-self : goal.invariant_of-self
+invariant_of-self g c = (c.self.invariant.0, subst (Each AreGone) (sym (ap (λ v. v.items) c.replace-rooms.ensures.after ∙ c.new.ensures.items)) tt)
+
+pub invariant_of-self-2 : goal.invariant_of-self-2
+invariant_of-self-2 g c = (rows_left c.self.inside.harbour.now c.args.underway c.args.pool.now c.in_ok-worked.worked c.in_ok-owed.owed (rows_in c.in_ok-owed.rows.items) (began c.self.inside.harbour.now c.args.self.now _ c.args.underway c.args.pool.now c.self.view_is c.requires.out) c.in_ok-worked.ensures.worked c.in_ok-owed.ensures.owed, subst (Each AreGone) (sym (ap (λ v. v.items) c.replace-rooms.ensures.after ∙ c.new.ensures.items)) tt)
+
+pub returns-clause-tells : goal.returns-clause-tells
+returns-clause-tells g c =
+    let h : HarbourSeen = c.self.inside.harbour.now in
+    tells_owed h _ _ _ _ c.args.self.now _ c.args.underway c.args.pool.now c.in_ok-worked.worked c.in_ok-owed.owed (rows_in c.in_ok-owed.rows.items) (harbour_is _ h _ _ _ _ c.harbour.view_is c.harbour.invariant) c.self.view_is c.in_ok-worked.ensures.worked c.in_ok-owed.ensures.owed
+
+pub returns-clause-owes : goal.returns-clause-owes
+returns-clause-owes g c =
+    owes_some c.self.inside.harbour.now c.args.self.now _ c.args.underway c.args.pool.now c.in_ok-worked.worked c.in_ok-owed.owed (rows_in c.in_ok-owed.rows.items) c.self.view_is (began c.self.inside.harbour.now c.args.self.now _ c.args.underway c.args.pool.now c.self.view_is c.requires.out) c.in_ok-worked.ensures.worked c.in_ok-owed.ensures.owed
+
+pub returns-clause-served : goal.returns-clause-served
+returns-clause-served g c = λ gs lines a. served_on c.self.inside.harbour.now c.args.self.now _ _ c.self.view_is gs lines a

@@ -1,12 +1,12 @@
 -- A piece of a share is carried.
-use Rattle.std.proofs.Common.{◌≡◌, ◌≤◌, ◌<◌, ℕ, zero, suc, ◌+◌, List, [], ◌∷◌, ◌++◌, length, map, take, drop, refl, ap, ap₂, sym, ◌∙◌, subst, arith, Option, Some, None}
+use Rattle.std.proofs.Common.{◌≡◌, ◌≤◌, ◌<◌, ℕ, zero, suc, ◌+◌, List, [], ◌∷◌, length, map, take, drop, refl, ap, ap₂, sym, ◌∙◌, subst, arith, Option, Some, None}
 use Rattle.vsw_actors.specs.Picks.{IsPick, carried_by, picked_job, picked_jobs}
 use Rattle.vsw_actors.specs.Going.{IsHalfway}
 use Rattle.vsw_actors.specs.declared.pick.Pick.{Pick}
 use Rattle.vsw_base.specs.declared.flow.Place.{Place}
 use Rattle.vsw_harbour.specs.Placed.{Placed}
 use Rattle.vsw_harbour.specs.Lane.{Lane}
-use Rattle.vsw_harbour.specs.Actors.{AreAlike, AreMine, AtWorkOn, HasDone, locals_at, placed_of}
+use Rattle.vsw_harbour.specs.Actors.{AreMine, AtWorkOn, HasDone, locals_at, placed_of}
 use Rattle.vsw_harbour.specs.Lanes.{AreFit, AreTold, IsOwn, IsTaken, fronts_of}
 use Rattle.vsw_harbour.specs.Work.{IsPlaced, IsWork, MayDo, job_in}
 use Rattle.vsw_harbour.specs.DealWork.{Work}

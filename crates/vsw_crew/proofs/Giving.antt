@@ -10,7 +10,7 @@ use Rattle.vsw_harbour.specs.Lanes.{AreFit, fronts_of}
 use Rattle.vsw_harbour.specs.Docks.{is_of, locals, pass_in, permits, port_in, tells}
 use Rattle.vsw_harbour.specs.HarbourOpening.{rows_in}
 use Rattle.vsw_harbour.specs.Seen.{DockSeen, StationSeen}
-use Rattle.vsw_harbour.specs.Harbour.{HarbourSeen, IsHarbour, IsOfRun, MayAsk, callers, ports_in}
+use Rattle.vsw_harbour.specs.Harbour.{HarbourSeen, IsHarbour, IsOfRun, MayAsk, callers}
 use Rattle.vsw_harbour.specs.Meeting.{AllMeet}
 use Rattle.vsw_harbour.specs.Standing.{RowsMay, RowsStand, no_calls}
 use Rattle.vsw_harbour.specs.Steps.{Did}
@@ -24,8 +24,8 @@ use Rattle.vsw_policy.specs.Sound.{Each}
 use Rattle.vsw_promise.specs.Jobs.{Placed, deal, placed_packets}
 use Rattle.vsw_crew.specs.Private.Round.{HasBegun, jobs_here, macs_in}
 use Rattle.vsw_crew.specs.Private.Shifting.{AreShares, needs_of, picks_many, shares_of}
-use Rattle.vsw_crew.specs.Shares.{IsShare, RowCarried, ShareSeen, jobs_in, share_of}
-use Rattle.vsw_crew.specs.Shift.{AreOutAt, HasNoneBeside, IsOut, IsOutAt, IsPicked}
+use Rattle.vsw_crew.specs.Shares.{IsShare, RowCarried, ShareSeen, share_of}
+use Rattle.vsw_crew.specs.Shift.{AreOutAt, HasNoneBeside, IsOut, IsPicked}
 use Rattle.vsw_crew.proofs.Doing.{as_long, fronts_are, row_begins}
 use Rattle.vsw_crew.proofs.Meets.{all_met, back, only_met}
 use Rattle.vsw_crew.proofs.Quiet.{same_first}

@@ -1,12 +1,11 @@
 -- A round that was done is to be told.
-use Rattle.std.proofs.Common.{◌≡◌, ◌≤◌, ◌<◌, ◌⊎◌, ℕ, suc, ◌+◌, Bool, true, List, [], ◌∷◌, ◌++◌, length, map, refl, ap, ap₂, sym, ◌∙◌, subst, arith, inl, inr, Global, Vec}
+use Rattle.std.proofs.Common.{◌≡◌, ℕ, List, length, map, ap, ap₂, sym, ◌∙◌, subst, inl, inr, Global, Vec}
 use Rattle.vsw_harbour.specs.Lane.{Lane}
 use Rattle.vsw_harbour.specs.Crew.{AreCounted, crew_text, is_short_crew}
-use Rattle.vsw_harbour.specs.HarbourOpening.{rows_in}
-use Rattle.vsw_harbour.specs.Seen.{DockSeen, StationSeen}
-use Rattle.vsw_harbour.specs.Harbour.{HarbourSeen, IsHarbour, callers}
+use Rattle.vsw_harbour.specs.Seen.{StationSeen}
+use Rattle.vsw_harbour.specs.Harbour.{HarbourSeen, IsHarbour}
 use Rattle.vsw_harbour.specs.Standing.{IsWhole, RowsStand, no_calls}
-use Rattle.vsw_port.specs.Order.{ascending, numbered}
+use Rattle.vsw_port.specs.Order.{ascending}
 use Rattle.vsw_port.specs.declared.event.Event.{Event}
 use Rattle.vsw_history_law.specs.Law.{AreAsked}
 use Rattle.vsw_report.specs.Line.{TextLine}
@@ -17,11 +16,10 @@ use Rattle.vsw_promise.specs.Jobs.{Setting}
 use Rattle.vsw_report.specs.declared.round.Loose.{Loose}
 use Rattle.vsw_crew.specs.Private.Owing.{GivesRooms, HasOwed}
 use Rattle.vsw_crew.specs.Private.Round.{numbers_in}
-use Rattle.vsw_crew.specs.Private.Rows.{cleared, rested}
-use Rattle.vsw_crew.specs.Private.Telling.{IsCounted, texts_so}
-use Rattle.vsw_crew.specs.declared.caller_lines.Lines.{Lines}
+use Rattle.vsw_crew.specs.Private.Rows.{cleared}
+use Rattle.vsw_crew.specs.Private.Telling.{texts_so}
 use Rattle.vsw_crew.proofs.Taking.{cleared_many, rested_many, rows_cleared, rows_rested}
-use Rattle.vsw_crew.proofs.Told.{IsTaken, IsText, is_rising, is_sized, is_text}
+use Rattle.vsw_crew.proofs.Told.{IsTaken, is_rising, is_sized, is_text}
 
 -- all are ready whether they got rooms or not
 stand_so : (h : HarbourSeen) (gs : List (List Event)) (mid left : List (List (Lane StationSeen))) → RowsStand 0 h.docks gs (no_calls h.docks) mid → GivesRooms mid left → RowsStand 0 h.docks gs (no_calls h.docks) left

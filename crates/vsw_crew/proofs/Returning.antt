@@ -1,11 +1,11 @@
 -- The workers' shares come back.
-use Rattle.std.proofs.Common.{◌≡◌, ◌≤◌, ◌<◌, ℕ, suc, ◌+◌, List, [], ◌∷◌, ◌++◌, length, map, take, drop, refl, ap, sym, ◌∙◌, subst, arith, Global, Vec, true}
+use Rattle.std.proofs.Common.{◌≡◌, ℕ, ◌+◌, List, length, drop, ap, sym, ◌∙◌, subst, arith, Global, Vec, true}
 use Rattle.vsw_hands.specs.Hands.{AllDone}
 use Rattle.vsw_commandfile.specs.declared.line.Line.{Line}
 use Rattle.vsw_harbour.specs.Lane.{Lane}
 use Rattle.vsw_harbour.specs.HarbourOpening.{rows_in}
-use Rattle.vsw_harbour.specs.Seen.{DockSeen, StationSeen}
-use Rattle.vsw_harbour.specs.Harbour.{HarbourSeen, IsHarbour, IsOfRun, MayAsk, asks_of, callers}
+use Rattle.vsw_harbour.specs.Seen.{StationSeen}
+use Rattle.vsw_harbour.specs.Harbour.{HarbourSeen, IsHarbour, IsOfRun, asks_of, callers}
 use Rattle.vsw_harbour.specs.Meeting.{AllMeet, AreLanesAt}
 use Rattle.vsw_harbour.specs.Standing.{RowsStand, no_calls}
 use Rattle.vsw_harbour.specs.Working.{RowsWork}
@@ -25,7 +25,7 @@ use Rattle.vsw_crew.specs.declared.share.Carried.{Carried}
 use Rattle.vsw_crew.specs.declared.underway.Underway.{Underway}
 use Rattle.vsw_crew.proofs.Between.{are_asked}
 use Rattle.vsw_crew.proofs.Joining.{is_with, jobs_are, macs_are, numbers_are, run_with, worked}
-use Rattle.vsw_crew.proofs.Meets.{met_many, rows_back, worked_met}
+use Rattle.vsw_crew.proofs.Meets.{met_many, worked_met}
 use Rattle.vsw_crew.proofs.Sharing.{HaveNone, all_work, put_many}
 
 -- what came back, and where it was put

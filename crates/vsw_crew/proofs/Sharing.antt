@@ -1,24 +1,20 @@
 -- The workers' shares: who has something to do, and what has been done.
-use Rattle.std.proofs.Common.{◌≡◌, ◌≢◌, ◌≤◌, ◌<◌, ℕ, zero, suc, ◌+◌, ◌%◌, ◌==◌, Bool, true, false, List, [], ◌∷◌, ◌++◌, length, map, filter, drop, replicate, refl, ap, ap₂, sym, ◌∙◌, subst, arith, Option, Some, Ok, Err, IfSome, Global, Vec, if◌then◌else◌}
-use Rattle.std.specs.List.{flat_map}
+use Rattle.std.proofs.Common.{◌≡◌, ◌≤◌, ◌<◌, ℕ, suc, ◌+◌, ◌==◌, Bool, true, false, List, [], ◌∷◌, ◌++◌, length, map, drop, refl, ap, sym, ◌∙◌, subst, arith, Some, Ok, Err, IfSome, Global, Vec, if◌then◌else◌}
 use Rattle.std.proofs.lemmas.Nat.{mod_below}
-use Rattle.vsw_actors.specs.Picks.{ArePicks, AtMost, IsPick, dealt_to, picked, picked_jobs}
-use Rattle.vsw_actors.specs.declared.pick.Pick.{Pick}
 use Rattle.vsw_commandfile.specs.declared.line.Line.{Line}
 use Rattle.vsw_hands.specs.Hands.{AllDone}
 use Rattle.vsw_harbour.specs.Lane.{Lane}
-use Rattle.vsw_harbour.specs.Actors.{AreAlike, AtWorkOn, locals_at}
-use Rattle.vsw_harbour.specs.Lanes.{AreFit, AreTold, fronts_of}
+use Rattle.vsw_harbour.specs.Actors.{AtWorkOn, locals_at}
+use Rattle.vsw_harbour.specs.Lanes.{AreFit, AreTold}
 use Rattle.vsw_harbour.specs.Docks.{is_of, locals, pass_in, permits, port_in, tells}
 use Rattle.vsw_harbour.specs.HarbourOpening.{rows_in}
 use Rattle.vsw_harbour.specs.Seen.{DockSeen, StationSeen}
-use Rattle.vsw_harbour.specs.Harbour.{HarbourSeen, IsHarbour, callers, locals_in, ports_in}
-use Rattle.vsw_harbour.specs.Phases.{Track}
-use Rattle.vsw_harbour.specs.Standing.{RowStands, RowsMay, RowsStand, no_calls}
-use Rattle.vsw_harbour.specs.Working.{AreWorking, RowWorks, RowsWork}
-use Rattle.vsw_harbour.proofs.Standing.{are_fit, works_none}
+use Rattle.vsw_harbour.specs.Harbour.{HarbourSeen}
+use Rattle.vsw_harbour.specs.Standing.{RowsStand, no_calls}
+use Rattle.vsw_harbour.specs.Working.{RowWorks, RowsWork}
+use Rattle.vsw_harbour.proofs.Standing.{works_none}
 use Rattle.vsw_port.specs.Calls.{job_doer}
-use Rattle.vsw_port.specs.Order.{counted, numbered}
+use Rattle.vsw_port.specs.Order.{numbered}
 use Rattle.vsw_port.specs.declared.event.Event.{Event}
 use Rattle.vsw_pcap.specs.declared.capture.Record.{Record}
 use Rattle.vsw_policy.specs.Sound.{Each}
@@ -27,11 +23,11 @@ use Rattle.vsw_port.specs.Calls.{Ask}
 use Rattle.vsw_history_law.proofs.Callers.{eqb_is}
 use Rattle.vsw_promise.specs.Jobs.{Placed, aim_of, deal, placed_lines, placed_packet, placed_packets}
 use Rattle.vsw_crew.specs.Private.Round.{jobs_here, macs_in, numbers_in}
-use Rattle.vsw_crew.specs.Private.Shifting.{ArePut, AreShares, shares_of}
-use Rattle.vsw_crew.specs.Shares.{DoesShare, IsCarried, IsShare, RowCarried, ShareSeen, jobs_in, share_of}
+use Rattle.vsw_crew.specs.Private.Shifting.{ArePut}
+use Rattle.vsw_crew.specs.Shares.{DoesShare, IsCarried, ShareSeen, jobs_in}
 use Rattle.vsw_crew.specs.Shift.{AreOutAt, HasNoneBeside, IsOutAt}
 use Rattle.vsw_crew.specs.declared.share.Carried.{Carried}
-use Rattle.vsw_crew.proofs.Doing.{fronts_are, row_begins, as_long, worked_lanes}
+use Rattle.vsw_crew.proofs.Doing.{worked_lanes}
 
 -- ---- who has nothing to do
 

@@ -1,5 +1,5 @@
 -- A crew's round by threads that stay, as those see it who lead.
-use Rattle.std.proofs.Common.{◌≡◌, ◌<◌, ℕ, Bool, List, [], ◌∷◌, ◌++◌, length, map, refl, ap, sym, ◌∙◌, subst, arith, Ok, Err, IfOk, Result}
+use Rattle.std.proofs.Common.{◌≡◌, ◌<◌, ℕ, Bool, List, [], length, map, ap, sym, ◌∙◌, subst, arith, Ok, Err, IfOk, Result}
 use Rattle.vsw_base.specs.declared.fault.NoMemory.{NoMemory}
 use Rattle.vsw_commandfile.specs.declared.line.Line.{Line}
 use Rattle.vsw_harbour.specs.Lane.{Lane}
@@ -20,7 +20,7 @@ use Rattle.vsw_harbour.specs.Rounds.{AreJournals}
 use Rattle.vsw_harbour.proofs.Dealing.{all_know}
 use Rattle.vsw_crew.specs.declared.round.Worked.{Worked}
 use Rattle.vsw_switch.specs.Switch.{AreServed, IsAt}
-use Rattle.vsw_crew.specs.Crew.{AreReady, AreRowsOf, CrewSeen, IsOfSome, crew_now, seen_by, switch_now}
+use Rattle.vsw_crew.specs.Crew.{AreReady, AreRowsOf, CrewSeen, crew_now, seen_by, switch_now}
 use Rattle.vsw_crew.specs.Private.Owing.{HasOwed}
 use Rattle.vsw_crew.specs.Private.Round.{HasWorked}
 use Rattle.vsw_crew.specs.Shares.{ShareSeen}

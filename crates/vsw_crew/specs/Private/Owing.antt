@@ -1,5 +1,5 @@
 -- A round that was done, and is to be told.
-use Rattle.std.specs.Prelude.{◌≡◌, ◌⊎◌, ℕ, Bool, List, map}
+use Rattle.std.specs.Prelude.{◌≡◌, ◌⊎◌, ℕ, List, map}
 use Rattle.vsw_harbour.specs.Lane.{Lane}
 use Rattle.vsw_harbour.specs.Crew.{CrewTells, crew_text, is_short_crew}
 use Rattle.vsw_harbour.specs.Harbour.{HarbourSeen}

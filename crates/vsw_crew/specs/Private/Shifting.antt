@@ -1,10 +1,8 @@
 -- The shares of a round, given and taken back.
-use Rattle.std.specs.Prelude.{◌≡◌, ◌≤◌, ◌<◌, ◌+◌, ◌-◌, ◌^◌, ℕ, suc, List, [], ◌∷◌, ◌++◌, Option, Some, None, drop, length, map, replicate, take, Vec}
+use Rattle.std.specs.Prelude.{◌≡◌, ◌-◌, ℕ, suc, List, [], ◌∷◌, ◌++◌, Some, length, replicate, Vec}
 use Rattle.std.specs.declared.alloc.Global.{Global}
-use Rattle.vsw_actors.specs.Picks.{ArePicks}
 use Rattle.vsw_actors.specs.declared.pick.Pick.{Pick}
 use Rattle.vsw_harbour.specs.Lane.{Lane}
-use Rattle.vsw_harbour.specs.HarbourOpening.{rows_in}
 use Rattle.vsw_harbour.specs.Seen.{DockSeen, StationSeen}
 use Rattle.vsw_pcap.specs.declared.capture.Record.{Record}
 use Rattle.vsw_crew.specs.Shares.{IsShare, ShareSeen, share_of}

@@ -1,4 +1,4 @@
-use Rattle.std.proofs.Common.{◌≡◌, ℕ, List, ap, map, refl, subst, sym, ◌∙◌, ◌++◌, [], length}
+use Rattle.std.proofs.Common.{ap}
 use Rattle.vsw_harbour.specs.Harbour.{HarbourSeen}
 use Rattle.vsw_harbour.proofs.Gathering.{harbour_is}
 use Rattle.vsw_crew.proofs.Picking.{is_picked}

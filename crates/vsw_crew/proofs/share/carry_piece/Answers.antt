@@ -1,4 +1,4 @@
-use Rattle.std.proofs.Common.{◌≡◌, ◌<◌, ◌-◌, ◌+◌, ℕ, length, subst, sym, refl, arith}
+use Rattle.std.proofs.Common.{◌+◌, subst, refl, arith}
 use Rattle.std.specs.Arc.{arc_value}
 use Rattle.vsw_harbour.specs.Docks.{pass_in}
 use Rattle.vsw_harbour.specs.Lanes.{fronts_of}

@@ -1,7 +1,7 @@
-use Rattle.std.proofs.Common.{◌≡◌, ◌∙◌, ℕ, ap, length, sym, subst, refl}
+use Rattle.std.proofs.Common.{refl}
 use Rattle.vsw_harbour.specs.HarbourOpening.{rows_in}
 use Rattle.vsw_harbour.specs.Harbour.{HarbourSeen}
-use Rattle.vsw_harbour.proofs.Gathering.{docks_are, harbour_is}
+use Rattle.vsw_harbour.proofs.Gathering.{harbour_is}
 use Rattle.vsw_crew.proofs.Giving.{are_given, few_picks, is_out, left_behind, left_many, met_by, out_is, shares_sent}
 use Rattle.vsw_crew.proofs.Joining.{counts_back, is_with, run_with}
 use Rattle.vsw_crew.proofs.shift.give.Goals as goal

@@ -1,11 +1,11 @@
-use Rattle.std.proofs.Common.{◌≡◌, ◌∙◌, ◌≤◌, ◌++◌, ℕ, List, sym, ap, length, arith, subst}
+use Rattle.std.proofs.Common.{◌≡◌, ◌∙◌, ◌≤◌, ap, length, arith}
 use Rattle.vsw_harbour.specs.Harbour.{HarbourSeen, callers}
 use Rattle.vsw_harbour.specs.Standing.{no_calls}
 use Rattle.vsw_harbour.proofs.Gathering.{docks_are}
 use Rattle.vsw_harbour.proofs.Held.{as_many}
 use Rattle.vsw_crew.specs.Private.Shifting.{needs_of}
 use Rattle.vsw_crew.proofs.Giving.{needs_many}
-use Rattle.vsw_crew.proofs.Meets.{lanes_of, many_slice, met_back}
+use Rattle.vsw_crew.proofs.Meets.{lanes_of, met_back}
 use Rattle.vsw_crew.proofs.shift.meet_picked.Goals as goal
 
 pub needs-requires-clause-within : goal.needs-requires-clause-within

@@ -1,9 +1,9 @@
-use Rattle.std.proofs.Common.{◌≡◌, ◌<◌, ap, arith, length, rules, subst, sym, List}
+use Rattle.std.proofs.Common.{◌≡◌, ◌<◌, ap, arith, length, rules}
 use Rattle.vsw_harbour.specs.HarbourOpening.{rows_in}
 use Rattle.vsw_harbour.specs.Harbour.{HarbourSeen}
 use Rattle.vsw_harbour.proofs.Gathering.{harbour_is}
 use Rattle.vsw_harbour.proofs.Held.{as_many}
-use Rattle.vsw_crew.specs.Crew.{CrewSeen, crew_now, seen_by}
+use Rattle.vsw_crew.specs.Crew.{seen_by}
 use Rattle.vsw_crew.proofs.Between.{may_ask, taken_ready}
 use Rattle.vsw_crew.proofs.Shifts.{given_out, served_here}
 use Rattle.vsw_crew.proofs.crew.Crew.give.Goals as goal

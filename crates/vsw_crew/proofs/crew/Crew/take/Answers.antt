@@ -3,7 +3,6 @@ use Rattle.vsw_harbour.specs.HarbourOpening.{rows_in}
 use Rattle.vsw_harbour.specs.Harbour.{HarbourSeen}
 use Rattle.vsw_harbour.proofs.Gathering.{harbour_is}
 use Rattle.vsw_policy.specs.Sound.{Each}
-use Rattle.vsw_crew.specs.Crew.{seen_by}
 use Rattle.vsw_crew.specs.Private.Rows.{AreGone}
 use Rattle.vsw_crew.proofs.Shifts.{began, may_owe, owes_some, rows_left, served_on, tells_owed}
 use Rattle.vsw_crew.proofs.crew.Crew.take.Goals as goal

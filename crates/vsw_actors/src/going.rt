@@ -35,14 +35,7 @@ where
     ensures done { IfOk result (λ after. HasDone P.port_in P.locals P.pass_in P.job_in P.tells number ports.now (fronts_of P.pass_in lanes.items) after.items (take (next + most) jobs.items)) }
 {
     let parcel = P::parcel(alloc, ports)?;
-    let mut actor = Actor::resume(
-        u64::from(number),
-        ports,
-        lanes,
-        jobs,
-        next as usize,
-        parcel,
-    );
+    let mut actor = Actor::resume(u64::from(number), ports, lanes, jobs, next as usize, parcel);
     do_some(rt, alloc, number, next, most, &mut actor, gate);
     let (lanes, _jobs) = actor.end();
     Ok(lanes)

@@ -122,8 +122,12 @@ may_go_on s js fronts i a =
       within = omega (arith, i.within, many);
       fit = subst (λ (n : ℕ). AreFit pass_in is_of permits s.number n s.docks s.row) (drop_many s.next s.picks js (sym many)) i.fit;
       mine = mine_some s.number s.next s.docks js (mine_all s.number s.docks js own (works_all (length s.docks) js a.work));
-      done = (i.carried.tracks, i.carried.told, subst (λ (w : List jobs.Placed). AtWorkOn (locals_at locals s.docks) s.number (map port_in s.docks) (fronts_of pass_in s.row) i.carried.tracks w) (sym (front_jobs s js s.next a))
-          (subst (λ (hs : List (List Event)). AtWorkOn (locals_at locals s.docks) s.number (map port_in s.docks) hs i.carried.tracks (picked_jobs s.number s.first s.packets (take s.next s.picks))) fronts i.carried.work));
+      done = (
+        i.carried.tracks,
+        i.carried.told,
+        subst (λ (w : List jobs.Placed). AtWorkOn (locals_at locals s.docks) s.number (map port_in s.docks) (fronts_of pass_in s.row) i.carried.tracks w) (sym (front_jobs s js s.next a))
+            (subst (λ (hs : List (List Event)). AtWorkOn (locals_at locals s.docks) s.number (map port_in s.docks) hs i.carried.tracks (picked_jobs s.number s.first s.packets (take s.next s.picks))) fronts i.carried.work),
+      );
     }
 
 -- what a row has done of a share, with so many picks carried

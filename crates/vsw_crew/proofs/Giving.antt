@@ -213,7 +213,7 @@ pub is_out : (h : HarbourSeen) (numbers macs listed asks : List ℕ) (lines : Li
     → AllMeet h.docks (needs_of picked.picks.items (callers h)) (rows_in begun) (rows_in mids) → IsOut (record { harbour = h; histories = hs }) lines first packets (record { first = first; befores = befores; firsts = firsts; loose = picked.loose; rows = left }) out
 is_out h numbers macs listed asks lines hs first packets befores firsts rows begun mids left picked out i run x begins met =
     let given : (s : Setting) → IsOfRun h s → s.commands ≡ lines → (b : HasBegun h s hs first firsts.items (rows_in begun)) → AreGiven h lines b.middles first packets mids picked.picks.items =
-        λ s r same b. are_given h numbers macs listed asks lines b.middles first packets begun mids picked.picks.items i b.size b.stand met x.picks.numbers x.picks.size x.picks.dealt x.picks.fit x.picks.few x.quiet in
+    λ s r same b. are_given h numbers macs listed asks lines b.middles first packets begun mids picked.picks.items i b.size b.stand met x.picks.numbers x.picks.size x.picks.dealt x.picks.fit x.picks.few x.quiet in
     let some : 0 < length (rows_in rows) = omega (arith, x.ready.size) in
     let w = is_with h lines run.run run.is in
     let one = given (run_with lines run.run) w.0 w.1 (begins (run_with lines run.run) hs w.0 w.1 x.ready) in

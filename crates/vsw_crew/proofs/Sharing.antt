@@ -115,9 +115,10 @@ all_work k h lines gs first packets [] [] olds news o d p n s =
     subst (λ w. RowsWork h.controllers k h.docks gs (no_calls h.docks) (jobs_here h lines first packets) (rows_in w)) (sym p)
     (rested_work k h.controllers h.docks gs (jobs_here h lines first packets) (rows_in olds) (subst (λ (i : ℕ). HaveNone h.controllers i (jobs_here h lines first packets)) here n) (subst (λ (i : ℕ). RowsStand i h.docks gs (no_calls h.docks) (rows_in olds)) here s))
 all_work k h lines gs first packets (x ∷ out) (t ∷ tolds) (r ∷ olds) (v ∷ news) o d p n s =
-    let here : k + length (x ∷ out) ≡ suc k + length out = omega arith in
-    (carried_works k h lines gs first packets x v.items o.0 (some_row x t v d.0 p.0),
-    all_work (suc k) h lines gs first packets out tolds olds news o.1 d.1 p.1 (subst (λ (i : ℕ). HaveNone h.controllers i (jobs_here h lines first packets)) here n) (subst (λ (i : ℕ). RowsStand i h.docks gs (no_calls h.docks) (rows_in (drop (length out) olds))) here s))
+    let here : k + length (x ∷ out) ≡ suc k + length out = omega arith in (
+      carried_works k h lines gs first packets x v.items o.0 (some_row x t v d.0 p.0),
+      all_work (suc k) h lines gs first packets out tolds olds news o.1 d.1 p.1 (subst (λ (i : ℕ). HaveNone h.controllers i (jobs_here h lines first packets)) here n) (subst (λ (i : ℕ). RowsStand i h.docks gs (no_calls h.docks) (rows_in (drop (length out) olds))) here s),
+    )
 all_work k h lines gs first packets [] (t ∷ tolds) olds news o d p n s = absurd d
 all_work k h lines gs first packets (x ∷ out) [] olds news o d p n s = absurd d
 all_work k h lines gs first packets (x ∷ out) (t ∷ tolds) [] news o d p n s = absurd p

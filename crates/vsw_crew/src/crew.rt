@@ -19,7 +19,7 @@ use crate::Lines;
 use crate::owed::{Owed, owe, pay};
 use crate::picked::{Picked, pick_for};
 use crate::round::work_round;
-use crate::share::{Carrier, Share, Carried};
+use crate::share::{Carried, Carrier, Share};
 use crate::shift::{give, take};
 use crate::telling::tell;
 use crate::underway::Underway;
@@ -29,7 +29,7 @@ use std::sync::{Arc, Wait};
 use std::thread::Threads;
 use vsw_actors::reconcile_rows;
 use vsw_base::NoMemory;
-use vsw_hands::{Roll, Pool};
+use vsw_hands::{Pool, Roll};
 use vsw_harbour::{Harbour, Lane, Naming, Station, Watch};
 use vsw_pcap::Batch;
 use vsw_promise::Schedule;
@@ -52,7 +52,7 @@ impl<'c, 'g, J: Naming, G> Model for Crew<'c, 'g, J, G> {
     ghost use Rattle.vsw_crew.specs.Private.Rows.{AreGone};
     ghost use Rattle.vsw_harbour.specs.HarbourOpening.{rows_in};
     ghost use Rattle.vsw_pcap.specs.declared.capture.Record.{Record};
-ghost use Rattle.vsw_policy.specs.Sound.{Each};
+    ghost use Rattle.vsw_policy.specs.Sound.{Each};
 
     ghost Value = { CrewSeen };
 
@@ -63,10 +63,7 @@ ghost use Rattle.vsw_policy.specs.Sound.{Each};
 
 impl<'c, 'g, J: Naming, G> Crew<'c, 'g, J, G> {
     /// A crew of this harbour, whose callers have these rows and have seen the whole histories of its ports.
-    pub fn new(
-        harbour: &'c Harbour<'g, J, G>,
-        rows: Vec<Vec<Lane<Station>>>,
-    ) -> Crew<'c, 'g, J, G>
+    pub fn new(harbour: &'c Harbour<'g, J, G>, rows: Vec<Vec<Lane<Station>>>) -> Crew<'c, 'g, J, G>
         requires run { IsOfSome harbour.now }
         requires ready { (hs : List (List Event)) × AreReady harbour.now hs (rows_in rows.items) }
         ensures now { (hs : List (List Event)) → AreReady harbour.now hs (rows_in rows.items) → result ≡ record { harbour = harbour.now; histories = hs } }

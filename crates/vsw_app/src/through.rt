@@ -42,8 +42,8 @@ fn run_alone<R: Threads + Wait + Sync, H: Host, G: Gate + Watch + Sync>(
     let Ok(switch) = Switch::open(alloc, workers, policy, local) else {
         return TraceEnd::Memory;
     };
-    let mut runner = Runner::<Brand, G>::alone(switch, gate);
-    run_trace(rt, alloc, host, &mut runner, schedule, trace)
+    let runner = Runner::<Brand, G>::alone(switch, gate);
+    run_trace(rt, alloc, host, runner, schedule, trace)
 }
 
 /// The name of a trace. A call that picks the names of ports takes no `&str` by itself.
@@ -73,8 +73,8 @@ fn run_named<J: Naming + Send + Sync, R: Threads + Wait + Sync, H: Host, G: Gate
     let Ok((harbour, rows)) = opened.named::<J, G>(alloc, gate) else {
         return TraceEnd::Memory;
     };
-    let mut runner = Runner::beside(Crew::new(harbour, rows));
-    run_trace(rt, alloc, host, &mut runner, schedule, name.trace)
+    let runner = Runner::beside(Crew::new(&harbour, rows));
+    run_trace(rt, alloc, host, runner, schedule, name.trace)
 }
 
 /// Runs the trace of this name with a thread for each caller, through one port or more.

@@ -20,5 +20,6 @@ mod Picking
 mod Owing
 mod Returning
 mod Shifts
+pub mod Sending
 pub use Rattle.vsw_switch.proofs.Totals
 pub use Rattle.vsw_switch.proofs.Running

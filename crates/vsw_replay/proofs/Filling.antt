@@ -19,8 +19,10 @@ use Rattle.vsw_reading.specs.declared.reading.Reading.{Reading}
 use Rattle.vsw_reading.specs.declared.reading.Stop.{Stop}
 use Rattle.vsw_reading.specs.declared.reading.Stop.TheVariants as stop
 use Rattle.vsw_replay.specs.declared.trace.Run.{Run}
+use Rattle.vsw_replay.specs.declared.trace.Stretch.{Stretch}
 use Rattle.vsw_replay.specs.Private.Cut.{IsCut, IsNextCut}
 use Rattle.vsw_replay.specs.Private.Going.{ShowsStop, IsAsLong, IsFilled, IsBetween, CanRead, IsNear}
+use Rattle.vsw_replay.specs.Private.Next.{IsReadUpTo, IsReadShort}
 use Rattle.vsw_replay.specs.Private.Pauses.{Pauses}
 use Rattle.vsw_reading.specs.Passed.{IsPassed}
 use Rattle.vsw_reading.specs.Reads.{IsRead, IsOpen, Says, StopsSo, Peeks}
@@ -77,27 +79,57 @@ filled s start old now name run switch first next st r bytes b outputs after rea
 }
 
 -- its records were read
-pub next_filled : (s : Setting) (start old now : Outside) (name : List ℕ) (run : Run) (switch : SwitchNow) (first next most : ℕ) (st : Stop) (r : Reading) → most + first ≡ next → first < most_records → IsNextCut s.commands first next → SameOutputs old now → FillsSo old now (cleared run.reading) r most (Ok st) → IsBetween s start old name run switch first
-    → IsFilled s start now name (reading_on run r) switch (record { first = first; next = next; stop = st })
-next_filled s start old now name run switch first next most st r size low after outputs fills b =
-    let f = fills start name b.given (holds_cleared start old name run.reading b.bytes b.given b.read) in
-    let all = b.given ++ r.batch in
-    let total : length all ≡ length b.given + length r.batch = length-append b.given r.batch in
-    let passed = passed_read r.reader f.bytes all (omega (arith, total, b.some)) f.read.stands in
-    let shows = shows_of start now name r f.bytes all most next st passed f.read (omega (arith, total, b.count, size)) (next_few s.commands first next low after) f.says in
-    filled s start old now name run switch first next st r f.bytes b outputs after f.read.reading passed shows.0 shows.1
+pub on_read : (commands : List Line) (start old now : Outside) (name : List ℕ) (old_reading : Reading) (given : List Record) (bytes : List ℕ) (first next most : ℕ) (st : Stop) (r : Reading) → most + first ≡ next → first < most_records → IsNextCut commands first next → FillsSo old now (cleared old_reading) r most (Ok st) → 0 < length given → length given ≡ first → IsRead start old name old_reading bytes given
+    → IsReadUpTo commands start now name r given (record { first = first; next = next; stop = st })
+on_read commands start old now name old_reading given bytes first next most st r size low after fills some count read =
+    let f = fills start name given (holds_cleared start old name old_reading bytes given read) in
+    let all = given ++ r.batch in
+    let total : length all ≡ length given + length r.batch = length-append given r.batch in
+    let passed = passed_read r.reader f.bytes all (omega (arith, total, some)) f.read.stands in
+    let shows = shows_of start now name r f.bytes all most next st passed f.read (omega (arith, total, count, size)) (next_few commands first next low after) f.says in
+    record { bytes = f.bytes; reading = f.read.reading; passed = passed; next = after; long = shows.1; shows = shows.0 }
 
 -- there was no memory for it
-pub next_unfilled : (s : Setting) (start old now : Outside) (name : List ℕ) (run : Run) (switch : SwitchNow) (first most : ℕ) (e : NoMemory) (r : Reading) → SameOutputs old now → FillsSo old now (cleared run.reading) r most (Err e) → IsBetween s start old name run switch first → RunsTrace s start now name end.Memory
-next_unfilled s start old now name run switch first most e r outputs fills b =
-    let f = fills start name b.given (holds_cleared start old name run.reading b.bytes b.given b.read) in
-    let all = b.given ++ r.batch in
-    let total : length all ≡ length b.given + length r.batch = length-append b.given r.batch in
-    let passed = passed_first (f.bytes ++ f.more) b.given r.batch (passed_more f.bytes f.more all (passed_read r.reader f.bytes all (omega (arith, total, b.some)) f.stands)) in
+pub on_unread : (start old now : Outside) (name : List ℕ) (old_reading : Reading) (given : List Record) (bytes : List ℕ) (most : ℕ) (e : NoMemory) (r : Reading) → FillsSo old now (cleared old_reading) r most (Err e) → 0 < length given → IsRead start old name old_reading bytes given → IsReadShort start now name r given
+on_unread start old now name old_reading given bytes most e r fills some read =
+    let f = fills start name given (holds_cleared start old name old_reading bytes given read) in
+    let all = given ++ r.batch in
+    let total : length all ≡ length given + length r.batch = length-append given r.batch in
+    let passed = passed_first (f.bytes ++ f.more) given r.batch (passed_more f.bytes f.more all (passed_read r.reader f.bytes all (omega (arith, total, some)) f.stands)) in
+    record { bytes = f.bytes ++ f.more; reading = f.reading; passed = passed }
+
+-- so the next round is there
+pub next_filled : (s : Setting) (start old now : Outside) (name : List ℕ) (run new : Run) (switch : SwitchNow) (lines : List Line) (first : ℕ) (t : Stretch) → s.commands ≡ lines → SameOutputs old now → t.first ≡ first → new.short ≡ run.short → ((bytes : List ℕ) (given : List Record) → IsRead start old name run.reading bytes given → 0 < length given → length given ≡ first → IsReadUpTo lines start now name new.reading given t)
+    → IsBetween s start old name run switch first → IsFilled s start now name new switch t
+next_filled s start old now name run new switch lines first t same outputs count short reads b =
+    let r = subst (λ ls. IsReadUpTo ls start now name new.reading b.given t) (sym same) (reads b.bytes b.given b.read b.some b.count) in record {
+      bytes = r.bytes;
+      given = b.given;
+      rounds = b.rounds;
+      histories = b.histories;
+      since = since_read start old now b.since outputs;
+      reading = r.reading;
+      passed = r.passed;
+      count = b.count ∙ sym count;
+      cut = subst (λ n. IsCut s.commands n) (sym count) b.cut;
+      next = r.next;
+      long = r.long;
+      shows = r.shows;
+      so = subst (λ n. AreSoFar s b.given (cuts_within s.commands n) b.rounds b.histories) (sym count) b.so;
+      at = b.at;
+      short_is = b.short_is ∙ sym short;
+      puts = grows_read start old now (report_text b.rounds) outputs b.puts;
+    }
+
+-- or the run ends
+pub next_unfilled : (s : Setting) (start old now : Outside) (name : List ℕ) (run new : Run) (switch : SwitchNow) (first : ℕ) → SameOutputs old now → ((bytes : List ℕ) (given : List Record) → IsRead start old name run.reading bytes given → 0 < length given → length given ≡ first → IsReadShort start now name new.reading given) → IsBetween s start old name run switch first
+    → RunsTrace s start now name end.Memory
+next_unfilled s start old now name run new switch first outputs reads b =
+    let r = reads b.bytes b.given b.read b.some b.count in
     let so : AreSoFar s b.given (cuts_within s.commands (length b.given)) b.rounds b.histories = subst (λ n. AreSoFar s b.given (cuts_within s.commands n) b.rounds b.histories) (sym b.count) b.so in
-    let follows = front_follows s (f.bytes ++ f.more) b.given b.rounds b.histories passed (omega (arith, b.count, b.few)) (subst (λ n. IsCut s.commands n) (sym b.count) b.cut) so in
-    runs_so s start now name end.Memory (since_read start old now b.since outputs) f.reading.later
-    (inr (inr (breaks_after s start now name (read_to Stopped (f.bytes ++ f.more)) (report_text b.rounds) (reads_stopped start now name r.source.file (f.bytes ++ f.more) f.reading) follows (grows_read start old now (report_text b.rounds) outputs b.puts))))
+    let follows = front_follows s r.bytes b.given b.rounds b.histories r.passed (omega (arith, b.count, b.few)) (subst (λ n. IsCut s.commands n) (sym b.count) b.cut) so in
+    runs_so s start now name end.Memory (since_read start old now b.since outputs) r.reading.later
+    (inr (inr (breaks_after s start now name (read_to Stopped r.bytes) (report_text b.rounds) (reads_stopped start now name new.reading.source.file r.bytes r.reading) follows (grows_read start old now (report_text b.rounds) outputs b.puts))))
 
 -- ---- after as many records as a trace may have
 

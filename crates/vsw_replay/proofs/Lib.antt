@@ -12,6 +12,9 @@ pub mod Lasting
 pub mod Filling
 pub mod Beginning
 pub mod Unput
+pub mod Owing
+pub mod Picking
+pub mod Leading
 pub mod Asking
 pub mod Exporting
 pub mod Drawing

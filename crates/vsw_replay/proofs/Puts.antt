@@ -4,9 +4,9 @@ use Rattle.std.specs.Bool.{⊤}
 use Rattle.std.specs.List.{concat}
 use Rattle.std.proofs.lemmas.List.Folds.{concat-append}
 use Rattle.std.proofs.lemmas.List.{take_all, take-append-drop}
-use Rattle.vsw_host.specs.Outside.{DoesPut, HasCause, Outside, Rose, SameInputs}
+use Rattle.vsw_host.specs.Outside.{DoesPut, Outside, Rose, SameInputs}
 use Rattle.vsw_host.specs.declared.host.Failed.{Failed}
-use Rattle.vsw_replay.proofs.Growing.{front_more, front_then, grows_is, grows_none, grows_then}
+use Rattle.vsw_replay.proofs.Growing.{front_more, front_then, grows_none, grows_then}
 
 inputs_then : (a b c : Outside) → SameInputs a b → SameInputs b c → SameInputs a c
 inputs_then a b c p q = record { inputs = q.inputs ∙ p.inputs; opens = q.opens ∙ p.opens; input_faults = q.input_faults ∙ p.input_faults }

@@ -42,10 +42,10 @@ use Rattle.vsw_replay.proofs.Turning.{RoundsFor, rounds_run, rounds_unrun, round
 -- ---- a text follows, whatever stopped the reading
 
 -- a trace of which this was read may have a text that begins so
-record Continues (s : Setting) (start now : Outside) (name front : List ℕ) : Type 0 where
-  trace : Trace
-  reads : Reads start now name trace
-  follows : Follows s trace front
+pub record Continues (s : Setting) (start now : Outside) (name front : List ℕ) : Type 0 where
+  pub trace : Trace
+  pub reads : Reads start now name trace
+  pub follows : Follows s trace front
 
 -- the records of a trace, and why the reading stopped after them
 pub record IsStopped (s : Setting) (start now : Outside) (name : List ℕ) (r : Reading) (bytes : List ℕ) (all : List Record) (first next : ℕ) (st : Stop) : Type 0 where
@@ -155,7 +155,7 @@ stopped_filled s start old now name run new switch t same inputs f =
       shows = shows_put start old now name run.reading f.bytes all t.stop inputs f.shows;
     })
 
-shows_few : (start now : Outside) (name : List ℕ) (r : Reading) (bytes : List ℕ) (all : List Record) (next : ℕ) (st : Stop) → IsAsLong st next (length all) → ShowsStop start now name r bytes all st → length all ≤ most_records
+pub shows_few : (start now : Outside) (name : List ℕ) (r : Reading) (bytes : List ℕ) (all : List Record) (next : ℕ) (st : Stop) → IsAsLong st next (length all) → ShowsStop start now name r bytes all st → length all ≤ most_records
 shows_few start now name r bytes all next stop.Full long h = omega (arith, long.0, long.1)
 shows_few start now name r bytes all next stop.End long h = h.2
 shows_few start now name r bytes all next stop.Fault long h = h.2
@@ -176,7 +176,7 @@ memory_ends : (s : Setting) (start now : Outside) (name : List ℕ) (rounds : Li
 memory_ends s start now name rounds since later c g = runs_so s start now name end.Memory since later (inr (inr (breaks_after s start now name c.trace (report_text rounds) c.reads c.follows g)))
 
 -- so does a put that failed within a round's text
-fault_ends : (s : Setting) (start old now : Outside) (name : List ℕ) (rounds : List Round) (r : Round) (text : List ℕ) (e : Failed) → Since start old → start.input_faults ≤ now.input_faults → text ≡ round_text r → Continues s start now name (report_text (rounds ++ r ∷ [])) → Grows start.put old.put (report_text rounds) → DoesPut old now text (Err e)
+pub fault_ends : (s : Setting) (start old now : Outside) (name : List ℕ) (rounds : List Round) (r : Round) (text : List ℕ) (e : Failed) → Since start old → start.input_faults ≤ now.input_faults → text ≡ round_text r → Continues s start now name (report_text (rounds ++ r ∷ [])) → Grows start.put old.put (report_text rounds) → DoesPut old now text (Err e)
     → RunsTrace s start now name end.WriteFault
 fault_ends s start old now name rounds r text e since later is c g d =
     let whole : report_text rounds ++ text ≡ report_text (rounds ++ r ∷ []) = ap (λ t. report_text rounds ++ t) is ∙ sym (report_push rounds r) in
@@ -184,7 +184,7 @@ fault_ends s start old now name rounds r text e since later is c g d =
     let put : Grows start.put now.put (take n (report_text (rounds ++ r ∷ []))) = grows_is start.put now.put (take n (report_text rounds ++ text)) (take n (report_text (rounds ++ r ∷ []))) (ap (take n) whole) (front_then start.put old.put now.put (report_text rounds) text d.told.0 g d.told.1) in
     runs_so s start now name end.WriteFault (since_put start old now text (Err e) since d) later (omega (arith, since.puts_later, d.cause.failed), breaks_off s start now name c.trace (report_text (rounds ++ r ∷ [])) n c.reads c.follows put)
 
-put_by : (start old now : Outside) (rounds : List Round) (r : Round) (text : List ℕ) (u : ⊤) (was short is : Bool) → Since start old → are_short rounds ≡ was → Grows start.put old.put (report_text rounds) → text ≡ round_text r → short ≡ (was || is) → is ≡ is_short_round r → DoesPut old now text (Ok u) → IsPutBy start now (rounds ++ r ∷ []) short
+pub put_by : (start old now : Outside) (rounds : List Round) (r : Round) (text : List ℕ) (u : ⊤) (was short is : Bool) → Since start old → are_short rounds ≡ was → Grows start.put old.put (report_text rounds) → text ≡ round_text r → short ≡ (was || is) → is ≡ is_short_round r → DoesPut old now text (Ok u) → IsPutBy start now (rounds ++ r ∷ []) short
 put_by start old now rounds r text u was short is since e g t f h d = record {
   since = since_put start old now text (Ok u) since d;
   short_is = short_push rounds r was short is e h f;

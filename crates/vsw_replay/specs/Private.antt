@@ -3,5 +3,8 @@ pub mod Cut
 pub mod Pauses
 pub mod SoFar
 pub mod Going
+pub mod Next
+pub mod Ahead
+pub mod Leading
 pub mod Exporting
 pub mod Runner

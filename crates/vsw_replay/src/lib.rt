@@ -1,6 +1,7 @@
 //! A trace or a generated workload, run through the switch round by round.
 #![tactic(auto)]
 
+mod ahead;
 mod cut;
 mod draw;
 mod ending;

@@ -1,19 +1,26 @@
 //! What runs the rounds of a run.
 
-ghost use Rattle.std.specs.Prelude.{◌≡◌, ◌<◌, ◌+◌, ◌^◌, List, length, IfOk};
+ghost use Rattle.std.specs.Prelude.{◌≡◌, ◌<◌, ◌≤◌, ◌+◌, ◌^◌, ℕ, List, length, IfOk, OnOk};
 ghost use Rattle.vsw_commandfile.specs.declared.line.Line.{Line};
 ghost use Rattle.vsw_crew.specs.Crew.{crew_now};
+ghost use Rattle.vsw_host.specs.Outside.{Outside};
 ghost use Rattle.vsw_port.specs.declared.event.Event.{Event};
 ghost use Rattle.vsw_promise.specs.Jobs.{Setting};
 ghost use Rattle.vsw_crew.specs.Round.{TellsRound};
 ghost use Rattle.vsw_report.specs.Whole.{whole_text};
 ghost use Rattle.vsw_crew.specs.Switch.{AreServed, IsAt};
+ghost use Rattle.vsw_replay.specs.Private.Going.{GoesOn, IsFilled, IsNear};
 
+use crate::ahead::run_ahead;
+use crate::ending::TraceEnd;
+use crate::trace::{Run, Stretch};
+use std::alloc::Global;
 use std::marker::Model;
 use std::sync::Wait;
 use std::thread::Threads;
 use vsw_base::NoMemory;
 use vsw_crew::{Crew, Naming, Switch, Watch, run_round};
+use vsw_host::Host;
 use vsw_pcap::Batch;
 use vsw_promise::Schedule;
 use vsw_report::RoundText;
@@ -21,20 +28,20 @@ use vsw_workers::Gate;
 
 /// Who does the work of a round.
 #[derive(Drop)]
-enum Work<'g, J: Naming, G> {
+enum Work<'c, 'g, J: Naming, G> {
     /// One thread, which waits for nobody, and who is told of its packets.
     Alone(Switch, &'g G),
     /// Each worker and each controller in a thread of its own.
-    Beside(Crew<'g, J, G>),
+    Beside(Crew<'c, 'g, J, G>),
 }
 
 /// What runs the rounds of a run: one thread that does the work of all callers, or a thread for each. It is seen as the ports between rounds.
 #[derive(Drop)]
-pub struct Runner<'g, J: Naming, G> {
-    work: Work<'g, J, G>,
+pub struct Runner<'c, 'g, J: Naming, G> {
+    work: Work<'c, 'g, J, G>,
 }
 
-impl<'g, J: Naming, G> Model for Runner<'g, J, G> {
+impl<'c, 'g, J: Naming, G> Model for Runner<'c, 'g, J, G> {
     ghost use Rattle.vsw_replay.specs.Private.Runner.{now_in};
     ghost use Rattle.vsw_crew.specs.Switch.{SwitchNow};
 
@@ -43,9 +50,9 @@ impl<'g, J: Naming, G> Model for Runner<'g, J, G> {
     ghost view = { λ r. now_in r.work };
 }
 
-impl<'g, J: Naming, G> Runner<'g, J, G> {
+impl<'c, 'g, J: Naming, G> Runner<'c, 'g, J, G> {
     /// One thread does all. The watch is told of each packet that isn't loose.
-    pub fn alone(switch: Switch, watch: &'g G) -> Runner<'g, J, G>
+    pub fn alone(switch: Switch, watch: &'g G) -> Runner<'c, 'g, J, G>
         ensures { result ≡ switch }
     {
         Runner {
@@ -54,7 +61,7 @@ impl<'g, J: Naming, G> Runner<'g, J, G> {
     }
 
     /// Each caller has a thread.
-    pub fn beside(crew: Crew<'g, J, G>) -> Runner<'g, J, G>
+    pub fn beside(crew: Crew<'c, 'g, J, G>) -> Runner<'c, 'g, J, G>
         ensures { result ≡ crew_now crew.entry }
     {
         Runner {
@@ -83,8 +90,8 @@ pub(crate) fn run_alone<G: Watch>(
 
 /// Runs a round with a thread for each caller. Its text goes behind the end.
 #[tactic(auto, using(crate::proofs::Behind::told_behind))]
-fn run_beside<'g, J: Naming + Send + Sync, G: Gate + Watch + Sync, R: Threads + Wait + Sync>(
-    crew: &mut Crew<'g, J, G>,
+fn run_beside<'c, 'g, J: Naming + Send + Sync, G: Gate + Watch + Sync, R: Threads + Wait + Sync>(
+    crew: &mut Crew<'c, 'g, J, G>,
     rt: &R,
     schedule: &Schedule,
     first: u32,
@@ -99,7 +106,7 @@ fn run_beside<'g, J: Naming + Send + Sync, G: Gate + Watch + Sync, R: Threads + 
     crew.run_round(rt, schedule, first, packets, &mut out.end)
 }
 
-impl<'g, J: Naming + Send + Sync, G: Gate + Watch + Sync> Runner<'g, J, G> {
+impl<'c, 'g, J: Naming + Send + Sync, G: Gate + Watch + Sync> Runner<'c, 'g, J, G> {
     /// Runs the round of these packets, the first of which has the number `first` in the trace: the commands that name that
     /// number, first those before the packets, and then those beside them and the packets. Appends its text, and answers
     /// whether memory was wanting for one of them. After `NoMemory` nothing is said of the ports and of what was appended.
@@ -119,6 +126,40 @@ impl<'g, J: Naming + Send + Sync, G: Gate + Watch + Sync> Runner<'g, J, G> {
         match &mut self.work {
             Work::Alone(switch, watch) => run_alone(switch, *watch, schedule, first, packets, out),
             Work::Beside(crew) => run_beside(crew, rt, schedule, first, packets, out),
+        }
+    }
+}
+
+/// Runs rounds by threads that stay, where each caller has one and as long as the rounds are fit for it. Gives back the round that was
+/// read and is not, or how the run ended.
+pub(crate) fn go_ahead<
+    'c,
+    'g,
+    J: Naming + Send + Sync,
+    G: Gate + Watch + Sync,
+    R: Threads + Wait + Sync,
+    H: Host,
+>(
+    rt: &R,
+    alloc: Global,
+    host: &mut H,
+    runner: Runner<'c, 'g, J, G>,
+    schedule: &Schedule,
+    run: Run,
+    stretch: Stretch,
+) -> (Runner<'c, 'g, J, G>, Run, Result<Stretch, TraceEnd>)
+    requires served { AreServed runner schedule.now }
+    requires near { IsNear (H.outside host.old) run stretch }
+    ensures goes { (s : Setting) (start : Outside) (name : List ℕ) → s.commands ≡ schedule.now → IsFilled s start (H.outside host.old) name run runner.entry stretch → GoesOn s start (H.outside host.new) name result.1 result.0 result.2 }
+    ensures near { IfOk result.2 (λ t. IsNear (H.outside host.new) result.1 t) }
+    ensures served { OnOk result.2 (AreServed result.0 schedule.now) }
+    ensures rises { IfOk result.2 (λ t. stretch.first ≤ t.first) }
+{
+    match runner.work {
+        Work::Alone(switch, watch) => (Runner::alone(switch, watch), run, Ok(stretch)),
+        Work::Beside(crew) => {
+            let (crew, run, next) = run_ahead(rt, alloc, host, crew, schedule, run, stretch);
+            (Runner::beside(crew), run, next)
         }
     }
 }

@@ -6,15 +6,17 @@ ghost use Rattle.vsw_port.specs.declared.event.Event.{Event};
 ghost use Rattle.vsw_host.specs.Outside.{Outside, SameInputs, SameOutputs};
 ghost use Rattle.vsw_promise.specs.Jobs.{Setting};
 ghost use Rattle.vsw_promise.specs.Ports.{ports_of};
+ghost use Rattle.vsw_pcap.specs.declared.capture.Record.{Record};
 ghost use Rattle.vsw_replay.specs.Private.Exporting.{IsEarly};
 ghost use Rattle.vsw_replay.specs.Private.Going.{IsFilled, IsBetween, IsPast, IsOpened, IsFirst, IsNear, IsTurn, PutsRound, PutsStretch, PutsNext, GoesOn, is_run_of, unheaded_of, clean_of};
-ghost use Rattle.vsw_reading.specs.Reads.{IsOpen};
+ghost use Rattle.vsw_replay.specs.Private.Next.{ReadsOn, in_batch};
+ghost use Rattle.vsw_reading.specs.Reads.{IsOpen, IsRead};
 ghost use Rattle.vsw_replay.specs.Runs.{RunsTrace};
 ghost use Rattle.vsw_crew.specs.Switch.{AreServed, IsAt, SwitchNow};
 
 use crate::cut::{is_named, next_cut};
 use crate::ending::TraceEnd;
-use crate::runner::Runner;
+use crate::runner::{Runner, go_ahead};
 use crate::sheets::put_text;
 use std::alloc::Global;
 use std::sync::Wait;
@@ -53,9 +55,9 @@ pub(crate) struct Stretch {
 }
 
 /// Runs the round of the batch, of which the first packet has this number, and prints it.
-fn run_text<'g, J: Naming + Send + Sync, G: Gate + Watch + Sync, R: Threads + Wait + Sync>(
+fn run_text<'c, 'g, J: Naming + Send + Sync, G: Gate + Watch + Sync, R: Threads + Wait + Sync>(
     rt: &R,
-    runner: &mut Runner<'g, J, G>,
+    runner: &mut Runner<'c, 'g, J, G>,
     schedule: &Schedule,
     run: &mut Run,
     first: u32,
@@ -78,6 +80,7 @@ fn run_text<'g, J: Naming + Send + Sync, G: Gate + Watch + Sync, R: Threads + Wa
 
 /// Runs the round of the batch and puts its text.
 fn put_round<
+    'c,
     'g,
     J: Naming + Send + Sync,
     G: Gate + Watch + Sync,
@@ -86,7 +89,7 @@ fn put_round<
 >(
     rt: &R,
     host: &mut H,
-    runner: &mut Runner<'g, J, G>,
+    runner: &mut Runner<'c, 'g, J, G>,
     schedule: &Schedule,
     run: &mut Run,
     first: u32,
@@ -116,6 +119,7 @@ pub(crate) fn is_run(schedule: &Schedule, count: usize, first: u32, stop: Stop) 
 
 /// Runs and puts the round that was read, if it is one.
 fn put_stretch<
+    'c,
     'g,
     J: Naming + Send + Sync,
     G: Gate + Watch + Sync,
@@ -124,7 +128,7 @@ fn put_stretch<
 >(
     rt: &R,
     host: &mut H,
-    runner: &mut Runner<'g, J, G>,
+    runner: &mut Runner<'c, 'g, J, G>,
     schedule: &Schedule,
     run: &mut Run,
     stretch: Stretch,
@@ -144,10 +148,17 @@ fn put_stretch<
 }
 
 /// Runs and puts the next round of commands alone, behind the trace. Answers its packet, if there is such a round.
-fn put_next<'g, J: Naming + Send + Sync, G: Gate + Watch + Sync, R: Threads + Wait + Sync, H: Host>(
+fn put_next<
+    'c,
+    'g,
+    J: Naming + Send + Sync,
+    G: Gate + Watch + Sync,
+    R: Threads + Wait + Sync,
+    H: Host,
+>(
     rt: &R,
     host: &mut H,
-    runner: &mut Runner<'g, J, G>,
+    runner: &mut Runner<'c, 'g, J, G>,
     schedule: &Schedule,
     run: &mut Run,
     first: u32,
@@ -180,10 +191,17 @@ pub(crate) fn clean_end(short: bool) -> TraceEnd
 }
 
 /// Runs and puts the rounds of commands alone that follow, once the trace ended.
-fn run_past<'g, J: Naming + Send + Sync, G: Gate + Watch + Sync, R: Threads + Wait + Sync, H: Host>(
+fn run_past<
+    'c,
+    'g,
+    J: Naming + Send + Sync,
+    G: Gate + Watch + Sync,
+    R: Threads + Wait + Sync,
+    H: Host,
+>(
     rt: &R,
     host: &mut H,
-    runner: &mut Runner<'g, J, G>,
+    runner: &mut Runner<'c, 'g, J, G>,
     schedule: &Schedule,
     run: &mut Run,
     first: u32,
@@ -202,6 +220,53 @@ fn run_past<'g, J: Naming + Send + Sync, G: Gate + Watch + Sync, R: Threads + Wa
     }
 }
 
+/// Reads the round that begins with this packet, which is not the first. What the batch held goes.
+pub(crate) fn read_on<H: Host>(
+    host: &mut H,
+    schedule: &Schedule,
+    run: &mut Run,
+    first: u32,
+) -> Result<Stretch, NoMemory>
+    requires near { IsOpen (H.outside host.old) (in_batch run.old.reading []) }
+    requires few { first < 1048576 }
+    ensures reads { (start : Outside) (name : List ℕ) (bytes : List ℕ) (given : List Record) → IsRead start (H.outside host.old) name run.old.reading bytes given → 0 < length given → length given ≡ first → ReadsOn schedule.now start (H.outside host.new) name run.new.reading given result }
+    ensures near { IfOk result (λ next. IsNear (H.outside host.new) run.new next) }
+    ensures first { IfOk result (λ next. next.first ≡ first) }
+    ensures text { run.new.text ≡ run.old.text }
+    ensures short { run.new.short ≡ run.old.short }
+    ensures outputs { SameOutputs (H.outside host.old) (H.outside host.new) }
+{
+    run.reading.batch.clear();
+    let next = next_cut(schedule, first);
+    match fill(host, &mut run.reading, next - first) {
+        Ok(stop) => Ok(Stretch { first, next, stop }),
+        Err(_) => Err(NoMemory),
+    }
+}
+
+/// Finds whether anything follows after as many records as a trace may have.
+fn read_past<H: Host>(
+    host: &mut H,
+    schedule: &Schedule,
+    run: &mut Run,
+    first: u32,
+) -> Result<Stretch, TraceEnd>
+    requires near { IsOpen (H.outside host.old) run.old.reading }
+    requires full { first ≡ 1048576 }
+    ensures goes { (s : Setting) (start : Outside) (name : List ℕ) (switch : SwitchNow) → s.commands ≡ schedule.now → IsBetween s start (H.outside host.old) name run.old switch first → GoesOn s start (H.outside host.new) name run.new switch result }
+    ensures near { IfOk result (λ next. IsNear (H.outside host.new) run.new next) }
+    ensures first { IfOk result (λ next. next.first ≡ first) }
+    ensures early { IfErr result IsEarly }
+    ensures outputs { SameOutputs (H.outside host.old) (H.outside host.new) }
+{
+    run.reading.batch.clear();
+    let next = next_cut(schedule, first);
+    match peek(host, &mut run.reading) {
+        Stop::Full => Err(TraceEnd::Records),
+        stop => Ok(Stretch { first, next, stop }),
+    }
+}
+
 /// Reads the round that begins with this packet, or finds that the trace has more records than it may have.
 pub(crate) fn read_next<H: Host>(
     host: &mut H,
@@ -217,22 +282,18 @@ pub(crate) fn read_next<H: Host>(
     ensures early { IfErr result IsEarly }
     ensures outputs { SameOutputs (H.outside host.old) (H.outside host.new) }
 {
-    run.reading.batch.clear();
-    let next = next_cut(schedule, first);
     if first == RECORDS_MOST {
-        return match peek(host, &mut run.reading) {
-            Stop::Full => Err(TraceEnd::Records),
-            stop => Ok(Stretch { first, next, stop }),
-        };
+        return read_past(host, schedule, run, first);
     }
-    match fill(host, &mut run.reading, next - first) {
-        Ok(stop) => Ok(Stretch { first, next, stop }),
+    match read_on(host, schedule, run, first) {
+        Ok(next) => Ok(next),
         Err(_) => Err(TraceEnd::Memory),
     }
 }
 
 /// Puts a round that was read and reads the next one, or ends the run.
 fn run_stretch<
+    'c,
     'g,
     J: Naming + Send + Sync,
     G: Gate + Watch + Sync,
@@ -241,7 +302,7 @@ fn run_stretch<
 >(
     rt: &R,
     host: &mut H,
-    runner: &mut Runner<'g, J, G>,
+    runner: &mut Runner<'c, 'g, J, G>,
     schedule: &Schedule,
     run: &mut Run,
     stretch: Stretch,
@@ -264,8 +325,9 @@ fn run_stretch<
     }
 }
 
-/// Runs a trace of which the first round was read.
-fn run_stretches<
+/// Runs rounds by threads that stay, if the one that was read is fit for it, and then one round more.
+fn go_step<
+    'c,
     'g,
     J: Naming + Send + Sync,
     G: Gate + Watch + Sync,
@@ -273,19 +335,61 @@ fn run_stretches<
     H: Host,
 >(
     rt: &R,
+    alloc: Global,
     host: &mut H,
-    runner: &mut Runner<'g, J, G>,
+    runner: Runner<'c, 'g, J, G>,
     schedule: &Schedule,
-    run: &mut Run,
+    run: Run,
+    stretch: Stretch,
+) -> (Runner<'c, 'g, J, G>, Run, Result<Stretch, TraceEnd>)
+    requires served { AreServed runner schedule.now }
+    requires near { IsNear (H.outside host.old) run stretch }
+    ensures goes { (s : Setting) (start : Outside) (name : List ℕ) → s.commands ≡ schedule.now → IsFilled s start (H.outside host.old) name run runner.entry stretch → GoesOn s start (H.outside host.new) name result.1 result.0 result.2 }
+    ensures near { IfOk result.2 (λ t. IsNear (H.outside host.new) result.1 t) }
+    ensures served { OnOk result.2 (AreServed result.0 schedule.now) }
+    ensures rises { IfOk result.2 (λ t. stretch.first < t.first) }
+{
+    let (runner, run, ahead) = go_ahead(rt, alloc, host, runner, schedule, run, stretch);
+    match ahead {
+        Ok(stretch) => {
+            let mut runner = runner;
+            let mut run = run;
+            let next = run_stretch(rt, host, &mut runner, schedule, &mut run, stretch);
+            (runner, run, next)
+        }
+        Err(end) => (runner, run, Err(end)),
+    }
+}
+
+/// Runs a trace of which the first round was read.
+fn run_stretches<
+    'c,
+    'g,
+    J: Naming + Send + Sync,
+    G: Gate + Watch + Sync,
+    R: Threads + Wait + Sync,
+    H: Host,
+>(
+    rt: &R,
+    alloc: Global,
+    host: &mut H,
+    runner: Runner<'c, 'g, J, G>,
+    schedule: &Schedule,
+    run: Run,
     first: Stretch,
 ) -> TraceEnd
-    requires served { AreServed runner.old schedule.now }
-    requires near { IsNear (H.outside host.old) run.old first }
-    ensures runs { (s : Setting) (start : Outside) (name : List ℕ) → s.commands ≡ schedule.now → IsFilled s start (H.outside host.old) name run.old runner.old first → RunsTrace s start (H.outside host.new) name result }
+    requires served { AreServed runner schedule.now }
+    requires near { IsNear (H.outside host.old) run first }
+    ensures runs { (s : Setting) (start : Outside) (name : List ℕ) → s.commands ≡ schedule.now → IsFilled s start (H.outside host.old) name run runner.entry first → RunsTrace s start (H.outside host.new) name result }
 {
+    let mut runner = runner;
+    let mut run = run;
     let mut stretch = first;
     loop {
-        match run_stretch(rt, host, runner, schedule, run, stretch) {
+        let (kept, left, next) = go_step(rt, alloc, host, runner, schedule, run, stretch);
+        runner = kept;
+        run = left;
+        match next {
             Ok(next) => stretch = next,
             Err(end) => return end,
         }
@@ -344,33 +448,7 @@ fn begin<H: Host>(host: &mut H, schedule: &Schedule, run: &mut Run) -> Result<St
 
 /// Runs a trace that was opened, and of which nothing was read.
 fn run_opened<
-    'g,
-    J: Naming + Send + Sync,
-    G: Gate + Watch + Sync,
-    R: Threads + Wait + Sync,
-    H: Host,
->(
-    rt: &R,
-    host: &mut H,
-    runner: &mut Runner<'g, J, G>,
-    schedule: &Schedule,
-    run: &mut Run,
-) -> TraceEnd
-    requires served { AreServed runner.old schedule.now }
-    requires near { IsOpen (H.outside host.old) run.old.reading }
-    requires empty { run.old.reading.batch ≡ [] }
-    ensures runs { (s : Setting) (start : Outside) (name : List ℕ) → s.commands ≡ schedule.now → IsOpened s start (H.outside host.old) name run.old runner.old → RunsTrace s start (H.outside host.new) name result }
-{
-    match begin(host, schedule, run) {
-        Ok(first) => run_stretches(rt, host, runner, schedule, run, first),
-        Err(end) => end,
-    }
-}
-
-/// Runs the trace of this name through a switch that is at its beginning: opens it, puts the head line once the trace's
-/// header was accepted, and then each round, as soon as its last packet was read, or what ends the trace. It waits only
-/// where a round does.
-pub fn run_trace<
+    'c,
     'g,
     J: Naming + Send + Sync,
     G: Gate + Watch + Sync,
@@ -380,21 +458,51 @@ pub fn run_trace<
     rt: &R,
     alloc: Global,
     host: &mut H,
-    runner: &mut Runner<'g, J, G>,
+    runner: Runner<'c, 'g, J, G>,
+    schedule: &Schedule,
+    run: Run,
+) -> TraceEnd
+    requires served { AreServed runner schedule.now }
+    requires near { IsOpen (H.outside host.old) run.reading }
+    requires empty { run.reading.batch ≡ [] }
+    ensures runs { (s : Setting) (start : Outside) (name : List ℕ) → s.commands ≡ schedule.now → IsOpened s start (H.outside host.old) name run runner.entry → RunsTrace s start (H.outside host.new) name result }
+{
+    let mut run = run;
+    match begin(host, schedule, &mut run) {
+        Ok(first) => run_stretches(rt, alloc, host, runner, schedule, run, first),
+        Err(end) => end,
+    }
+}
+
+/// Runs the trace of this name through a switch that is at its beginning: opens it, puts the head line once the trace's
+/// header was accepted, and then each round, or what ends the trace. A round is put as soon as it was run, or after the next one was
+/// read. It waits only where a round does.
+pub fn run_trace<
+    'c,
+    'g,
+    J: Naming + Send + Sync,
+    G: Gate + Watch + Sync,
+    R: Threads + Wait + Sync,
+    H: Host,
+>(
+    rt: &R,
+    alloc: Global,
+    host: &mut H,
+    runner: Runner<'c, 'g, J, G>,
     schedule: &Schedule,
     name: &str,
 ) -> TraceEnd
-    requires served { AreServed runner.old schedule.now }
-    ensures runs { (s : Setting) → s.commands ≡ schedule.now → IsAt s (map (λ p. []) (ports_of s.policy)) runner.old → RunsTrace s (H.outside host.old) (H.outside host.new) name.now result }
+    requires served { AreServed runner schedule.now }
+    ensures runs { (s : Setting) → s.commands ≡ schedule.now → IsAt s (map (λ p. []) (ports_of s.policy)) runner.entry → RunsTrace s (H.outside host.old) (H.outside host.new) name.now result }
 {
     match Source::open(alloc, host, name) {
         Ok(source) => {
-            let mut run = Run {
+            let run = Run {
                 reading: begin_reading(alloc, source),
                 text: RoundText::new(alloc),
                 short: false,
             };
-            run_opened(rt, host, runner, schedule, &mut run)
+            run_opened(rt, alloc, host, runner, schedule, run)
         }
         Err(Unopened::Fault) => TraceEnd::ReadFault,
         Err(Unopened::Memory) => TraceEnd::Memory,

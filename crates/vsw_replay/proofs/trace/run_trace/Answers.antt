@@ -1,12 +1,9 @@
-use Rattle.vsw_replay.proofs.Beginning.{unopened_fault, unopened_memory}
+use Rattle.vsw_replay.proofs.Beginning.{unopened_fault}
 use Rattle.vsw_reading.proofs.Open.{open_begun}
 use Rattle.vsw_replay.proofs.trace.run_trace.Goals as goal
 
 pub returns-in-Err-Fault : goal.returns-in-Err-Fault
 returns-in-Err-Fault g c = record { runs = λ s e at. unopened_fault s (g.H.Host.outside c.args.host.now) (g.H.Host.outside c.open.new.host) c.args.name.now c.in-Err-Fault.field-0 c.in-Err-Fault.field-0-is c.in-Err-Fault.ensures }
-
-pub returns-in-Err-Memory : goal.returns-in-Err-Memory
-returns-in-Err-Memory g c = record { runs = λ s e at. unopened_memory s (g.H.Host.outside c.args.host.now) (g.H.Host.outside c.open.new.host) c.args.name.now c.in-Err-Memory.field-0 c.in-Err-Memory.field-0-is c.in-Err-Memory.ensures }
 
 pub run_opened-requires-clause-near : goal.run_opened-requires-clause-near
 run_opened-requires-clause-near g c κs within =

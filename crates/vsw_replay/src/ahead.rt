@@ -17,7 +17,7 @@ ghost use Rattle.vsw_replay.specs.declared.ending.TraceEnd.TheVariants.{Memory};
 ghost use Rattle.vsw_replay.specs.Private.Next.{in_batch};
 
 use crate::ending::TraceEnd;
-use crate::trace::{Run, Stretch, read_on};
+use crate::trace::{RECORDS_MOST, Run, Stretch, read_on};
 use std::alloc::Global;
 use std::mem::replace;
 use std::sync::{Arc, Wait};
@@ -33,9 +33,6 @@ use vsw_workers::Gate;
 
 /// The fewest packets of a round for which threads that stay are worth it.
 const FEWEST: usize = 256;
-
-/// The most records of a trace.
-const RECORDS_MOST: u32 = 1_048_576;
 
 /// A round that goes out next.
 #[derive(Drop)]

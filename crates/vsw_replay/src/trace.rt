@@ -31,7 +31,7 @@ use vsw_report::{HEAD_LINE, RoundText};
 use vsw_workers::Gate;
 
 /// The most records of a trace.
-const RECORDS_MOST: u32 = 1_048_576;
+pub(crate) const RECORDS_MOST: u32 = 1_048_576;
 
 /// What a run holds beside its switch.
 #[derive(Drop)]

@@ -1,5 +1,5 @@
 use Rattle.std.proofs.Common.{rules}
-use Rattle.vsw_dock.proofs.Steps.{line_each}
+use Rattle.vsw_dock.proofs.Steps.{each_there}
 use Rattle.vsw_dock.specs.Opening.{rows_in}
 use Rattle.vsw_harbour.specs.Harbour.{MayAsk}
 use Rattle.vsw_harbour.proofs.Turning.{first_within, later_places, more_places, no_places}
@@ -9,7 +9,7 @@ pub line-requires : goal.line-requires
 line-requires g t c = first_within c.args.schedule.now c.in-Some.first.now c.in-Some.later.now c.args.places.now c.requires.places.0 c.in-Some.ensures.cases.0 c.requires.places.1
 
 pub ask_if-requires-clause-line : goal.ask_if-requires-clause-line
-ask_if-requires-clause-line g t c = line_each (MayAsk c.args.harbour.now) c.args.schedule.now c.in-Some.first.now c.line.result.now c.line.ensures c.requires.lines
+ask_if-requires-clause-line g t c = each_there (MayAsk c.args.harbour.now) c.args.schedule.now c.in-Some.first.now c.line.result.now c.line.ensures c.requires.lines
 
 pub ask_each-requires : goal.ask_each-requires
 ask_each-requires g t c = λ κs within.

@@ -42,5 +42,5 @@ module _ (S T W B : RattleType) (h : Hand.Ghosts W.Denot S.Denot T.Denot) (l : R
 
   pub board_sync : IsSync (board.the_row S T W B h l)
   board_sync =
-      let fields : FieldsHave IsSync ((board.the_type S T W B h l).parts) = (search (slot.the_send, slot.the_sync, tag.the_sync, crosses, sendable) depth 20, (search (task_send, crosses, sendable), (search (done_send, crosses, sendable), (search (crosses, sendable), (search (crosses, sendable), (search (crosses, sendable), tt)))))) in
+      let fields : FieldsHave IsSync ((board.the_type S T W B h l).parts) = (search (slot.the_send, slot.the_sync, tag.the_sync, crosses, sendable) depth 20, (search (task_send, crosses, sendable), (search (done_send, crosses, sendable), (search (crosses, sendable), (search (crosses, sendable), (search (crosses, sendable), (search (crosses, sendable), (search (crosses, sendable), tt)))))))) in
       declared_sync (board.the_type S T W B h l) fields

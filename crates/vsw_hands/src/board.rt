@@ -13,9 +13,12 @@ use std::alloc::Global;
 use std::marker::PhantomData;
 use std::snapshot::Snapshot;
 use std::sync::atomic::{AtomicU64, AtomicUsize, Ordering};
-use std::sync::{Mutex, Wait};
+use std::sync::{Condvar, Mutex, Wait};
 use std::thread;
 use vsw_base::NoMemory;
+
+/// How often a thread looks for a task before it sleeps. Tasks follow each other within microseconds while there is input, and waking takes longer.
+const LOOKS: u32 = 2_000;
 
 /// What all threads of a run share. The counts let a thread look for work without a lock; nothing is proved of them.
 #[derive(Drop)]
@@ -30,6 +33,9 @@ pub(crate) struct Board<S, T, W: Hand<S, T>, B: Roll> {
     finished: AtomicUsize,
     /// 1 once the lead gives no more.
     over: AtomicU64,
+    /// How many threads sleep until a task waits or the lead gives no more.
+    asleep: AtomicUsize,
+    woken: Condvar,
     ghost named: { roll ≡ B.shelves },
 }
 
@@ -89,6 +95,8 @@ impl<S: Drop, T: Drop, W: Hand<S, T>, B: Roll> Board<S, T, W, B> {
             waiting: AtomicUsize::new(0),
             finished: AtomicUsize::new(0),
             over: AtomicU64::new(0),
+            asleep: AtomicUsize::new(0),
+            woken: Condvar::new(),
         }
     }
 
@@ -128,6 +136,9 @@ impl<S: Drop, T: Drop, W: Hand<S, T>, B: Roll> Board<S, T, W, B> {
             return Err(NoMemory);
         }
         self.waiting.store(todo.len(), Ordering::SeqCst);
+        if self.asleep.load(Ordering::SeqCst) != 0 {
+            self.woken.notify_one();
+        }
         Ok(())
     }
 
@@ -181,14 +192,38 @@ impl<S: Drop, T: Drop, W: Hand<S, T>, B: Roll> Board<S, T, W, B> {
         unreachable!()
     }
 
+    /// Sleeps until a task waits or the lead gives no more. Who puts a task has the lock, too, and so sees that this thread sleeps.
+    fn sleep<R: Wait>(&self, rt: &R) {
+        let todo = self.todo.lock(rt);
+        let _ = self.asleep.fetch_add(1, Ordering::SeqCst);
+        let todo = self.woken.wait_while(rt, todo, |todo| {
+            todo.is_empty() && self.over.load(Ordering::SeqCst) == 0
+        });
+        let _ = self.asleep.fetch_sub(1, Ordering::SeqCst);
+        drop(todo);
+    }
+
+    /// Lets other threads run, and sleeps once so many looks found no task. Answers how many have found none then.
+    fn rest<R: Wait>(&self, rt: &R, looks: u32) -> u32 {
+        if looks < LOOKS {
+            thread::yield_now();
+            looks + 1
+        } else {
+            self.sleep(rt);
+            0
+        }
+    }
+
     /// Works until the lead gives no more.
     pub(crate) fn serve<R: Wait>(&self, rt: &R, hand: &W) {
+        let mut looks = 0;
         for _ in rt.forever() {
-            if !self.work(rt, hand) {
-                if self.over.load(Ordering::SeqCst) == 1 {
-                    return;
-                }
-                thread::yield_now();
+            if self.work(rt, hand) {
+                looks = 0;
+            } else if self.over.load(Ordering::SeqCst) == 1 {
+                return;
+            } else {
+                looks = self.rest(rt, looks);
             }
         }
         unreachable!()
@@ -207,9 +242,12 @@ impl<S: Drop, T: Drop, W: Hand<S, T>, B: Roll> Board<S, T, W, B> {
         unreachable!()
     }
 
-    /// Tells the threads that no more is given.
-    pub(crate) fn end(&self) {
+    /// Tells the threads that no more is given, and wakes those that sleep.
+    pub(crate) fn end<R: Wait>(&self, rt: &R) {
+        let todo = self.todo.lock(rt);
         self.over.store(1, Ordering::SeqCst);
+        drop(todo);
+        self.woken.notify_all();
     }
 
     /// What was told, if it was told of this share.

@@ -49,7 +49,7 @@ fn lead_here<R: Wait, W: Hand<S, T>, L: Lead<H, S, T, W>, H, S: Drop, T: Drop, B
 {
     let mut pool = Pool::new(board, hand, alloc);
     lead.lead(rt, with, &mut pool);
-    board.end();
+    board.end(rt);
 }
 
 /// Does nothing. By this use a reference that comes back is tied to the one that was lent.

@@ -4,7 +4,7 @@ use Rattle.std.proofs.lemmas.Grind.{common_steps}
 use Rattle.vsw_base.specs.declared.fault.NoMemory.{NoMemory}
 use Rattle.vsw_host.specs.Outside.{Outside, SameOutputs}
 use Rattle.vsw_host.specs.Source.{IsReading}
-use Rattle.vsw_pcap.specs.Batch.{ReadsInto}
+use Rattle.vsw_pcap.specs.Batch.{ReadsInto, with_next}
 use Rattle.vsw_pcap.specs.Capture.{IsCapture}
 use Rattle.vsw_pcap.specs.Progress.{Progress}
 use Rattle.vsw_pcap.specs.Reader.{Stands, Waits}
@@ -12,10 +12,12 @@ use Rattle.vsw_pcap.specs.declared.batch.Found.{Found}
 use Rattle.vsw_pcap.specs.declared.batch.Found.TheVariants as found
 use Rattle.vsw_pcap.specs.declared.capture.Record.{Record}
 use Rattle.vsw_pcap.specs.declared.fault.BadTrace.{BadTrace}
+use Rattle.vsw_pcap.specs.declared.reader.Next.{Next}
+use Rattle.vsw_pcap.specs.declared.reader.Next.TheVariants as next
 use Rattle.vsw_reading.specs.declared.reading.Reading.{Reading}
 use Rattle.vsw_reading.specs.declared.reading.Stop.{Stop}
 use Rattle.vsw_reading.specs.declared.reading.Stop.TheVariants as stop
-use Rattle.vsw_reading.specs.Reads.{IsRead, IsBehind, IsOpen, Holds, StopsSo}
+use Rattle.vsw_reading.specs.Reads.{IsRead, IsBehind, IsOpen, HasGrown, Holds, StopsSo}
 use Rattle.vsw_reading.specs.Private.Steps.{TakesPiece, Steps}
 
 -- what a reader found, whatever it was fed and gave
@@ -143,3 +145,22 @@ outputs_then a b c f g = record { put = g.put ∙ f.put; complained = g.complain
 -- what was read, where nothing is left unfed
 pub all_fed : (start now : Outside) (name : List ℕ) (r : Reading) (given : List Record) → Holds start now name r given → IsBehind start now name r (given ++ r.batch)
 all_fed start now name r given h = record { bytes = h.bytes; more = []; reading = subst (λ b. IsReading start now name r.source.file b) (sym (append-nil h.bytes)) h.read.reading; stands = h.read.stands }
+
+-- ---- the batch grows
+
+pub grown_none : (old new : List Record) → new ≡ old → HasGrown old new
+grown_none old new e = record { more = []; batch = e ∙ sym (append-nil old) }
+
+grown_next : (n : Next) (old : List Record) → HasGrown old (with_next n old)
+grown_next (next.Record r) old = record { more = r ∷ []; batch = refl }
+grown_next next.More old = grown_none old old refl
+grown_next next.End old = grown_none old old refl
+grown_next (next.Bad bad) old = grown_none old old refl
+
+-- by what was read into it
+pub grown_read : (n : Next) (old batch new : List Record) → batch ≡ with_next n old → new ≡ batch → HasGrown old new
+grown_read n old batch new e f = subst (λ w. HasGrown old w) (sym (f ∙ e)) (grown_next n old)
+
+-- by step after step
+pub grown_then : (a b c : List Record) → HasGrown a b → HasGrown b c → HasGrown a c
+grown_then a b c f g = record { more = f.more ++ g.more; batch = g.batch ∙ (ap (λ w. w ++ g.more) f.batch ∙ append_assoc a f.more g.more) }

@@ -56,6 +56,11 @@ abbrev pub Fills : Outside → Outside → List ℕ → Reading → List Record 
 Fills start now name r given most (Ok s) = StopsSo start now name r given most s
 Fills start now name r given most (Err e) = IsBehind start now name r (given ++ r.batch)
 
+-- the batch holds what it held, and perhaps more behind it
+pub record HasGrown (old new : List Record) : Type 0 where
+  pub more : List Record
+  pub batch : new ≡ old ++ more
+
 -- nothing is in hand, and so it stops; or a byte follows, in hand or read now and not fed
 abbrev pub Peeks : Outside → Outside → List ℕ → Reading → List ℕ → Stop → Type 0
 Peeks start now name r bytes stop.Full = (more : List ℕ) × IsReading start now name r.source.file (bytes ++ more) × (0 < length (r.reader.left ++ more))

@@ -5,7 +5,7 @@ ghost use Rattle.vsw_host.specs.Outside.{Outside, SameOutputs};
 ghost use Rattle.vsw_host.specs.Source.{IsReading};
 ghost use Rattle.vsw_pcap.specs.declared.capture.Record.{Record};
 ghost use Rattle.vsw_reading.specs.declared.reading.Stop.TheVariants.{Full};
-ghost use Rattle.vsw_reading.specs.Reads.{IsRead, IsOpen, Holds, Fills, Peeks};
+ghost use Rattle.vsw_reading.specs.Reads.{IsRead, IsOpen, Holds, HasGrown, Fills, Peeks};
 ghost use Rattle.vsw_reading.specs.Private.Steps.{ReadsBehind, Counts, TakesPiece, Steps};
 
 use std::alloc::Global;
@@ -128,6 +128,7 @@ fn step<H: Host>(host: &mut H, reading: &mut Reading, most: u32) -> Result<Optio
     requires near { IsOpen (H.outside host.old) reading.old }
     requires room { length reading.old.batch < most }
     ensures steps { (start : Outside) (name : List ℕ) (given : List Record) → Holds start (H.outside host.old) name reading.old given → Steps start (H.outside host.new) name reading.new given most result }
+    ensures grown { HasGrown reading.old.batch reading.new.batch }
     ensures outputs { SameOutputs (H.outside host.old) (H.outside host.new) }
 {
     match reading.reader.read_into(&mut reading.batch) {
@@ -143,11 +144,12 @@ fn step<H: Host>(host: &mut H, reading: &mut Reading, most: u32) -> Result<Optio
     }
 }
 
-/// Reads records into an empty batch until it holds so many, or the trace stops.
+/// Reads records into the batch, behind those that it holds, until it holds so many, or the trace stops.
 pub fn fill<H: Host>(host: &mut H, reading: &mut Reading, most: u32) -> Result<Stop, NoMemory>
     requires near { IsOpen (H.outside host.old) reading.old }
     requires room { length reading.old.batch < most }
     ensures fills { (start : Outside) (name : List ℕ) (given : List Record) → Holds start (H.outside host.old) name reading.old given → Fills start (H.outside host.new) name reading.new given most result }
+    ensures grown { HasGrown reading.old.batch reading.new.batch }
     ensures outputs { SameOutputs (H.outside host.old) (H.outside host.new) }
 {
     for _ in 0..u64::MAX {

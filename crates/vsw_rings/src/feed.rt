@@ -73,4 +73,16 @@ impl<T, P: Rule<T>> Feed<T, P> {
         }
         unreachable!()
     }
+
+    /// Tells that no item follows, if there is room for that, and whatever was handed over before: for a feed that is given up, so that the other thread
+    /// doesn't wait for ever.
+    pub fn give_up(&mut self)
+        ensures fed { fed self.new ≡ fed self.old }
+        ensures ended { 0 < room self.old → has_ended self.new ≡ true }
+        ensures ring { SameFeed self.old self.new }
+    {
+        if self.ring.slots() > 0 {
+            self.ring.push_reserved(Taken::End);
+        }
+    }
 }

@@ -1,5 +1,5 @@
 use Rattle.std.proofs.Common.{None, Ok, subst}
-use Rattle.vsw_reading.proofs.Steps.{StepsSo, open_stepped, room_stepped, outputs_then, all_fed}
+use Rattle.vsw_reading.proofs.Steps.{StepsSo, open_stepped, room_stepped, outputs_then, all_fed, grown_then}
 use Rattle.vsw_reading.proofs.reading.fill.Goals as goal
 
 pub returns-in-Ok-Some-clause-fills : goal.returns-in-Ok-Some-clause-fills
@@ -16,6 +16,7 @@ loop-preserved g c =
       reads = λ start name given h. (steps start name given (c.loop.invariant.reads start name given h)).0;
       near = open_stepped old now c.loop.reading c.step.new.reading c.args.most steps c.loop.invariant.near;
       room = room_stepped old now c.loop.reading c.step.new.reading c.args.most steps c.loop.invariant.near;
+      grown = grown_then c.args.reading.now.batch c.loop.reading.batch c.step.new.reading.batch c.loop.invariant.grown c.in-Ok-None.ensures.grown;
       outputs = outputs_then (g.H.Host.outside c.args.host.now) old now c.loop.invariant.outputs c.in-Ok-None.ensures.outputs;
     }
 

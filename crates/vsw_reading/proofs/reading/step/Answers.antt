@@ -1,7 +1,7 @@
-use Rattle.std.proofs.Common.{nat_lt, if◌then◌else◌, Some, None, Ok, subst, ap, ◌∙◌}
+use Rattle.std.proofs.Common.{nat_lt, if◌then◌else◌, Some, None, Ok, refl, subst, ap, ◌∙◌}
 use Rattle.vsw_reading.specs.Private.Steps.{TakesPiece}
 use Rattle.vsw_reading.specs.declared.reading.Stop.TheVariants.{Full}
-use Rattle.vsw_reading.proofs.Steps.{Finds, step_record, step_end, step_bad, step_unread, step_on, step_fault, step_unfed, open_more, unfinished}
+use Rattle.vsw_reading.proofs.Steps.{Finds, step_record, step_end, step_bad, step_unread, step_on, step_fault, step_unfed, open_more, unfinished, grown_read}
 use Rattle.vsw_reading.proofs.reading.step.Goals as goal
 
 pub returns-in-Ok-Record-clause-steps : goal.returns-in-Ok-Record-clause-steps
@@ -54,3 +54,18 @@ returns-in-Err-read_piece-clause-steps g c = λ start name given h.
     let r = c.args.reading.now in
     let finds = subst (Finds r.reader c.read_into.new.self r.batch c.read_into.new.batch) c.in-Ok-More.field-0-is c.in-Ok-More.ensures.reads in
     step_unfed start (g.H.Host.outside c.args.host.now) (g.H.Host.outside c.read_piece.new.host) name r c.read_piece.new.reading c.read_into.new.self c.read_into.new.batch given _ c.in-Ok-More.ensures.finished finds c.read_piece.ensures.batch (c.in-Err-read_piece.ensures.takes start name) h
+
+pub returns-in-Ok-End-clause-grown : goal.returns-in-Ok-End-clause-grown
+returns-in-Ok-End-clause-grown g c = grown_read _ c.args.reading.now.batch c.read_into.new.batch c.read_into.new.batch c.in-Ok-End.ensures.batch refl
+
+pub returns-in-Ok-Bad-clause-grown : goal.returns-in-Ok-Bad-clause-grown
+returns-in-Ok-Bad-clause-grown g c = grown_read _ c.args.reading.now.batch c.read_into.new.batch c.read_into.new.batch c.in-Ok-Bad.ensures.batch refl
+
+pub returns-in-Ok-true-clause-grown : goal.returns-in-Ok-true-clause-grown
+returns-in-Ok-true-clause-grown g c = grown_read _ c.args.reading.now.batch c.read_into.new.batch c.read_piece.new.reading.batch c.in-Ok-More.ensures.batch c.read_piece.ensures.batch
+
+pub returns-in-Ok-false-clause-grown : goal.returns-in-Ok-false-clause-grown
+returns-in-Ok-false-clause-grown g c = grown_read _ c.args.reading.now.batch c.read_into.new.batch c.read_piece.new.reading.batch c.in-Ok-More.ensures.batch c.read_piece.ensures.batch
+
+pub returns-in-Err-read_piece-clause-grown : goal.returns-in-Err-read_piece-clause-grown
+returns-in-Err-read_piece-clause-grown g c = grown_read _ c.args.reading.now.batch c.read_into.new.batch c.read_piece.new.reading.batch c.in-Ok-More.ensures.batch c.read_piece.ensures.batch

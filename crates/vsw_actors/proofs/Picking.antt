@@ -12,6 +12,7 @@ use Rattle.vsw_port.specs.Calls.{Carry, job_doer}
 use Rattle.vsw_promise.specs.Jobs.{crossing_by, deal}
 use Rattle.vsw_promise.specs.Jobs as jobs
 use Rattle.vsw_actors.specs.Actors.{placed_of}
+use Rattle.vsw_actors.specs.Handed.{with_more}
 use Rattle.vsw_actors.specs.Picks.{ArePicks, AtMost, IsPick, carried_by, dealt_to, picked, picked_job, picked_jobs}
 use Rattle.vsw_actors.specs.Private.Aims.{IsBrought, IsCarried, captured_of, packet_job}
 use Rattle.vsw_actors.specs.Work.{IsWork, job_in, parts_in}
@@ -20,7 +21,7 @@ use Rattle.vsw_actors.specs.declared.pick.Pick.{Pick}
 use Rattle.vsw_actors.specs.declared.work.Packet.{Packet}
 use Rattle.vsw_actors.specs.declared.work.Work.{Work}
 use Rattle.vsw_actors.specs.declared.work.Work.TheVariants as work
-use Rattle.vsw_actors.proofs.Sharing.{each_set, length_map_counted, map_end, none_dealt, put_at, put_dealt}
+use Rattle.vsw_actors.proofs.Sharing.{each_set, length_map_counted, map_end, none_dealt, put_dealt}
 use Rattle.vsw_actors.proofs.Doing.{take_next}
 use Rattle.vsw_actors.proofs.Steps.{each_there, there_within}
 
@@ -30,7 +31,7 @@ doer_is : (cs : List ℕ) (w n : ℕ) (place : Place) (o : Option Record) → jo
 doer_is cs w n place None = refl
 doer_is cs w n place (Some r) = refl
 
-picked_set : {G : Type 0} (k first : ℕ) (packets : List Record) (xs : List (Vec Pick G)) (i : ℕ) (x y : Vec Pick G) (p : Pick) → i < length xs → x ≡ get_or xs i x → y.items ≡ x.items ++ p ∷ [] → picked k first packets (slice_set xs i y) ≡ put_at i (picked_job (k + i) first packets p) (picked k first packets xs)
+picked_set : {G : Type 0} (k first : ℕ) (packets : List Record) (xs : List (Vec Pick G)) (i : ℕ) (x y : Vec Pick G) (p : Pick) → i < length xs → x ≡ get_or xs i x → y.items ≡ x.items ++ p ∷ [] → picked k first packets (slice_set xs i y) ≡ with_more i (picked_job (k + i) first packets p) (picked k first packets xs)
 picked_set {G} k first packets [] i x y p lt here e = absurd (omega (arith, lt))
 picked_set {G} k first packets (z ∷ zs) zero x y p lt here e =
     let front : picked_jobs k first packets y.items ≡ picked_jobs k first packets x.items ++ picked_job k first packets p ∷ [] = ap (picked_jobs k first packets) e ∙ map_end (picked_job k first packets) x.items p in
@@ -38,7 +39,7 @@ picked_set {G} k first packets (z ∷ zs) zero x y p lt here e =
     ap (λ w. w ∷ picked (suc k) first packets zs) (front ∙ (ap (λ (w : Vec Pick G). picked_jobs k first packets w.items ++ picked_job k first packets p ∷ []) here ∙ ap (λ n. picked_jobs k first packets z.items ++ picked_job n first packets p ∷ []) same))
 picked_set {G} k first packets (z ∷ zs) (suc i) x y p lt here e =
     let same : suc k + i ≡ k + suc i = omega arith in
-    ap (λ w. picked_jobs k first packets z.items ∷ w) (picked_set (suc k) first packets zs i x y p (omega (arith, lt)) here e ∙ ap (λ n. put_at i (picked_job n first packets p) (picked (suc k) first packets zs)) same)
+    ap (λ w. picked_jobs k first packets z.items ∷ w) (picked_set (suc k) first packets zs i x y p (omega (arith, lt)) here e ∙ ap (λ n. with_more i (picked_job n first packets p) (picked (suc k) first packets zs)) same)
 
 length_picked : {G : Type 0} (k first : ℕ) (packets : List Record) (xs : List (Vec Pick G)) → length (picked k first packets xs) ≡ length xs
 length_picked k first packets [] = refl
@@ -54,7 +55,15 @@ given_pick first packets n cs js xs i x y p (Ok u) lt here e so_far =
     let doer : job_doer cs job.1 ≡ i = doer_is cs i (first + p.at) p.place (slice_get packets p.at) in
     let at : job_doer cs job.1 ≡ 0 + i = omega (arith, doer) in
     let same : 0 + i ≡ i = omega arith in
-    picked_set 0 first packets xs i x y p lt here e ∙ (ap (λ m. put_at i (picked_job m first packets p) (picked 0 first packets xs)) same ∙ (ap (put_at i job) so_far ∙ put_dealt cs js job 0 n i within at))
+    picked_set 0 first packets xs i x y p lt here e ∙ (ap (λ m. with_more i (picked_job m first packets p) (picked 0 first packets xs)) same ∙ (ap (with_more i job) so_far ∙ put_dealt cs js job 0 n i within at))
+
+-- it is one more of that worker's
+pub put_pick : {G : Type 0} (first : ℕ) (packets : List Record) (xs : List (Vec Pick G)) (i : ℕ) (x y : Vec Pick G) (p : Pick) (r : Result ⊤ NoMemory) → i < length xs → x ≡ get_or xs i x → OnOk r (y.items ≡ x.items ++ p ∷ [])
+    → OnOk r (picked 0 first packets (slice_set xs i y) ≡ with_more i (picked_job i first packets p) (picked 0 first packets xs))
+put_pick first packets xs i x y p (Err f) lt here e = tt
+put_pick first packets xs i x y p (Ok u) lt here e =
+    let same : 0 + i ≡ i = omega arith in
+    picked_set 0 first packets xs i x y p lt here e ∙ ap (λ m. with_more i (picked_job m first packets p) (picked 0 first packets xs)) same
 
 pub given_fit : {G : Type 0} (ports : ℕ) (packets : List Record) (xs : List (Vec Pick G)) (i : ℕ) (x y : Vec Pick G) (p : Pick) (r : Result ⊤ NoMemory) → x ≡ get_or xs i x → OnOk r (y.items ≡ x.items ++ p ∷ []) → IsPick ports packets p → ArePicks ports packets xs → OnOk r (ArePicks ports packets (slice_set xs i y))
 given_fit ports packets xs i x y p (Err f) here e is a = tt

@@ -12,16 +12,11 @@ use Rattle.vsw_policy.specs.Sound.{Each}
 use Rattle.vsw_promise.specs.Jobs.{deal}
 use Rattle.vsw_promise.specs.Jobs as jobs
 use Rattle.vsw_actors.specs.Deal.{AreWork, dealt, shared}
+use Rattle.vsw_actors.specs.Handed.{with_more}
 use Rattle.vsw_actors.specs.Work.{IsWork, job_in}
 use Rattle.vsw_actors.specs.declared.work.Work.{Work}
 
 -- ---- one more job of a caller
-
--- an element at the end of the list at a place
-abbrev pub put_at : {A : Type 0} → ℕ → A → List (List A) → List (List A)
-put_at i x [] = []
-put_at zero x (xs ∷ xss) = (xs ++ x ∷ []) ∷ xss
-put_at (suc i) x (xs ∷ xss) = xs ∷ put_at i x xss
 
 own : (cs : List ℕ) (k : ℕ) (js : List jobs.Placed) (t : jobs.Placed) → job_doer cs t.1 ≡ k → deal cs k (js ++ t ∷ []) ≡ deal cs k js ++ t ∷ []
 own cs k js t e =
@@ -41,7 +36,7 @@ above cs js t first zero lt = refl
 above cs js t first (suc n) lt = ap₂ (λ x y. x ∷ y) (other cs first js t (λ e. omega (arith, e, lt))) (above cs js t (suc first) n (omega (arith, lt)))
 
 -- a job at the end of its caller's share is one more that is dealt
-pub put_dealt : (cs : List ℕ) (js : List jobs.Placed) (t : jobs.Placed) (first n i : ℕ) → i < n → job_doer cs t.1 ≡ first + i → put_at i t (map (λ k. deal cs k js) (counted first n)) ≡ map (λ k. deal cs k (js ++ t ∷ [])) (counted first n)
+pub put_dealt : (cs : List ℕ) (js : List jobs.Placed) (t : jobs.Placed) (first n i : ℕ) → i < n → job_doer cs t.1 ≡ first + i → with_more i t (map (λ k. deal cs k js) (counted first n)) ≡ map (λ k. deal cs k (js ++ t ∷ [])) (counted first n)
 put_dealt cs js t first zero i lt e = absurd (omega (arith, lt))
 put_dealt cs js t first (suc n) zero lt e =
     let here : job_doer cs t.1 ≡ first = omega (arith, e) in
@@ -54,7 +49,7 @@ pub map_end : {A B : Type 0} (f : A → B) (xs : List A) (x : A) → map f (xs +
 map_end f [] x = refl
 map_end f (y ∷ xs) x = ap (λ w. f y ∷ w) (map_end f xs x)
 
-shared_set : {G : Type 0} (xs : List (Vec (Placed Work) G)) (i : ℕ) (x y : Vec (Placed Work) G) (j : Placed Work) → i < length xs → x ≡ get_or xs i x → y.items ≡ x.items ++ j ∷ [] → shared (slice_set xs i y) ≡ put_at i (placed_of job_in j) (shared xs)
+shared_set : {G : Type 0} (xs : List (Vec (Placed Work) G)) (i : ℕ) (x y : Vec (Placed Work) G) (j : Placed Work) → i < length xs → x ≡ get_or xs i x → y.items ≡ x.items ++ j ∷ [] → shared (slice_set xs i y) ≡ with_more i (placed_of job_in j) (shared xs)
 shared_set {G} [] i x y j lt here e = absurd (omega (arith, lt))
 shared_set {G} (z ∷ zs) zero x y j lt here e =
     let front : map (placed_of job_in) y.items ≡ map (placed_of job_in) x.items ++ placed_of job_in j ∷ [] = ap (map (placed_of job_in)) e ∙ map_end (placed_of job_in) x.items j in
@@ -76,7 +71,7 @@ given cs js xs i x y j (Err f) lt here e so_far doer = tt
 given cs js xs i x y j (Ok u) lt here e so_far doer =
     let within : i < 16 + length cs = omega (arith, lt, length_shared xs, ap length so_far, length_map_counted (λ k. deal cs k js) 0 (16 + length cs)) in
     let at : job_doer cs (job_in j.job) ≡ 0 + i = omega (arith, doer) in
-    shared_set xs i x y j lt here e ∙ (ap (put_at i (placed_of job_in j)) so_far ∙ put_dealt cs js (placed_of job_in j) 0 (16 + length cs) i within at)
+    shared_set xs i x y j lt here e ∙ (ap (with_more i (placed_of job_in j)) so_far ∙ put_dealt cs js (placed_of job_in j) 0 (16 + length cs) i within at)
 
 -- what holds of all in each list still does with one more of which it holds
 pub each_set : {A G : Type 0} (Q : A → Type 0) (xs : List (Vec A G)) (i : ℕ) (x y : Vec A G) (j : A) → x ≡ get_or xs i x → y.items ≡ x.items ++ j ∷ [] → Q j → Each (λ v. Each Q v.items) xs → Each (λ v. Each Q v.items) (slice_set xs i y)

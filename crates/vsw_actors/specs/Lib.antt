@@ -6,6 +6,7 @@ pub mod Rows
 pub mod Deal
 pub mod Picks
 pub mod Going
+pub mod Handed
 pub mod Work
 pub use Rattle.vsw_many.specs.Actors as ManyActors
 pub use Rattle.vsw_many.specs.Passes

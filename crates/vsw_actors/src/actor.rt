@@ -196,7 +196,7 @@ fn step_all<J, P: Port<J>, R: Wait>(
 }
 
 /// The same of lanes in their room.
-fn step_in<J, P: Port<J>, R: Wait>(
+pub fn step_in<J, P: Port<J>, R: Wait>(
     rt: &R,
     alloc: Global,
     ports: &[P],

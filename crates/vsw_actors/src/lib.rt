@@ -4,6 +4,7 @@
 mod actor;
 mod aim;
 mod going;
+mod handed;
 mod hop;
 mod lane;
 mod law;
@@ -18,11 +19,12 @@ mod seat;
 mod share;
 mod work;
 
-pub use actor::{Actor, Begun, Placed};
+pub use actor::{Actor, Begun, Placed, step_in};
 pub use going::carry_on;
+pub use handed::{Given, Handed, hand_over};
 pub use lane::{Lane, step, step_at};
 pub use law::actor_laws;
-pub use pick::{Pick, deal_picks, jobs_of};
+pub use pick::{Pick, deal_picks, jobs_of, no_picks};
 pub use port::Port;
 pub use reconciler::{RowPort, reconcile_rows};
 pub use round::Lineup;

@@ -8,6 +8,7 @@ ghost use Rattle.vsw_port.specs.Order.{numbered};
 ghost use Rattle.vsw_promise.specs.Jobs.{aim_of, loose_after, loose_among, placed_packet, placed_packets};
 ghost use Rattle.vsw_promise.specs.Jobs as jobs;
 ghost use Rattle.vsw_actors.specs.Actors.{placed_of};
+ghost use Rattle.vsw_actors.specs.Handed.{with_more};
 ghost use Rattle.vsw_actors.specs.Picks.{ArePicks, AtMost, IsPick, dealt_to, picked, picked_job, picked_jobs};
 ghost use Rattle.vsw_actors.specs.Private.Aims.{captured_of, packet_job};
 ghost use Rattle.vsw_actors.specs.Work.{IsWork, job_in};
@@ -30,7 +31,7 @@ pub struct Pick {
 }
 
 /// A list without picks for each worker.
-fn no_picks(alloc: Global, workers: u32) -> Result<Vec<Vec<Pick>>, NoMemory>
+pub fn no_picks(alloc: Global, workers: u32) -> Result<Vec<Vec<Pick>>, NoMemory>
     ensures { IfOk result (λ picks. map (λ v. v.items) picks.items ≡ replicate workers []) }
 {
     let Ok(mut picks) = Vec::with_capacity(alloc, workers as usize) else {
@@ -55,9 +56,10 @@ fn put_pick(share: &mut Vec<Pick>, pick: Pick) -> Result<(), NoMemory>
 }
 
 /// Gives a pick to a worker.
-fn give_pick(picks: &mut Vec<Vec<Pick>>, worker: u32, pick: Pick) -> Result<(), NoMemory>
+pub(crate) fn give_pick(picks: &mut Vec<Vec<Pick>>, worker: u32, pick: Pick) -> Result<(), NoMemory>
     requires worker { worker < length picks.old.items }
     ensures dealt { (first : ℕ) (packets : List Record) (workers : ℕ) (cs : List ℕ) (js : List jobs.Placed) → picked 0 first packets picks.old.items ≡ dealt_to workers cs js → OnOk result (picked 0 first packets picks.new.items ≡ dealt_to workers cs (js ++ picked_job worker first packets pick ∷ [])) }
+    ensures put { (first : ℕ) (packets : List Record) → OnOk result (picked 0 first packets picks.new.items ≡ with_more worker (picked_job worker first packets pick) (picked 0 first packets picks.old.items)) }
     ensures fit { (ports : ℕ) (packets : List Record) → IsPick ports packets pick → ArePicks ports packets picks.old.items → OnOk result (ArePicks ports packets picks.new.items) }
     ensures few { (n : ℕ) → AtMost n picks.old.items → OnOk result (AtMost (n + 1) picks.new.items) }
     ensures workers { length picks.new.items ≡ length picks.old.items }

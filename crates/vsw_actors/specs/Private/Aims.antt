@@ -11,7 +11,9 @@ use Rattle.vsw_policy.specs.Layers.{place_of}
 use Rattle.vsw_promise.specs.Jobs.{Placed}
 use Rattle.vsw_report.specs.declared.round.Loose.{Loose}
 use Rattle.vsw_report.specs.declared.round.LooseCause.{LooseCause}
+use Rattle.vsw_actors.specs.Handed.{handed_job}
 use Rattle.vsw_actors.specs.Work.{job_in}
+use Rattle.vsw_actors.specs.declared.handed.Given.{Given}
 use Rattle.vsw_actors.specs.declared.work.Packet.{Packet}
 use Rattle.vsw_actors.specs.declared.work.Work.{Work}
 use Rattle.vsw_actors.specs.declared.work.Work.TheVariants as work
@@ -48,6 +50,12 @@ pub record IsBrought (workers n : ℕ) (c : Captured) (p : Packet) : Type 0 wher
   pub number : p.number ≡ n
   pub moment : p.micros ≡ c.moment
   pub bytes : p.bytes.now ≡ c.bytes.now
+
+-- the packet is handed over to who brings it, with the same bytes
+pub record IsGivenOf (p : Packet) (g : Given) : Type 0 where
+  pub worker : g.worker ≡ p.worker
+  pub bytes : g.packet.bytes.items ≡ p.bytes.now
+  pub job : handed_job g.worker g.packet ≡ (p.place.port, job_in (work.Packet p))
 
 -- the job that a command is, if it runs beside the packets
 abbrev pub beside : List ℕ → Line → List Placed

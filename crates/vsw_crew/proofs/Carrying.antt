@@ -73,11 +73,11 @@ picks_own : (worker first : ℕ) (packets : List Record) (picks : List Pick) →
 picks_own worker first packets [] = tt
 picks_own worker first packets (p ∷ picks) = ((λ cs. doer_is cs worker (first + p.at) p.place _), picks_own worker first packets picks)
 
-own_at : (k : ℕ) (j : Job) (ds : List DockSeen) → ((cs : List ℕ) → job_doer cs j ≡ k) → IsOwn port_in j k ds
+pub own_at : (k : ℕ) (j : Job) (ds : List DockSeen) → ((cs : List ℕ) → job_doer cs j ≡ k) → IsOwn port_in j k ds
 own_at k j [] own = tt
 own_at k j (d ∷ ds) own = (own d.live.looking.1.controllers, own_at k j ds own)
 
-taken_at : (at place : ℕ) (w : Work) (ds : List DockSeen) → IsPlaced place w → ((cs : List ℕ) → MayDo cs w) → IsTaken takes at place w ds
+pub taken_at : (at place : ℕ) (w : Work) (ds : List DockSeen) → IsPlaced place w → ((cs : List ℕ) → MayDo cs w) → IsTaken takes at place w ds
 taken_at at place w [] placed may = tt
 taken_at at place w (d ∷ ds) placed may = ((λ e. (placed, may d.live.looking.1.controllers)), taken_at (suc at) place w ds placed may)
 

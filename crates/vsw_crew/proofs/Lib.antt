@@ -14,12 +14,17 @@ mod Gone
 mod Told
 mod Between
 mod Carrying
+mod ByRing
 mod Sharing
 mod Giving
 mod Picking
 mod Owing
 mod Returning
 mod Shifts
+mod Outgoing
+mod Handing
+mod Incoming
+mod Closing
 pub mod Sending
 pub use Rattle.vsw_switch.proofs.Totals
 pub use Rattle.vsw_switch.proofs.Running

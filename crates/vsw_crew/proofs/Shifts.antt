@@ -23,6 +23,7 @@ use Rattle.vsw_switch.specs.Switch.{AreServed, IsAt}
 use Rattle.vsw_crew.specs.Crew.{AreReady, AreRowsOf, CrewSeen, crew_now, seen_by, switch_now}
 use Rattle.vsw_crew.specs.Private.Owing.{HasOwed}
 use Rattle.vsw_crew.specs.Private.Round.{HasWorked}
+use Rattle.vsw_crew.specs.Private.Flowing.{DoesRound}
 use Rattle.vsw_crew.specs.Shares.{ShareSeen}
 use Rattle.vsw_crew.specs.Shift.{IsOut, IsPicked, Owes, TellsOwed}
 use Rattle.vsw_crew.specs.declared.owed.Owed.{Owed}
@@ -95,20 +96,17 @@ tells_at h numbers macs listed asks gs lines first packets u out o rows i x told
 }
 
 -- whichever crew it was that stood at this harbour
-of_start : (P : CrewSeen → Type 0) (h : HarbourSeen) (c : CrewSeen) → c.harbour ≡ h → P (at_start h c.histories) → P c
+pub of_start : (P : CrewSeen → Type 0) (h : HarbourSeen) (c : CrewSeen) → c.harbour ≡ h → P (at_start h c.histories) → P c
 of_start P h c e p = subst (λ (k : HarbourSeen). P (at_start k c.histories)) (sym e) p
 
-to_start : (P : CrewSeen → Type 0) (h : HarbourSeen) (c : CrewSeen) → c.harbour ≡ h → P c → P (at_start h c.histories)
+pub to_start : (P : CrewSeen → Type 0) (h : HarbourSeen) (c : CrewSeen) → c.harbour ≡ h → P c → P (at_start h c.histories)
 to_start P h c e p = subst (λ (k : HarbourSeen). P (at_start k c.histories)) e p
 
 -- what the calls tell
-abbrev pub Does : HarbourSeen → Underway → List ShareSeen → Worked → Type 0
-Does h u out w = (hs : List (List Event)) (lines : List Line) (first : ℕ) (packets : List Record) → IsOut (record { harbour = h; histories = hs }) lines first packets u out → (s : Setting) → IsOfRun h s → s.commands ≡ lines → HasWorked h s hs first packets w.befores.items w.firsts.items w.loose.items (rows_in w.rows.items)
-
 abbrev pub OwesSo : HarbourSeen → ℕ → Worked → Owed → List (List (Lane StationSeen)) → Type 0
 OwesSo h first w o rows = (s : Setting) (hs : List (List Event)) (packets : List Record) → AreAsked s → HasWorked h s hs first packets w.befores.items w.firsts.items w.loose.items (rows_in w.rows.items) → HasOwed h s hs first packets o rows
 
-owed_of : (h : HarbourSeen) (gs : List (List Event)) (lines : List Line) (first : ℕ) (packets : List Record) (u : Underway) (out : List ShareSeen) (w : Worked) (o : Owed) (rows : List (List (Lane StationSeen))) → IsOut (at_start h gs) lines first packets u out → Does h u out w → OwesSo h u.first w o rows → IsOwedOf h gs lines first packets o rows
+owed_of : (h : HarbourSeen) (gs : List (List Event)) (lines : List Line) (first : ℕ) (packets : List Record) (u : Underway) (out : List ShareSeen) (w : Worked) (o : Owed) (rows : List (List (Lane StationSeen))) → IsOut (at_start h gs) lines first packets u out → DoesRound h u out w → OwesSo h u.first w o rows → IsOwedOf h gs lines first packets o rows
 owed_of h gs lines first packets u out w o rows x does owes s run same =
     let worked = does gs lines first packets x s run same in
     let here = subst (λ (n : ℕ). HasWorked h s gs n packets w.befores.items w.firsts.items w.loose.items (rows_in w.rows.items)) (sym x.first_is) worked in
@@ -130,29 +128,29 @@ began h crew gs u out view x =
 pub may_take : (h : HarbourSeen) (u : Underway) (out : List ShareSeen) → Began h u out → (hs : List (List Event)) × (lines : List Line) × (first : ℕ) × (packets : List Record) × IsOut (at_start h hs) lines first packets u out
 may_take h u out b = (b.histories, b.lines, b.first, b.packets, b.is_out)
 
-pub may_owe : (h : HarbourSeen) (u : Underway) (out : List ShareSeen) (w : Worked) → Began h u out → Does h u out w → (s : Setting) × (hs : List (List Event)) × (packets : List Record) × HasWorked h s hs u.first packets w.befores.items w.firsts.items w.loose.items (rows_in w.rows.items)
+pub may_owe : (h : HarbourSeen) (u : Underway) (out : List ShareSeen) (w : Worked) → Began h u out → DoesRound h u out w → (s : Setting) × (hs : List (List Event)) × (packets : List Record) × HasWorked h s hs u.first packets w.befores.items w.firsts.items w.loose.items (rows_in w.rows.items)
 may_owe h u out w b does =
     let r = is_with h b.lines b.is_out.run.run b.is_out.run.is in
     let s = run_with b.lines b.is_out.run.run in
     (s, b.histories, b.packets, subst (λ (n : ℕ). HasWorked h s b.histories n b.packets w.befores.items w.firsts.items w.loose.items (rows_in w.rows.items)) (sym b.is_out.first_is) (does b.histories b.lines b.first b.packets b.is_out s r.0 r.1))
 
 -- it is owed in some run
-some_owed : (h : HarbourSeen) (u : Underway) (out : List ShareSeen) (w : Worked) (o : Owed) (rows : List (List (Lane StationSeen))) → (b : Began h u out) → Does h u out w → OwesSo h u.first w o rows → HasOwed h (run_with b.lines b.is_out.run.run) b.histories b.first b.packets o rows
+some_owed : (h : HarbourSeen) (u : Underway) (out : List ShareSeen) (w : Worked) (o : Owed) (rows : List (List (Lane StationSeen))) → (b : Began h u out) → DoesRound h u out w → OwesSo h u.first w o rows → HasOwed h (run_with b.lines b.is_out.run.run) b.histories b.first b.packets o rows
 some_owed h u out w o rows b does owes =
     let r = is_with h b.lines b.is_out.run.run b.is_out.run.is in
     owed_of h b.histories b.lines b.first b.packets u out w o rows b.is_out does owes (run_with b.lines b.is_out.run.run) r.0 r.1
 
-pub rows_left : (h : HarbourSeen) (u : Underway) (out : List ShareSeen) (w : Worked) (o : Owed) (rows : List (List (Lane StationSeen))) → Began h u out → Does h u out w → OwesSo h u.first w o rows → AreRowsOf h rows
+pub rows_left : (h : HarbourSeen) (u : Underway) (out : List ShareSeen) (w : Worked) (o : Owed) (rows : List (List (Lane StationSeen))) → Began h u out → DoesRound h u out w → OwesSo h u.first w o rows → AreRowsOf h rows
 rows_left h u out w o rows b does owes = let t = some_owed h u out w o rows b does owes in rows_ready h t.histories rows b.is_out.run t.ready
 
-pub owes_some : (h : HarbourSeen) (crew : CrewSeen) (gs : List (List Event)) (u : Underway) (out : List ShareSeen) (w : Worked) (o : Owed) (rows : List (List (Lane StationSeen))) → at_start h gs ≡ crew → Began h u out → Does h u out w → OwesSo h u.first w o rows → (text : List ℕ) × (short : Bool) × Owes crew.harbour o text short
+pub owes_some : (h : HarbourSeen) (crew : CrewSeen) (gs : List (List Event)) (u : Underway) (out : List ShareSeen) (w : Worked) (o : Owed) (rows : List (List (Lane StationSeen))) → at_start h gs ≡ crew → Began h u out → DoesRound h u out w → OwesSo h u.first w o rows → (text : List ℕ) × (short : Bool) × Owes crew.harbour o text short
 owes_some h crew gs u out w o rows view b does owes =
     let t = some_owed h u out w o rows b does owes in
     let text : List ℕ = crew_text b.first (ports_of (run_with b.lines b.is_out.run.run).policy) b.histories t.histories t.texts (loose_among (macs_of (run_with b.lines b.is_out.run.run).policy) (numbered b.first b.packets)) in
     let short : Bool = is_short_crew b.histories t.histories t.texts in
     (text, short, subst (λ (k : CrewSeen). Owes k.harbour o text short) view t.owes)
 
-pub tells_owed : (h : HarbourSeen) (numbers macs listed asks : List ℕ) (crew : CrewSeen) (gs : List (List Event)) (u : Underway) (out : List ShareSeen) (w : Worked) (o : Owed) (rows : List (List (Lane StationSeen))) → IsHarbour h numbers macs listed asks → at_start h gs ≡ crew → Does h u out w → OwesSo h u.first w o rows
+pub tells_owed : (h : HarbourSeen) (numbers macs listed asks : List ℕ) (crew : CrewSeen) (gs : List (List Event)) (u : Underway) (out : List ShareSeen) (w : Worked) (o : Owed) (rows : List (List (Lane StationSeen))) → IsHarbour h numbers macs listed asks → at_start h gs ≡ crew → DoesRound h u out w → OwesSo h u.first w o rows
     → (c : CrewSeen) (lines : List Line) (first : ℕ) (packets : List Record) → c.harbour ≡ crew.harbour → IsOut c lines first packets u out → TellsOwed c lines first packets o (record { harbour = h; histories = seen_by rows })
 tells_owed h numbers macs listed asks crew gs u out w o rows i view does owes c lines first packets same x =
     let e : c.harbour ≡ h = same ∙ sym (ap (λ (k : CrewSeen). k.harbour) view) in

@@ -4,6 +4,8 @@ pub mod Crew
 pub mod Told
 pub mod Shares
 pub mod Shift
+pub mod StreamShares
+pub mod Streams
 pub use Rattle.vsw_switch.specs.Round
 pub use Rattle.vsw_switch.specs.Close
 pub use Rattle.vsw_switch.specs.Switch

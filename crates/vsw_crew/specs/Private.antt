@@ -1,3 +1,4 @@
+pub mod ByRing
 pub mod Port
 pub mod Ports
 pub mod Rows
@@ -5,4 +6,5 @@ pub mod Round
 pub mod Telling
 pub mod Carrying
 pub mod Shifting
+pub mod Flowing
 pub mod Owing

@@ -39,12 +39,12 @@ use vsw_workers::Gate;
 /// controllers in the policy's order. Once memory was wanting for a round there are no rows any more, and no round is run.
 #[derive(Drop)]
 pub struct Crew<'c, 'g, J: Naming, G> {
-    harbour: &'c Harbour<'g, J, G>,
+    pub(crate) harbour: &'c Harbour<'g, J, G>,
     /// How many rounds were begun. By it rows of the ports are reconciled in turn, so it may begin again at 0.
     round: u32,
-    rows: Vec<Vec<Lane<Station>>>,
+    pub(crate) rows: Vec<Vec<Lane<Station>>>,
     /// Rooms for lines, of rounds that were told.
-    rooms: Vec<Lines>,
+    pub(crate) rooms: Vec<Lines>,
 }
 
 impl<'c, 'g, J: Naming, G> Model for Crew<'c, 'g, J, G> {

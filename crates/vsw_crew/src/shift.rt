@@ -4,13 +4,13 @@ ghost use Rattle.std.specs.Arc.{arc_value};
 ghost use Rattle.std.specs.Prelude.{◌≡◌, ◌≤◌, ◌<◌, ◌+◌, ◌++◌, ◌∷◌, [], ℕ, List, IfOk, OnOk, drop, length, replicate};
 ghost use Rattle.vsw_actors.specs.Picks.{AtMost};
 ghost use Rattle.vsw_crew.specs.Crew.{AreReady, IsOfSome};
-ghost use Rattle.vsw_crew.specs.Private.Round.{HasWorked};
+ghost use Rattle.vsw_crew.specs.Private.Flowing.{DoesRound};
 ghost use Rattle.vsw_crew.specs.Private.Shifting.{ArePut, AreShares, needs_of, picks_many, shares_of};
-ghost use Rattle.vsw_crew.specs.Shares.{IsShare, share_of};
+ghost use Rattle.vsw_crew.specs.Shares.{DoesShare, IsShare, ShareSeen, share_of};
+ghost use Rattle.vsw_hands.specs.Hands.{AllDone};
 ghost use Rattle.vsw_crew.specs.Shift.{HasNoneBeside, IsOut, IsPicked};
-ghost use Rattle.vsw_harbour.specs.Harbour.{IsOfRun, MayAsk, callers};
+ghost use Rattle.vsw_harbour.specs.Harbour.{IsHarbour, MayAsk, callers};
 ghost use Rattle.vsw_commandfile.specs.declared.line.Line.{Line};
-ghost use Rattle.vsw_promise.specs.Jobs.{Setting};
 ghost use Rattle.vsw_harbour.specs.HarbourOpening.{rows_in};
 ghost use Rattle.vsw_harbour.specs.Meeting.{AllMeet};
 ghost use Rattle.vsw_harbour.specs.Standing.{RowsStand, no_calls};
@@ -57,7 +57,7 @@ fn add_needs(picks: &[Vec<Pick>], needs: &mut Vec<u32>) -> Result<(), NoMemory>
 }
 
 /// So many callers that need nothing.
-fn no_needs(alloc: Global, count: usize) -> Result<Vec<u32>, NoMemory>
+pub(crate) fn no_needs(alloc: Global, count: usize) -> Result<Vec<u32>, NoMemory>
     ensures { IfOk result (λ needs. needs.items ≡ replicate count 0) }
 {
     match vec![in alloc; 0; count] {
@@ -66,7 +66,7 @@ fn no_needs(alloc: Global, count: usize) -> Result<Vec<u32>, NoMemory>
     }
 }
 
-fn append(out: &mut Vec<u32>, needs: &[u32]) -> Result<(), NoMemory>
+pub(crate) fn append(out: &mut Vec<u32>, needs: &[u32]) -> Result<(), NoMemory>
     ensures { OnOk result (out.new.items ≡ out.old.items ++ needs.now) }
 {
     match out.extend_from_slice(needs) {
@@ -234,18 +234,17 @@ fn put_back(rows: &mut [Vec<Lane<Station>>], tolds: &mut [Carried]) -> Result<()
     Ok(())
 }
 
-/// Ends a round: takes what is told of its shares, and all callers meet the ports.
-pub(crate) fn take<'p, 'c, 'g, J: Naming, G: Gate + Watch, R: Wait, B: Roll>(
+/// Ends a round of whose shares this is told: puts the rows back, and all callers meet the ports.
+pub(crate) fn end_round<'c, 'g, J: Naming, G, R: Wait>(
     rt: &R,
     harbour: &'c Harbour<'g, J, G>,
-    pool: &mut Pool<'p, Share<'c, 'g, J, G>, Carried, Carrier<'g, G>, B>,
     underway: Underway,
+    tolds: Vec<Carried>,
 ) -> Result<Worked, NoMemory>
-    requires out { (hs : List (List Event)) × (lines : List Line) × (first : ℕ) × (packets : List Record) × IsOut (record { harbour = harbour.now; histories = hs }) lines first packets underway pool.old }
-    ensures worked { IfOk result (λ w. (hs : List (List Event)) (lines : List Line) (first : ℕ) (packets : List Record) → IsOut (record { harbour = harbour.now; histories = hs }) lines first packets underway pool.old → (s : Setting) → IsOfRun harbour.now s → s.commands ≡ lines → HasWorked harbour.now s hs first packets w.befores.items w.firsts.items w.loose.items (rows_in w.rows.items)) }
-    ensures idle { OnOk result (pool.new ≡ []) }
+    requires harbour { (numbers : List ℕ) × (macs : List ℕ) × (listed : List ℕ) × (asks : List ℕ) × IsHarbour harbour.now numbers macs listed asks }
+    requires out { (hs : List (List Event)) × (lines : List Line) × (first : ℕ) × (packets : List Record) × (out : List ShareSeen) × IsOut (record { harbour = harbour.now; histories = hs }) lines first packets underway out × AllDone DoesShare out tolds.items }
+    ensures worked { IfOk result (λ w. (out : List ShareSeen) → AllDone DoesShare out tolds.items → DoesRound harbour.now underway out w) }
 {
-    let mut tolds = pool.take(rt, harbour.alloc)?;
     let Underway {
         first: _,
         befores,
@@ -254,6 +253,7 @@ pub(crate) fn take<'p, 'c, 'g, J: Naming, G: Gate + Watch, R: Wait, B: Roll>(
         rows,
     } = underway;
     let mut rows = rows;
+    let mut tolds = tolds;
     put_back(rows.as_mut_slice(), tolds.as_mut_slice())?;
     meet_after(rt, harbour, &mut rows)?;
     Ok(Worked {
@@ -262,4 +262,19 @@ pub(crate) fn take<'p, 'c, 'g, J: Naming, G: Gate + Watch, R: Wait, B: Roll>(
         firsts,
         loose,
     })
+}
+
+/// Ends a round: takes what is told of its shares, and all callers meet the ports.
+pub(crate) fn take<'p, 'c, 'g, J: Naming, G: Gate + Watch, R: Wait, B: Roll>(
+    rt: &R,
+    harbour: &'c Harbour<'g, J, G>,
+    pool: &mut Pool<'p, Share<'c, 'g, J, G>, Carried, Carrier<'g, G>, B>,
+    underway: Underway,
+) -> Result<Worked, NoMemory>
+    requires out { (hs : List (List Event)) × (lines : List Line) × (first : ℕ) × (packets : List Record) × IsOut (record { harbour = harbour.now; histories = hs }) lines first packets underway pool.old }
+    ensures worked { IfOk result (DoesRound harbour.now underway pool.old) }
+    ensures idle { OnOk result (pool.new ≡ []) }
+{
+    let tolds = pool.take(rt, harbour.alloc)?;
+    end_round(rt, harbour, underway, tolds)
 }

@@ -22,6 +22,7 @@ pub within : (words : List (List ℕ)) (r : Option asked.Asked) → option_map a
 within words None e = tt
 within words (Some (asked.TheVariants.Forward q)) e = let h = asks words (asked.TheVariants.Forward q) e in counted h.3.option q.workers h.3.option_is
 within words (Some (asked.TheVariants.Deliver q)) e = let h = asks words (asked.TheVariants.Deliver q) e in counted h.3.option q.workers h.3.option_is
+within words (Some (asked.TheVariants.Stream q)) e = let h = asks words (asked.TheVariants.Stream q) e in counted h.3.option q.workers h.3.option_is
 within words (Some (asked.TheVariants.Offload q)) e = let h = asks words (asked.TheVariants.Offload q) e in h.3.0
 within words (Some (asked.TheVariants.Check q)) e = let h = asks words (asked.TheVariants.Check q) e in counted h.3.option q.run.workers h.3.option_is
 within words (Some (asked.TheVariants.Engine q)) e = tt
@@ -44,6 +45,7 @@ pub forwarded_is : (words : List (List ℕ)) (r : Option asked.Asked) → option
 forwarded_is words None e = no_request words None (λ q f. cc f) (sym e)
 forwarded_is words (Some (asked.TheVariants.Forward q)) e = sym ((reads_forward words (request_seen q)).1 (asks words (asked.TheVariants.Forward q) e))
 forwarded_is words (Some (asked.TheVariants.Deliver q)) e = no_request words _ (λ q f. cc f) (sym e)
+forwarded_is words (Some (asked.TheVariants.Stream q)) e = no_request words _ (λ q f. cc f) (sym e)
 forwarded_is words (Some (asked.TheVariants.Offload q)) e = no_request words _ (λ q f. cc f) (sym e)
 forwarded_is words (Some (asked.TheVariants.Check c)) e = no_request words _ (λ q f. cc f) (sym e)
 forwarded_is words (Some (asked.TheVariants.Engine q)) e = no_request words _ (λ q f. cc f) (sym e)

@@ -5,7 +5,7 @@ use Rattle.std.proofs.lemmas.Option.{none-some, same_Some}
 use Rattle.std.proofs.lemmas.Slice.Eq.{bytes_eq-Decides}
 use Rattle.vsw_run.specs.Grammar.{IsGenerate, Asks}
 use Rattle.vsw_run.specs.GrammarLaw.{ReadsGrammar, RefusesOthers, ReadsForward, OneReading}
-use Rattle.vsw_run.specs.Words.{Request, Claim, Query, Asked, Forward, Deliver, Offload, Check, Engine, Generate, number_in, forward_in, offload_in, check_in, engine_in, generate_in, asked_in, request_in}
+use Rattle.vsw_run.specs.Words.{Request, Claim, Query, Asked, Forward, Deliver, Stream, Offload, Check, Engine, Generate, number_in, forward_in, offload_in, check_in, engine_in, generate_in, asked_in, request_in}
 use Rattle.vsw_run.proofs.Decimals.{number_is, number_of}
 use Rattle.vsw_run.proofs.Forwards.{forward_reads, forward_is, offload_reads, offload_is, check_reads, check_is, engine_reads, engine_is}
 
@@ -50,6 +50,7 @@ generate_is (a ∷ b ∷ []) asked e = first (number_in 0 2147483647 a) refl e w
 asked_reads : (words : List (List ℕ)) (asked : Asked) → Asks words asked → asked_in words ≡ Some asked
 asked_reads words (Forward q) h = ap asked_in h.2 ∙ ap (option_map Forward) (forward_reads h.1 q h.3)
 asked_reads words (Deliver q) h = ap asked_in h.2 ∙ ap (option_map Deliver) (forward_reads h.1 q h.3)
+asked_reads words (Stream q) h = ap asked_in h.2 ∙ ap (option_map Stream) (forward_reads h.1 q h.3)
 asked_reads words (Offload q) h = ap asked_in h.2 ∙ ap (option_map Offload) (offload_reads h.1 q h.3)
 asked_reads words (Check c) h = ap asked_in h.2 ∙ ap (option_map Check) (check_reads h.1 c h.3)
 asked_reads words (Engine q) h = ap asked_in h.2 ∙ ap (option_map Engine) (engine_reads h.1 q h.3)
@@ -60,6 +61,9 @@ forward_asks program command words q t e = (program, words, ap (λ c. program �
 
 deliver_asks : (program command : List ℕ) (words : List (List ℕ)) (q : Request) → bytes_eq command (codes "deliver") ≡ true → forward_in words ≡ Some q → Asks (program ∷ command ∷ words) (Deliver q)
 deliver_asks program command words q t e = (program, words, ap (λ c. program ∷ c ∷ words) ((bytes_eq-Decides command (codes "deliver")).0 t), forward_is words q e)
+
+stream_asks : (program command : List ℕ) (words : List (List ℕ)) (q : Request) → bytes_eq command (codes "stream") ≡ true → forward_in words ≡ Some q → Asks (program ∷ command ∷ words) (Stream q)
+stream_asks program command words q t e = (program, words, ap (λ c. program ∷ c ∷ words) ((bytes_eq-Decides command (codes "stream")).0 t), forward_is words q e)
 
 offload_asks : (program command : List ℕ) (words : List (List ℕ)) (q : Request) → bytes_eq command (codes "offload") ≡ true → offload_in words ≡ Some q → Asks (program ∷ command ∷ words) (Offload q)
 offload_asks program command words q t e = (program, words, ap (λ c. program ∷ c ∷ words) ((bytes_eq-Decides command (codes "offload")).0 t), offload_is words q e)
@@ -83,8 +87,11 @@ by_check command words = cond (bytes_eq command (codes "check")) (option_map Che
 abbrev by_offload : List ℕ → List (List ℕ) → Option Asked
 by_offload command words = cond (bytes_eq command (codes "offload")) (option_map Offload (offload_in words)) (by_check command words)
 
+abbrev by_stream : List ℕ → List (List ℕ) → Option Asked
+by_stream command words = cond (bytes_eq command (codes "stream")) (option_map Stream (forward_in words)) (by_offload command words)
+
 abbrev by_deliver : List ℕ → List (List ℕ) → Option Asked
-by_deliver command words = cond (bytes_eq command (codes "deliver")) (option_map Deliver (forward_in words)) (by_offload command words)
+by_deliver command words = cond (bytes_eq command (codes "deliver")) (option_map Deliver (forward_in words)) (by_stream command words)
 
 asked_is : (words : List (List ℕ)) (asked : Asked) → asked_in words ≡ Some asked → Asks words asked
 asked_is [] asked e = absurd (none-some asked e)
@@ -98,6 +105,10 @@ asked_is (program ∷ command ∷ words) asked e = first (bytes_eq command (code
   delivers t None is e = absurd (none-some asked e)
   delivers t (Some q) is e = subst (Asks (program ∷ command ∷ words)) (same_Some (Deliver q) asked e) (deliver_asks program command words q t is)
 
+  streams : bytes_eq command (codes "stream") ≡ true → (r : Option Request) → forward_in words ≡ r → option_map Stream r ≡ Some asked → Asks (program ∷ command ∷ words) asked
+  streams t None is e = absurd (none-some asked e)
+  streams t (Some q) is e = subst (Asks (program ∷ command ∷ words)) (same_Some (Stream q) asked e) (stream_asks program command words q t is)
+
   offloads : bytes_eq command (codes "offload") ≡ true → (r : Option Request) → offload_in words ≡ r → option_map Offload r ≡ Some asked → Asks (program ∷ command ∷ words) asked
   offloads t None is e = absurd (none-some asked e)
   offloads t (Some q) is e = subst (Asks (program ∷ command ∷ words)) (same_Some (Offload q) asked e) (offload_asks program command words q t is)
@@ -110,27 +121,31 @@ asked_is (program ∷ command ∷ words) asked e = first (bytes_eq command (code
   answers t None is e = absurd (none-some asked e)
   answers t (Some q) is e = subst (Asks (program ∷ command ∷ words)) (same_Some (Engine q) asked e) (engine_asks program command words q t is)
 
-  sixth : (b : Bool) → bytes_eq command (codes "generate") ≡ b → cond b (generate_in words) None ≡ Some asked → Asks (program ∷ command ∷ words) asked
-  sixth false t e = absurd (none-some asked e)
-  sixth true t e =
+  seventh : (b : Bool) → bytes_eq command (codes "generate") ≡ b → cond b (generate_in words) None ≡ Some asked → Asks (program ∷ command ∷ words) asked
+  seventh false t e = absurd (none-some asked e)
+  seventh true t e =
       let g = generate_is words asked e in
       subst (Asks (program ∷ command ∷ words)) g.is (program, words, ap (λ c. program ∷ c ∷ words) ((bytes_eq-Decides command (codes "generate")).0 t), g.said)
 
-  fifth : (b : Bool) → bytes_eq command (codes "engine") ≡ b → cond b (option_map Engine (engine_in words)) (by_generate command words) ≡ Some asked → Asks (program ∷ command ∷ words) asked
-  fifth true t e = answers t (engine_in words) refl e
-  fifth false t e = sixth (bytes_eq command (codes "generate")) refl e
+  sixth : (b : Bool) → bytes_eq command (codes "engine") ≡ b → cond b (option_map Engine (engine_in words)) (by_generate command words) ≡ Some asked → Asks (program ∷ command ∷ words) asked
+  sixth true t e = answers t (engine_in words) refl e
+  sixth false t e = seventh (bytes_eq command (codes "generate")) refl e
 
-  fourth : (b : Bool) → bytes_eq command (codes "check") ≡ b → cond b (option_map Check (check_in words)) (by_engine command words) ≡ Some asked → Asks (program ∷ command ∷ words) asked
-  fourth true t e = checks t (check_in words) refl e
-  fourth false t e = fifth (bytes_eq command (codes "engine")) refl e
+  fifth : (b : Bool) → bytes_eq command (codes "check") ≡ b → cond b (option_map Check (check_in words)) (by_engine command words) ≡ Some asked → Asks (program ∷ command ∷ words) asked
+  fifth true t e = checks t (check_in words) refl e
+  fifth false t e = sixth (bytes_eq command (codes "engine")) refl e
 
-  third : (b : Bool) → bytes_eq command (codes "offload") ≡ b → cond b (option_map Offload (offload_in words)) (by_check command words) ≡ Some asked → Asks (program ∷ command ∷ words) asked
-  third true t e = offloads t (offload_in words) refl e
-  third false t e = fourth (bytes_eq command (codes "check")) refl e
+  fourth : (b : Bool) → bytes_eq command (codes "offload") ≡ b → cond b (option_map Offload (offload_in words)) (by_check command words) ≡ Some asked → Asks (program ∷ command ∷ words) asked
+  fourth true t e = offloads t (offload_in words) refl e
+  fourth false t e = fifth (bytes_eq command (codes "check")) refl e
 
-  second : (b : Bool) → bytes_eq command (codes "deliver") ≡ b → cond b (option_map Deliver (forward_in words)) (by_offload command words) ≡ Some asked → Asks (program ∷ command ∷ words) asked
+  third : (b : Bool) → bytes_eq command (codes "stream") ≡ b → cond b (option_map Stream (forward_in words)) (by_offload command words) ≡ Some asked → Asks (program ∷ command ∷ words) asked
+  third true t e = streams t (forward_in words) refl e
+  third false t e = fourth (bytes_eq command (codes "offload")) refl e
+
+  second : (b : Bool) → bytes_eq command (codes "deliver") ≡ b → cond b (option_map Deliver (forward_in words)) (by_stream command words) ≡ Some asked → Asks (program ∷ command ∷ words) asked
   second true t e = delivers t (forward_in words) refl e
-  second false t e = third (bytes_eq command (codes "offload")) refl e
+  second false t e = third (bytes_eq command (codes "stream")) refl e
 
   first : (b : Bool) → bytes_eq command (codes "forward") ≡ b → cond b (option_map Forward (forward_in words)) (by_deliver command words) ≡ Some asked → Asks (program ∷ command ∷ words) asked
   first true t e = forwards t (forward_in words) refl e

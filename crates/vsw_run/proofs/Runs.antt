@@ -1,5 +1,5 @@
 -- Two runs of the same words over the same files.
-use Rattle.std.proofs.Common.{◌≡◌, ◌≢◌, ℕ, zero, suc, Bool, true, false, List, [], ◌∷◌, ◌++◌, length, take, drop, Option, Some, None, Ok, Err, Result, refl, ap, sym, ◌∙◌, subst, arith, All}
+use Rattle.std.proofs.Common.{◌≡◌, ◌≢◌, ℕ, zero, suc, Bool, true, false, List, [], ◌∷◌, ◌++◌, length, take, drop, Option, Some, None, Ok, Err, Result, inl, inr, refl, ap, sym, ◌∙◌, subst, arith, All}
 use Rattle.vsw_commandfile.specs.declared.fault.CommandsFault.{CommandsFault}
 use Rattle.vsw_commandfile.specs.Commands.{commands_file_of}
 use Rattle.vsw_commandfile.specs.declared.line.Line.{Line}
@@ -30,7 +30,7 @@ use Rattle.vsw_promise.specs.Jobs.{Setting, cuts, cuts_within}
 use Rattle.vsw_report.specs.Print.{report_text}
 use Rattle.vsw_promise.specs.Rounds.{AreRounds}
 use Rattle.vsw_run.specs.Trace.{All as Whole, Trace, Tells}
-use Rattle.vsw_run.specs.Words.{Request, Asked, Forward, Deliver, Offload, Check, Engine, Generate, asked_in, run_over}
+use Rattle.vsw_run.specs.Words.{Request, Asked, Forward, Deliver, Stream, Offload, Check, Engine, Generate, AskReport, asked_in}
 use Rattle.vsw_history_law.specs.Law.{AreAsked}
 use Rattle.vsw_run.specs.Law.{AreAlike, HasNoFault, OneText, OneStatus, OneRun, TellsWant}
 use Rattle.vsw_run.proofs.Answering.{ByRows, found_rows, same_rows}
@@ -335,15 +335,16 @@ one_summary start packets a b x y =
 pub runs_as : (words : List (List ℕ)) (o : Option Asked) (old new : Outside) (s : Status) (r : IsRun words old new s) → asked_in words ≡ o → RunsBy o old new r.end
 runs_as words o old new s r e = subst (λ w. RunsBy w old new r.end) e r.runs
 
-pub runs_over : (words : List (List ℕ)) (local : Bool) (q : Request) (old new : Outside) (s : Status) (r : IsRun words old new s) → asked_in words ≡ Some (run_over local q) → Runs local q old new r.end
-runs_over words false q old new s r e = runs_as words (Some (Forward q)) old new s r e
+pub runs_over : (words : List (List ℕ)) (local : Bool) (q : Request) (old new : Outside) (s : Status) (r : IsRun words old new s) → AskReport words local q → Runs local q old new r.end
+runs_over words false q old new s r (inl e) = runs_as words (Some (Forward q)) old new s r e
+runs_over words false q old new s r (inr e) = runs_as words (Some (Stream q)) old new s r e
 runs_over words true q old new s r e = runs_as words (Some (Deliver q)) old new s r e
 
 record Both (q : Option Asked) (old new other last : Outside) (e f : Ending) : Type 0 where
   ends : status_of e ≡ status_of f
-  text : ((r : Request) → q ≡ Some (Forward r) → r.workers ≡ 1) → ((r : Request) → q ≢ Some (Deliver r)) → ((r : Request) → q ≢ Some (Offload r)) → (a b : List ℕ) → old.put ≡ Some [] → other.put ≡ Some [] → new.put ≡ Some a → last.put ≡ Some b → ¬ (TellsWant a) → ¬ (TellsWant b) → a ≡ b
+  text : ((r : Request) → q ≡ Some (Forward r) → r.workers ≡ 1) → ((r : Request) → q ≡ Some (Stream r) → r.workers ≡ 1) → ((r : Request) → q ≢ Some (Deliver r)) → ((r : Request) → q ≢ Some (Offload r)) → (a b : List ℕ) → old.put ≡ Some [] → other.put ≡ Some [] → new.put ≡ Some a → last.put ≡ Some b → ¬ (TellsWant a) → ¬ (TellsWant b) → a ≡ b
 
-both_over : (words : List (List ℕ)) (local : Bool) (q : Request) (old new other last : Outside) (s t : Status) → asked_in words ≡ Some (run_over local q) → (same : AreAlike old other) → HasNoFault old new → HasNoFault other last → (r : IsRun words old new s) (u : IsRun words other last t) → s ≢ status.Memory → t ≢ status.Memory → Agree local q new.put last.put old.put other.put r.end u.end
+both_over : (words : List (List ℕ)) (local : Bool) (q : Request) (old new other last : Outside) (s t : Status) → AskReport words local q → (same : AreAlike old other) → HasNoFault old new → HasNoFault other last → (r : IsRun words old new s) (u : IsRun words other last t) → s ≢ status.Memory → t ≢ status.Memory → Agree local q new.put last.put old.put other.put r.end u.end
 both_over words local q old new other last s t e same clean also r u m n =
     let a = found local q old new same.files r.end same.told clean (λ k. m (r.status_is ∙ k)) (runs_over words local q old new s r e) in
     let b = found local q other last same.others u.end same.told_too also (λ k. n (u.status_is ∙ k)) (runs_over words local q other last t u e) in
@@ -353,11 +354,13 @@ both : (words : List (List ℕ)) (old new other last : Outside) (s t : Status) (
 both words old new other last s t None e same clean also r u m n =
     let a = runs_as words None old new s r e in
     let b = runs_as words None other last t u e in
-    record { ends = ap status_of (a.usage ∙ sym b.usage); text = λ w d i x y o p k l none nothing. put_is old.put new.put [] x o k a.nothing ∙ sym (put_is other.put last.put [] y p l b.nothing) }
+    record { ends = ap status_of (a.usage ∙ sym b.usage); text = λ w v d i x y o p k l none nothing. put_is old.put new.put [] x o k a.nothing ∙ sym (put_is other.put last.put [] y p l b.nothing) }
 both words old new other last s t (Some (Forward q)) e same clean also r u m n =
-    let agreed = both_over words false q old new other last s t e same clean also r u m n in record { ends = ap status_of agreed.ends; text = λ w d i. agreed.text refl (w q refl) }
+    let agreed = both_over words false q old new other last s t (inl e) same clean also r u m n in record { ends = ap status_of agreed.ends; text = λ w v d i. agreed.text refl (w q refl) }
 both words old new other last s t (Some (Deliver q)) e same clean also r u m n =
-    let agreed = both_over words true q old new other last s t e same clean also r u m n in record { ends = ap status_of agreed.ends; text = λ w d i. absurd (d q refl) }
+    let agreed = both_over words true q old new other last s t e same clean also r u m n in record { ends = ap status_of agreed.ends; text = λ w v d i. absurd (d q refl) }
+both words old new other last s t (Some (Stream q)) e same clean also r u m n =
+    let agreed = both_over words false q old new other last s t (inr e) same clean also r u m n in record { ends = ap status_of agreed.ends; text = λ w v d i. agreed.text refl (v q refl) }
 both words old new other last s t (Some (Offload q)) e same clean also r u m n =
     let a = forwarded q old new r.end (runs_as words (Some (Offload q)) old new s r e) in
     let b = forwarded q other last u.end (runs_as words (Some (Offload q)) other last t u e) in
@@ -366,28 +369,28 @@ both words old new other last s t (Some (Offload q)) e same clean also r u m n =
     let first = found false q old one same.files r.end same.told (record { read = clean.read; put = clean.put }) (λ k. m (r.status_is ∙ k)) a.1 in
     let second = found false q other two same.others u.end same.told_too (record { read = also.read; put = also.put }) (λ k. n (u.status_is ∙ k)) b.1 in
     let agreed = agree false q same.files.files old.put one.put other.put two.put r.end u.end first (subst (λ f. Found false q f other.put two.put u.end) (sym same.same) second) in
-    record { ends = ap status_of agreed.ends; text = λ w d i. absurd (i q refl) }
+    record { ends = ap status_of agreed.ends; text = λ w v d i. absurd (i q refl) }
 both words old new other last s t (Some (Check c)) e same clean also r u m n =
     let a = found_check c old new same.files r.end same.told clean (λ k. m (r.status_is ∙ ap status_of k)) (runs_as words (Some (Check c)) old new s r e) in
     let b = found_check c other last same.others u.end same.told_too also (λ k. n (u.status_is ∙ ap status_of k)) (runs_as words (Some (Check c)) other last t u e) in
     let ends = one_by_policy same.files.files c r.end u.end a.0 (subst (λ f. ByPolicy f c u.end) (sym same.same) b.0) in
-    record { ends = ap status_of ends; text = λ w d i x y o p k l none nothing. put_is old.put new.put (put_by r.end) x o k a.1 ∙ (ap put_by ends ∙ sym (put_is other.put last.put (put_by u.end) y p l b.1)) }
+    record { ends = ap status_of ends; text = λ w v d i x y o p k l none nothing. put_is old.put new.put (put_by r.end) x o k a.1 ∙ (ap put_by ends ∙ sym (put_is other.put last.put (put_by u.end) y p l b.1)) }
 both words old new other last s t (Some (Engine q)) e same clean also r u m n =
     let a = found_rows q old new same.files r.end same.told clean (λ k. m (r.status_is ∙ ap status_of k)) (runs_as words (Some (Engine q)) old new s r e) in
     let b = found_rows q other last same.others u.end same.told_too also (λ k. n (u.status_is ∙ ap status_of k)) (runs_as words (Some (Engine q)) other last t u e) in
     let agreed = same_rows q same.files.files r.end u.end a.text b.text a.found (subst (λ f. ByRows f q u.end b.text) (sym same.same) b.found) in
-    record { ends = agreed.0; text = λ w d i x y o p k l none nothing. put_is old.put new.put a.text x o k a.puts ∙ (agreed.1 ∙ sym (put_is other.put last.put b.text y p l b.puts)) }
+    record { ends = agreed.0; text = λ w v d i x y o p k l none nothing. put_is old.put new.put a.text x o k a.puts ∙ (agreed.1 ∙ sym (put_is other.put last.put b.text y p l b.puts)) }
 both words old new other last s t (Some (Generate start packets)) e same clean also r u m n =
     let a = summarized start packets old new r.end clean (λ k. m (r.status_is ∙ k)) (runs_as words (Some (Generate start packets)) old new s r e) in
     let b = summarized start packets other last u.end also (λ k. n (u.status_is ∙ k)) (runs_as words (Some (Generate start packets)) other last t u e) in
-    record { ends = ap status_of (a.0 ∙ sym b.0); text = λ w d i x y o p k l none nothing. put_is old.put new.put a.1.text x o k a.1.puts ∙ (one_summary start packets a.1.text b.1.text a.1.summarizes b.1.summarizes ∙ sym (put_is other.put last.put b.1.text y p l b.1.puts)) }
+    record { ends = ap status_of (a.0 ∙ sym b.0); text = λ w v d i x y o p k l none nothing. put_is old.put new.put a.1.text x o k a.1.puts ∙ (one_summary start packets a.1.text b.1.text a.1.summarizes b.1.summarizes ∙ sym (put_is other.put last.put b.1.text y p l b.1.puts)) }
 
 pub one_status : OneStatus
 one_status words old new other last s t same clean also r u m n =
     r.status_is ∙ ((both words old new other last s t (asked_in words) refl same clean also r u m n).ends ∙ sym u.status_is)
 
 pub one_run : OneRun
-one_run words old new other last s t same clean also r u m n w d i a b =
+one_run words old new other last s t same clean also r u m n w v d i a b =
     let agreed = both words old new other last s t (asked_in words) refl same clean also r u m n in
-    let texts = agreed.text w d i a.text b.text a.before b.before a.now b.now a.plenty b.plenty in
+    let texts = agreed.text w v d i a.text b.text a.before b.before a.now b.now a.plenty b.plenty in
     (a.now ∙ (ap (λ x. Some x) texts ∙ sym b.now), r.status_is ∙ (agreed.ends ∙ sym u.status_is))

@@ -1,5 +1,5 @@
 -- What holds of a run over files that ended well.
-use Rattle.std.proofs.Common.{◌≡◌, ℕ, Bool, true, false, List, length, take, Some, None, refl, ap, ◌∙◌, subst, arith}
+use Rattle.std.proofs.Common.{◌≡◌, ℕ, Bool, true, false, List, length, take, None, inl, inr, refl, ap, ◌∙◌, subst, arith}
 use Rattle.vsw_commandfile.proofs.LinesRead.{each_is_good}
 use Rattle.vsw_commandfile.specs.declared.fault.CommandsFault.{CommandsFault}
 use Rattle.vsw_commandfile.specs.declared.fault.CommandsFault.TheVariants as commands
@@ -24,7 +24,7 @@ use Rattle.vsw_run.specs.Files.{IsWhole, Reaches}
 use Rattle.vsw_run.specs.Grammar.{Asks, IsCount}
 use Rattle.vsw_run.specs.IsRun.{EndsByTrace, Puts, Runs}
 use Rattle.vsw_run.specs.Trace.{TellsAll}
-use Rattle.vsw_run.specs.Words.{Forward, Deliver, Request, asked_in, run_over}
+use Rattle.vsw_run.specs.Words.{Forward, Deliver, Stream, Request, AskReport}
 use Rattle.vsw_run.specs.declared.ending.Ending.{Ending}
 use Rattle.vsw_run.specs.declared.ending.Ending.TheVariants as ending
 use Rattle.vsw_run.specs.declared.ending.ReportFault.{ReportFault}
@@ -78,8 +78,9 @@ done_is (ending.Report why) e = absurd (not_report why e)
 done_is (ending.Rows why) e = absurd (not_rows why e)
 done_is ending.Illegal e = absurd (cc e)
 
-pub workers_are : (words : List (List ℕ)) (local : Bool) (q : Request) → asked_in words ≡ Some (run_over local q) → IsCount q.workers
-workers_are words false q e = let h : Asks words (Forward q) = (reads_grammar words (Forward q)).0 e in counted h.3.option q.workers h.3.option_is
+pub workers_are : (words : List (List ℕ)) (local : Bool) (q : Request) → AskReport words local q → IsCount q.workers
+workers_are words false q (inl e) = let h : Asks words (Forward q) = (reads_grammar words (Forward q)).0 e in counted h.3.option q.workers h.3.option_is
+workers_are words false q (inr e) = let h : Asks words (Stream q) = (reads_grammar words (Stream q)).0 e in counted h.3.option q.workers h.3.option_is
 workers_are words true q e = let h : Asks words (Deliver q) = (reads_grammar words (Deliver q)).0 e in counted h.3.option q.workers h.3.option_is
 
 ran_well : (local : Bool) (q : Request) (old new : Outside) → IsCount q.workers → Runs local q old new ending.Done → RanWell local q old new

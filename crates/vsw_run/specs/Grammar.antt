@@ -1,9 +1,9 @@
 -- The command line as a grammar: `vsw forward [--workers N] POLICY COMMANDS TRACE`, `vsw deliver [--workers N] POLICY COMMANDS TRACE`,
--- `vsw offload POLICY COMMANDS TRACE`, `vsw check [--workers N] POLICY COMMANDS TRACE REPORT`, `vsw engine ROWS TRACE` and
--- `vsw generate START PACKETS`.
+-- `vsw stream [--workers N] POLICY COMMANDS TRACE`, `vsw offload POLICY COMMANDS TRACE`,
+-- `vsw check [--workers N] POLICY COMMANDS TRACE REPORT`, `vsw engine ROWS TRACE` and `vsw generate START PACKETS`.
 use Rattle.std.specs.Prelude.{◌≡◌, ◌≢◌, ◌⊎◌, ◌≤◌, ℕ, List, [], ◌∷◌, ◌++◌, codes, decimal}
 use Rattle.std.specs.List.{All}
-use Rattle.vsw_run.specs.Words.{Request, Claim, Query, Asked, Forward, Deliver, Offload, Check, Engine, Generate}
+use Rattle.vsw_run.specs.Words.{Request, Claim, Query, Asked, Forward, Deliver, Stream, Offload, Check, Engine, Generate}
 
 -- a word of more than one byte that begins with a dash
 abbrev pub IsDashed : List ℕ → Type 0
@@ -54,7 +54,7 @@ pub record ArePlain (words : List (List ℕ)) (names : List (List ℕ)) : Type 0
 abbrev pub files_of : Request → List (List ℕ)
 files_of q = q.policy ∷ q.commands ∷ q.trace ∷ []
 
--- the words after `forward`, and after `deliver`: three names
+-- the words after `forward`, after `deliver` and after `stream`: three names
 abbrev pub IsForward : List (List ℕ) → Request → Type 0
 IsForward words request = AreNames words request.workers (files_of request)
 
@@ -80,6 +80,7 @@ pub record IsGenerate (words : List (List ℕ)) (start packets : ℕ) : Type 0 w
 abbrev pub IsAsked : List (List ℕ) → Asked → Type 0
 IsAsked words (Forward request) = IsForward words request
 IsAsked words (Deliver request) = IsForward words request
+IsAsked words (Stream request) = IsForward words request
 IsAsked words (Offload request) = IsOffload words request
 IsAsked words (Check claim) = IsClaim words claim
 IsAsked words (Engine q) = IsQuery words q
@@ -88,6 +89,7 @@ IsAsked words (Generate start packets) = IsGenerate words start packets
 abbrev pub command_of : Asked → List ℕ
 command_of (Forward request) = codes "forward"
 command_of (Deliver request) = codes "deliver"
+command_of (Stream request) = codes "stream"
 command_of (Offload request) = codes "offload"
 command_of (Check claim) = codes "check"
 command_of (Engine q) = codes "engine"

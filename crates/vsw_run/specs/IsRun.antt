@@ -19,7 +19,7 @@ use Rattle.vsw_run.specs.Files.{Opens, HasBadPolicy, HasBadCommands, LacksTrace,
 use Rattle.vsw_run.specs.Generated.{Summarizes}
 use Rattle.vsw_promise.specs.Jobs.{Setting}
 use Rattle.vsw_run.specs.Trace.{Tells, MayTell, most_records}
-use Rattle.vsw_run.specs.Words.{Request, Claim, Query, Asked, Forward, Deliver, Offload, Check, Engine, Generate, asked_in}
+use Rattle.vsw_run.specs.Words.{Request, Claim, Query, Asked, Forward, Deliver, Stream, Offload, Check, Engine, Generate, asked_in}
 
 -- a text was put
 abbrev pub Puts : Outside → Outside → List ℕ → Type 0
@@ -96,11 +96,12 @@ pub record RunsGenerated (start packets : ℕ) (old new : Outside) (end : Ending
   pub opens : TellsSince old.inputs new.inputs []
   pub ends : EndsGenerated start packets old new end
 
--- a run by what its words ask for
+-- a run by what its words ask for. `stream` promises what `forward` promises
 abbrev pub RunsBy : Option Asked → Outside → Outside → Ending → Type 0
 RunsBy None old new end = RunsNot old new end
 RunsBy (Some (Forward q)) old new end = Runs false q old new end
 RunsBy (Some (Deliver q)) old new end = Runs true q old new end
+RunsBy (Some (Stream q)) old new end = Runs false q old new end
 RunsBy (Some (Offload q)) old new end = RunsExport q old new end
 RunsBy (Some (Check c)) old new end = Checks c old new end
 RunsBy (Some (Engine q)) old new end = RunsByRows q old new end
@@ -113,9 +114,9 @@ pub record IsRun (words : List (List ℕ)) (old new : Outside) (status : Status)
   pub runs : RunsBy (asked_in words) old new end
   pub complains : Complains old new (complaint end)
 
--- the words ask for a run over the files of this request: to forward, to hand packets on too, or to put the rows that are current
+-- the words ask for a run over the files of this request: to forward, to hand packets on too, to forward while the trace is read, or to put the rows that are current
 abbrev pub AskRun : List (List ℕ) → Request → Type 0
-AskRun words q = (asked_in words ≡ Some (Forward q)) ⊎ (asked_in words ≡ Some (Deliver q)) ⊎ (asked_in words ≡ Some (Offload q))
+AskRun words q = (asked_in words ≡ Some (Forward q)) ⊎ (asked_in words ≡ Some (Deliver q)) ⊎ (asked_in words ≡ Some (Stream q)) ⊎ (asked_in words ≡ Some (Offload q))
 
 -- the words ask for a run over three files that the host holds: a good policy, good commands, and a sound trace within its limit
 pub record AreAdmitted (words : List (List ℕ)) (inputs : Option Inputs) : Type 0 where

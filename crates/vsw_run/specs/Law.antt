@@ -12,7 +12,7 @@ use Rattle.vsw_run.specs.Files.{IsWhole}
 use Rattle.vsw_run.specs.Exporting.{RunsExport}
 use Rattle.vsw_run.specs.IsRun.{Runs, IsRun}
 use Rattle.vsw_run.specs.Trace.{Trace, TellsAll}
-use Rattle.vsw_run.specs.Words.{Request, Forward, Deliver, Offload, asked_in}
+use Rattle.vsw_run.specs.Words.{Request, Forward, Deliver, Stream, Offload, asked_in}
 
 -- a run that ended well read each of its files to the end
 abbrev pub DoneReadsAll : Type 0
@@ -68,4 +68,4 @@ pub record PutsPlenty (old new : Outside) : Type 0 where
 abbrev pub OneRun : Type 0
 OneRun = (words : List (List ℕ)) (old new other last : Outside) (s t : Status) → AreAlike old other → HasNoFault old new → HasNoFault other last
     → IsRun words old new s → IsRun words other last t → s ≢ status.Memory → t ≢ status.Memory
-    → ((q : Request) → asked_in words ≡ Some (Forward q) → q.workers ≡ 1) → ((q : Request) → asked_in words ≢ Some (Deliver q)) → ((q : Request) → asked_in words ≢ Some (Offload q)) → PutsPlenty old new → PutsPlenty other last → (new.put ≡ last.put) × (s ≡ t)
+    → ((q : Request) → asked_in words ≡ Some (Forward q) → q.workers ≡ 1) → ((q : Request) → asked_in words ≡ Some (Stream q) → q.workers ≡ 1) → ((q : Request) → asked_in words ≢ Some (Deliver q)) → ((q : Request) → asked_in words ≢ Some (Offload q)) → PutsPlenty old new → PutsPlenty other last → (new.put ≡ last.put) × (s ≡ t)

@@ -1,6 +1,6 @@
 -- The code's values as the definitions' values.
 use Rattle.std.specs.Prelude.{◌≡◌, ◌<◌, ◌≤◌, ◌^◌, ℕ, List, ◌++◌, Option, Some, None}
-use Rattle.vsw_run.specs.Words.{Request, Claim, Query, Asked, Forward, Deliver, Offload, Check, Engine, Generate, Opted, Named}
+use Rattle.vsw_run.specs.Words.{Request, Claim, Query, Asked, Forward, Deliver, Stream, Offload, Check, Engine, Generate, Opted, Named}
 use Rattle.vsw_run.specs.declared.forward.Request as requests
 use Rattle.vsw_run.specs.declared.claim.Claim as claims
 use Rattle.vsw_run.specs.declared.query.Query as queries
@@ -30,6 +30,7 @@ option_seen o = record { workers = o.workers; rest = o.rest.now }
 abbrev pub asked_seen : asked.Asked → Asked
 asked_seen (asked.TheVariants.Forward r) = Forward (request_seen r)
 asked_seen (asked.TheVariants.Deliver r) = Deliver (request_seen r)
+asked_seen (asked.TheVariants.Stream r) = Stream (request_seen r)
 asked_seen (asked.TheVariants.Offload r) = Offload (request_seen r)
 asked_seen (asked.TheVariants.Check c) = Check (claim_seen c)
 asked_seen (asked.TheVariants.Engine q) = Engine (query_seen q)
@@ -39,6 +40,7 @@ asked_seen (asked.TheVariants.Generate start packets) = Generate start packets
 abbrev pub forwarded : asked.Asked → Option Request
 forwarded (asked.TheVariants.Forward r) = Some (request_seen r)
 forwarded (asked.TheVariants.Deliver r) = None
+forwarded (asked.TheVariants.Stream r) = None
 forwarded (asked.TheVariants.Offload r) = None
 forwarded (asked.TheVariants.Check c) = None
 forwarded (asked.TheVariants.Engine q) = None
@@ -48,6 +50,7 @@ forwarded (asked.TheVariants.Generate start packets) = None
 abbrev pub IsWithin : asked.Asked → Type 0
 IsWithin (asked.TheVariants.Forward r) = (1 ≤ r.workers) × (r.workers ≤ 16)
 IsWithin (asked.TheVariants.Deliver r) = (1 ≤ r.workers) × (r.workers ≤ 16)
+IsWithin (asked.TheVariants.Stream r) = (1 ≤ r.workers) × (r.workers ≤ 16)
 IsWithin (asked.TheVariants.Offload r) = r.workers ≡ 1
 IsWithin (asked.TheVariants.Check c) = (1 ≤ c.run.workers) × (c.run.workers ≤ 16)
 IsWithin (asked.TheVariants.Engine q) = Unit {0}

@@ -17,7 +17,7 @@ use Rattle.vsw_report.specs.declared.round.Round.{Round}
 use Rattle.vsw_run.specs.declared.ending.Status.TheVariants as status
 use Rattle.vsw_run.specs.Files.{HasTrace, IsWhole, Opens}
 use Rattle.vsw_run.specs.IsRun.{IsRun, Puts}
-use Rattle.vsw_run.specs.Words.{Request, asked_in, run_over}
+use Rattle.vsw_run.specs.Words.{Request, AskReport}
 
 -- its rounds hold to these files and this setting
 pub record TellsWell (s : Setting) (records : List Record) (rounds : List Round) : Type 0 where
@@ -47,4 +47,4 @@ pub record RanWell (local : Bool) (q : Request) (old new : Outside) : Type 0 whe
 
 -- the words ask for a run over files, and the status says that it ended well
 abbrev pub DoneRanWell : Type 0
-DoneRanWell = (words : List (List ℕ)) (local : Bool) (q : Request) (old new : Outside) → asked_in words ≡ Some (run_over local q) → IsRun words old new status.Done → RanWell local q old new
+DoneRanWell = (words : List (List ℕ)) (local : Bool) (q : Request) (old new : Outside) → AskReport words local q → IsRun words old new status.Done → RanWell local q old new

@@ -1,9 +1,9 @@
 -- What the words of the command line ask for, worked out. Which words may stand is said in Grammar, and GrammarLaw says that both agree.
-use Rattle.std.specs.Prelude.{ℕ, ◌==◌, ◌&&◌, List, [], ◌∷◌, ◌++◌, Bool, true, false, nat_le, length, take, drop, Option, Some, None, option_and_then, option_map, codes, bytes_eq, decimal, if◌then◌else◌}
+use Rattle.std.specs.Prelude.{ℕ, ◌≡◌, ◌⊎◌, ◌==◌, ◌&&◌, List, [], ◌∷◌, ◌++◌, Bool, true, false, nat_le, length, take, drop, Option, Some, None, option_and_then, option_map, codes, bytes_eq, decimal, if◌then◌else◌}
 use Rattle.std.specs.List.{list_any, position_or_len}
 use Rattle.std.specs.Str.Parse.{digits_value}
 
--- what `forward`, `deliver` and `offload` are asked for: the number of workers, and the names of the policy, the commands and the trace
+-- what `forward`, `deliver`, `stream` and `offload` are asked for: the number of workers, and the names of the policy, the commands and the trace
 pub record Request : Type 0 where
   pub workers : ℕ
   pub policy : List ℕ
@@ -20,20 +20,16 @@ pub record Query : Type 0 where
   pub rows : List ℕ
   pub trace : List ℕ
 
--- what the words ask for: to forward, to forward and hand packets on between the ports, to forward and put the rows that are current, to check a report, to answer a
--- trace from a rows file, or to generate so many packets, which are drawn from a number
+-- what the words ask for: to forward, to forward and hand packets on between the ports, to forward while the trace is read, to forward and put the rows that are
+-- current, to check a report, to answer a trace from a rows file, or to generate so many packets, which are drawn from a number
 pub data Asked : Type 0 where
   Forward : Request → Asked
   Deliver : Request → Asked
+  Stream : Request → Asked
   Offload : Request → Asked
   Check : Claim → Asked
   Engine : Query → Asked
   Generate : (start packets : ℕ) → Asked
-
--- a run over files, in which packets are handed on between the ports or aren't
-abbrev pub run_over : (local : Bool) → Request → Asked
-run_over false q = Forward q
-run_over true q = Deliver q
 
 -- what the word's digits are worth, where that number within the bounds is written so
 abbrev pub number_in : (least most : ℕ) → List ℕ → Option ℕ
@@ -108,7 +104,7 @@ abbrev pub request_of : ℕ → List (List ℕ) → Option Request
 request_of workers (p ∷ c ∷ t ∷ []) = if list_any is_empty (p ∷ c ∷ t ∷ []) then None else Some (record { workers = workers; policy = p; commands = c; trace = t })
 request_of workers names = None
 
--- the words after `forward`, and after `deliver`
+-- the words after `forward`, after `deliver` and after `stream`
 abbrev pub forward_in : List (List ℕ) → Option Request
 forward_in words = option_and_then (λ n. request_of n.workers n.names) (named_in words)
 
@@ -148,6 +144,7 @@ abbrev pub asked_by : List ℕ → List (List ℕ) → Option Asked
 asked_by command words =
     if bytes_eq command (codes "forward") then option_map Forward (forward_in words)
     else if bytes_eq command (codes "deliver") then option_map Deliver (forward_in words)
+    else if bytes_eq command (codes "stream") then option_map Stream (forward_in words)
     else if bytes_eq command (codes "offload") then option_map Offload (offload_in words)
     else if bytes_eq command (codes "check") then option_map Check (check_in words)
     else if bytes_eq command (codes "engine") then option_map Engine (engine_in words)
@@ -158,6 +155,11 @@ asked_by command words =
 abbrev pub asked_in : List (List ℕ) → Option Asked
 asked_in (program ∷ command ∷ words) = asked_by command words
 asked_in _ = None
+
+-- the words ask for a run over files whose report is put, in which packets are handed on between the ports or aren't
+abbrev pub AskReport : List (List ℕ) → (local : Bool) → Request → Type 0
+AskReport words false q = (asked_in words ≡ Some (Forward q)) ⊎ (asked_in words ≡ Some (Stream q))
+AskReport words true q = asked_in words ≡ Some (Deliver q)
 
 -- the same, for who only forwards
 abbrev pub request_in : List (List ℕ) → Option Request

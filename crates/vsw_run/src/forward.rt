@@ -1,4 +1,4 @@
-//! The words of `forward`, of `deliver` and of `offload`: three names.
+//! The words of `forward`, of `deliver`, of `stream` and of `offload`: three names.
 
 ghost use Rattle.std.specs.Prelude.{◌≡◌, option_map};
 ghost use Rattle.vsw_run.specs.Seen.{names_seen, request_seen};
@@ -7,7 +7,7 @@ ghost use Rattle.vsw_run.specs.Words.{forward_in, offload_in, request_of};
 use crate::names::{Named, name_at, read_named, read_plain};
 use crate::words::Word;
 
-/// What `forward`, `deliver` and `offload` are asked for.
+/// What `forward`, `deliver`, `stream` and `offload` are asked for.
 #[derive(Clone, Copy)]
 pub struct Request<'a> {
     pub workers: u32,
@@ -35,7 +35,7 @@ fn with_names<'a>(workers: u32, named: &Named<'a>) -> Option<Request<'a>>
     })
 }
 
-/// What the words after `forward` and `deliver` ask for.
+/// What the words after `forward`, `deliver` and `stream` ask for.
 pub fn read_forward(words: &[Word]) -> Option<Request<'_>>
     ensures { option_map request_seen result ≡ forward_in words.now }
 {

@@ -16,12 +16,14 @@ const MOST_START: u32 = 2_147_483_647;
 /// Most packets of a workload.
 const MOST_PACKETS: u32 = 1_048_576;
 
-/// What the words ask for: to forward, to forward and hand packets on between the ports, to forward and put the rows that are current, to
-/// check a report, to answer a trace from a rows file, or to generate so many packets, which are drawn from a number.
+/// What the words ask for: to forward, to forward and hand packets on between the ports, to forward while the trace is read, to forward and
+/// put the rows that are current, to check a report, to answer a trace from a rows file, or to generate so many packets, which are drawn
+/// from a number.
 #[derive(Clone, Copy)]
 pub enum Asked<'a> {
     Forward(Request<'a>),
     Deliver(Request<'a>),
+    Stream(Request<'a>),
     Offload(Request<'a>),
     Check(Claim<'a>),
     Engine(Query<'a>),
@@ -48,6 +50,7 @@ fn read_after<'a>(command: &str, words: &'a [Word]) -> Option<Asked<'a>>
     match command {
         "forward" => Some(Asked::Forward(read_forward(words)?)),
         "deliver" => Some(Asked::Deliver(read_forward(words)?)),
+        "stream" => Some(Asked::Stream(read_forward(words)?)),
         "offload" => Some(Asked::Offload(read_offload(words)?)),
         "check" => Some(Asked::Check(read_check(words)?)),
         "engine" => Some(Asked::Engine(read_engine(words)?)),

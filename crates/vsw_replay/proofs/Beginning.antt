@@ -60,14 +60,14 @@ bad_passed bytes all (Cut at) seen c e = record { form = c.0.form; rest = c.0.re
 bad_passed bytes all (Huge at) seen c e = record { form = c.form; rest = c.rest; header = c.header; splits = c.splits }
 
 -- the first round
-headed : (start now : Outside) (name : List ℕ) (r : Reading) (bytes : List ℕ) (most : ℕ) (st : Stop) → 0 < most → IsRead start now name r bytes r.batch → Says start now name r bytes r.batch most st → unheaded_of st r.seen ≡ None → IsPassed bytes r.batch
+pub headed : (start now : Outside) (name : List ℕ) (r : Reading) (bytes : List ℕ) (most : ℕ) (st : Stop) → 0 < most → IsRead start now name r bytes r.batch → Says start now name r bytes r.batch most st → unheaded_of st r.seen ≡ None → IsPassed bytes r.batch
 headed start now name r bytes most stop.Full some h says e = passed_read r.reader bytes r.batch (omega (arith, says, some)) h.stands
 headed start now name r bytes most stop.End some h says e = record { form = says.2.0; rest = []; header = says.2.1; splits = says.2.2 }
 headed start now name r bytes most stop.Fault some h says e = waits_passed bytes r.batch (omega (arith, less_seen r.seen e, h.seen)) says.2
 headed start now name r bytes most (stop.Bad bad) some h says e = bad_passed bytes r.batch bad r.seen says.1 e
 
 -- the report begins so
-pub head_begun : (s : Setting) (start old now : Outside) (name : List ℕ) (run : Run) (switch : SwitchNow) (t : Stretch) → unheaded_of t.stop run.reading.seen ≡ None → SameInputs old now → Since start now → Grows start.put now.put head_line → IsFirst s start old name run switch t → IsFilled s start now name run switch t
+pub head_begun : (s : Setting) (start old now : Outside) (name : List ℕ) (run : Run) (switch : SwitchNow) (t : Stretch) → unheaded_of t.stop run.reading.seen ≡ None → SameInputs old now → Since start now → Grows start.put now.put head_line → IsFirst s start old name run switch t t.next → IsFilled s start now name run switch t
 head_begun s start old now name run switch t e inputs since put f =
     let p = f.stops in
     let r = run.reading in
@@ -92,15 +92,15 @@ head_begun s start old now name run switch t e inputs since put f =
     }
 
 -- the head line was put
-pub head_put : (s : Setting) (start old now : Outside) (name : List ℕ) (run : Run) (switch : SwitchNow) (t : Stretch) (u : ⊤) → unheaded_of t.stop run.reading.seen ≡ None → DoesPut old now head_line (Ok u) → IsFirst s start old name run switch t → IsFilled s start now name run switch t
+pub head_put : (s : Setting) (start old now : Outside) (name : List ℕ) (run : Run) (switch : SwitchNow) (t : Stretch) (u : ⊤) → unheaded_of t.stop run.reading.seen ≡ None → DoesPut old now head_line (Ok u) → IsFirst s start old name run switch t t.next → IsFilled s start now name run switch t
 head_put s start old now name run switch t u e d f = head_begun s start old now name run switch t e d.inputs (since_put start old now head_line (Ok u) f.since d) (grows_then start.put old.put now.put [] head_line f.puts d.told) f
 
 -- or a front of it
-pub head_unput : (s : Setting) (start old now : Outside) (name : List ℕ) (run : Run) (switch : SwitchNow) (t : Stretch) (x : Failed) → unheaded_of t.stop run.reading.seen ≡ None → DoesPut old now head_line (Err x) → IsFirst s start old name run switch t → RunsTrace s start now name end.WriteFault
-head_unput s start old now name run switch t x e d f =
+pub head_unput : (s : Setting) (start old now : Outside) (name : List ℕ) (run : Run) (switch : SwitchNow) (t : Stretch) (most : ℕ) (x : Failed) → 0 < most → unheaded_of t.stop run.reading.seen ≡ None → DoesPut old now head_line (Err x) → IsFirst s start old name run switch t most → RunsTrace s start now name end.WriteFault
+head_unput s start old now name run switch t most x some e d f =
     let p = f.stops in
     let r = run.reading in
-    let passed = headed start old name r p.bytes t.next t.stop f.next.above p.read p.says e in
+    let passed = headed start old name r p.bytes most t.stop some p.read p.says e in
     let reading = reading_put start old now name r.source.file p.bytes d.inputs p.read.reading in
     runs_so s start now name end.WriteFault (since_put start old now head_line (Err x) f.since d) reading.later
     (omega (arith, f.since.puts_later, d.cause.failed), breaks_off s start now name (read_to Stopped p.bytes) head_line d.told.0 (reads_stopped start now name r.source.file p.bytes reading) (header_follows s p.bytes passed.form f.at.some f.at.few passed.header) (grows_then start.put old.put now.put [] (take d.told.0 head_line) f.puts d.told.1))
@@ -141,16 +141,16 @@ unheaded_ends s start now name r bytes most stop.End e since h g says i = absurd
 unheaded_ends s start now name r bytes most stop.Fault e since h g says i = fault_ends s start now name r.source.file bytes r.seen e since h.reading g says.1 h.seen (nat_lt r.seen 24) refl i
 unheaded_ends s start now name r bytes most (stop.Bad bad) e since h g says i = bad_ends s start now name r bytes r.batch bad e since h g says.1 says.2 i
 
-pub head_none : (s : Setting) (start now : Outside) (name : List ℕ) (run : Run) (switch : SwitchNow) (t : Stretch) (e : TraceEnd) → unheaded_of t.stop run.reading.seen ≡ Some e → IsFirst s start now name run switch t → RunsTrace s start now name e
-head_none s start now name run switch t e i f = unheaded_ends s start now name run.reading f.stops.bytes t.next t.stop e f.since f.stops.read f.puts f.stops.says i
+pub head_none : (s : Setting) (start now : Outside) (name : List ℕ) (run : Run) (switch : SwitchNow) (t : Stretch) (most : ℕ) (e : TraceEnd) → unheaded_of t.stop run.reading.seen ≡ Some e → IsFirst s start now name run switch t most → RunsTrace s start now name e
+head_none s start now name run switch t most e i f = unheaded_ends s start now name run.reading f.stops.bytes most t.stop e f.since f.stops.read f.puts f.stops.says i
 
 -- ---- the first round
 
 opened_holds : (s : Setting) (start now : Outside) (name : List ℕ) (run : Run) (switch : SwitchNow) → IsOpened s start now name run switch → Holds start now name run.reading []
 opened_holds s start now name run switch o = record { bytes = []; read = subst (λ w. IsRead start now name run.reading [] w) (sym o.batch) o.read }
 
-pub first_filled : (s : Setting) (start old now : Outside) (name : List ℕ) (run : Run) (switch : SwitchNow) (next : ℕ) (st : Stop) (r : Reading) → IsNextCut s.commands 0 next → SameOutputs old now → FillsSo old now run.reading r next (Ok st) → IsOpened s start old name run switch → IsFirst s start now name (reading_on run r) switch (record { first = 0; next = next; stop = st })
-first_filled s start old now name run switch next st r after outputs fills o = record {
+pub first_filled : (s : Setting) (start old now : Outside) (name : List ℕ) (run : Run) (switch : SwitchNow) (next most : ℕ) (st : Stop) (r : Reading) → IsNextCut s.commands 0 next → SameOutputs old now → FillsSo old now run.reading r most (Ok st) → IsOpened s start old name run switch → IsFirst s start now name (reading_on run r) switch (record { first = 0; next = next; stop = st }) most
+first_filled s start old now name run switch next most st r after outputs fills o = record {
   since = since_read start old now o.since outputs;
   first = refl;
   next = after;

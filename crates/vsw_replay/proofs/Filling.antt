@@ -48,7 +48,7 @@ shows_of start now name r bytes all most next stop.Fault p h size few says = ((s
 shows_of start now name r bytes all most next (stop.Bad bad) p h size few says = (((λ at e. h.end (subst (λ b. Decides b r.reader.finished (length bytes)) e says.2)), says.1, omega (arith, says.0, size, few)), omega (arith, says.0, size))
 
 -- the next cut of a trace that isn't full lies within what it may have
-next_few : (commands : List Line) (first next : ℕ) → first < most_records → IsNextCut commands first next → next ≤ most_records
+pub next_few : (commands : List Line) (first next : ℕ) → first < most_records → IsNextCut commands first next → next ≤ most_records
 next_few commands first next lt n = n.least most_records lt (inr (1024, refl))
 
 -- ---- the next round

@@ -15,6 +15,8 @@ pub mod Unput
 pub mod Owing
 pub mod Picking
 pub mod Leading
+pub mod Parts
+pub mod Handing
 pub mod Asking
 pub mod Exporting
 pub mod Drawing

@@ -91,7 +91,7 @@ stops_behind s start now name rounds owing since later c put =
     runs_so s start now name end.Memory since later (inr (inr (breaks_off s start now name c.trace (report_text (rounds ++ owing)) n c.reads c.follows (grows_is start.put now.put (report_text rounds) (take n (report_text (rounds ++ owing))) front put))))
 
 -- rounds of records that were read go on as long as the trace does
-continues_read : (s : Setting) (start now : Outside) (name : List ℕ) (file : ℕ) (bytes : List ℕ) (given : List Record) (rounds : List Round) (hs : List (List Event)) (first : ℕ) → IsReading start now name file bytes → IsPassed bytes given → length given ≡ first → first ≤ most_records → IsCut s.commands first → AreSoFar s given (cuts_within s.commands first) rounds hs
+pub continues_read : (s : Setting) (start now : Outside) (name : List ℕ) (file : ℕ) (bytes : List ℕ) (given : List Record) (rounds : List Round) (hs : List (List Event)) (first : ℕ) → IsReading start now name file bytes → IsPassed bytes given → length given ≡ first → first ≤ most_records → IsCut s.commands first → AreSoFar s given (cuts_within s.commands first) rounds hs
     → Continues s start now name (report_text rounds)
 continues_read s start now name file bytes given rounds hs first reading passed count few cut so = record {
   trace = read_to Stopped bytes;

@@ -70,7 +70,7 @@ bad_tells s start now name file bytes all text (Huge at) r p whole c few w = (re
 pauses_front : (s : Setting) (t : Trace) (all : List Record) (text : List ℕ) → Pauses t.bytes all → length all ≤ most_records → TellsWithin s all text → HasFront s t text
 pauses_front s t all text p few w = record { records = all; at = p.at; stops = p.stops; few = few; last = p.last; tells = w }
 
-continues_for : (s : Setting) (start now : Outside) (name : List ℕ) (r : Reading) (bytes : List ℕ) (all : List Record) (first next : ℕ) (rounds : List Round) (hs : List (List Event)) (st : Stop) → IsStopped s start now name r bytes all first next st → RoundsFor s first all rounds hs st → Continues s start now name (report_text rounds)
+pub continues_for : (s : Setting) (start now : Outside) (name : List ℕ) (r : Reading) (bytes : List ℕ) (all : List Record) (first next : ℕ) (rounds : List Round) (hs : List (List Event)) (st : Stop) → IsStopped s start now name r bytes all first next st → RoundsFor s first all rounds hs st → Continues s start now name (report_text rounds)
 continues_for s start now name r bytes all first next rounds hs stop.Full i so = record {
   trace = read_to Stopped bytes;
   reads = reads_stopped start now name r.source.file bytes i.reading;

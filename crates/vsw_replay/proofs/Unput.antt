@@ -145,7 +145,7 @@ pub unheaded_leaves : (s : Setting) (start now : Outside) (name : List ℕ) (swi
 unheaded_leaves s start now name switch st seen e i r = early_leaves s start now name switch e (unheaded_early st seen e i) r
 
 -- the header was accepted
-pub first_begun : (s : Setting) (start now : Outside) (name : List ℕ) (run : Run) (switch : SwitchNow) (t : Stretch) → unheaded_of t.stop run.reading.seen ≡ None → IsFirst s (unput start) now name run switch t → IsFilled s (unput start) now name run switch t
+pub first_begun : (s : Setting) (start now : Outside) (name : List ℕ) (run : Run) (switch : SwitchNow) (t : Stretch) → unheaded_of t.stop run.reading.seen ≡ None → IsFirst s (unput start) now name run switch t t.next → IsFilled s (unput start) now name run switch t
 first_begun s start now name run switch t e f = head_begun s (unput start) now now name run switch t e (inputs_same now) f.since tt f
 
 -- ---- the trace was opened, or it wasn't

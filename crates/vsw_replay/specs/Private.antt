@@ -6,5 +6,7 @@ pub mod Going
 pub mod Next
 pub mod Ahead
 pub mod Leading
+pub mod Begun
+pub mod Streaming
 pub mod Exporting
 pub mod Runner

@@ -61,7 +61,7 @@ pub(crate) struct Ahead<'a, 'c, 'g, J: Naming, G> {
 }
 
 /// Whether no command of the round that begins with this packet runs beside its packets.
-fn is_quiet(schedule: &Schedule, first: u32) -> bool
+pub(crate) fn is_quiet(schedule: &Schedule, first: u32) -> bool
     ensures { result ≡ true → HasNoneBeside schedule.now first }
 {
     let places = schedule.places(first);
@@ -175,7 +175,7 @@ fn tell_owed<'c, 'g, J: Naming, G>(
 }
 
 /// Tells a round that was done, and puts its text.
-fn pay<'c, 'g, J: Naming, G, H: Host>(
+pub(crate) fn pay<'c, 'g, J: Naming, G, H: Host>(
     host: &mut H,
     crew: &mut Crew<'c, 'g, J, G>,
     run: &mut Run,

@@ -2,6 +2,7 @@
 #![tactic(auto)]
 
 mod ahead;
+mod begun;
 mod cut;
 mod draw;
 mod ending;
@@ -10,6 +11,8 @@ mod quiet;
 mod run;
 mod runner;
 mod sheets;
+mod stream;
+mod streaming;
 mod summary;
 mod trace;
 
@@ -17,5 +20,6 @@ pub use ending::TraceEnd;
 pub use export::export_trace;
 pub use run::{WorkloadEnd, run_workload};
 pub use runner::Runner;
+pub use stream::stream_trace;
 pub use trace::run_trace;
 pub use vsw_crew::{Answer, Crew, Naming, Switch, Tally, Watch, Why, run_round};

@@ -1,6 +1,6 @@
 //! What runs the rounds of a run.
 
-ghost use Rattle.std.specs.Prelude.{◌≡◌, ◌<◌, ◌≤◌, ◌+◌, ◌^◌, ℕ, List, length, IfOk, OnOk};
+ghost use Rattle.std.specs.Prelude.{◌≡◌, ◌<◌, ◌≤◌, ◌+◌, ◌^◌, ℕ, List, length, Ok, IfOk, OnOk};
 ghost use Rattle.vsw_commandfile.specs.declared.line.Line.{Line};
 ghost use Rattle.vsw_crew.specs.Crew.{crew_now};
 ghost use Rattle.vsw_host.specs.Outside.{Outside};
@@ -9,10 +9,13 @@ ghost use Rattle.vsw_promise.specs.Jobs.{Setting};
 ghost use Rattle.vsw_crew.specs.Round.{TellsRound};
 ghost use Rattle.vsw_report.specs.Whole.{whole_text};
 ghost use Rattle.vsw_crew.specs.Switch.{AreServed, IsAt};
+ghost use Rattle.vsw_replay.specs.Private.Begun.{NearTurn, TurnsTo};
 ghost use Rattle.vsw_replay.specs.Private.Going.{GoesOn, IsFilled, IsNear};
 
 use crate::ahead::run_ahead;
+use crate::begun::Turn;
 use crate::ending::TraceEnd;
+use crate::streaming::run_streaming;
 use crate::trace::{Run, Stretch};
 use std::alloc::Global;
 use std::marker::Model;
@@ -159,6 +162,39 @@ pub(crate) fn go_ahead<
         Work::Alone(switch, watch) => (Runner::alone(switch, watch), run, Ok(stretch)),
         Work::Beside(crew) => {
             let (crew, run, next) = run_ahead(rt, alloc, host, crew, schedule, run, stretch);
+            (Runner::beside(crew), run, next)
+        }
+    }
+}
+
+/// Hands over the packets of rounds as they are read, where each caller has a thread and as long as the rounds are fit for it. Gives back the round
+/// that was begun and is not, what else is done next, or how the run ended.
+pub(crate) fn go_streaming<
+    'c,
+    'g,
+    J: Naming + Send + Sync,
+    G: Gate + Watch + Sync,
+    R: Threads + Wait + Sync,
+    H: Host,
+>(
+    rt: &R,
+    alloc: Global,
+    host: &mut H,
+    runner: Runner<'c, 'g, J, G>,
+    schedule: &Schedule,
+    run: Run,
+    turn: Turn,
+) -> (Runner<'c, 'g, J, G>, Run, Result<Turn, TraceEnd>)
+    requires served { AreServed runner schedule.now }
+    requires near { NearTurn (H.outside host.old) run turn }
+    ensures goes { (s : Setting) (start : Outside) (name : List ℕ) → s.commands ≡ schedule.now → TurnsTo s start (H.outside host.old) name run runner.entry (Ok turn) → TurnsTo s start (H.outside host.new) name result.1 result.0 result.2 }
+    ensures near { IfOk result.2 (λ t. NearTurn (H.outside host.new) result.1 t) }
+    ensures served { OnOk result.2 (AreServed result.0 schedule.now) }
+{
+    match runner.work {
+        Work::Alone(switch, watch) => (Runner::alone(switch, watch), run, Ok(turn)),
+        Work::Beside(crew) => {
+            let (crew, run, next) = run_streaming(rt, alloc, host, crew, schedule, run, turn);
             (Runner::beside(crew), run, next)
         }
     }

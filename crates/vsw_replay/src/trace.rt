@@ -7,6 +7,7 @@ ghost use Rattle.vsw_host.specs.Outside.{Outside, SameInputs, SameOutputs};
 ghost use Rattle.vsw_promise.specs.Jobs.{Setting};
 ghost use Rattle.vsw_promise.specs.Ports.{ports_of};
 ghost use Rattle.vsw_pcap.specs.declared.capture.Record.{Record};
+ghost use Rattle.vsw_replay.specs.Private.Begun.{BeginsSo};
 ghost use Rattle.vsw_replay.specs.Private.Exporting.{IsEarly};
 ghost use Rattle.vsw_replay.specs.Private.Going.{IsFilled, IsBetween, IsPast, IsOpened, IsFirst, IsNear, IsTurn, PutsRound, PutsStretch, PutsNext, GoesOn, is_run_of, unheaded_of, clean_of};
 ghost use Rattle.vsw_replay.specs.Private.Next.{ReadsOn, in_batch};
@@ -118,7 +119,7 @@ pub(crate) fn is_run(schedule: &Schedule, count: usize, first: u32, stop: Stop) 
 }
 
 /// Runs and puts the round that was read, if it is one.
-fn put_stretch<
+pub(crate) fn put_stretch<
     'c,
     'g,
     J: Naming + Send + Sync,
@@ -191,7 +192,7 @@ pub(crate) fn clean_end(short: bool) -> TraceEnd
 }
 
 /// Runs and puts the rounds of commands alone that follow, once the trace ended.
-fn run_past<
+pub(crate) fn run_past<
     'c,
     'g,
     J: Naming + Send + Sync,
@@ -245,7 +246,7 @@ pub(crate) fn read_on<H: Host>(
 }
 
 /// Finds whether anything follows after as many records as a trace may have.
-fn read_past<H: Host>(
+pub(crate) fn read_past<H: Host>(
     host: &mut H,
     schedule: &Schedule,
     run: &mut Run,
@@ -409,11 +410,17 @@ pub(crate) fn unheaded(stop: Stop, seen: usize) -> Option<TraceEnd>
     }
 }
 
-/// Puts the head line, once the header was accepted. The first round was read.
-fn put_head<H: Host>(host: &mut H, run: &Run, first: Stretch) -> Result<Stretch, TraceEnd>
+/// Puts the head line, once the header was accepted. The first round was read, or the first record of it.
+pub(crate) fn put_head<H: Host>(
+    host: &mut H,
+    run: &Run,
+    first: Stretch,
+) -> Result<Stretch, TraceEnd>
     requires near { IsNear (H.outside host.old) run.now first }
-    ensures goes { (s : Setting) (start : Outside) (name : List ℕ) (switch : SwitchNow) → IsFirst s start (H.outside host.old) name run.now switch first → GoesOn s start (H.outside host.new) name run.now switch result }
+    ensures goes { (s : Setting) (start : Outside) (name : List ℕ) (switch : SwitchNow) → IsFirst s start (H.outside host.old) name run.now switch first first.next → GoesOn s start (H.outside host.new) name run.now switch result }
+    ensures begins { (s : Setting) (start : Outside) (name : List ℕ) (switch : SwitchNow) → IsFirst s start (H.outside host.old) name run.now switch first 1 → BeginsSo s start (H.outside host.new) name run.now switch result }
     ensures near { IfOk result (λ next. IsNear (H.outside host.new) run.now next) }
+    ensures same { IfOk result (λ next. next ≡ first) }
 {
     match unheaded(first.stop, run.reading.seen) {
         None => match host.put(HEAD_LINE) {

@@ -160,12 +160,12 @@ pub record IsOpened (s : Setting) (start now : Outside) (name : List ℕ) (run :
   pub short_is : run.short ≡ false
   pub puts : Grows start.put now.put []
 
--- its first round was read, and nothing put
-pub record IsFirst (s : Setting) (start now : Outside) (name : List ℕ) (run : Run) (switch : SwitchNow) (t : Stretch) : Type 0 where
+-- of its first round so many records were read, or the reading stopped before, and nothing was put
+pub record IsFirst (s : Setting) (start now : Outside) (name : List ℕ) (run : Run) (switch : SwitchNow) (t : Stretch) (most : ℕ) : Type 0 where
   pub since : Since start now
   pub first : t.first ≡ 0
   pub next : IsNextCut s.commands 0 t.next
-  pub stops : StopsSo start now name run.reading [] t.next t.stop
+  pub stops : StopsSo start now name run.reading [] most t.stop
   pub at : IsAt s (map (λ p. []) (ports_of s.policy)) switch
   pub short_is : run.short ≡ false
   pub puts : Grows start.put now.put []

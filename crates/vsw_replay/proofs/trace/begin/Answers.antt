@@ -11,7 +11,7 @@ put_head-requires g c =
 pub returns-in-Ok-clause-goes : goal.returns-in-Ok-clause-goes
 returns-in-Ok-clause-goes g c = λ s start name switch e o.
     let next = c.next_cut-next.result in
-    c.put_head.ensures.goes s start name switch (first_filled s start (g.H.Host.outside c.args.host.now) (g.H.Host.outside c.fill.new.host) name c.args.run.now switch next c.in-Ok.stop c.fill.new.reading (cut_as s.commands c.args.schedule.now 0 next e c.next_cut-next.ensures.next) c.fill.ensures.outputs c.in-Ok.ensures.fills o)
+    c.put_head.ensures.goes s start name switch (first_filled s start (g.H.Host.outside c.args.host.now) (g.H.Host.outside c.fill.new.host) name c.args.run.now switch next next c.in-Ok.stop c.fill.new.reading (cut_as s.commands c.args.schedule.now 0 next e c.next_cut-next.ensures.next) c.fill.ensures.outputs c.in-Ok.ensures.fills o)
 
 pub returns-in-Err-clause-goes : goal.returns-in-Err-clause-goes
 returns-in-Err-clause-goes g c = λ s start name switch e o. first_unfilled s start (g.H.Host.outside c.args.host.now) (g.H.Host.outside c.fill.new.host) name c.args.run.now switch c.next_cut-next.result _ c.fill.new.reading c.fill.ensures.outputs c.in-Err.ensures.fills o

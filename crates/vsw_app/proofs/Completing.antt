@@ -30,7 +30,7 @@ use Rattle.vsw_run.specs.declared.ending.Ending.{Ending}
 use Rattle.vsw_run.specs.declared.ending.Ending.TheVariants as ending
 use Rattle.vsw_run.specs.declared.ending.Status.{Status}
 use Rattle.vsw_run.specs.declared.ending.Status.TheVariants as status
-use Rattle.vsw_run.specs.Words.{Request, Forward, Deliver, Offload, Generate, asked_in}
+use Rattle.vsw_run.specs.Words.{Request, Forward, Deliver, Stream, Offload, Generate, asked_in}
 
 -- ---- a file that is a capture, of which a trace was read
 
@@ -198,7 +198,8 @@ complete_is words old new s run admitted n m = subst (λ t. (t ≡ status.Done) 
     by : AskRun words q → (status_of run.end ≡ status.Done) ⊎ (status_of run.end ≡ status.Memory)
     by (inl e) = over false (runs_as words (Some (Forward q)) old new s run e)
     by (inr (inl e)) = over true (runs_as words (Some (Deliver q)) old new s run e)
-    by (inr (inr e)) = exported e
+    by (inr (inr (inl e))) = over false (runs_as words (Some (Stream q)) old new s run e)
+    by (inr (inr (inr e))) = exported e
 
 generated_well : (start packets : ℕ) (old new : Outside) (end : Ending) → ¬ (Rose old.put_faults new.put_faults) → RunsGenerated start packets old new end → (status_of end ≡ status.Done) ⊎ (status_of end ≡ status.Memory)
 generated_well start packets old new ending.Done n r = inl refl

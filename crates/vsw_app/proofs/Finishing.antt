@@ -23,7 +23,7 @@ use Rattle.vsw_run.specs.declared.ending.ReportFault.{ReportFault}
 use Rattle.vsw_run.specs.declared.ending.ReportFault.TheVariants as report
 use Rattle.vsw_run.specs.declared.ending.Status.{Status}
 use Rattle.vsw_run.specs.declared.ending.Status.TheVariants as status
-use Rattle.vsw_run.specs.Words.{Request, Claim, Query, Asked, Forward, Deliver, Offload, Check, Engine, Generate, asked_in, run_over}
+use Rattle.vsw_run.specs.Words.{Request, Claim, Query, Asked, Forward, Deliver, Stream, Offload, Check, Engine, Generate, asked_in}
 use Rattle.vsw_app.specs.Speaks.{KeepsPut}
 use Rattle.vsw_app.specs.Stages.{HasEnded, HasEndedBy}
 use Rattle.vsw_files.proofs.Growing.{grows_none, grows_as, rose_as}
@@ -173,25 +173,22 @@ generated_later start packets old b c ending.Illegal l e = absurd e
 generated_later start packets old b c (ending.Rows why) l e = absurd e
 
 -- a run over files, which ended and was complained of
-run_over_files : (words : List (List ℕ)) (local : Bool) (q : Request) (old now new : Outside) (end : Ending) (s : Status) → asked_in words ≡ Some (run_over local q) → HasEnded local q old now end → s ≡ status_of end → Complains now new (complaint end) → SameInputs now new → KeepsPut now new → IsRun words old new s
-run_over_files words local q old now new end s asked h is complains same keeps =
+run_over_files : (words : List (List ℕ)) (local : Bool) (q : Request) (a : Asked) (old now new : Outside) (end : Ending) (s : Status) → asked_in words ≡ Some a → (Runs local q old new end → RunsBy (Some a) old new end) → HasEnded local q old now end → s ≡ status_of end → Complains now new (complaint end) → SameInputs now new → KeepsPut now new → IsRun words old new s
+run_over_files words local q a old now new end s asked by h is complains same keeps =
     let later : IsLater now new = record { inputs = same; put = keeps } in
     let runs : Runs local q old new end = record { files = h.runs.files; opens = opens_later q old now new h.runs.files later h.runs.opens; ends = ends_later local q old now new h.runs.files end later h.runs.ends } in
     record {
       end = end;
       status_is = is;
-      runs = subst (λ o. RunsBy o old new end) (sym asked) (by local q runs);
+      runs = subst (λ o. RunsBy o old new end) (sym asked) (by runs);
       complains = complains_from old now new (complaint end) h.complained h.complain_faults complains;
     }
-  where
-    by : (local : Bool) (q : Request) → Runs local q old new end → RunsBy (Some (run_over local q)) old new end
-    by false q r = r
-    by true q r = r
 
 -- the words ask for a run, which ended and was complained of
 pub run_asked : (words : List (List ℕ)) (a : Asked) (old now new : Outside) (end : Ending) (s : Status) → asked_in words ≡ Some a → HasEndedBy a old now end → s ≡ status_of end → Complains now new (complaint end) → SameInputs now new → KeepsPut now new → IsRun words old new s
-run_asked words (Forward q) old now new end s asked h is complains same keeps = run_over_files words false q old now new end s asked h is complains same keeps
-run_asked words (Deliver q) old now new end s asked h is complains same keeps = run_over_files words true q old now new end s asked h is complains same keeps
+run_asked words (Forward q) old now new end s asked h is complains same keeps = run_over_files words false q (Forward q) old now new end s asked (λ r. r) h is complains same keeps
+run_asked words (Deliver q) old now new end s asked h is complains same keeps = run_over_files words true q (Deliver q) old now new end s asked (λ r. r) h is complains same keeps
+run_asked words (Stream q) old now new end s asked h is complains same keeps = run_over_files words false q (Stream q) old now new end s asked (λ r. r) h is complains same keeps
 run_asked words (Offload q) old now new end s asked h is complains same keeps =
     let later : IsLater now new = record { inputs = same; put = keeps } in
     record {
@@ -294,6 +291,7 @@ usage_by : (o : Option Asked) (old new : Outside) (end : Ending) → RunsBy o ol
 usage_by None old new end r = ((λ e. refl), (λ e. r.usage))
 usage_by (Some (Forward q)) old new end r = ((λ e. absurd (subst (Ends false q old new r.files) e r.ends)), (λ e. absurd (cc e)))
 usage_by (Some (Deliver q)) old new end r = ((λ e. absurd (subst (Ends true q old new r.files) e r.ends)), (λ e. absurd (cc e)))
+usage_by (Some (Stream q)) old new end r = ((λ e. absurd (subst (Ends false q old new r.files) e r.ends)), (λ e. absurd (cc e)))
 usage_by (Some (Offload q)) old new end r = ((λ e. absurd (subst (exports.Ends q old new r.files) e r.ends)), (λ e. absurd (cc e)))
 usage_by (Some (Check k)) old new end r = ((λ e. absurd (subst (checks.Ends k old new r.files) e r.ends)), (λ e. absurd (cc e)))
 usage_by (Some (Engine q)) old new end r = ((λ e. absurd (subst (rows.Ends q old new r.files) e r.ends)), (λ e. absurd (cc e)))
@@ -309,6 +307,7 @@ read_by : (o : Option Asked) (old new : Outside) (end : Ending) → RunsBy o old
 read_by None old new end r e = absurd (let u = r.usage in cc (u, e))
 read_by (Some (Forward q)) old new end r e = (subst (Ends false q old new r.files) e r.ends).0
 read_by (Some (Deliver q)) old new end r e = (subst (Ends true q old new r.files) e r.ends).0
+read_by (Some (Stream q)) old new end r e = (subst (Ends false q old new r.files) e r.ends).0
 read_by (Some (Offload q)) old new end r e = (subst (exports.Ends q old new r.files) e r.ends).0
 read_by (Some (Check k)) old new end r e = (subst (checks.Ends k old new r.files) e r.ends).0
 read_by (Some (Engine q)) old new end r e = (subst (rows.Ends q old new r.files) e r.ends).0
@@ -321,6 +320,7 @@ write_by : (o : Option Asked) (old new : Outside) (end : Ending) → RunsBy o ol
 write_by None old new end r e = absurd (let u = r.usage in cc (u, e))
 write_by (Some (Forward q)) old new end r e = (subst (Ends false q old new r.files) e r.ends).0
 write_by (Some (Deliver q)) old new end r e = (subst (Ends true q old new r.files) e r.ends).0
+write_by (Some (Stream q)) old new end r e = (subst (Ends false q old new r.files) e r.ends).0
 write_by (Some (Offload q)) old new end r e = (subst (exports.Ends q old new r.files) e r.ends).0
 write_by (Some (Check k)) old new end r e = (subst (checks.Ends k old new r.files) e r.ends).0
 write_by (Some (Engine q)) old new end r e = (subst (rows.Ends q old new r.files) e r.ends).0

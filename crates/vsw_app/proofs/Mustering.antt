@@ -14,7 +14,7 @@ use Rattle.vsw_policy.specs.Obey.{rules_given}
 use Rattle.vsw_policy.specs.Sound.{Each, IsGoodRule, is_listed}
 use Rattle.vsw_config.specs.declared.file.PolicyFile.{PolicyFile}
 use Rattle.vsw_promise.specs.Ports.{PortSeen, ports_of}
-use Rattle.vsw_replay.specs.Switch.{AllStandAt, AreServed, IsAt, SwitchNow}
+use Rattle.vsw_replay.specs.Switch.{AllStandAt, AreServed, IsAt}
 use Rattle.vsw_replay.proofs.Asking.{all_listed, all_ports, all_rules}
 
 -- ---- the callers are ready
@@ -91,6 +91,6 @@ first_served workers file local h rows lines m asked = all_served workers file l
 
 -- ---- the crew that is made of them
 
-pub crew_first : (workers : ℕ) (file : PolicyFile) (local : Bool) (h : HarbourSeen) (rows : List (List (Lane StationSeen))) (crew : CrewSeen) (now : SwitchNow) → IsMustered workers file local h rows
-    → ((hs : List (List Event)) → AreReady h hs rows → crew ≡ record { harbour = h; histories = hs }) → now ≡ crew_now crew → now ≡ switch_now h (no_entries h.docks)
-crew_first workers file local h rows crew now m made is = is ∙ ap crew_now (made (no_entries h.docks) (ready workers file local h rows m))
+pub crew_first : (workers : ℕ) (file : PolicyFile) (local : Bool) (h : HarbourSeen) (rows : List (List (Lane StationSeen))) (crew : CrewSeen) → IsMustered workers file local h rows
+    → ((hs : List (List Event)) → AreReady h hs rows → crew ≡ record { harbour = h; histories = hs }) → crew_now crew ≡ switch_now h (no_entries h.docks)
+crew_first workers file local h rows crew m made = ap crew_now (made (no_entries h.docks) (ready workers file local h rows m))

@@ -3,3 +3,4 @@ pub mod Answers
 pub mod Exit
 pub mod Speaks
 pub mod Stages
+pub mod Way

@@ -8,7 +8,7 @@ use Rattle.vsw_host.specs.Outside.{Outside}
 use Rattle.vsw_run.specs.Exporting.{RunsExport}
 use Rattle.vsw_run.specs.IsRun.{Runs, RunsGenerated}
 use Rattle.vsw_run.specs.declared.ending.Ending.{Ending}
-use Rattle.vsw_run.specs.Words.{Request, Asked, Forward, Deliver, Offload, Check, Engine, Generate}
+use Rattle.vsw_run.specs.Words.{Request, Asked, Forward, Deliver, Stream, Offload, Check, Engine, Generate}
 
 -- what the reading of the policy and of the commands leaves
 abbrev pub ReadsGiven : Request → Outside → Outside → Result Given Ending → Type 0
@@ -37,6 +37,7 @@ pub record HasGenerated (start packets : ℕ) (old new : Outside) (end : Ending)
 abbrev pub HasEndedBy : Asked → Outside → Outside → Ending → Type 0
 HasEndedBy (Forward q) old new end = HasEnded false q old new end
 HasEndedBy (Deliver q) old new end = HasEnded true q old new end
+HasEndedBy (Stream q) old new end = HasEnded false q old new end
 HasEndedBy (Offload q) old new end = HasExported q old new end
 HasEndedBy (Check c) old new end = HasChecked c old new end
 HasEndedBy (Engine q) old new end = HasAnswered q old new end

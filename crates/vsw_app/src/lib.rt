@@ -11,6 +11,7 @@ mod open;
 mod process;
 mod run;
 mod through;
+mod way;
 
 pub use open::Open;
 pub use process::{exit_code, run_process, status_without};

@@ -10,6 +10,7 @@ ghost use Rattle.vsw_run.specs.Seen.{IsWithin, asked_seen, request_seen};
 ghost use Rattle.vsw_run.specs.Words.{asked_in};
 ghost use Rattle.vsw_replay.specs.WorkloadRuns.{RunsWorkload};
 ghost use Rattle.vsw_app.specs.Stages.{HasEnded, HasEndedBy, HasGenerated};
+ghost use Rattle.vsw_app.specs.Way.{is_local};
 
 use crate::check::check;
 use crate::ending::{drawn_ending, ending_of, finish};
@@ -17,6 +18,7 @@ use crate::engine::engine;
 use crate::given::{Given, open_given};
 use crate::offload::offload;
 use crate::through::run_through;
+use crate::way::Way;
 use std::alloc::Global;
 use std::sync::Wait;
 use std::thread::Threads;
@@ -27,18 +29,18 @@ use vsw_replay::{Switch, Watch, WorkloadEnd, run_workload};
 use vsw_run::{Asked, Ending, Request, Status, Word, read_words};
 use vsw_workers::Gate;
 
-/// Runs over the files that the words name, each read and judged before the next is opened. A local run hands packets on between the ports.
+/// Runs over the files that the words name, each read and judged before the next is opened.
 fn forward<R: Threads + Wait + Sync, H: Host, G: Gate + Watch + Sync>(
     rt: &R,
     alloc: Global,
     host: &mut H,
     gate: &G,
-    local: bool,
+    way: Way,
     request: &Request<'_>,
 ) -> Ending
     requires some { 0 < request.now.workers }
     requires few { request.now.workers ≤ 16 }
-    ensures { HasEnded local (request_seen request.now) (H.outside host.old) (H.outside host.new) result }
+    ensures { HasEnded (is_local way) (request_seen request.now) (H.outside host.old) (H.outside host.new) result }
 {
     let Given { policy, lines } = match open_given(alloc, host, request) {
         Ok(given) => given,
@@ -46,7 +48,7 @@ fn forward<R: Threads + Wait + Sync, H: Host, G: Gate + Watch + Sync>(
     };
     let workers = request.workers;
     let trace = request.trace;
-    ending_of(run_through(rt, alloc, host, gate, workers, local, &policy, lines, trace))
+    ending_of(run_through(rt, alloc, host, gate, workers, way, &policy, lines, trace))
 }
 
 /// Makes the switch of the workload's policy, and runs so many packets, drawn from this number, through it.
@@ -96,8 +98,9 @@ fn run_asked<R: Threads + Wait + Sync, H: Host, G: Gate + Watch + Sync>(
     ensures { HasEndedBy (asked_seen asked.now) (H.outside host.old) (H.outside host.new) result }
 {
     match asked {
-        Asked::Forward(request) => forward(rt, alloc, host, gate, false, request),
-        Asked::Deliver(request) => forward(rt, alloc, host, gate, true, request),
+        Asked::Forward(request) => forward(rt, alloc, host, gate, Way::Forward, request),
+        Asked::Deliver(request) => forward(rt, alloc, host, gate, Way::Deliver, request),
+        Asked::Stream(request) => forward(rt, alloc, host, gate, Way::Stream, request),
         Asked::Offload(request) => offload(alloc, host, request),
         Asked::Check(claim) => check(alloc, host, claim),
         Asked::Engine(query) => engine(alloc, host, query),

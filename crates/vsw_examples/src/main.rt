@@ -44,6 +44,9 @@ const RUNS: &[[&str; 3]] = &[
 /// The files of the run of `deliver`.
 const DELIVERED: [&str; 3] = ["14-two-machines", "policy.json", "commands.jsonl"];
 
+/// The files of the run of `stream`.
+const STREAMED: [&str; 3] = ["7-commands", "policy.json", "commands.jsonl"];
+
 /// Bytes of a file, at most.
 const LIMIT: u64 = 1_048_576;
 
@@ -118,8 +121,10 @@ fn main(rt: HostRuntime) -> ExitCode {
             return ExitCode::from(1);
         }
     }
-    match show(&rt, alloc, &mut host, "deliver", &DELIVERED) {
-        None => ExitCode::from(1),
-        Some(()) => ExitCode::from(0),
+    for (command, run) in [("deliver", &DELIVERED), ("stream", &STREAMED)] {
+        if show(&rt, alloc, &mut host, command, run).is_none() {
+            return ExitCode::from(1);
+        }
     }
+    ExitCode::from(0)
 }

@@ -1,5 +1,5 @@
 -- What is put of files that are read is a report, as one is read.
-use Rattle.std.proofs.Common.{◌≡◌, ◌≤◌, ◌⊎◌, inl, inr, ℕ, Bool, true, false, List, [], length, drop, Some, Ok, refl, sym, subst, arith}
+use Rattle.std.proofs.Common.{◌≡◌, ◌≤◌, ◌⊎◌, inl, inr, ℕ, Bool, true, false, List, [], length, drop, Ok, refl, sym, subst, arith}
 use Rattle.hex.specs.Hex.{IsBytes}
 use Rattle.vsw_check.specs.Report.{IsReport}
 use Rattle.vsw_commandfile.proofs.LinesRead.{each_is_good}
@@ -16,7 +16,7 @@ use Rattle.vsw_run.proofs.Runs.{each_asked}
 use Rattle.vsw_run.proofs.Well.{workers_are}
 use Rattle.vsw_run.specs.IsRun.{EndsByTrace}
 use Rattle.vsw_run.specs.Trace.{HasBadRecord, HasMore, Tells, TellsAll, TellsWithin, Trace}
-use Rattle.vsw_run.specs.Words.{Request, asked_in, run_over}
+use Rattle.vsw_run.specs.Words.{Request, AskReport}
 use Rattle.vsw_run.specs.declared.ending.Ending.{Ending}
 use Rattle.vsw_run.specs.declared.ending.Ending.TheVariants as ending
 use Rattle.vsw_report_law.proofs.Outgoing.{front, rest}
@@ -84,7 +84,7 @@ tells_read s t (ending.Report why) text f are w = absurd w
 tells_read s t ending.Illegal text f are w = absurd w
 tells_read s t (ending.Rows why) text f are w = absurd w
 
-has_files : (words : List (List ℕ)) (local : Bool) (q : Request) (old new : Outside) (files : List Opened) (end : Ending) → asked_in words ≡ Some (run_over local q) → (ends : EndsByTrace local q old new files end) → HasFiles ends.reads.setting
+has_files : (words : List (List ℕ)) (local : Bool) (q : Request) (old new : Outside) (files : List Opened) (end : Ending) → AskReport words local q → (ends : EndsByTrace local q old new files end) → HasFiles ends.reads.setting
 has_files words local q old new files end e ends =
     let count = workers_are words local q e in
     let o = ends.reads.opened in

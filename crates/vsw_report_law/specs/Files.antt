@@ -1,5 +1,5 @@
 -- What is put of files that are read is a report, as one is read.
-use Rattle.std.specs.Prelude.{◌≡◌, ◌⊎◌, ◌≤◌, ℕ, Bool, List, [], length, drop, Some, Ok}
+use Rattle.std.specs.Prelude.{◌≡◌, ◌⊎◌, ◌≤◌, ℕ, Bool, List, [], length, drop, Ok}
 use Rattle.hex.specs.Hex.{IsBytes}
 use Rattle.vsw_check.specs.Report.{IsReport}
 use Rattle.vsw_commandfile.specs.Commands.{commands_file_of}
@@ -11,7 +11,7 @@ use Rattle.vsw_pcap.specs.declared.capture.Record.{Record}
 use Rattle.vsw_promise.specs.Jobs.{Setting}
 use Rattle.vsw_report.specs.declared.round.Round.{Round}
 use Rattle.vsw_run.specs.IsRun.{EndsByTrace}
-use Rattle.vsw_run.specs.Words.{Request, asked_in, run_over}
+use Rattle.vsw_run.specs.Words.{Request, AskReport}
 use Rattle.vsw_run.specs.declared.ending.Ending.{Ending}
 use Rattle.vsw_run.specs.declared.ending.Ending.TheVariants as ending
 use Rattle.vsw_report_law.specs.Given.{AreGiven}
@@ -23,10 +23,10 @@ FilesGive = (s : Setting) (policy commands trace back : List ℕ) (form : Form) 
 
 -- whatever a run over files ended by, what it put whole of its trace is nothing or a report, if that file is bytes
 abbrev pub PutIsRead : Type 0
-PutIsRead = (words : List (List ℕ)) (local : Bool) (q : Request) (old new : Outside) (files : List Opened) (end : Ending) → asked_in words ≡ Some (run_over local q) → (ends : EndsByTrace local q old new files end) → IsBytes ends.reads.file.bytes
+PutIsRead = (words : List (List ℕ)) (local : Bool) (q : Request) (old new : Outside) (files : List Opened) (end : Ending) → AskReport words local q → (ends : EndsByTrace local q old new files end) → IsBytes ends.reads.file.bytes
     → (ends.text ≡ []) ⊎ ((rounds : List Round) × IsReport ends.text rounds)
 
 -- one that ended well put a report
 abbrev pub DoneIsRead : Type 0
-DoneIsRead = (words : List (List ℕ)) (local : Bool) (q : Request) (old new : Outside) (files : List Opened) → asked_in words ≡ Some (run_over local q) → (ends : EndsByTrace local q old new files ending.Done) → IsBytes ends.reads.file.bytes
+DoneIsRead = (words : List (List ℕ)) (local : Bool) (q : Request) (old new : Outside) (files : List Opened) → AskReport words local q → (ends : EndsByTrace local q old new files ending.Done) → IsBytes ends.reads.file.bytes
     → (rounds : List Round) × IsReport ends.text rounds

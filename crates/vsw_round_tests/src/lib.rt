@@ -5,6 +5,8 @@
 mod adding;
 mod carrying;
 #[cfg(test)]
+mod handing_tests;
+#[cfg(test)]
 mod hands_tests;
 #[cfg(test)]
 mod hex_tests;

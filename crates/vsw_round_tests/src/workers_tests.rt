@@ -5,10 +5,11 @@ ghost use Rattle.std.specs.Prelude.{take, drop, ◌≤◌};
 use std::alloc::Global;
 use std::sync::Wait;
 use std::sync::atomic::{AtomicU64, Ordering};
+use std::thread;
 use vsw_workers::{Forwarder, Gate, do_some, run_round};
 
-/// How often an actor looks for the other one before it gives up.
-const TURNS: u32 = 100_000_000;
+/// How often an actor looks for the other one before it gives up: seconds at least, as each look gives way to other threads.
+const TURNS: u32 = 10_000_000;
 
 /// Writes down three numbers, one a job.
 #[derive(Drop)]
@@ -79,6 +80,7 @@ impl Gate for Meeting {
                 self.saw[place].store(1, Ordering::SeqCst);
                 return;
             }
+            thread::yield_now();
         }
     }
 

@@ -12,6 +12,9 @@ pub const HEADER: &[u8] =
 /// The words of a run by one worker.
 pub const FORWARD: &[&str] = &["vsw", "forward", "policy", "commands", "trace"];
 
+/// The words of the same run by `stream`.
+pub const STREAM: &[&str] = &["vsw", "stream", "policy", "commands", "trace"];
+
 /// A capture without packets.
 pub fn empty_trace(alloc: Global) -> Result<Vec<u8>, AllocError> {
     HEADER.to_vec(alloc)

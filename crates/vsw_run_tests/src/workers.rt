@@ -13,4 +13,6 @@ mod meeting;
 mod notes;
 mod report_tests;
 mod running;
+mod stream_tests;
+mod waiting;
 mod watch_tests;

@@ -24,6 +24,10 @@ fn told(alloc: Global, asked: &Option<Asked<'_>>) -> Result<String, AllocError> 
             "{} workers hand on, {} {} {}",
             r.workers, r.policy, r.commands, r.trace
         ),
+        Some(Asked::Stream(r)) => format!(in alloc;
+            "{} workers stream, {} {} {}",
+            r.workers, r.policy, r.commands, r.trace
+        ),
         Some(Asked::Offload(r)) => format!(in alloc;
             "rows of {} worker, {} {} {}",
             r.workers, r.policy, r.commands, r.trace
@@ -126,6 +130,36 @@ const DELIVERIES: [(&str, &str); 16] = [
 #[test]
 fn lines_of_a_delivery_name_three_files(rt: HostRuntime) -> Result<(), Fail> {
     let wrong = first_wrong(rt.alloc(), &DELIVERIES)?;
+    assert!(rt; wrong.is_none(), "{wrong:?}");
+    Ok(())
+}
+
+/// Lines that ask to forward while the trace is read.
+const STREAMS: [(&str, &str); 16] = [
+    ("vsw stream P C T", "1 workers stream, P C T"),
+    ("any stream - - -", "1 workers stream, - - -"),
+    ("vsw stream --workers 2 P C T", "2 workers stream, P C T"),
+    ("vsw stream P C T --workers=16", "16 workers stream, P C T"),
+    ("vsw stream P C -- -T", "1 workers stream, P C -T"),
+    (
+        "vsw stream stream forward T",
+        "1 workers stream, stream forward T",
+    ),
+    ("vsw stream", "refused"),
+    ("vsw stream P C", "refused"),
+    ("vsw stream P C T R", "refused"),
+    ("vsw stream P C ", "refused"),
+    ("vsw stream P C -T", "refused"),
+    ("vsw stream --workers 0 P C T", "refused"),
+    ("vsw stream --workers=17 P C T", "refused"),
+    ("vsw stream --local P C T", "refused"),
+    ("vsw Stream P C T", "refused"),
+    ("vsw streams P C T", "refused"),
+];
+
+#[test]
+fn lines_of_a_stream_name_three_files(rt: HostRuntime) -> Result<(), Fail> {
+    let wrong = first_wrong(rt.alloc(), &STREAMS)?;
     assert!(rt; wrong.is_none(), "{wrong:?}");
     Ok(())
 }

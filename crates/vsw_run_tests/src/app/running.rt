@@ -1,6 +1,6 @@
 //! Runs over files in memory.
 
-use crate::memory::{FORWARD, HEADER, file, words_of};
+use crate::memory::{FORWARD, HEADER, STREAM, file, words_of};
 use std::alloc::{AllocError, Global};
 use std::sync::Wait;
 use std::thread::Threads;
@@ -209,7 +209,22 @@ pub fn check<R: Threads + Wait + Sync>(
     }
 }
 
-/// Runs over these files, with these calls failing.
+/// Runs over these files by these words, with these calls failing.
+fn check_words_of<R: Threads + Wait + Sync>(
+    rt: &R,
+    alloc: Global,
+    words: &[&str],
+    files: &Files<'_>,
+    failing: &[u64],
+    wanted: Ending<'_>,
+) -> Result<(), Wrong> {
+    match host_of(alloc, files, ROOM, failing) {
+        Ok(mut host) => check(rt, alloc, &mut host, words, wanted),
+        Err(wrong) => Err(wrong),
+    }
+}
+
+/// Runs over these files by `forward`, and then by `stream`, with these calls failing: both end so.
 pub fn check_files<R: Threads + Wait + Sync>(
     rt: &R,
     alloc: Global,
@@ -217,10 +232,8 @@ pub fn check_files<R: Threads + Wait + Sync>(
     failing: &[u64],
     wanted: Ending<'_>,
 ) -> Result<(), Wrong> {
-    match host_of(alloc, files, ROOM, failing) {
-        Ok(mut host) => check(rt, alloc, &mut host, FORWARD, wanted),
-        Err(wrong) => Err(wrong),
-    }
+    check_words_of(rt, alloc, FORWARD, files, failing, wanted)?;
+    check_words_of(rt, alloc, STREAM, files, failing, wanted)
 }
 
 /// Runs over a trace of these pieces, with these calls failing.

@@ -2,8 +2,10 @@
 
 ghost use Rattle.std.specs.Prelude.{◌<◌};
 
-use crate::hostile::files::{COMMANDS, FIRST, FRAMES, HEAD, RUNS, Small, WrongAt, ends};
-use crate::memory::{FORWARD, words_of};
+use crate::hostile::files::{
+    COMMANDS, FIRST, FORWARD_BY_FOUR, FRAMES, HEAD, RUNS, STREAM_BY_FOUR, Small, WrongAt, ends,
+};
+use crate::memory::{FORWARD, STREAM, words_of};
 use std::alloc::Global;
 use std::sync::Wait;
 use std::thread::Threads;
@@ -108,6 +110,54 @@ fn reads_of_any_size_give_the_same_report(rt: HostRuntime) -> Result<(), WrongAt
     };
     for (words, report) in RUNS {
         check_reads(&rt, rt.alloc(), &small, words, report)?;
+    }
+    Ok(())
+}
+
+/// How a run ends whose reads give 61 bytes at most, and of whose calls this fails: its status, and the host that it leaves.
+fn left<R: Threads + Wait + Sync>(
+    rt: &R,
+    alloc: Global,
+    small: &Small,
+    words: &[&str],
+    call: u64,
+) -> Option<(Status, MemoryHost)> {
+    let words = words_of(alloc, words).ok()?;
+    let mut host = small.host(alloc, &[call])?;
+    host.read_at_most(61);
+    let status = run_words(rt, alloc, &words, &mut host, &Open);
+    Some((status, host))
+}
+
+/// Whether two runs ended alike, put the same and complained the same.
+fn are_alike(one: Option<(Status, MemoryHost)>, other: Option<(Status, MemoryHost)>) -> bool {
+    match (one, other) {
+        (Some((status, host)), Some((same, twin))) => {
+            status == same
+                && host.written() == twin.written()
+                && host.complained() == twin.complained()
+        }
+        _ => false,
+    }
+}
+
+/// The policy takes some 40 calls, the commands 7 and the trace 12.
+const CALLS: u64 = 80;
+
+/// Where a call fails in the midst of a round `stream` leaves what `forward` leaves: the rounds of these files are read, run and put in the same order.
+#[test]
+fn a_stream_ends_as_forward_at_each_call_that_fails(rt: HostRuntime) -> Result<(), WrongAt> {
+    let alloc = rt.alloc();
+    let Some(small) = Small::of(alloc, COMMANDS, FRAMES) else {
+        return Err(WrongAt::Start);
+    };
+    for call in 1..=CALLS {
+        for (forward, stream) in [(FORWARD, STREAM), (FORWARD_BY_FOUR, STREAM_BY_FOUR)] {
+            let wanted = left(&rt, alloc, &small, forward, call);
+            if !are_alike(wanted, left(&rt, alloc, &small, stream, call)) {
+                return Err(WrongAt::Call(call));
+            }
+        }
     }
     Ok(())
 }

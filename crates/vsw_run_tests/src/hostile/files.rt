@@ -1,6 +1,6 @@
 //! The files of a small run, its report, and the host that holds them.
 
-use crate::memory::{FORWARD, empty_trace, file, text_of};
+use crate::memory::{FORWARD, STREAM, empty_trace, file, text_of};
 use crate::whole::frames::{OTHER_QUERY, QUERY, REPLY, SENT_QUERY, SENT_REPLY};
 use crate::whole::policies::THREE_LAYERS;
 use crate::whole::running::{add, tried};
@@ -14,6 +14,17 @@ use vsw_run::Status;
 pub const FORWARD_BY_FOUR: &[&str] = &[
     "vsw",
     "forward",
+    "--workers",
+    "4",
+    "policy",
+    "commands",
+    "trace",
+];
+
+/// The words of the same run by `stream`.
+pub const STREAM_BY_FOUR: &[&str] = &[
+    "vsw",
+    "stream",
     "--workers",
     "4",
     "policy",
@@ -71,7 +82,12 @@ pub const FIRST: &[&str] = &[
 ];
 
 /// A run by so many workers: its words and its report.
-pub const RUNS: [(&[&str], &[&str]); 2] = [(FORWARD, REPORT), (FORWARD_BY_FOUR, REPORT_BY_FOUR)];
+pub const RUNS: [(&[&str], &[&str]); 4] = [
+    (FORWARD, REPORT),
+    (FORWARD_BY_FOUR, REPORT_BY_FOUR),
+    (STREAM, REPORT),
+    (STREAM_BY_FOUR, REPORT_BY_FOUR),
+];
 
 fn add_frame(alloc: Global, trace: &mut Vec<u8>, number: u16, frame: &str) -> Option<()> {
     let packet = hex::decode(alloc, frame.as_bytes()).ok()?;

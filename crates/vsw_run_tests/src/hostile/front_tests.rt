@@ -1,9 +1,9 @@
 //! Files that end too early.
 
 use crate::hostile::files::{
-    COMMANDS, Ending, FORWARD_BY_FOUR, FRAMES, REMOVE, SWEEP, Small, WrongAt, ends,
+    COMMANDS, Ending, FORWARD_BY_FOUR, FRAMES, REMOVE, STREAM_BY_FOUR, SWEEP, Small, WrongAt, ends,
 };
-use crate::memory::{FORWARD, text_of};
+use crate::memory::{FORWARD, STREAM, text_of};
 use crate::whole::frames::{QUERY, REPLY, SENT_QUERY, SENT_REPLY};
 use crate::whole::policies::{ALLOWING, END, LAYER, LAYER_END, PORT};
 use std::alloc::Global;
@@ -66,15 +66,17 @@ fn ends_there<R: Threads + Wait + Sync>(
     ends(rt, alloc, words, host, ending_of_trace(len))
 }
 
-/// Runs over each front of the trace, the longest first.
+/// Runs by one worker over each front of the trace, the longest first.
 fn check_traces<R: Threads + Wait + Sync>(
     rt: &R,
     alloc: Global,
     small: &mut Small,
 ) -> Result<(), WrongAt> {
     for cut in 0..=194 {
-        if !ends_there(rt, alloc, small, FORWARD, 194 - cut) {
-            return Err(WrongAt::Place(194 - cut));
+        for words in [FORWARD, STREAM] {
+            if !ends_there(rt, alloc, small, words, 194 - cut) {
+                return Err(WrongAt::Place(194 - cut));
+            }
         }
     }
     Ok(())
@@ -95,8 +97,10 @@ fn check_ends<R: Threads + Wait + Sync>(
     small: &mut Small,
 ) -> Result<(), WrongAt> {
     for len in [194, 193, 85, 84, 83, 25, 24, 23, 0] {
-        if !ends_there(rt, alloc, small, FORWARD_BY_FOUR, len) {
-            return Err(WrongAt::Place(len));
+        for words in [FORWARD_BY_FOUR, STREAM_BY_FOUR] {
+            if !ends_there(rt, alloc, small, words, len) {
+                return Err(WrongAt::Place(len));
+            }
         }
     }
     Ok(())

@@ -11,11 +11,11 @@ use std::sync::Wait;
 use std::thread::Threads;
 use vsw_run::Status;
 
-/// The words of `deliver` with so many workers.
-fn words(workers: &str) -> [&str; 7] {
+/// The words of a command with so many workers.
+fn words_by<'a>(command: &'a str, workers: &'a str) -> [&'a str; 7] {
     [
         "vsw",
-        "deliver",
+        command,
         "--workers",
         workers,
         "policy",
@@ -34,7 +34,8 @@ fn check_by<R: Threads + Wait + Sync>(
     report: &[&str],
 ) -> Result<(), Wrong> {
     let host = host_over(alloc, policy, &[], frames, &[]);
-    tried(rt, alloc, &words(workers), host, Status::Done, report, "")
+    let words = words_by("deliver", workers);
+    tried(rt, alloc, &words, host, Status::Done, report, "")
 }
 
 /// The same of one worker, of two and of sixteen.
@@ -97,12 +98,17 @@ fn a_packet_that_was_dropped_comes_in_nowhere(rt: HostRuntime) -> Result<(), Wro
 }
 
 #[test]
-fn forward_hands_nothing_on(rt: HostRuntime) -> Result<(), Wrong> {
+fn forward_and_stream_hand_nothing_on(rt: HostRuntime) -> Result<(), Wrong> {
     let policy = &[PORT, BETWEEN_PORTS, END];
     let report = &[FIRST, "w0 0 @0 pass 44 ", QUERY, "\n", SECOND, LOOSE];
-    let host = host_over(rt.alloc(), policy, &[], &[QUERY], &[]);
-    let words = ["vsw", "forward", "policy", "commands", "trace"];
-    tried(&rt, rt.alloc(), &words, host, Status::Done, report, "")
+    for command in ["forward", "stream"] {
+        for workers in ["1", "2"] {
+            let host = host_over(rt.alloc(), policy, &[], &[QUERY], &[]);
+            let words = words_by(command, workers);
+            tried(&rt, rt.alloc(), &words, host, Status::Done, report, "")?;
+        }
+    }
+    Ok(())
 }
 
 #[test]

@@ -12,7 +12,7 @@ use vsw_app::{Open, run_words};
 use vsw_run::Status;
 
 /// How a check ends, for a run of so many workers, of this report of the hundred flows beside a command.
-fn status_of<R: Abort + Threads + Wait + Sync>(
+pub fn status_of<R: Abort + Threads + Wait + Sync>(
     rt: &R,
     alloc: Global,
     workers: &str,

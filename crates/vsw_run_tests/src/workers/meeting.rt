@@ -1,11 +1,12 @@
 //! A gate at which so many actors wait for each other.
 
 use std::sync::atomic::{AtomicU64, Ordering};
+use std::thread;
 use vsw_app::{Answer, Watch};
 use vsw_workers::Gate;
 
-/// How often an actor looks for the others before it gives up.
-const TURNS: u32 = 100_000_000;
+/// How often an actor looks for the others before it gives up: seconds at least, as each look gives way to the threads that haven't begun.
+const TURNS: u32 = 10_000_000;
 
 /// Where the first so many actors wait for each other in their first jobs. Any thread may call it. An actor says that it is here by one
 /// add, and has seen all others from the load on that reads how many there are. One thread that does the jobs of two never sees all.
@@ -43,6 +44,7 @@ impl Gate for Meeting {
                 self.met.fetch_add(1, Ordering::SeqCst);
                 return;
             }
+            thread::yield_now();
         }
     }
 

@@ -117,7 +117,20 @@ pub fn flows(alloc: Global) -> Result<Vec<u8>, Fail> {
     Ok(trace)
 }
 
-/// The same over the three layers and the hundred flows.
+/// What is put of a run by this command over the three layers and the hundred flows.
+pub fn report_of_flows_by<R: Abort + Threads + Wait + Sync, G: Gate + Watch + Sync>(
+    rt: &R,
+    alloc: Global,
+    command: &str,
+    workers: &str,
+    commands: &str,
+    gate: &G,
+) -> Result<Vec<u8>, Fail> {
+    let held = files(alloc, THREE_LAYERS, commands, flows(alloc)?)?;
+    report_by(rt, alloc, command, workers, held, 262_144, gate)
+}
+
+/// The same by `forward`.
 pub fn report_of_flows<R: Abort + Threads + Wait + Sync, G: Gate + Watch + Sync>(
     rt: &R,
     alloc: Global,
@@ -125,6 +138,5 @@ pub fn report_of_flows<R: Abort + Threads + Wait + Sync, G: Gate + Watch + Sync>
     commands: &str,
     gate: &G,
 ) -> Result<Vec<u8>, Fail> {
-    let held = files(alloc, THREE_LAYERS, commands, flows(alloc)?)?;
-    report_of(rt, alloc, workers, held, gate)
+    report_of_flows_by(rt, alloc, "forward", workers, commands, gate)
 }

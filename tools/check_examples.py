@@ -4,10 +4,11 @@
     tools/check_examples.py [--copy] [--unproved]
 
 Makes each capture anew and compares it; works each report out by the rules once more (tools/plain_switch.py); runs `./vsw`
-over each example and compares what it puts, complains and ends with; judges what it puts with four workers, by the rules and by `./vsw check`; runs each command that the guide shows behind
+over each example and compares what it puts, complains and ends with; judges what it puts with four workers, by `forward` and by `stream`, by the rules and by `./vsw check`; runs each command that the guide shows behind
 `$`, in its order, and compares what it prints; compares the files that the crates `vsw` and `vsw_examples` run in the gate. `--copy` writes these files first. With
 `--unproved` all of it is by the program without a proof.
 """
+import itertools
 import os
 import re
 import shutil
@@ -23,6 +24,7 @@ EXAMPLES = os.path.join(ROOT, "examples")
 STEPS = {int(name.split("-")[0]): name for name in os.listdir(EXAMPLES) if name[0].isdigit()}
 BAD = "8-bad-files"
 DELIVERED = STEPS[14]
+STREAMED = STEPS[7]
 FOLDERS = [STEPS[step] for step in sorted(STEPS) if STEPS[step] != BAD]
 STATUSES = {"refused": 5, "limit": 6}
 PROGRAM = [os.path.join(ROOT, "vsw"), *(word for word in sys.argv[1:] if word == "--unproved")]
@@ -50,6 +52,7 @@ def runs():
     for folder, policy, commands, said in bad_files():
         yield "forward", folder, policy, commands, b"", said
     yield "deliver", DELIVERED, "policy.json", "commands.jsonl", read(DELIVERED, "delivered.txt"), b""
+    yield "stream", STREAMED, "policy.json", "commands.jsonl", read(STREAMED, "report.txt"), b""
 
 
 def wanted():
@@ -170,11 +173,11 @@ def check_checks():
 
 def check_workers():
     """With four workers the order of calls is free: the report is legal (tools/legal.py)."""
-    for folder in ["flows", *FOLDERS]:
+    for word, folder in itertools.product(("forward", "stream"), ["flows", *FOLDERS]):
         names = [os.path.join(EXAMPLES, folder, name) for name in ("policy.json", "commands.jsonl", "trace.pcap")]
-        ran = subprocess.run([*PROGRAM, "forward", "--workers=4", *names], capture_output=True)
+        ran = subprocess.run([*PROGRAM, word, "--workers=4", *names], capture_output=True)
         why = legal.fault(*(read(folder, os.path.basename(name)) for name in names), 4, ran.stdout.decode())
-        yield compare(f"run of {folder} with four workers", ran.returncode == 0 and why is None and ends_legal(names, 4, ran.stdout))
+        yield compare(f"{word} of {folder} with four workers", ran.returncode == 0 and why is None and ends_legal(names, 4, ran.stdout))
     names = [os.path.join(EXAMPLES, DELIVERED, name) for name in ("policy.json", "commands.jsonl", "trace.pcap")]
     ran = subprocess.run([*PROGRAM, "deliver", "--workers=4", *names], capture_output=True)
     why = legal.fault(*(read(DELIVERED, os.path.basename(name)) for name in names), 4, ran.stdout.decode(), local=True)

@@ -168,6 +168,10 @@ def cases(folder):
 
     yield "a whole report", ["forward", POLICY, COMMANDS, TRACE], 0, b""
     yield "four workers", ["forward", "--workers", "4", POLICY, COMMANDS, TRACE], 0, b""
+    yield "a stream", ["stream", POLICY, COMMANDS, TRACE], 0, b""
+    yield "a stream to four workers", ["stream", "--workers", "4", POLICY, COMMANDS, TRACE], 0, b""
+    yield "a stream that is cut", ["stream", "--workers=4", POLICY, COMMANDS, file("cut stream", head() + record(9, 9))], 5, b"vsw: refused trace Cut 24\n"
+    yield "a stream of many records", ["stream", "--workers=4", POLICY, COMMANDS, file("many streamed", head() + record(0, 1) * (RECORDS + 1))], 6, b"vsw: limit records\n"
     yield "packets handed on", ["deliver", "--workers", "4", POLICY, COMMANDS, TRACE], 0, b""
     yield "a summary", ["generate", "1", "2"], 0, b""
     for words in ["01", "5"], ["1", "0"], ["1", "1048577"], ["2147483648", "1"], ["1"], ["1", "1", "1"], ["--", "1", "1"]:

@@ -5,7 +5,7 @@
 
 For n = 1, 2, .. the program's nth allocation fails, until a run meets no failure; among threads that is another one in each run. The runs are
 over examples, and over two small policies: a query and its reply through three layers, and a command between two packets; `flows` runs by one worker
-and by four. Each run must end with status 9 and the words "vsw: memory"; or with 3 and "vsw: read fault", where the host had no memory to open a file;
+and by four, and by `stream`, where a run that didn't end would have left a worker waiting at its ring. Each run must end with status 9 and the words "vsw: memory"; or with 3 and "vsw: read fault", where the host had no memory to open a file;
 and what it put must be the head line and whole rounds that are legal (tools/legal.py), where want of memory may be told of commands and of packets that
 would make a pair. Of `offload`, over the same files, a run that ends so puts nothing, and one that ends well the rows that there are else, where it puts a row of their flows: a row that finds no room is left out, and another
 may stand in its place. Exits with 1 where a run does anything else.
@@ -164,11 +164,11 @@ def refuse_each_of_rows(program, shim, folder, what, files):
     print(f"{what}, rows: {number - QUIET} allocations, one refused at a time; runs by status: {statuses}; {others} of them put other rows", flush=True)
 
 
-def refuse_each(program, shim, folder, what, files, workers):
-    """Runs until no allocation is refused, and gives how often each status came."""
-    words = ["forward", "--workers", str(workers), *keep(folder, files)]
+def refuse_each(program, shim, folder, what, files, workers, command="forward", least=0):
+    """Runs until no allocation is refused, but so often at least, and gives how often each status came."""
+    words = [command, "--workers", str(workers), *keep(folder, files)]
     statuses, number, quiet, wants = {}, 0, 0, 0
-    while quiet < QUIET:
+    while quiet < QUIET or number < least:
         number += 1
         status, put, said = run(program, shim, number, words)
         text = put.decode()
@@ -198,6 +198,8 @@ def main():
             refuse_each(program, shim, folder, what, files, workers)
             if workers == 1:
                 refuse_each_of_rows(program, shim, folder, what, files)
+        policy, _, trace = example("flows")
+        refuse_each(program, shim, folder, "flows without commands, by stream", (policy, b"", trace), 4, "stream", 700)
 
 
 if __name__ == "__main__":

@@ -1,14 +1,15 @@
 #!/usr/bin/env python3
 """Runs the program over random policies, commands and captures, and judges its reports by a plain program.
 
-    tools/random_runs.py [--deliver] [RUNS] [SEED] [PROGRAM]
+    tools/random_runs.py [--deliver | --stream] [RUNS] [SEED] [PROGRAM]
 
 The plain program is tools/plain_switch.py, written from docs/MODEL.md apart from the switch. Policies are of both versions, with
 up to four layers of three controllers on each of two ports. Packets are ARP, UDP, TCP and ICMP over IPv4 and, a third of them, over
 IPv6, among few addresses and ports; some are fragments, have extension headers, slack or a trailer, stand in VXLAN or are malformed;
 and there are replies to what passed. Commands come before and beside them, and past the last. Every run is made with 1 to 8 workers.
 The report of one worker is the plain program's; that of more is legal in the order that it tells (tools/legal.py). Each is legal by the program's
-own `check`, too. With `--deliver` the program's `deliver` is run, in which the two ports hand packets on to each other; `check` has no say there. PROGRAM is ./vsw if it isn't given. Prints how often each fate and reply came, what the runs had, and the seed of a run whose report is wrong.
+own `check`, too. With `--deliver` the program's `deliver` is run, in which the two ports hand packets on to each other; `check` has no say there.
+With `--stream` the program's `stream` is run in place of `forward`, and judged as that. PROGRAM is ./vsw if it isn't given. Prints how often each fate and reply came, what the runs had, and the seed of a run whose report is wrong.
 """
 import collections
 import ipaddress
@@ -349,8 +350,9 @@ def judged(program, folder, files, got, wanted, local):
 
 
 def main():
-    words = [word for word in sys.argv[1:] if word != "--deliver"]
-    local = len(words) < len(sys.argv) - 1
+    command = next((word[2:] for word in sys.argv[1:] if word in ("--deliver", "--stream")), "forward")
+    words = [word for word in sys.argv[1:] if word != f"--{command}"]
+    local = command == "deliver"
     runs = int(words[0]) if words else 100
     first = int(words[1]) if len(words) > 1 else 1
     program = words[2] if len(words) > 2 else os.path.join(ROOT, "vsw")
@@ -358,7 +360,7 @@ def main():
     with tempfile.TemporaryDirectory() as folder:
         for seed in range(first, first + runs):
             files, wanted = drawn(seed, local)
-            got = run(program, folder, *files, "deliver" if local else "forward")
+            got = run(program, folder, *files, command)
             why = judged(program, folder, files, got, wanted, local)
             if why is not None:
                 wrong.append(seed)

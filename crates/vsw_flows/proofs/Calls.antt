@@ -49,9 +49,9 @@ pub shaken_others : (p : PolicySeen) (ls : List LayerSeen) (ws : List Wanted) (v
 shaken_others p ls ws v w l m t s opens same =
     subst (λ ks. Thins (IsShaken ks ws l.kept) v w l m → OthersStay ks ws v w) (sym same) (λ u. others_stay p ws v w l m u opens s) t
 
-pub command_spares : (p : PolicySeen) (ls : List LayerSeen) (c : ℕ) (command : Command) (v w : Writing) (l m : Leant) → Lessens v w l m → ((place : ℕ) → IsCurrent w place → spares ls c command (kept_at l.kept place) ≡ true) → AreStanding v l → v.view.opening ≡ Some p → ls ≡ layers_after p v.view.history → AllSpared ls c command w
+pub command_spares : (p : PolicySeen) (ls : List LayerSeen) (c : ℕ) (command : Command) (v w : Writing) (l m : Leant) → Lessens v w l m → (Stand ls v l → (place : ℕ) → IsCurrent w place → spares ls c command (kept_at l.kept place) ≡ true) → AreStanding v l → v.view.opening ≡ Some p → ls ≡ layers_after p v.view.history → AllSpared ls c command w
 command_spares p ls c command v w l m t spared s opens same =
-    subst (λ ks. ((place : ℕ) → IsCurrent w place → spares ks c command (kept_at l.kept place) ≡ true) → AllSpared ks c command w) (sym same) (λ h. all_spared p c command v w l m t h opens s) spared
+    subst (λ ks. (Stand ks v l → (place : ℕ) → IsCurrent w place → spares ks c command (kept_at l.kept place) ≡ true) → AllSpared ks c command w) (sym same) (λ h. all_spared p c command v w l m t (h (s p opens).0) opens s) spared
 
 -- changes that move no pair shake the same rows at all layers
 made_alike : (ls ms : List LayerSeen) (w : Wanted) (ws : List Wanted) (qs : List Looked) → moves_none (w ∷ ws) ≡ true → shakes_one ls w qs ≡ shakes_one ms w qs

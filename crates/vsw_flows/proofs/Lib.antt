@@ -9,3 +9,4 @@ pub mod Calls
 pub mod Searched
 pub mod Obeyed
 pub mod Owed
+pub mod Passed

@@ -14,9 +14,10 @@ use Rattle.vsw_spares.specs.Spared.{as_put, is_within, leaves, leaves_in, names,
 use Rattle.vsw_table.specs.Rules.{stamp_at}
 use Rattle.vsw_flows.specs.Flows.{Any, Falls, IsCurrent, Writing}
 use Rattle.vsw_flows.specs.Leant.{Leant, kept_at}
-use Rattle.vsw_flows.specs.Obeying.{AllLeft, AllSparedBy, IsNaming, is_named_at, leaves_all, named_in}
+use Rattle.vsw_flows.specs.Gists.{is_named_at}
+use Rattle.vsw_flows.specs.Obeying.{AllLeft, AllSparedBy, IsNaming, leaves_all, named_in}
 use Rattle.vsw_flows.specs.Spots.{stands}
-use Rattle.vsw_flows.specs.Standing.{Fell, Lessens}
+use Rattle.vsw_flows.specs.Standing.{Fell, Lessens, Stand}
 use Rattle.vsw_flows.proofs.Settled.{kept_stands}
 use Rattle.vsw_flows.proofs.Thinned.{falls_none, falls_then, falls_weaker, fell_thins, was_current}
 
@@ -81,30 +82,36 @@ forgot row v w l m n f others spots = record {
 -- of the first n rows those that are current are left
 pub record Tried (ls : List LayerSeen) (c : ℕ) (m : Command) (n : ℕ) (v w : Writing) (l k : Leant) : Type 0 where
   pub lessens : Lessens v w l k
-  pub left : (place : ℕ) → place < n → IsCurrent w place → leaves_all ls c m (kept_at l.kept place) ≡ true
+  pub left : Stand ls v l → (place : ℕ) → place < n → IsCurrent w place → leaves_all ls c m (kept_at l.kept place) ≡ true
 
 pub tried_none : (ls : List LayerSeen) (c : ℕ) (m : Command) (v : Writing) (l : Leant) → Tried ls c m 0 v v l l
-tried_none ls c m v l = record { lessens = lessens_none v l; left = λ place lt current. absurd (omega (arith, lt)) }
+tried_none ls c m v l = record { lessens = lessens_none v l; left = λ stand place lt current. absurd (omega (arith, lt)) }
 
-pub tried_more : (ls : List LayerSeen) (c : ℕ) (m : Command) (n : ℕ) (v w x : Writing) (l k j : Leant) → Tried ls c m n v w l k → Lessens w x k j → (IsCurrent x n → leaves_all ls c m (kept_at k.kept n) ≡ true) → Tried ls c m (n + 1) v x l j
+pub tried_more : (ls : List LayerSeen) (c : ℕ) (m : Command) (n : ℕ) (v w x : Writing) (l k j : Leant) → Tried ls c m n v w l k → Lessens w x k j → (Stand ls w k → IsCurrent x n → leaves_all ls c m (kept_at k.kept n) ≡ true) → Tried ls c m (n + 1) v x l j
 tried_more ls c m n v w x l k j t lessens here = record {
   lessens = lessens_then v w x l k j t.lessens lessens;
-  left = λ place lt current. by place lt current (place == n) refl;
+  left = λ stand place lt current. by stand place lt current (place == n) refl;
 }
   where
     before : (place : ℕ) → IsCurrent x place → IsCurrent w place
     before place current = was_current Any w x place (lessens.falls.each place) current
 
-    by : (place : ℕ) → place < n + 1 → IsCurrent x place → (b : Bool) → (place == n) ≡ b → leaves_all ls c m (kept_at l.kept place) ≡ true
-    by place lt current true e =
-        let same : place ≡ n = grind (arith, e) in
+    less : (place : ℕ) → place < n + 1 → (place == n) ≡ false → place < n
+    less place lt e = grind (arith, lt, e)
+
+    same_place : (place : ℕ) → (place == n) ≡ true → place ≡ n
+    same_place place e = grind (arith, e)
+
+    by : Stand ls v l → (place : ℕ) → place < n + 1 → IsCurrent x place → (b : Bool) → (place == n) ≡ b → leaves_all ls c m (kept_at l.kept place) ≡ true
+    by stand place lt current true e =
+        let same = same_place place e in
         let there : IsCurrent x n = subst (IsCurrent x) same current in
-        ap (λ p. leaves_all ls c m (kept_at l.kept p)) same ∙ (ap (leaves_all ls c m) (sym (t.lessens.kept n (before n there))) ∙ here there)
-    by place lt current false e = t.left place (grind (arith, lt, e)) (before place current)
+        ap (λ p. leaves_all ls c m (kept_at l.kept p)) same ∙ (ap (leaves_all ls c m) (sym (t.lessens.kept n (before n there))) ∙ here (t.lessens.stands ls stand) there)
+    by stand place lt current false e = t.left stand place (less place lt e) (before place current)
 
 -- and so of all
-pub tried_all : (ls : List LayerSeen) (c : ℕ) (m : Command) (n : ℕ) (v w : Writing) (l k : Leant) → length v.view.stamps ≤ n → Tried ls c m n v w l k → AllLeft ls c m l.kept w
-tried_all ls c m n v w l k le t place current = by (nat_less place n) refl
+pub tried_all : (ls : List LayerSeen) (c : ℕ) (m : Command) (n : ℕ) (v w : Writing) (l k : Leant) → length v.view.stamps ≤ n → Tried ls c m n v w l k → Stand ls v l → AllLeft ls c m l.kept w
+tried_all ls c m n v w l k le t stand place current = by (nat_less place n) refl
   where
     nat_less : ℕ → ℕ → Bool
     nat_less zero zero = false
@@ -125,7 +132,7 @@ tried_all ls c m n v w l k le t place current = by (nat_less place n) refl
     more (suc a) (suc b) e = let ih = more a b e in omega (arith, ih)
 
     by : (b : Bool) → nat_less place n ≡ b → leaves_all ls c m (kept_at l.kept place) ≡ true
-    by true e = t.left place (less place n e) current
+    by true e = t.left stand place (less place n e) current
     by false e =
         let far : n ≤ place = more place n e in
         absurd (was_current Any v w place (t.lessens.falls.each place) current (beyond v.view.stamps place (omega (arith, far, le))))
@@ -138,12 +145,12 @@ spared_alone ls c m qs alone within h = ap (list_all (λ n. spares_one ls c n qs
 pub parts_none : (ls : List LayerSeen) (c : ℕ) (ps : List Part) (kept : List (List Looked)) (v : Writing) → ps ≡ [] → AllSparedBy ls c (map as_put ps) kept v
 parts_none ls c ps kept v is place current = ap (λ us. list_all (λ m. spares_one ls c m (kept_at kept place)) (map as_put us)) is
 
-pub parts_more : (ls : List LayerSeen) (c : ℕ) (ps : List Part) (p : Part) (rest : List Part) (v w x : Writing) (l k j : Leant) → ps ≡ p ∷ rest → Lessens v w l k → AllLeft ls c (as_put p) l.kept w → Lessens w x k j → AllSparedBy ls c (map as_put rest) k.kept x → AllSparedBy ls c (map as_put ps) l.kept x
-parts_more ls c ps p rest v w x l k j is f here g later place current =
+pub parts_more : (ls : List LayerSeen) (c : ℕ) (ps : List Part) (p : Part) (rest : List Part) (v w x : Writing) (l k j : Leant) → ps ≡ p ∷ rest → Lessens v w l k → (Stand ls v l → AllLeft ls c (as_put p) l.kept w) → Lessens w x k j → (Stand ls w k → AllSparedBy ls c (map as_put rest) k.kept x) → Stand ls v l → AllSparedBy ls c (map as_put ps) l.kept x
+parts_more ls c ps p rest v w x l k j is f here g later stand place current =
     let before : IsCurrent w place = was_current Any w x place (g.falls.each place) current in
     ap (λ us. list_all (λ m. spares_one ls c m (kept_at l.kept place)) (map as_put us)) is
-    ∙ (ap (λ b. b && list_all (λ m. spares_one ls c m (kept_at l.kept place)) (map as_put rest)) (here place before)
-    ∙ (ap (λ qs. list_all (λ m. spares_one ls c m qs) (map as_put rest)) (sym (f.kept place before)) ∙ later place current))
+    ∙ (ap (λ b. b && list_all (λ m. spares_one ls c m (kept_at l.kept place)) (map as_put rest)) (here stand place before)
+    ∙ (ap (λ qs. list_all (λ m. spares_one ls c m qs) (map as_put rest)) (sym (f.kept place before)) ∙ later (f.stands ls stand) place current))
 
 pub spared_put : (ls : List LayerSeen) (c : ℕ) (m : Command) (n g : ℕ) (rs : List Rule) (qs : List Looked) → m ≡ PutRules n g rs → leaves_all ls c (PutRules n g rs) qs ≡ true → spares ls c m qs ≡ true
 spared_put ls c m n g rs qs is h = subst (λ k. spares ls c k qs ≡ true) (sym is) (spared_alone ls c (PutRules n g rs) qs refl refl h)

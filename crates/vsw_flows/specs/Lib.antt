@@ -1,5 +1,6 @@
 pub mod Finding
 pub mod Flows
+pub mod Gists
 pub mod Obeying
 pub mod Standing
 pub mod Shaking

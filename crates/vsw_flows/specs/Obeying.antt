@@ -1,5 +1,5 @@
 -- What is left when the rows fell that a command doesn't spare.
-use Rattle.std.specs.Prelude.{◌≡◌, ℕ, List, Bool, true, false, Option, Some, None, slice_index_or}
+use Rattle.std.specs.Prelude.{◌≡◌, ℕ, List, Bool, true, false, Option, Some, None}
 use Rattle.std.specs.List.{list_all, slice_get}
 use Rattle.vsw_policy.specs.declared.command.Command.{Command}
 use Rattle.vsw_policy.specs.Groups.{rules_in}
@@ -9,6 +9,7 @@ use Rattle.vsw_walk.specs.declared.scratch.Looked.{Looked}
 use Rattle.vsw_spares.specs.Between.{AreBetween}
 use Rattle.vsw_spares.specs.Spared.{leaves_in, names, spares_one}
 use Rattle.vsw_flows.specs.Flows.{IsCurrent, Writing}
+use Rattle.vsw_flows.specs.Gists.{is_named_at}
 use Rattle.vsw_flows.specs.Leant.{kept_at}
 
 -- a command leaves all of these looks what they are told
@@ -20,10 +21,7 @@ abbrev pub named_in : ℕ → Command → Option LayerSeen → Bool
 named_in c m None = false
 named_in c m (Some l) = names c m l
 
--- which layers are named is told by place, and those beyond aren't known not to be
-abbrev pub is_named_at : List Bool → ℕ → Bool
-is_named_at named place = slice_index_or named place true
-
+-- which layers are named
 abbrev pub IsNaming : List LayerSeen → ℕ → Command → List Bool → Type 0
 IsNaming ls c m named = (place : ℕ) → is_named_at named place ≡ false → named_in c m (slice_get ls place) ≡ false
 

@@ -1,12 +1,14 @@
 //! What the rows of a port lean on: at each spot the rows that stand there, and of each row its looks.
 
-ghost use Rattle.std.specs.Prelude.{◌≡◌, ◌≢◌, ◌<◌, ◌+◌, ℕ, true};
+ghost use Rattle.std.specs.Prelude.{◌≡◌, ◌≢◌, ◌<◌, ◌+◌, ℕ, map, true, IfSome};
+ghost use Rattle.vsw_flows.specs.Gists.{gist_of};
 ghost use Rattle.vsw_flows.specs.Leant.{kept_at};
 ghost use Rattle.vsw_flows.specs.declared.spot.Spot.{Spot};
 ghost use Rattle.vsw_flows.specs.Spots.{SpreadSeen, leaners_in, spot_of, stands};
 
+use crate::gists::Gist;
 use crate::leaners::Leaners;
-use crate::looks::{Looks, drop_looks, looks_at, set_looks};
+use crate::looks::{Looks, drop_looks, gists_at, looks_at, set_looks};
 use crate::spot::{Spot, spot_of};
 use crate::spread::{Entered, Spread};
 use std::alloc::Global;
@@ -94,6 +96,13 @@ impl Leaning {
         ensures { result.now ≡ kept_at self.now.kept row }
     {
         looks_at(&self.kept, row)
+    }
+
+    /// What stands near of the looks of a row, where they are few.
+    pub fn gists_of(&self, row: u32) -> Option<&[Gist]>
+        ensures { IfSome result (λ gists. gists.now ≡ map gist_of (kept_at self.now.kept row)) }
+    {
+        gists_at(&self.kept, row)
     }
 
     /// The looks of a row are these, unless memory is wanting.

@@ -2,6 +2,7 @@
 #![tactic(auto)]
 
 mod falling;
+mod gists;
 mod leaners;
 mod leaning;
 mod looks;

@@ -1,8 +1,10 @@
 //! The looks on which one row leans, in a room that is kept when the row is put again.
 
-ghost use Rattle.std.specs.Prelude.{◌≡◌, ◌≢◌, [], ℕ, true};
+ghost use Rattle.std.specs.Prelude.{◌≡◌, ◌≢◌, [], ℕ, map, true, IfSome};
+ghost use Rattle.vsw_flows.specs.Gists.{gist_of};
 ghost use Rattle.vsw_flows.specs.Leant.{kept_at};
 
+use crate::gists::{Gist, Gists, gists_of};
 use std::alloc::Global;
 use std::marker::Model;
 use vsw_walk::Looked;
@@ -11,15 +13,20 @@ use vsw_walk::Looked;
 #[derive(Drop)]
 pub struct Looks {
     items: Vec<Looked>,
+    /// What stands near of them, where they are few.
+    gists: Option<Gists>,
 }
 
 impl Model for Looks {
-    ghost use Rattle.std.specs.Prelude.{List};
+    ghost use Rattle.std.specs.Prelude.{◌≡◌, List, map, IfSome};
+    ghost use Rattle.vsw_flows.specs.Gists.{gist_of};
     ghost use Rattle.vsw_walk.specs.declared.scratch.Looked.{Looked};
 
     ghost Value = { List Looked };
 
     ghost view = { λ s. s.items.items };
+
+    ghost invariant = { λ s. IfSome s.gists (λ gists. gists ≡ map gist_of s.items.items) };
 }
 
 impl Looks {
@@ -29,6 +36,7 @@ impl Looks {
     {
         Looks {
             items: Vec::new(alloc),
+            gists: None,
         }
     }
 
@@ -38,8 +46,19 @@ impl Looks {
         &self.items
     }
 
+    /// What stands near of them, where they are few.
+    pub fn gists(&self) -> Option<&[Gist]>
+        ensures { IfSome result (λ gists. gists.now ≡ map gist_of self.now) }
+    {
+        match &self.gists {
+            Some(gists) => Some(gists.as_slice()),
+            None => None,
+        }
+    }
+
     /// None any more. The room stays.
     pub fn clear(&mut self) {
+        self.gists = None;
         self.items.clear();
     }
 
@@ -47,8 +66,13 @@ impl Looks {
     pub fn set(&mut self, looks: &[Looked]) -> bool
         ensures { result ≡ true → self.new ≡ looks.now }
     {
+        self.gists = None;
         self.items.clear();
-        self.items.extend_from_slice(looks).is_ok()
+        if self.items.extend_from_slice(looks).is_err() {
+            return false;
+        }
+        self.gists = gists_of(looks);
+        true
     }
 }
 
@@ -59,6 +83,16 @@ pub fn looks_at(kept: &[Looks], row: u32) -> &[Looked]
     match kept.get(row as usize) {
         Some(looks) => looks.as_slice(),
         None => &[],
+    }
+}
+
+/// What stands near of the looks of the row at a place, where they are few.
+pub fn gists_at(kept: &[Looks], row: u32) -> Option<&[Gist]>
+    ensures { IfSome result (λ gists. gists.now ≡ map gist_of (kept_at kept.now row)) }
+{
+    match kept.get(row as usize) {
+        Some(looks) => looks.gists(),
+        None => None,
     }
 }
 

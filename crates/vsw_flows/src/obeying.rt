@@ -1,19 +1,21 @@
 //! Rows that a command doesn't spare fall.
 
-ghost use Rattle.std.specs.Prelude.{◌≡◌, ◌<◌, ◌∷◌, [], ℕ, Some, map, not, true, false};
-ghost use Rattle.std.specs.List.{slice_get};
+ghost use Rattle.std.specs.Prelude.{◌≡◌, ◌<◌, ◌∷◌, [], ℕ, Some, map, true, false};
+ghost use Rattle.std.specs.List.{list_all, slice_get};
 ghost use Rattle.vsw_policy.specs.Groups.{rules_in};
 ghost use Rattle.vsw_policy.specs.Layer.{LayerSeen, seen};
 ghost use Rattle.vsw_policy.specs.Layers as layers_of;
 ghost use Rattle.vsw_policy.specs.declared.command.Command.TheVariants.{PutRules};
 ghost use Rattle.vsw_spares.specs.Spared as spec;
 ghost use Rattle.vsw_flows.specs.Flows.{IsCurrent};
+ghost use Rattle.vsw_flows.specs.Gists.{gist_of, passes};
 ghost use Rattle.vsw_flows.specs.Leant.{kept_at};
 ghost use Rattle.vsw_flows.specs.Obeying as obeying;
-ghost use Rattle.vsw_flows.specs.Obeying.{AllLeft, AllSparedBy, IsDiffering, IsNaming, is_named_at};
-ghost use Rattle.vsw_flows.specs.Standing.{Lessens};
+ghost use Rattle.vsw_flows.specs.Obeying.{AllLeft, AllSparedBy, IsDiffering, IsNaming};
+ghost use Rattle.vsw_flows.specs.Standing.{Lessens, Stand};
 
 use crate::falling::{fall, fall_all, rows_of};
+use crate::gists::{is_unnamed, passes_all};
 use crate::leaning::Leaning;
 use crate::story::PortStory;
 use vsw_base::Items;
@@ -103,17 +105,6 @@ fn named_of(layers: &[Layer], controller: u16, command: &Command) -> [bool; 128]
     named
 }
 
-/// Whether the layer at a place is known not to be named.
-#[inline(always)]
-fn is_unnamed(named: &[bool; 128], place: u32) -> bool
-    ensures { result ≡ not (is_named_at named.now place) }
-{
-    match named.get(place as usize) {
-        Some(named) => !*named,
-        None => false,
-    }
-}
-
 /// Whether a command is known to leave what the look is told. Most looks are in layers that the command doesn't name.
 fn leaves_look(
     layers: &[Layer],
@@ -163,8 +154,19 @@ fn may_ask(asks: &mut u32) -> bool {
     true
 }
 
-/// A row falls, unless it may be asked, and the command is known to leave what its looks are told. Nothing is kept of it then, so
-/// that the next command passes over it. Its stamp is read only then: that would cost more than all else.
+/// Whether the command is known to leave what the looks of a row are told by what stands near of them.
+fn passes_row(leaning: &Leaning, named: &[bool; 128], command: &Command, row: u32) -> bool
+    ensures { result ≡ true → list_all (passes named.now command.now) (map gist_of (kept_at leaning.now.kept row)) ≡ true }
+{
+    match leaning.gists_of(row) {
+        Some(gists) => passes_all(named, command, gists),
+        None => false,
+    }
+}
+
+/// A row falls, unless the command is known to leave what its looks are told: by what stands near of them, or, where it may be asked,
+/// by the looks. Nothing is kept of it then, so that the next command passes over it. Its stamp is read only then: that would cost more
+/// than all else.
 fn spare_row(
     lookup: &Lookup<PortStory>,
     writer: &mut Writer<PortStory>,
@@ -180,9 +182,12 @@ fn spare_row(
     requires few { row < 4294967295 }
     requires naming { IsNaming (map seen layers.now) controller command.now named.now }
     ensures lessens { Lessens writer.old writer.new leaning.old leaning.new }
-    ensures left { IsCurrent writer.new row → obeying.leaves_all (map seen layers.now) controller command.now (kept_at leaning.old.kept row) ≡ true }
+    ensures left { Stand (map seen layers.now) writer.old leaning.old → IsCurrent writer.new row → obeying.leaves_all (map seen layers.now) controller command.now (kept_at leaning.old.kept row) ≡ true }
 {
     if leaning.looks_of(row).is_empty() {
+        return;
+    }
+    if passes_row(leaning, named, command, row) {
         return;
     }
     if may_ask(asks) {
@@ -194,7 +199,7 @@ fn spare_row(
     leaning.forget(row);
 }
 
-/// All rows fall but those that may be asked, and whose looks the command is known to leave what they are told.
+/// All rows fall but those whose looks the command is known to leave what they are told.
 #[tactic(auto, using(crate::proofs::Obeyed::tried_none, crate::proofs::Obeyed::tried_all))]
 fn spare_rows(
     lookup: &Lookup<PortStory>,
@@ -207,7 +212,7 @@ fn spare_rows(
 )
     requires table { writer.old.table ≡ lookup.now.0 }
     ensures lessens { Lessens writer.old writer.new leaning.old leaning.new }
-    ensures left { AllLeft (map seen layers.now) controller command.now leaning.old.kept writer.new }
+    ensures left { Stand (map seen layers.now) writer.old leaning.old → AllLeft (map seen layers.now) controller command.now leaning.old.kept writer.new }
 {
     let named = named_of(layers, controller, command);
     for row in 0..rows_of(lookup, writer) {
@@ -317,7 +322,7 @@ fn spare_row_put(
     requires few { row < 4294967295 }
     requires differs { IsDiffering (map seen layers.now) put.now.place put.now.group put.now.rules.now put.now.between.old.now put.now.between.new.now }
     ensures lessens { Lessens writer.old writer.new leaning.old leaning.new }
-    ensures left { IsCurrent writer.new row → obeying.leaves_all (map seen layers.now) controller (PutRules put.now.layer put.now.group put.now.rules.now) (kept_at leaning.old.kept row) ≡ true }
+    ensures left { Stand (map seen layers.now) writer.old leaning.old → IsCurrent writer.new row → obeying.leaves_all (map seen layers.now) controller (PutRules put.now.layer put.now.group put.now.rules.now) (kept_at leaning.old.kept row) ≡ true }
 {
     if leaning.looks_of(row).is_empty() {
         return;
@@ -345,7 +350,7 @@ fn spare_rows_put(
     requires table { writer.old.table ≡ lookup.now.0 }
     requires differs { IsDiffering (map seen layers.now) put.now.place put.now.group put.now.rules.now put.now.between.old.now put.now.between.new.now }
     ensures lessens { Lessens writer.old writer.new leaning.old leaning.new }
-    ensures left { AllLeft (map seen layers.now) controller (PutRules put.now.layer put.now.group put.now.rules.now) leaning.old.kept writer.new }
+    ensures left { Stand (map seen layers.now) writer.old leaning.old → AllLeft (map seen layers.now) controller (PutRules put.now.layer put.now.group put.now.rules.now) leaning.old.kept writer.new }
 {
     for row in 0..rows_of(lookup, writer) {
         spare_row_put(lookup, writer, leaning, asks, layers, controller, put, row);
@@ -366,7 +371,7 @@ fn obey_put(
 )
     requires table { writer.old.table ≡ lookup.now.0 }
     ensures lessens { Lessens writer.old writer.new leaning.old leaning.new }
-    ensures left { AllLeft (map seen layers.now) controller (PutRules layer group rules.now) leaning.old.kept writer.new }
+    ensures left { Stand (map seen layers.now) writer.old leaning.old → AllLeft (map seen layers.now) controller (PutRules layer group rules.now) leaning.old.kept writer.new }
 {
     let put = put_of(layers, controller, layer, group, rules);
     spare_rows_put(lookup, writer, leaning, asks, layers, controller, &put);
@@ -385,7 +390,7 @@ fn obey_parts(
 )
     requires table { writer.old.table ≡ lookup.now.0 }
     ensures lessens { Lessens writer.old writer.new leaning.old leaning.new }
-    ensures left { AllSparedBy (map seen layers.now) controller (map spec.as_put parts.now) leaning.old.kept writer.new }
+    ensures left { Stand (map seen layers.now) writer.old leaning.old → AllSparedBy (map seen layers.now) controller (map spec.as_put parts.now) leaning.old.kept writer.new }
 {
     let Some((part, rest)) = parts.split_first() else {
         return;
@@ -422,8 +427,8 @@ fn is_alone(command: &Command) -> bool
     }
 }
 
-/// The rows fall that a command of the controller isn't known to spare. No more are asked than `asks` tells, which falls by as
-/// many; where it is 0 the others fall unasked. The layers are those before the command is obeyed.
+/// The rows fall that a command of the controller isn't known to spare, by what stands near of their looks or by asking them. No more are
+/// asked than `asks` tells, which falls by as many; where it is 0 the others fall unasked. The layers are those before the command is obeyed.
 #[tactic(auto, using(crate::proofs::Obeyed::all_lessens))]
 pub fn obey(
     lookup: &Lookup<PortStory>,
@@ -436,7 +441,7 @@ pub fn obey(
 )
     requires table { writer.old.table ≡ lookup.now.0 }
     ensures lessens { Lessens writer.old writer.new leaning.old leaning.new }
-    ensures spared { (place : ℕ) → IsCurrent writer.new place → spec.spares (map seen layers.now) controller command.now (kept_at leaning.old.kept place) ≡ true }
+    ensures spared { Stand (map seen layers.now) writer.old leaning.old → (place : ℕ) → IsCurrent writer.new place → spec.spares (map seen layers.now) controller command.now (kept_at leaning.old.kept place) ≡ true }
 {
     if is_alone(command) {
         spare_rows(lookup, writer, leaning, asks, layers, controller, command);

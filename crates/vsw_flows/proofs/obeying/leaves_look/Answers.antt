@@ -2,7 +2,7 @@ use Rattle.std.proofs.Common.{◌∙◌, ap, map}
 use Rattle.vsw_policy.specs.Layer.{seen}
 use Rattle.vsw_rows.proofs.Leans.{layer_at}
 use Rattle.vsw_spares.specs.Spared.{leaves, leaves_in, names}
-use Rattle.vsw_flows.specs.Obeying.{is_named_at}
+use Rattle.vsw_flows.specs.Gists.{is_named_at}
 use Rattle.vsw_flows.proofs.Obeyed.{isnt, named_leaves, unnamed_leaves}
 use Rattle.vsw_flows.proofs.obeying.leaves_look.Goals as goal
 

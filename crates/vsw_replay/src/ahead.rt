@@ -32,7 +32,7 @@ use vsw_reading::Stop;
 use vsw_workers::Gate;
 
 /// The fewest packets of a round for which threads that stay are worth it.
-const FEWEST: usize = 256;
+const FEWEST: usize = 32;
 
 /// A round that goes out next.
 #[derive(Drop)]

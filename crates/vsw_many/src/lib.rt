@@ -3,8 +3,6 @@
 
 mod crew_law;
 mod law;
-mod stretch_law;
 
 pub use crew_law::{crew_laws, journal_laws, split_laws, turn_laws};
 pub use law::{actor_laws, deal_laws, lock_laws, pass_laws, port_laws, run_laws};
-pub use stretch_law::stretch_laws;

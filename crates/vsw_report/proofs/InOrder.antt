@@ -45,7 +45,7 @@ order_later n d zero callers r lt = later_reads_all n d callers r lt
 order_later n d (suc more) callers r lt =
     ap₂ (λ x y. x ++ y) (later_reads_all n d callers r lt) (ap₂ (λ x y. x ++ y) (later_entry_all n d callers r lt) (order_later n (d + 1) more callers r (omega (arith, lt))))
 
-past_both : (n : ℕ) (ws cs : List (List TextLine)) → past n ws ++ past n cs ≡ past n (ws ++ cs)
+pub past_both : (n : ℕ) (ws cs : List (List TextLine)) → past n ws ++ past n cs ≡ past n (ws ++ cs)
 past_both n [] cs = refl
 past_both n (w ∷ ws) cs = ap (λ r. past_entry n (past_reads n w) ∷ r) (past_both n ws cs)
 
@@ -73,11 +73,11 @@ pub merged_order : (more n high : ℕ) (ws cs : List (List TextLine)) → AllInC
 merged_order more n high ws cs h k = merged_is more n ws cs (all_rise n high ws h) (all_rise n high cs k)
 
 -- the callers on the left, and on the right
-in_left : (low high : ℕ) (ws cs : List (List TextLine)) → AllInCounts low (ws ++ cs) high → AllInCounts low ws high
+pub in_left : (low high : ℕ) (ws cs : List (List TextLine)) → AllInCounts low (ws ++ cs) high → AllInCounts low ws high
 in_left low high [] cs h = tt
 in_left low high (w ∷ ws) cs h = (h.0, in_left low high ws cs h.1)
 
-in_right : (low high : ℕ) (ws cs : List (List TextLine)) → AllInCounts low (ws ++ cs) high → AllInCounts low cs high
+pub in_right : (low high : ℕ) (ws cs : List (List TextLine)) → AllInCounts low (ws ++ cs) high → AllInCounts low cs high
 in_right low high [] cs h = h
 in_right low high (w ∷ ws) cs h = in_right low high ws cs h.1
 

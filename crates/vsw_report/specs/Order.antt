@@ -44,6 +44,10 @@ has_lines (l ∷ ls) = true
 abbrev pub have_lines : List (List TextLine) → Bool
 have_lines callers = list_any has_lines callers
 
+-- the lines of each caller, one after the other
+abbrev pub all_lines : List (List TextLine) → List TextLine
+all_lines callers = flat_map (λ ls. ls) callers
+
 -- as many callers, with no lines
 abbrev pub emptied : List (List TextLine) → List (List TextLine)
 emptied callers = map (λ ls. []) callers

@@ -3,7 +3,7 @@
 ghost use Rattle.std.specs.Prelude.{◌≡◌, ◌≤◌, ◌-◌, ◌++◌, ◌||◌, OnOk, IfOk, map};
 ghost use Rattle.std.specs.List.{flat_map, list_any};
 ghost use Rattle.vsw_report.specs.Line.{are_short, texts};
-ghost use Rattle.vsw_report.specs.Order.{AllInCounts, emptied, have_lines, in_order};
+ghost use Rattle.vsw_report.specs.Order.{AllInCounts, all_lines, emptied, have_lines, in_order};
 ghost use Rattle.vsw_report.specs.Steps.{first_entry, first_reads, lines_of_all, merged, past, past_entry, past_reads, reads_of_all};
 ghost use Rattle.vsw_report.specs.Whole.{whole_text};
 
@@ -96,6 +96,31 @@ fn move_count(
     Ok(either(reads, entry))
 }
 
+/// Appends the lines at the counts from `before` up to `after`, but for the reads at `after`.
+fn move_counts(
+    workers: &mut [Caller],
+    controllers: &mut [Caller],
+    before: u32,
+    after: u32,
+    out: &mut Vec<u8>,
+) -> Result<bool, NoMemory>
+    requires counts { before ≤ after }
+    ensures text { OnOk result (out.new.items ++ texts (reads_of_all after workers.new controllers.new) ≡ out.old.items ++ texts (merged workers.old controllers.old before (after - before))) }
+    ensures short { IfOk result (λ short. (short || are_short (reads_of_all after workers.new controllers.new)) ≡ are_short (merged workers.old controllers.old before (after - before))) }
+    ensures left { AllInCounts before (workers.old ++ controllers.old) after → OnOk result (AllInCounts after (workers.new ++ controllers.new) after) }
+    ensures workers { OnOk result (emptied workers.new ≡ emptied workers.old) }
+    ensures controllers { OnOk result (emptied controllers.new ≡ emptied controllers.old) }
+{
+    let mut next = before;
+    let mut short = false;
+    while next < after {
+        let told = move_count(workers, controllers, next, out)?;
+        short = either(short, told);
+        next += 1;
+    }
+    Ok(short)
+}
+
 /// Appends the lines at the counts from `before` up to `after`, with the reads at `after`.
 fn move_all(
     workers: &mut [Caller],
@@ -110,15 +135,9 @@ fn move_all(
     ensures workers { OnOk result (emptied workers.new ≡ emptied workers.old) }
     ensures controllers { OnOk result (emptied controllers.new ≡ emptied controllers.old) }
 {
-    let mut next = before;
-    let mut short = false;
-    while next < after {
-        let told = move_count(workers, controllers, next, out)?;
-        short = either(short, told);
-        next += 1;
-    }
-    let told = move_reads_of_all(workers, controllers, next, out)?;
-    Ok(either(short, told))
+    let counts = move_counts(workers, controllers, before, after, out)?;
+    let reads = move_reads_of_all(workers, controllers, after, out)?;
+    Ok(either(counts, reads))
 }
 
 /// Takes all lines from the callers, which keep their rooms.
@@ -154,6 +173,41 @@ pub fn merge(
     Ok(short)
 }
 
+/// Appends all lines of callers, caller by caller. A long text isn't copied: its room is taken.
+fn move_rest(callers: &mut [Caller], out: &mut RoundText) -> Result<bool, NoMemory>
+    ensures text { OnOk result (whole_text out.new ≡ whole_text out.old ++ texts (all_lines callers.old)) }
+    ensures short { IfOk result (λ short. short ≡ are_short (all_lines callers.old)) }
+    ensures rest { OnOk result (callers.new ≡ emptied callers.old) }
+{
+    let mut short = false;
+    for place in 0..callers.len() {
+        let told = callers[place].move_all(out)?;
+        short = either(short, told);
+    }
+    Ok(short)
+}
+
+/// The same as `merge`, for a round's text. The lines of a caller aren't copied where they are many and all are reads at
+/// `after`.
+fn merge_rest(
+    workers: &mut [Caller],
+    controllers: &mut [Caller],
+    before: u32,
+    after: u32,
+    out: &mut RoundText,
+) -> Result<bool, NoMemory>
+    requires counts { before ≤ after }
+    ensures text { AllInCounts before (workers.old ++ controllers.old) after → OnOk result (whole_text out.new ≡ whole_text out.old ++ texts (in_order (workers.old ++ controllers.old) before (after - before))) }
+    ensures short { AllInCounts before (workers.old ++ controllers.old) after → IfOk result (λ short. short ≡ are_short (in_order (workers.old ++ controllers.old) before (after - before))) }
+    ensures workers { OnOk result (workers.new ≡ emptied workers.old) }
+    ensures controllers { OnOk result (controllers.new ≡ emptied controllers.old) }
+{
+    let counts = move_counts(workers, controllers, before, after, &mut out.end)?;
+    let one = move_rest(workers, out)?;
+    let more = move_rest(controllers, out)?;
+    Ok(either(counts, either(one, more)))
+}
+
 /// Whether one of these callers has lines.
 fn have_lines(callers: &[Caller]) -> bool
     ensures { result ≡ have_lines callers.now }
@@ -167,7 +221,7 @@ fn have_lines(callers: &[Caller]) -> bool
 }
 
 /// The same as `merge`, for a round's text. The lines of one worker alone stand in the order of the report, and aren't copied
-/// where they are many.
+/// where they are many. Nor are those of a caller among others where all are reads at `after`.
 pub fn merge_text(
     workers: &mut [Caller],
     controllers: &mut [Caller],
@@ -183,6 +237,6 @@ pub fn merge_text(
 {
     match workers {
         [worker] if !have_lines(controllers) => worker.move_all(out),
-        _ => merge(workers, controllers, before, after, &mut out.end),
+        _ => merge_rest(workers, controllers, before, after, out),
     }
 }

@@ -1,26 +1,11 @@
-use Rattle.std.proofs.Common.{◌<◌, arith, ap, ◌∙◌}
+use Rattle.std.proofs.Common.{ap, ◌∙◌}
 use Rattle.vsw_report.specs.Order.{emptied}
-use Rattle.vsw_report.specs.Steps.{past_entry, past_reads}
-use Rattle.vsw_report.proofs.Fronts.{emptied_map, one_count, one_short}
+use Rattle.vsw_report.specs.Steps.{past_reads}
+use Rattle.vsw_report.proofs.Fronts.{emptied_map}
 use Rattle.vsw_report.proofs.merging.move_all.Goals as goal
 
-pub loop-next-preserved : goal.loop-next-preserved
-loop-next-preserved c =
-    let l = c.loop-next in
-    let n = c.loop-next.next in
-    let lt : n < c.args.after = c.loop-next-test.true in
-    let new = c.move_count.new in
-    let moved = c.in_ok-told.ensures in
-    record {
-      counts = omega (arith, lt);
-      text = one_count n c.args.after l.out.items new.out.items l.workers new.workers l.controllers new.controllers lt moved.text moved.workers moved.controllers ∙ l.invariant.text;
-      short = one_short n c.args.after l.short c.in_ok-told.told c.either-short.result l.workers new.workers l.controllers new.controllers lt c.either-short.ensures moved.short moved.workers moved.controllers ∙ l.invariant.short;
-      workers = ap emptied moved.workers ∙ (emptied_map (past_entry n) _ ∙ (emptied_map (past_reads n) l.workers ∙ l.invariant.workers));
-      controllers = ap emptied moved.controllers ∙ (emptied_map (past_entry n) _ ∙ (emptied_map (past_reads n) l.controllers ∙ l.invariant.controllers));
-    }
-
 pub returns-clause-workers : goal.returns-clause-workers
-returns-clause-workers c = ap emptied c.in_ok-told-2.ensures.workers ∙ (emptied_map (past_reads c.loop-next.next) c.loop-next.workers ∙ c.loop-next.invariant.workers)
+returns-clause-workers c = ap emptied c.in_ok-reads.ensures.workers ∙ (emptied_map (past_reads c.args.after) _ ∙ c.in_ok-counts.ensures.workers)
 
 pub returns-clause-controllers : goal.returns-clause-controllers
-returns-clause-controllers c = ap emptied c.in_ok-told-2.ensures.controllers ∙ (emptied_map (past_reads c.loop-next.next) c.loop-next.controllers ∙ c.loop-next.invariant.controllers)
+returns-clause-controllers c = ap emptied c.in_ok-reads.ensures.controllers ∙ (emptied_map (past_reads c.args.after) _ ∙ c.in_ok-counts.ensures.controllers)

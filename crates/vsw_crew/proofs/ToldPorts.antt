@@ -181,6 +181,15 @@ shape o r d n p l f =
     let three = ap (λ x. x ++ l) two ∙ append_assoc o (r ++ d ++ n ++ p) l in
     ap (λ x. x ++ f) three ∙ append_assoc o (r ++ d ++ n ++ p ++ l) f
 
+-- a text of several parts behind the end of a text in pieces
+pub two_behind : (front end end1 a b : List ℕ) → end1 ≡ end ++ a ++ b → front ++ end1 ≡ front ++ end ++ a ++ b
+two_behind front end end1 a b e =
+    ap (λ (x : List ℕ). front ++ x) e ∙ (sym (append_assoc front (end ++ a) b) ∙ ap (λ (x : List ℕ). x ++ b) (sym (append_assoc front end a)))
+
+pub three_behind : (front end end1 a b c : List ℕ) → end1 ≡ end ++ a ++ b ++ c → front ++ end1 ≡ front ++ end ++ a ++ b ++ c
+three_behind front end end1 a b c e =
+    ap (λ (x : List ℕ). front ++ x) e ∙ (sym (append_assoc front (end ++ a ++ b) c) ∙ ap (λ (x : List ℕ). x ++ c) (two_behind front end (end ++ a ++ b) a b refl))
+
 pub round_told : (first : ℕ) (ps : List PortSeen) (hs gs : List (List Event)) (texts : List (List (List TextLine))) (loose : List Loose) (ports old one two new : List ℕ) → one ≡ old ++ codes "round " ++ decimal first ++ codes "\n"
     → two ≡ one ++ ports → ports ≡ ports_text ps hs gs texts → new ≡ two ++ codes "loose\n" ++ flat_map loose_text loose → new ≡ old ++ crew_text first ps hs gs texts loose
 round_told first ps hs gs texts loose ports old one two new e f p g =

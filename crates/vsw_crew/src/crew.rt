@@ -14,6 +14,7 @@ ghost use Rattle.vsw_policy.specs.Sound.{Each};
 ghost use Rattle.vsw_promise.specs.Jobs.{Setting};
 ghost use Rattle.vsw_switch.specs.Round.{TellsRound};
 ghost use Rattle.vsw_switch.specs.Switch.{AreServed, IsAt};
+ghost use Rattle.vsw_report.specs.Whole.{whole_text};
 
 use crate::Lines;
 use crate::owed::{Owed, owe, pay};
@@ -33,6 +34,7 @@ use vsw_hands::{Pool, Roll};
 use vsw_harbour::{Harbour, Lane, Naming, Station, Watch};
 use vsw_pcap::Batch;
 use vsw_promise::Schedule;
+use vsw_report::RoundText;
 use vsw_workers::Gate;
 
 /// The workers and the controllers of a run, each of which has a row of lanes, one a port: first the workers 0 to 15, then the
@@ -104,9 +106,9 @@ impl<'c, 'g, J: Naming, G> Crew<'c, 'g, J, G> {
 
     /// Appends the text of a round that was done, and answers whether want of memory is told in it. The rooms of its lines serve later rounds. After `NoMemory` nothing
     /// is said of what was appended.
-    pub fn tell(&mut self, owed: Owed, out: &mut Vec<u8>) -> Result<bool, NoMemory>
+    pub fn tell(&mut self, owed: Owed, out: &mut RoundText) -> Result<bool, NoMemory>
         requires owes { (text : List ℕ) × (short : Bool) × Owes self.old.harbour owed text short }
-        ensures text { OnOk result ((text : List ℕ) (short : Bool) → Owes self.old.harbour owed text short → out.new.items ≡ out.old.items ++ text) }
+        ensures text { OnOk result ((text : List ℕ) (short : Bool) → Owes self.old.harbour owed text short → whole_text out.new ≡ whole_text out.old ++ text) }
         ensures short { IfOk result (λ b. (text : List ℕ) (short : Bool) → Owes self.old.harbour owed text short → b ≡ short) }
         ensures same { self.new ≡ self.old }
     {
@@ -185,13 +187,13 @@ fn run<'g, J: Naming + Send + Sync, G: Gate + Watch + Sync, R: Threads + Wait + 
     schedule: &Schedule,
     first: u32,
     packets: &Batch,
-    out: &mut Vec<u8>,
+    out: &mut RoundText,
 ) -> Result<(bool, Vec<Vec<Lane<Station>>>), NoMemory>
     requires run { IsOfSome harbour.now }
     requires ready { (hs : List (List Event)) × AreReady harbour.now hs (rows_in rows.items) }
     requires lines { Each (MayAsk harbour.now) schedule.now }
     requires numbers { first + length packets.now < 2 ^ 32 }
-    ensures told { IfOk result (λ r. (s : Setting) (hs : List (List Event)) → IsOfRun harbour.now s → s.commands ≡ schedule.now → AreReady harbour.now hs (rows_in rows.items) → HasTold harbour.now s hs first packets.now r.0 out.old.items out.new.items (rows_in r.1.items)) }
+    ensures told { IfOk result (λ r. (s : Setting) (hs : List (List Event)) → IsOfRun harbour.now s → s.commands ≡ schedule.now → AreReady harbour.now hs (rows_in rows.items) → HasTold harbour.now s hs first packets.now r.0 (whole_text out.old) (whole_text out.new) (rows_in r.1.items)) }
 {
     let worked = work_round(rt, harbour, round, rows, schedule, first, packets)?;
     let told = tell(harbour, first, worked, out)?;
@@ -207,13 +209,13 @@ fn run_crew<'g, J: Naming + Send + Sync, G: Gate + Watch + Sync, R: Threads + Wa
     schedule: &Schedule,
     first: u32,
     packets: &Batch,
-    out: &mut Vec<u8>,
+    out: &mut RoundText,
 ) -> Result<bool, NoMemory>
     requires rows { AreRowsOf harbour.now (rows_in rows.old.items) }
     requires served { AreServed (switch_now harbour.now (seen_by (rows_in rows.old.items))) schedule.now }
     requires numbers { first + length packets.now < 2 ^ 32 }
     ensures rows { AreRowsOf harbour.now (rows_in rows.new.items) }
-    ensures runs { IfOk result (λ short. (s : Setting) (hs : List (List Event)) → s.commands ≡ schedule.now → IsAt s hs (switch_now harbour.now (seen_by (rows_in rows.old.items))) → TellsRound s hs first packets.now (switch_now harbour.now (seen_by (rows_in rows.new.items))) short out.old.items out.new.items) }
+    ensures runs { IfOk result (λ short. (s : Setting) (hs : List (List Event)) → s.commands ≡ schedule.now → IsAt s hs (switch_now harbour.now (seen_by (rows_in rows.old.items))) → TellsRound s hs first packets.now (switch_now harbour.now (seen_by (rows_in rows.new.items))) short (whole_text out.old) (whole_text out.new)) }
     ensures served { (lines : List Line) → AreServed (switch_now harbour.now (seen_by (rows_in rows.old.items))) lines → AreServed (switch_now harbour.now (seen_by (rows_in rows.new.items))) lines }
 {
     let taken = replace(rows, Vec::new(harbour.alloc));
@@ -234,11 +236,11 @@ impl<'c, 'g, J: Naming + Send + Sync, G: Gate + Watch + Sync> Crew<'c, 'g, J, G>
         schedule: &Schedule,
         first: u32,
         packets: &Batch,
-        out: &mut Vec<u8>,
+        out: &mut RoundText,
     ) -> Result<bool, NoMemory>
         requires served { AreServed (crew_now self.old) schedule.now }
         requires numbers { first + length packets.now < 2 ^ 32 }
-        ensures runs { IfOk result (λ short. (s : Setting) (hs : List (List Event)) → s.commands ≡ schedule.now → IsAt s hs (crew_now self.old) → TellsRound s hs first packets.now (crew_now self.new) short out.old.items out.new.items) }
+        ensures runs { IfOk result (λ short. (s : Setting) (hs : List (List Event)) → s.commands ≡ schedule.now → IsAt s hs (crew_now self.old) → TellsRound s hs first packets.now (crew_now self.new) short (whole_text out.old) (whole_text out.new)) }
         ensures served { (lines : List Line) → AreServed (crew_now self.old) lines → AreServed (crew_now self.new) lines }
     {
         let round = self.round;

@@ -11,6 +11,7 @@ ghost use Rattle.vsw_pcap.specs.declared.capture.Record.{Record};
 ghost use Rattle.vsw_policy.specs.Sound.{Each};
 ghost use Rattle.vsw_port.specs.declared.event.Event.{Event};
 ghost use Rattle.vsw_promise.specs.Jobs.{Setting};
+ghost use Rattle.vsw_report.specs.Whole.{whole_text};
 
 use crate::Lines;
 use crate::lines::{are_whole, count_first, give_all, take_all};
@@ -18,7 +19,7 @@ use crate::round::Worked;
 use crate::telling::say;
 use vsw_base::NoMemory;
 use vsw_harbour::{Harbour, Lane, Naming, Station};
-use vsw_report::Loose;
+use vsw_report::{Loose, RoundText};
 
 /// A round that was done, and of which nothing is told yet.
 #[derive(Drop)]
@@ -88,10 +89,10 @@ pub(crate) fn owe<'g, J: Naming, G>(
 pub(crate) fn pay<'g, J: Naming, G>(
     harbour: &Harbour<'g, J, G>,
     owed: Owed,
-    out: &mut Vec<u8>,
+    out: &mut RoundText,
 ) -> Result<(bool, Vec<Lines>), NoMemory>
     requires owes { (text : List ℕ) × (short : Bool) × Owes harbour.now owed text short }
-    ensures text { OnOk result ((text : List ℕ) (short : Bool) → Owes harbour.now owed text short → out.new.items ≡ out.old.items ++ text) }
+    ensures text { OnOk result ((text : List ℕ) (short : Bool) → Owes harbour.now owed text short → whole_text out.new ≡ whole_text out.old ++ text) }
     ensures short { IfOk result (λ r. (text : List ℕ) (short : Bool) → Owes harbour.now owed text short → r.0 ≡ short) }
     ensures gone { IfOk result (λ r. Each AreGone r.1.items) }
 {

@@ -7,12 +7,13 @@ ghost use Rattle.vsw_policy.specs.Layers.{place_of};
 ghost use Rattle.vsw_crew.specs.Texts.{caller_at, row_at};
 ghost use Rattle.vsw_crew.specs.Private.Port.{AreOnce, all_gone, gone, lines_at, pair_at, quiet};
 ghost use Rattle.vsw_crew.specs.Private.Ports.{port_short, port_told};
+ghost use Rattle.vsw_report.specs.Whole.{whole_text};
 
 use crate::caller_lines::Lines;
 use std::alloc::Global;
 use std::mem::replace;
 use vsw_base::NoMemory;
-use vsw_report::{Caller, merge, port_line};
+use vsw_report::{Caller, RoundText, merge_text, port_line};
 
 /// The callers of a port while its lines are merged. Their rooms serve one port after the other.
 #[derive(Drop)]
@@ -161,22 +162,22 @@ pub fn tell_port(
     lines: &mut [Lines],
     firsts: &mut [Lines],
     gathered: &mut Gathered,
-    out: &mut Vec<u8>,
+    out: &mut RoundText,
 ) -> Result<bool, NoMemory>
     requires few { workers ≤ 16 }
     requires rows { 16 ≤ length lines.old }
     requires once { AreOnce places.now }
     requires quiet { gathered.old.team.items ≡ quiet workers }
     requires grows { span.before ≤ span.after }
-    ensures text { AllInCounts span.before (lines_at workers places.now lines.old firsts.old place) span.after → OnOk result (out.new.items ≡ out.old.items ++ port_told span.number span.before span.after (lines_at workers places.now lines.old firsts.old place)) }
+    ensures text { AllInCounts span.before (lines_at workers places.now lines.old firsts.old place) span.after → OnOk result (whole_text out.new ≡ whole_text out.old ++ port_told span.number span.before span.after (lines_at workers places.now lines.old firsts.old place)) }
     ensures short { AllInCounts span.before (lines_at workers places.now lines.old firsts.old place) span.after → IfOk result (λ short. short ≡ port_short span.before span.after (lines_at workers places.now lines.old firsts.old place)) }
     ensures quiet { OnOk result (gathered.new.team.items ≡ quiet workers) }
     ensures lines { OnOk result (lines.new ≡ all_gone place lines.old) }
     ensures firsts { OnOk result (firsts.new ≡ all_gone place firsts.old) }
 {
-    port_line(out, span.number, span.before, span.after)?;
+    port_line(&mut out.end, span.number, span.before, span.after)?;
     gather(alloc, workers, places, place, lines, firsts, gathered)?;
-    let short = merge(
+    let short = merge_text(
         &mut gathered.team,
         &mut gathered.controllers,
         span.before,

@@ -7,12 +7,13 @@ ghost use Rattle.vsw_policy.specs.Layers as layers;
 ghost use Rattle.vsw_crew.specs.Texts.{AreRising};
 ghost use Rattle.vsw_crew.specs.Private.Port.{AreOnce, lines_at, quiet};
 ghost use Rattle.vsw_crew.specs.Private.Ports.{AreCountedAt, gone_to, short_at, told_at};
+ghost use Rattle.vsw_report.specs.Whole.{whole_text};
 
 use crate::caller_lines::Lines;
 use crate::port::{Gathered, Span, push, tell_port};
 use std::alloc::Global;
 use vsw_base::NoMemory;
-use vsw_report::Caller;
+use vsw_report::{Caller, RoundText};
 
 /// The place of a number among these, or behind them.
 fn place_of(numbers: &[u16], number: u16) -> usize
@@ -91,7 +92,7 @@ pub fn tell_ports(
     afters: &[u32],
     lines: &mut [Lines],
     firsts: &mut [Lines],
-    out: &mut Vec<u8>,
+    out: &mut RoundText,
 ) -> Result<bool, NoMemory>
     requires few { workers ≤ 16 }
     requires rows { 16 ≤ length lines.old }
@@ -99,7 +100,7 @@ pub fn tell_ports(
     requires befores { length befores.now ≡ length numbers.now }
     requires afters { length afters.now ≡ length numbers.now }
     requires grows { AreRising befores.now afters.now }
-    ensures text { AreCountedAt (length numbers.now) befores.now afters.now (lines_at workers places.now lines.old firsts.old) → OnOk result (out.new.items ≡ out.old.items ++ flat_map (told_at numbers.now befores.now afters.now (lines_at workers places.now lines.old firsts.old)) (counted 0 (length numbers.now))) }
+    ensures text { AreCountedAt (length numbers.now) befores.now afters.now (lines_at workers places.now lines.old firsts.old) → OnOk result (whole_text out.new ≡ whole_text out.old ++ flat_map (told_at numbers.now befores.now afters.now (lines_at workers places.now lines.old firsts.old)) (counted 0 (length numbers.now))) }
     ensures short { AreCountedAt (length numbers.now) befores.now afters.now (lines_at workers places.now lines.old firsts.old) → IfOk result (λ short. short ≡ list_any (short_at befores.now afters.now (lines_at workers places.now lines.old firsts.old)) (counted 0 (length numbers.now))) }
     ensures lines { OnOk result (lines.new ≡ map (gone_to (length numbers.now)) lines.old) }
 {

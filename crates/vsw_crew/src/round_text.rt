@@ -6,12 +6,13 @@ ghost use Rattle.vsw_port.specs.declared.event.Event.{Event};
 ghost use Rattle.vsw_port.specs.Order.{ascending};
 ghost use Rattle.vsw_promise.specs.Ports.{PortSeen};
 ghost use Rattle.vsw_crew.specs.Texts.{AreRising, AreSized, all_emptied, texts_by_port};
+ghost use Rattle.vsw_report.specs.Whole.{whole_text};
 
 use crate::caller_lines::Lines;
 use crate::ports::{places_of, tell_ports};
 use std::alloc::Global;
 use vsw_base::NoMemory;
-use vsw_report::{Loose, loose_part, round_line};
+use vsw_report::{Loose, RoundText, loose_part, round_line};
 
 /// Appends the text of a round: of each port its line and the lines of its callers in the order of the report, and then the
 /// loose packets. `lines` stand by the numbers of the callers, workers 0 to 15 and then the controllers in the policy's order;
@@ -30,17 +31,17 @@ pub fn tell_round(
     lines: &mut [Lines],
     firsts: &mut [Lines],
     loose: &[Loose],
-    out: &mut Vec<u8>,
+    out: &mut RoundText,
 ) -> Result<bool, NoMemory>
     requires sizes { AreSized workers (length controllers.now) numbers.now befores.now afters.now lines.old }
     requires listed { listed.now ≡ ascending controllers.now }
     requires grows { AreRising befores.now afters.now }
-    ensures text { (ps : List PortSeen) (hs gs : List (List Event)) → map (λ p. p.number) ps ≡ numbers.now → map length hs ≡ befores.now → map length gs ≡ afters.now → AreCounted hs gs (texts_by_port workers controllers.now listed.now lines.old firsts.old (length numbers.now)) → OnOk result (out.new.items ≡ out.old.items ++ crew_text first ps hs gs (texts_by_port workers controllers.now listed.now lines.old firsts.old (length numbers.now)) loose.now) }
+    ensures text { (ps : List PortSeen) (hs gs : List (List Event)) → map (λ p. p.number) ps ≡ numbers.now → map length hs ≡ befores.now → map length gs ≡ afters.now → AreCounted hs gs (texts_by_port workers controllers.now listed.now lines.old firsts.old (length numbers.now)) → OnOk result (whole_text out.new ≡ whole_text out.old ++ crew_text first ps hs gs (texts_by_port workers controllers.now listed.now lines.old firsts.old (length numbers.now)) loose.now) }
     ensures short { (ps : List PortSeen) (hs gs : List (List Event)) → map (λ p. p.number) ps ≡ numbers.now → map length hs ≡ befores.now → map length gs ≡ afters.now → AreCounted hs gs (texts_by_port workers controllers.now listed.now lines.old firsts.old (length numbers.now)) → IfOk result (λ short. short ≡ is_short_crew hs gs (texts_by_port workers controllers.now listed.now lines.old firsts.old (length numbers.now))) }
     ensures taken { OnOk result (lines.new ≡ all_emptied lines.old) }
 {
     let places = places_of(alloc, controllers, listed)?;
-    round_line(out, first)?;
+    round_line(&mut out.end, first)?;
     let short = tell_ports(
         alloc,
         workers as usize,
@@ -52,6 +53,6 @@ pub fn tell_round(
         firsts,
         out,
     )?;
-    loose_part(out, loose)?;
+    loose_part(&mut out.end, loose)?;
     Ok(short)
 }

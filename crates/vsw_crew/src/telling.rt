@@ -11,13 +11,14 @@ ghost use Rattle.vsw_pcap.specs.declared.capture.Record.{Record};
 ghost use Rattle.vsw_promise.specs.Ports.{PortSeen};
 ghost use Rattle.vsw_promise.specs.Jobs.{Setting};
 ghost use Rattle.vsw_crew.specs.Texts.{AreRising, AreSized, all_emptied};
+ghost use Rattle.vsw_report.specs.Whole.{whole_text};
 
 use crate::lines::{are_whole, count_first, give_all, take_all};
 use crate::round::Worked;
 use crate::{Lines, tell_round};
 use vsw_base::NoMemory;
 use vsw_harbour::{Harbour, Lane, Naming, Station};
-use vsw_report::Loose;
+use vsw_report::{Loose, RoundText};
 
 /// Appends the text of a round, out of the lines of all callers and the controllers' of the commands before the packets.
 pub(crate) fn say<'g, J: Naming, G>(
@@ -28,11 +29,11 @@ pub(crate) fn say<'g, J: Naming, G>(
     lines: &mut Vec<Lines>,
     firsts: Vec<Lines>,
     loose: &[Loose],
-    out: &mut Vec<u8>,
+    out: &mut RoundText,
 ) -> Result<bool, NoMemory>
     requires sizes { AreSized harbour.now.workers (length harbour.now.controllers) (numbers_in harbour.now) befores.now afters.now lines.old.items }
     requires grows { AreRising befores.now afters.now }
-    ensures text { (ps : List PortSeen) (hs gs : List (List Event)) → IsCounted harbour.now ps hs gs befores.now afters.now lines.old.items firsts.items → OnOk result (out.new.items ≡ text_of harbour.now first ps hs gs lines.old.items firsts.items loose.now out.old.items) }
+    ensures text { (ps : List PortSeen) (hs gs : List (List Event)) → IsCounted harbour.now ps hs gs befores.now afters.now lines.old.items firsts.items → OnOk result (whole_text out.new ≡ text_of harbour.now first ps hs gs lines.old.items firsts.items loose.now (whole_text out.old)) }
     ensures short { (ps : List PortSeen) (hs gs : List (List Event)) → IsCounted harbour.now ps hs gs befores.now afters.now lines.old.items firsts.items → IfOk result (λ short. short ≡ is_short_crew hs gs (texts_so harbour.now lines.old.items firsts.items)) }
     ensures taken { OnOk result (lines.new.items ≡ all_emptied lines.old.items) }
 {
@@ -59,10 +60,10 @@ pub(crate) fn tell<'g, J: Naming, G>(
     harbour: &Harbour<'g, J, G>,
     first: u32,
     worked: Worked,
-    out: &mut Vec<u8>,
+    out: &mut RoundText,
 ) -> Result<(bool, Vec<Vec<Lane<Station>>>), NoMemory>
     requires worked { (s : Setting) × (hs : List (List Event)) × (packets : List Record) × HasWorked harbour.now s hs first packets worked.befores.items worked.firsts.items worked.loose.items (rows_in worked.rows.items) }
-    ensures told { IfOk result (λ r. (s : Setting) (hs : List (List Event)) (packets : List Record) → AreAsked s → HasWorked harbour.now s hs first packets worked.befores.items worked.firsts.items worked.loose.items (rows_in worked.rows.items) → HasTold harbour.now s hs first packets r.0 out.old.items out.new.items (rows_in r.1.items)) }
+    ensures told { IfOk result (λ r. (s : Setting) (hs : List (List Event)) (packets : List Record) → AreAsked s → HasWorked harbour.now s hs first packets worked.befores.items worked.firsts.items worked.loose.items (rows_in worked.rows.items) → HasTold harbour.now s hs first packets r.0 (whole_text out.old) (whole_text out.new) (rows_in r.1.items)) }
 {
     let Worked {
         befores,

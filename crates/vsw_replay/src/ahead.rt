@@ -10,6 +10,7 @@ ghost use Rattle.vsw_pcap.specs.declared.capture.Record.{Record};
 ghost use Rattle.vsw_promise.specs.Jobs.{Setting};
 ghost use Rattle.vsw_reading.specs.Reads.{IsOpen};
 ghost use Rattle.vsw_reading.specs.declared.reading.Stop.TheVariants.{Full};
+ghost use Rattle.vsw_report.specs.Whole.{whole_text};
 ghost use Rattle.vsw_replay.specs.Private.Ahead.{IsOwing, with_batch};
 ghost use Rattle.vsw_replay.specs.Private.Going.{GoesOn, IsFilled, IsNear};
 ghost use Rattle.vsw_replay.specs.Private.Leading.{AheadSo, GoesAhead, IsFit, IsLeading, IsPickedFor, KeepsCrew, LeadsTo, Led, MayLead, MayOwe, OwesAt, Paid, SettlesSo, StaysBeside, StepsTo, left_by, with_round};
@@ -17,6 +18,7 @@ ghost use Rattle.vsw_replay.specs.declared.ending.TraceEnd.TheVariants.{Memory};
 ghost use Rattle.vsw_replay.specs.Private.Next.{in_batch};
 
 use crate::ending::TraceEnd;
+use crate::sheets::put_text;
 use crate::trace::{RECORDS_MOST, Run, Stretch, read_on};
 use std::alloc::Global;
 use std::mem::replace;
@@ -160,12 +162,12 @@ fn tell_owed<'c, 'g, J: Naming, G>(
     owed: Owed,
 ) -> Result<(), NoMemory>
     requires owes { (text : List ℕ) × (short : Bool) × Owes crew.old.harbour owed text short }
-    ensures tells { OnOk result ((text : List ℕ) (short : Bool) → Owes crew.old.harbour owed text short → (run.new.text.end.items ≡ text) × (run.new.short ≡ (run.old.short || short))) }
+    ensures tells { OnOk result ((text : List ℕ) (short : Bool) → Owes crew.old.harbour owed text short → (whole_text run.new.text ≡ text) × (run.new.short ≡ (run.old.short || short))) }
     ensures crew { crew.new ≡ crew.old }
     ensures reading { run.new.reading ≡ run.old.reading }
 {
-    run.text.end.clear();
-    match crew.tell(owed, &mut run.text.end) {
+    run.text.clear();
+    match crew.tell(owed, &mut run.text) {
         Ok(short) => {
             run.short = is_either(run.short, short);
             Ok(())
@@ -188,7 +190,7 @@ pub(crate) fn pay<'c, 'g, J: Naming, G, H: Host>(
     ensures reading { run.new.reading ≡ run.old.reading }
 {
     match tell_owed(crew, run, owed) {
-        Ok(()) => match host.put(run.text.end.as_slice()) {
+        Ok(()) => match put_text(host, &run.text) {
             Ok(()) => Ok(()),
             Err(_) => Err(TraceEnd::WriteFault),
         },

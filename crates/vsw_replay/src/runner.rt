@@ -91,8 +91,7 @@ pub(crate) fn run_alone<G: Watch>(
     run_round(switch, watch, schedule, first, packets, out)
 }
 
-/// Runs a round with a thread for each caller. Its text goes behind the end.
-#[tactic(auto, using(crate::proofs::Behind::told_behind))]
+/// Runs a round with a thread for each caller.
 fn run_beside<'c, 'g, J: Naming + Send + Sync, G: Gate + Watch + Sync, R: Threads + Wait + Sync>(
     crew: &mut Crew<'c, 'g, J, G>,
     rt: &R,
@@ -106,7 +105,7 @@ fn run_beside<'c, 'g, J: Naming + Send + Sync, G: Gate + Watch + Sync, R: Thread
     ensures runs { IfOk result (λ short. (s : Setting) (hs : List (List Event)) → s.commands ≡ schedule.now → IsAt s hs (crew_now crew.old) → TellsRound s hs first packets.now (crew_now crew.new) short (whole_text out.old) (whole_text out.new)) }
     ensures served { (lines : List Line) → AreServed (crew_now crew.old) lines → AreServed (crew_now crew.new) lines }
 {
-    crew.run_round(rt, schedule, first, packets, &mut out.end)
+    crew.run_round(rt, schedule, first, packets, out)
 }
 
 impl<'c, 'g, J: Naming + Send + Sync, G: Gate + Watch + Sync> Runner<'c, 'g, J, G> {

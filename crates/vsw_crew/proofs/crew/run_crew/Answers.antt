@@ -1,4 +1,5 @@
 use Rattle.std.proofs.Common.{◌≡◌, ◌<◌, ap, arith, length, rules}
+use Rattle.vsw_report.specs.Whole.{whole_text}
 use Rattle.vsw_harbour.specs.HarbourOpening.{rows_in}
 use Rattle.vsw_harbour.specs.Harbour.{HarbourSeen}
 use Rattle.vsw_harbour.proofs.Gathering.{harbour_is}
@@ -47,8 +48,8 @@ returns-clause-runs g c =
     let same : rows_in c.replace-taken.result.items ≡ rows_in c.args.rows.now.items = ap (λ v. rows_in v.items) c.replace-taken.ensures.value in
     let many : 0 < length c.replace-taken.result.items = search rules in
     let some : 0 < length (rows_in c.args.rows.now.items) = omega (arith, as_many c.replace-taken.result.items, many, ap length same) in
-    runs h _ _ _ _ c.args.schedule.now c.args.first c.args.packets.now c.in_ok-short.short c.args.out.now.items c.run.new.out.items (rows_in c.args.rows.now.items) (rows_in c.in_ok-short.left.items) (harbour_is _ h _ _ _ _ c.harbour.view_is c.harbour.invariant) (ready_rows h (rows_in c.args.rows.now.items) some c.requires.rows).1
-    (told_of h c.args.schedule.now c.args.first c.args.packets.now c.in_ok-short.short c.args.out.now.items c.run.new.out.items (rows_in c.replace-taken.result.items) (rows_in c.args.rows.now.items) (rows_in c.in_ok-short.left.items) same c.in_ok-short.ensures.told)
+    runs h _ _ _ _ c.args.schedule.now c.args.first c.args.packets.now c.in_ok-short.short (whole_text c.args.out.now) (whole_text c.run.new.out) (rows_in c.args.rows.now.items) (rows_in c.in_ok-short.left.items) (harbour_is _ h _ _ _ _ c.harbour.view_is c.harbour.invariant) (ready_rows h (rows_in c.args.rows.now.items) some c.requires.rows).1
+    (told_of h c.args.schedule.now c.args.first c.args.packets.now c.in_ok-short.short (whole_text c.args.out.now) (whole_text c.run.new.out) (rows_in c.replace-taken.result.items) (rows_in c.args.rows.now.items) (rows_in c.in_ok-short.left.items) same c.in_ok-short.ensures.told)
 
 pub returns-clause-served : goal.returns-clause-served
 returns-clause-served g c = λ lines a. served_still c.args.harbour.now (seen_by (rows_in c.args.rows.now.items)) _ lines a

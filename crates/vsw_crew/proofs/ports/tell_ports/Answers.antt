@@ -1,5 +1,6 @@
 use Rattle.std.proofs.Common.{◌≡◌, ◌<◌, ◌+◌, ℕ, suc, ap₂, sym, refl, ◌∙◌, arith, length, append-nil, List}
 use Rattle.vsw_report.specs.Line.{TextLine}
+use Rattle.vsw_report.specs.Whole.{whole_text}
 use Rattle.vsw_crew.specs.Private.Port.{lines_at}
 use Rattle.vsw_crew.proofs.GoneAtPort.{gone_next, lines_there, none_yet}
 use Rattle.vsw_crew.proofs.ToldPorts.{port_next, rises_at, short_next}
@@ -10,7 +11,7 @@ loop-place-init c = record {
   quiet = c.in_ok-gathered.ensures;
   lines = sym (none_yet c.args.lines.now);
   firsts = sym (none_yet c.args.firsts.now);
-  text = λ counts. sym (append-nil c.args.out.now.items);
+  text = λ counts. sym (append-nil (whole_text c.args.out.now));
   short = λ counts. refl;
 }
 
@@ -36,6 +37,6 @@ loop-place-preserved c =
       quiet = told.quiet;
       lines = gone_next n (n + 1) c.args.lines.now l.lines new.lines next l.invariant.lines told.lines;
       firsts = gone_next n (n + 1) c.args.firsts.now l.firsts new.firsts next l.invariant.firsts told.firsts;
-      text = port_next texts now c.args.numbers.now c.args.befores.now c.args.afters.now n (n + 1) ports c.args.out.now.items l.out.items new.out.items next lt same told.text l.invariant.text;
+      text = port_next texts now c.args.numbers.now c.args.befores.now c.args.afters.now n (n + 1) ports (whole_text c.args.out.now) (whole_text l.out) (whole_text new.out) next lt same told.text l.invariant.text;
       short = short_next texts now c.args.befores.now c.args.afters.now n (n + 1) ports l.short c.in_ok-told.told c.either-short.result next lt same told.short l.invariant.short c.either-short.ensures;
     }

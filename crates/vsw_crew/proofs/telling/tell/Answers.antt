@@ -1,4 +1,5 @@
 use Rattle.std.proofs.Common.{refl, ap, sym, ◌∙◌, length, subst}
+use Rattle.vsw_report.specs.Whole.{whole_text}
 use Rattle.vsw_harbour.specs.HarbourOpening.{rows_in}
 use Rattle.vsw_harbour.specs.Harbour.{HarbourSeen}
 use Rattle.vsw_harbour.proofs.Gathering.{harbour_is}
@@ -39,7 +40,7 @@ returns g c =
     let h : HarbourSeen = c.args.harbour.now in
     let i = plainly h _ _ _ _ (harbour_is _ h _ _ _ _ c.harbour.view_is c.harbour.invariant) in
     record {
-      told = λ s hs packets asked w. has_told h _ _ s hs c.args.first packets c.deref-3.result.now c.deref-4.result.now c.in_ok-lines.lines.items c.args.worked.firsts.items c.deref-5.result.now (rows_in c.args.worked.rows.items) (rows_in c.take_all.new.rows.items) (rows_in c.give_all.new.rows.items) c.in_ok-short.short c.args.out.now.items c.say.new.out.items i
+      told = λ s hs packets asked w. has_told h _ _ s hs c.args.first packets c.deref-3.result.now c.deref-4.result.now c.in_ok-lines.lines.items c.args.worked.firsts.items c.deref-5.result.now (rows_in c.args.worked.rows.items) (rows_in c.take_all.new.rows.items) (rows_in c.give_all.new.rows.items) c.in_ok-short.short (whole_text c.args.out.now) (whole_text c.say.new.out) i
           (whole_back c.args.worked.rows.items c.deref.result.now c.deref.ensures.value (c.if-not-are_whole.ensures refl)) c.in_ok-lines.ensures.rows c.give_all.ensures c.in_ok-short.ensures.text c.in_ok-short.ensures.short asked
           (is_taken h s hs c.args.first packets c.args.worked.befores.items c.deref-3.result.now c.in_ok-afters.afters.items c.deref-4.result.now c.in_ok-lines.lines.items c.args.worked.firsts.items c.args.worked.loose.items c.deref-5.result.now c.args.worked.rows.items c.deref-2.result.now
           c.deref-3.ensures.value c.deref-4.ensures.value c.deref-5.ensures.value c.deref-2.ensures.value c.in_ok-afters.ensures c.in_ok-lines.ensures.lines w);

@@ -107,10 +107,10 @@ fn a_caller_begins_again_in_its_room(rt: HostRuntime) {
     assert!(&rt; are_rounds(rt.alloc()));
 }
 
-/// So many packets of 100 bytes, whose lines have some 220 bytes each.
-fn tell_many(worker: &mut Caller, packets: u32) -> Result<(), NoMemory> {
+/// So many packets of 100 bytes, all read at a count, whose lines have some 220 bytes each.
+fn tell_many(worker: &mut Caller, packets: u32, count: u32) -> Result<(), NoMemory> {
     for packet in 0..packets {
-        worker.tell_packet(0, packet, false, 0, &Fate::Pass { len: 100 }, &[7; 100])?;
+        worker.tell_packet(0, packet, false, count, &Fate::Pass { len: 100 }, &[7; 100])?;
     }
     Ok(())
 }
@@ -139,11 +139,11 @@ fn is_same(
 ) -> Result<bool, NoMemory> {
     let mut plain = [Caller::new(alloc)];
     let mut out = Vec::new(alloc);
-    tell_many(&mut plain[0], packets)?;
+    tell_many(&mut plain[0], packets, 0)?;
     merge(&mut plain, &mut [], 0, 0, &mut out)?;
     text.clear();
     worker[0].take_room(text, 0);
-    tell_many(&mut worker[0], packets)?;
+    tell_many(&mut worker[0], packets, 0)?;
     merge_text(worker, &mut [], 0, 0, text)?;
     let mut whole = Vec::new(alloc);
     append_all(&mut whole, text)?;
@@ -165,4 +165,33 @@ fn are_same(alloc: Global) -> Result<bool, NoMemory> {
 #[test]
 fn a_long_text_in_pieces_is_the_text(rt: HostRuntime) {
     assert!(&rt; are_same(rt.alloc()) == Ok(true));
+}
+
+/// So many packets of two workers each, and before those of the second one that is an entry.
+fn tell_long(workers: &mut [Caller; 2], packets: u32) -> Result<(), NoMemory> {
+    workers[1].tell_packet(1, 9, true, 0, &Fate::Pass { len: 100 }, &[7; 100])?;
+    tell_many(&mut workers[0], packets, 1)?;
+    tell_many(&mut workers[1], packets, 1)
+}
+
+/// Whether their text has so many sheets, and is the same as one that is merged in one piece.
+fn are_two_same(alloc: Global, packets: u32, sheets: usize) -> Result<bool, NoMemory> {
+    let mut plain = [Caller::new(alloc), Caller::new(alloc)];
+    let mut out = Vec::new(alloc);
+    tell_long(&mut plain, packets)?;
+    merge(&mut plain, &mut [], 0, 1, &mut out)?;
+    let mut workers = [Caller::new(alloc), Caller::new(alloc)];
+    let mut text = RoundText::new(alloc);
+    tell_long(&mut workers, packets)?;
+    merge_text(&mut workers, &mut [], 0, 1, &mut text)?;
+    let mut whole = Vec::new(alloc);
+    append_all(&mut whole, &text)?;
+    Ok(whole == out && text.sheets.len() == sheets)
+}
+
+/// The text of the first is a sheet behind the entry, and that of the second is copied, since its entry stands before it.
+#[test]
+fn long_texts_of_two_workers_are_the_text(rt: HostRuntime) {
+    assert!(&rt; are_two_same(rt.alloc(), 300, 2) == Ok(true));
+    assert!(&rt; are_two_same(rt.alloc(), 3, 0) == Ok(true));
 }

@@ -11,6 +11,7 @@ use std::io;
 use std::process::ExitCode;
 use std::sync::Wait;
 use std::thread::Threads;
+use std::time::Clock;
 use vsw_host::Host;
 use vsw_run::{Status, Word};
 
@@ -42,7 +43,7 @@ pub fn exit_code(status: Status) -> u8
 }
 
 /// Runs with a gate and a watch that do nothing, and answers what the process ends with.
-pub fn run_process<R: Threads + Wait + Sync, H: Host>(
+pub fn run_process<R: Threads + Wait + Clock + Sync, H: Host>(
     rt: &R,
     alloc: Global,
     words: &[Word],

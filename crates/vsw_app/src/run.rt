@@ -22,6 +22,7 @@ use crate::way::Way;
 use std::alloc::Global;
 use std::sync::Wait;
 use std::thread::Threads;
+use std::time::Clock;
 use vsw_config::{PolicyFile, read_policy};
 use vsw_generate::Workload;
 use vsw_host::Host;
@@ -30,7 +31,7 @@ use vsw_run::{Asked, Ending, Request, Status, Word, read_words};
 use vsw_workers::Gate;
 
 /// Runs over the files that the words name, each read and judged before the next is opened.
-fn forward<R: Threads + Wait + Sync, H: Host, G: Gate + Watch + Sync>(
+fn forward<R: Threads + Wait + Clock + Sync, H: Host, G: Gate + Watch + Sync>(
     rt: &R,
     alloc: Global,
     host: &mut H,
@@ -87,7 +88,7 @@ fn generate<H: Host>(alloc: Global, host: &mut H, start: u32, packets: u32) -> E
 }
 
 /// Runs as the words ask.
-fn run_asked<R: Threads + Wait + Sync, H: Host, G: Gate + Watch + Sync>(
+fn run_asked<R: Threads + Wait + Clock + Sync, H: Host, G: Gate + Watch + Sync>(
     rt: &R,
     alloc: Global,
     host: &mut H,
@@ -109,7 +110,7 @@ fn run_asked<R: Threads + Wait + Sync, H: Host, G: Gate + Watch + Sync>(
 }
 
 /// Reads the words, runs as they ask, and complains.
-fn run<R: Threads + Wait + Sync, H: Host, G: Gate + Watch + Sync>(
+fn run<R: Threads + Wait + Clock + Sync, H: Host, G: Gate + Watch + Sync>(
     rt: &R,
     alloc: Global,
     words: &[Word],
@@ -136,7 +137,7 @@ fn run<R: Threads + Wait + Sync, H: Host, G: Gate + Watch + Sync>(
 ///
 /// A run of more than one worker may wait, in calls of the gate too. So all of this is promised if the call returns.
 /// With one worker nothing waits.
-pub fn run_words<R: Threads + Wait + Sync, H: Host, G: Gate + Watch + Sync>(
+pub fn run_words<R: Threads + Wait + Clock + Sync, H: Host, G: Gate + Watch + Sync>(
     rt: &R,
     alloc: Global,
     words: &[Word],

@@ -17,6 +17,7 @@ use std::alloc::Global;
 use std::marker::Brand;
 use std::sync::Wait;
 use std::thread::Threads;
+use std::time::Clock;
 use vsw_base::Items;
 use vsw_commandfile::Line;
 use vsw_config::PolicyFile;
@@ -28,7 +29,7 @@ use vsw_workers::Gate;
 
 /// Runs the trace of this name in one thread, which does the work of all workers and waits for nobody. A local run hands packets on
 /// between the ports.
-fn run_alone<R: Threads + Wait + Sync, H: Host, G: Gate + Watch + Sync>(
+fn run_alone<R: Threads + Wait + Clock + Sync, H: Host, G: Gate + Watch + Sync>(
     rt: &R,
     alloc: Global,
     host: &mut H,
@@ -63,7 +64,7 @@ fn run_crew<
     'c,
     'g,
     J: Naming + Send + Sync,
-    R: Threads + Wait + Sync,
+    R: Threads + Wait + Clock + Sync,
     H: Host,
     G: Gate + Watch + Sync,
 >(
@@ -88,7 +89,12 @@ fn run_crew<
 }
 
 /// Names the ports that were opened for so many workers, and runs the trace of this name with a thread for each caller.
-fn run_named<J: Naming + Send + Sync, R: Threads + Wait + Sync, H: Host, G: Gate + Watch + Sync>(
+fn run_named<
+    J: Naming + Send + Sync,
+    R: Threads + Wait + Clock + Sync,
+    H: Host,
+    G: Gate + Watch + Sync,
+>(
     rt: &R,
     alloc: Global,
     host: &mut H,
@@ -113,7 +119,7 @@ fn run_named<J: Naming + Send + Sync, R: Threads + Wait + Sync, H: Host, G: Gate
 }
 
 /// Runs the trace of this name with a thread for each caller, through one port or more.
-fn run_beside<R: Threads + Wait + Sync, H: Host, G: Gate + Watch + Sync>(
+fn run_beside<R: Threads + Wait + Clock + Sync, H: Host, G: Gate + Watch + Sync>(
     rt: &R,
     alloc: Global,
     host: &mut H,
@@ -142,7 +148,7 @@ fn run_beside<R: Threads + Wait + Sync, H: Host, G: Gate + Watch + Sync>(
 
 /// Runs the trace of this name with these commands. Many workers have threads where there is a port to work at; else one thread goes the
 /// same way for `stream` as for `forward`.
-fn run_scheduled<R: Threads + Wait + Sync, H: Host, G: Gate + Watch + Sync>(
+fn run_scheduled<R: Threads + Wait + Clock + Sync, H: Host, G: Gate + Watch + Sync>(
     rt: &R,
     alloc: Global,
     host: &mut H,
@@ -170,7 +176,7 @@ fn run_scheduled<R: Threads + Wait + Sync, H: Host, G: Gate + Watch + Sync>(
 }
 
 /// Runs the trace of this name through the ports of a policy, with these commands.
-pub(crate) fn run_through<R: Threads + Wait + Sync, H: Host, G: Gate + Watch + Sync>(
+pub(crate) fn run_through<R: Threads + Wait + Clock + Sync, H: Host, G: Gate + Watch + Sync>(
     rt: &R,
     alloc: Global,
     host: &mut H,

@@ -28,6 +28,7 @@ use std::marker::Model;
 use std::mem::replace;
 use std::sync::{Arc, Wait};
 use std::thread::Threads;
+use std::time::Clock;
 use vsw_actors::reconcile_rows;
 use vsw_base::NoMemory;
 use vsw_hands::{Pool, Roll};
@@ -122,7 +123,7 @@ impl<'c, 'g, J: Naming, G> Crew<'c, 'g, J, G> {
 impl<'c, 'g, J: Naming, G: Gate + Watch> Crew<'c, 'g, J, G> {
     /// Begins the round of these packets: asks the commands before them, and gives the workers' shares to the pool. After `NoMemory` there are no rows
     /// any more.
-    pub fn give<'p, R: Wait, B: Roll>(
+    pub fn give<'p, R: Wait + Clock, B: Roll>(
         &mut self,
         rt: &R,
         pool: &mut Pool<'p, Share<'c, 'g, J, G>, Carried, Carrier<'g, G>, B>,
@@ -145,7 +146,7 @@ impl<'c, 'g, J: Naming, G: Gate + Watch> Crew<'c, 'g, J, G> {
     }
 
     /// Compares rows of the ports with what these say now, where an entry made some stale. It changes no answer, and no clause tells of it.
-    pub fn reconcile<R: Wait>(&mut self, rt: &R)
+    pub fn reconcile<R: Wait + Clock>(&mut self, rt: &R)
         ensures same { self.new ≡ self.old }
     {
         let harbour = self.harbour;
@@ -155,7 +156,7 @@ impl<'c, 'g, J: Naming, G: Gate + Watch> Crew<'c, 'g, J, G> {
     }
 
     /// Ends the round whose shares are out, once all are carried. It is to be told then.
-    pub fn take<'p, R: Wait, B: Roll>(
+    pub fn take<'p, R: Wait + Clock, B: Roll>(
         &mut self,
         rt: &R,
         pool: &mut Pool<'p, Share<'c, 'g, J, G>, Carried, Carrier<'g, G>, B>,
@@ -179,7 +180,7 @@ impl<'c, 'g, J: Naming, G: Gate + Watch> Crew<'c, 'g, J, G> {
 }
 
 /// The round of these packets, the one of this number, done and told.
-fn run<'g, J: Naming + Send + Sync, G: Gate + Watch + Sync, R: Threads + Wait + Sync>(
+fn run<'g, J: Naming + Send + Sync, G: Gate + Watch + Sync, R: Threads + Wait + Clock + Sync>(
     rt: &R,
     harbour: &Harbour<'g, J, G>,
     round: u32,
@@ -201,7 +202,7 @@ fn run<'g, J: Naming + Send + Sync, G: Gate + Watch + Sync, R: Threads + Wait + 
 }
 
 /// Runs the round of these packets, the one of this number, if there are rows.
-fn run_crew<'g, J: Naming + Send + Sync, G: Gate + Watch + Sync, R: Threads + Wait + Sync>(
+fn run_crew<'g, J: Naming + Send + Sync, G: Gate + Watch + Sync, R: Threads + Wait + Clock + Sync>(
     rt: &R,
     harbour: &Harbour<'g, J, G>,
     round: u32,
@@ -230,7 +231,7 @@ fn run_crew<'g, J: Naming + Send + Sync, G: Gate + Watch + Sync, R: Threads + Wa
 impl<'c, 'g, J: Naming + Send + Sync, G: Gate + Watch + Sync> Crew<'c, 'g, J, G> {
     /// Runs the round of these packets, the first of which has the number `first` in the trace, as `Rounds` says it of the ports as
     /// `switch_now` tells them.
-    pub fn run_round<R: Threads + Wait + Sync>(
+    pub fn run_round<R: Threads + Wait + Clock + Sync>(
         &mut self,
         rt: &R,
         schedule: &Schedule,

@@ -8,6 +8,7 @@ ghost use Rattle.vsw_crew.specs.Private.Carrying.{Carries};
 use std::alloc::Global;
 use std::marker::Model;
 use std::sync::{Arc, Wait};
+use std::time::Clock;
 use vsw_actors::{Pick, carry_on, jobs_of};
 use vsw_base::NoMemory;
 use vsw_dock::Dock;
@@ -77,7 +78,7 @@ pub struct Carried {
 }
 
 /// Carries the next packets of a share.
-fn carry_piece<'c, 'g, J: Naming, G: Gate + Watch, R: Wait>(
+fn carry_piece<'c, 'g, J: Naming, G: Gate + Watch, R: Wait + Clock>(
     rt: &R,
     alloc: Global,
     gate: &G,
@@ -128,7 +129,7 @@ impl<'c, 'g, J: Naming, G: Gate + Watch> Hand<Share<'c, 'g, J, G>, Carried> for 
 
     ghost does = { DoesShare };
 
-    fn work<R: Wait>(
+    fn work<R: Wait + Clock>(
         &self,
         rt: &R,
         share: Share<'c, 'g, J, G>,

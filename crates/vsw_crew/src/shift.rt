@@ -28,6 +28,7 @@ use crate::underway::Underway;
 use std::alloc::Global;
 use std::mem::replace;
 use std::sync::{Arc, Wait};
+use std::time::Clock;
 use vsw_actors::Pick;
 use vsw_base::NoMemory;
 use vsw_hands::{Pool, Roll};
@@ -89,7 +90,7 @@ fn needs(alloc: Global, picks: &[Vec<Pick>], callers: usize) -> Result<Vec<u32>,
 }
 
 /// All callers meet the ports. Each may then make as many entries as its share has packets.
-fn meet_picked<'g, J: Naming, G, R: Wait>(
+fn meet_picked<'g, J: Naming, G, R: Wait + Clock>(
     rt: &R,
     harbour: &Harbour<'g, J, G>,
     rows: &mut Vec<Vec<Lane<Station>>>,
@@ -113,7 +114,7 @@ fn meet_picked<'g, J: Naming, G, R: Wait>(
 }
 
 /// Gives a worker's share to the pool.
-fn give_one<'p, 'c, 'g, J: Naming, G: Gate + Watch, R: Wait, B: Roll>(
+fn give_one<'p, 'c, 'g, J: Naming, G: Gate + Watch, R: Wait + Clock, B: Roll>(
     rt: &R,
     harbour: &'c Harbour<'g, J, G>,
     pool: &mut Pool<'p, Share<'c, 'g, J, G>, Carried, Carrier<'g, G>, B>,
@@ -134,7 +135,7 @@ fn give_one<'p, 'c, 'g, J: Naming, G: Gate + Watch, R: Wait, B: Roll>(
 }
 
 /// Gives the shares of the first rows to the pool, those from this worker on. In the places of these rows there are none afterwards.
-fn give_each<'p, 'c, 'g, J: Naming, G: Gate + Watch, R: Wait, B: Roll>(
+fn give_each<'p, 'c, 'g, J: Naming, G: Gate + Watch, R: Wait + Clock, B: Roll>(
     rt: &R,
     harbour: &'c Harbour<'g, J, G>,
     pool: &mut Pool<'p, Share<'c, 'g, J, G>, Carried, Carrier<'g, G>, B>,
@@ -170,7 +171,7 @@ fn give_each<'p, 'c, 'g, J: Naming, G: Gate + Watch, R: Wait, B: Roll>(
 }
 
 /// Begins a round: asks the commands before its packets, and gives the workers' shares to the pool.
-pub(crate) fn give<'p, 'c, 'g, J: Naming, G: Gate + Watch, R: Wait, B: Roll>(
+pub(crate) fn give<'p, 'c, 'g, J: Naming, G: Gate + Watch, R: Wait + Clock, B: Roll>(
     rt: &R,
     harbour: &'c Harbour<'g, J, G>,
     pool: &mut Pool<'p, Share<'c, 'g, J, G>, Carried, Carrier<'g, G>, B>,
@@ -235,7 +236,7 @@ fn put_back(rows: &mut [Vec<Lane<Station>>], tolds: &mut [Carried]) -> Result<()
 }
 
 /// Ends a round of whose shares this is told: puts the rows back, and all callers meet the ports.
-pub(crate) fn end_round<'c, 'g, J: Naming, G, R: Wait>(
+pub(crate) fn end_round<'c, 'g, J: Naming, G, R: Wait + Clock>(
     rt: &R,
     harbour: &'c Harbour<'g, J, G>,
     underway: Underway,
@@ -265,7 +266,7 @@ pub(crate) fn end_round<'c, 'g, J: Naming, G, R: Wait>(
 }
 
 /// Ends a round: takes what is told of its shares, and all callers meet the ports.
-pub(crate) fn take<'p, 'c, 'g, J: Naming, G: Gate + Watch, R: Wait, B: Roll>(
+pub(crate) fn take<'p, 'c, 'g, J: Naming, G: Gate + Watch, R: Wait + Clock, B: Roll>(
     rt: &R,
     harbour: &'c Harbour<'g, J, G>,
     pool: &mut Pool<'p, Share<'c, 'g, J, G>, Carried, Carrier<'g, G>, B>,

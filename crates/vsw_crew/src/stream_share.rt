@@ -12,6 +12,7 @@ ghost use Rattle.vsw_harbour.specs.Lanes.{AreFit};
 use std::alloc::Global;
 use std::marker::Model;
 use std::sync::Wait;
+use std::time::Clock;
 use vsw_actors::{Handed, Port, step_in};
 use vsw_dock::{Dock, Parcel};
 use vsw_hands::{Hand, Worked};
@@ -100,7 +101,7 @@ fn may_carry<'g, J: Naming, G>(left: u32, docks: &[Dock<'g, J, G>], packet: &Han
 }
 
 /// A row carries a packet.
-fn carry<'g, J: Naming, G: Watch, R: Wait>(
+fn carry<'g, J: Naming, G: Watch, R: Wait + Clock>(
     rt: &R,
     alloc: Global,
     number: u32,
@@ -126,7 +127,7 @@ fn carry<'g, J: Naming, G: Watch, R: Wait>(
 }
 
 /// Carries the next packets of a share, as they come by its ring.
-fn carry_piece<'c, 'g, J: Naming, G: Gate + Watch, R: Wait>(
+fn carry_piece<'c, 'g, J: Naming, G: Gate + Watch, R: Wait + Clock>(
     rt: &R,
     alloc: Global,
     gate: &G,
@@ -189,7 +190,7 @@ impl<'c, 'g, J: Naming, G: Gate + Watch> Hand<StreamShare<'c, 'g, J, G>, StreamC
 
     ghost does = { DoesStreamShare };
 
-    fn work<R: Wait>(
+    fn work<R: Wait + Clock>(
         &self,
         rt: &R,
         share: StreamShare<'c, 'g, J, G>,

@@ -32,6 +32,7 @@ use crate::underway::Underway;
 use std::alloc::Global;
 use std::mem::replace;
 use std::sync::Wait;
+use std::time::Clock;
 use vsw_actors::{Given, Handed, hand_over, no_picks};
 use vsw_base::NoMemory;
 use vsw_hands::{Pool, Roll};
@@ -60,7 +61,7 @@ fn needs_most(
 }
 
 /// All callers meet the ports. Each worker may then make so many entries.
-fn meet_for_most<'g, J: Naming, G, R: Wait>(
+fn meet_for_most<'g, J: Naming, G, R: Wait + Clock>(
     rt: &R,
     harbour: &Harbour<'g, J, G>,
     rows: &mut Vec<Vec<Lane<Station>>>,
@@ -119,7 +120,7 @@ fn open_rings(
 
 /// Gives the shares of the first rows to the pool, those from this worker on, each with the end of its ring. In the places of these rows there
 /// are none afterwards.
-fn give_streams<'p, 'c, 'g, J: Naming, G: Gate + Watch, R: Wait, B: Roll>(
+fn give_streams<'p, 'c, 'g, J: Naming, G: Gate + Watch, R: Wait + Clock, B: Roll>(
     rt: &R,
     harbour: &'c Harbour<'g, J, G>,
     pool: &mut Pool<'p, StreamShare<'c, 'g, J, G>, StreamCarried, StreamCarrier<'g, G>, B>,
@@ -156,7 +157,7 @@ fn give_streams<'p, 'c, 'g, J: Naming, G: Gate + Watch, R: Wait, B: Roll>(
 }
 
 /// Gives the shares of the workers to the pool. Where that fails no worker whose share was given waits for a packet.
-fn give_or_give_up<'p, 'c, 'g, J: Naming, G: Gate + Watch, R: Wait, B: Roll>(
+fn give_or_give_up<'p, 'c, 'g, J: Naming, G: Gate + Watch, R: Wait + Clock, B: Roll>(
     rt: &R,
     harbour: &'c Harbour<'g, J, G>,
     pool: &mut Pool<'p, StreamShare<'c, 'g, J, G>, StreamCarried, StreamCarrier<'g, G>, B>,
@@ -181,7 +182,7 @@ fn give_or_give_up<'p, 'c, 'g, J: Naming, G: Gate + Watch, R: Wait, B: Roll>(
 }
 
 /// Opens a ring for each worker, and gives the workers' shares to the pool. Gives the rings' other ends.
-fn give_all_streams<'p, 'c, 'g, J: Naming, G: Gate + Watch, R: Wait, B: Roll>(
+fn give_all_streams<'p, 'c, 'g, J: Naming, G: Gate + Watch, R: Wait + Clock, B: Roll>(
     rt: &R,
     harbour: &'c Harbour<'g, J, G>,
     pool: &mut Pool<'p, StreamShare<'c, 'g, J, G>, StreamCarried, StreamCarrier<'g, G>, B>,
@@ -210,7 +211,7 @@ fn give_all_streams<'p, 'c, 'g, J: Naming, G: Gate + Watch, R: Wait, B: Roll>(
 }
 
 /// Begins a round: asks the commands before its packets, and gives the workers' shares to the pool.
-pub(crate) fn open_round<'p, 'c, 'g, J: Naming, G: Gate + Watch, R: Wait, B: Roll>(
+pub(crate) fn open_round<'p, 'c, 'g, J: Naming, G: Gate + Watch, R: Wait + Clock, B: Roll>(
     rt: &R,
     harbour: &'c Harbour<'g, J, G>,
     pool: &mut Pool<'p, StreamShare<'c, 'g, J, G>, StreamCarried, StreamCarrier<'g, G>, B>,
@@ -335,7 +336,7 @@ fn put_row(rows: &mut Vec<Carried>, row: Vec<Lane<Station>>) -> Result<(), NoMem
 }
 
 /// Ends a round: ends its rings, takes what is told of its shares, and all callers meet the ports.
-pub(crate) fn close_round<'p, 'c, 'g, J: Naming, G: Gate + Watch, R: Wait, B: Roll>(
+pub(crate) fn close_round<'p, 'c, 'g, J: Naming, G: Gate + Watch, R: Wait + Clock, B: Roll>(
     rt: &R,
     harbour: &'c Harbour<'g, J, G>,
     pool: &mut Pool<'p, StreamShare<'c, 'g, J, G>, StreamCarried, StreamCarrier<'g, G>, B>,

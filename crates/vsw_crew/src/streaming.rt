@@ -17,6 +17,7 @@ use crate::stream_share::{StreamCarried, StreamCarrier, StreamShare};
 use crate::stream_shift::{close_round, feed_last, open_round};
 use std::mem::replace;
 use std::sync::Wait;
+use std::time::Clock;
 use vsw_base::NoMemory;
 use vsw_hands::{Pool, Roll};
 use vsw_harbour::{Naming, Watch};
@@ -51,7 +52,7 @@ impl<'c, 'g, J: Naming, G: Gate + Watch> Crew<'c, 'g, J, G> {
 
     /// Begins the round whose first packet has this number, and which has at most so many: asks the commands before its packets, and gives
     /// the workers' shares to the pool, each with the end of a ring. After `NoMemory` there are no rows any more.
-    pub fn open_stream<'p, R: Wait, B: Roll>(
+    pub fn open_stream<'p, R: Wait + Clock, B: Roll>(
         &mut self,
         rt: &R,
         pool: &mut Pool<'p, StreamShare<'c, 'g, J, G>, StreamCarried, StreamCarrier<'g, G>, B>,
@@ -86,7 +87,7 @@ impl<'c, 'g, J: Naming, G: Gate + Watch> Crew<'c, 'g, J, G> {
     }
 
     /// Ends the rings of a round, and the round once all that was handed over is carried. It is to be told then.
-    pub fn close_stream<'p, R: Wait, B: Roll>(
+    pub fn close_stream<'p, R: Wait + Clock, B: Roll>(
         &mut self,
         rt: &R,
         pool: &mut Pool<'p, StreamShare<'c, 'g, J, G>, StreamCarried, StreamCarrier<'g, G>, B>,

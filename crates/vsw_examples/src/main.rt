@@ -6,6 +6,7 @@ use std::alloc::Global;
 use std::process::ExitCode;
 use std::sync::Wait;
 use std::thread::Threads;
+use std::time::Clock;
 use vsw_app::{Open, run_words};
 use vsw_base::{Items, Text};
 use vsw_host::{Host, MemoryFile, MemoryHost, ReadEnd, RealHost, are_distinct, read_file};
@@ -100,7 +101,7 @@ fn words(alloc: Global, command: &str) -> Option<Vec<Word>> {
 }
 
 /// Runs over these files by a command, and puts what that puts and complains.
-fn show<R: Threads + Wait + Sync>(
+fn show<R: Threads + Wait + Clock + Sync>(
     rt: &R,
     alloc: Global,
     host: &mut RealHost,

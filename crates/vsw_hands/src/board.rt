@@ -15,6 +15,7 @@ use std::snapshot::Snapshot;
 use std::sync::atomic::{AtomicU64, AtomicUsize, Ordering};
 use std::sync::{Condvar, Mutex, Wait};
 use std::thread;
+use std::time::Clock;
 use vsw_base::NoMemory;
 
 /// How often a thread looks for a task before it sleeps. Tasks follow each other within microseconds while there is input, and waking takes longer.
@@ -101,7 +102,7 @@ impl<S: Drop, T: Drop, W: Hand<S, T>, B: Roll> Board<S, T, W, B> {
     }
 
     /// Writes a share into the roll.
-    pub(crate) fn brief<R: Wait>(
+    pub(crate) fn brief<R: Wait + Clock>(
         &self,
         rt: &R,
         share: S,
@@ -122,7 +123,7 @@ impl<S: Drop, T: Drop, W: Hand<S, T>, B: Roll> Board<S, T, W, B> {
     }
 
     /// Puts a task at the end, where so many are out. Nothing is put if there is no room for what will be told of all.
-    pub(crate) fn put<R: Wait>(
+    pub(crate) fn put<R: Wait + Clock>(
         &self,
         rt: &R,
         task: Task<S, T, W, B>,
@@ -143,7 +144,7 @@ impl<S: Drop, T: Drop, W: Hand<S, T>, B: Roll> Board<S, T, W, B> {
     }
 
     /// The first task that waits.
-    fn next<R: Wait>(&self, rt: &R) -> Option<Task<S, T, W, B>> {
+    fn next<R: Wait + Clock>(&self, rt: &R) -> Option<Task<S, T, W, B>> {
         if self.waiting.load(Ordering::SeqCst) == 0 {
             return None;
         }
@@ -157,7 +158,7 @@ impl<S: Drop, T: Drop, W: Hand<S, T>, B: Roll> Board<S, T, W, B> {
     }
 
     /// The first task that waits, in whose place this one is put at the end. This one if none waits.
-    fn turn<R: Wait>(&self, rt: &R, task: Task<S, T, W, B>) -> Task<S, T, W, B> {
+    fn turn<R: Wait + Clock>(&self, rt: &R, task: Task<S, T, W, B>) -> Task<S, T, W, B> {
         if self.waiting.load(Ordering::SeqCst) == 0 {
             return task;
         }
@@ -169,13 +170,13 @@ impl<S: Drop, T: Drop, W: Hand<S, T>, B: Roll> Board<S, T, W, B> {
     }
 
     /// Puts what was told. It counts though there be no room for it: `gather` misses it then.
-    fn tell<R: Wait>(&self, rt: &R, done: Done<S, T, W, B>) {
+    fn tell<R: Wait + Clock>(&self, rt: &R, done: Done<S, T, W, B>) {
         let _ = self.done.lock(rt).push(done);
         let _ = self.finished.fetch_add(1, Ordering::SeqCst);
     }
 
     /// Works on tasks until one is done. False if none waits.
-    fn work<R: Wait>(&self, rt: &R, hand: &W) -> bool {
+    fn work<R: Wait + Clock>(&self, rt: &R, hand: &W) -> bool {
         let Some(first) = self.next(rt) else {
             return false;
         };
@@ -193,7 +194,7 @@ impl<S: Drop, T: Drop, W: Hand<S, T>, B: Roll> Board<S, T, W, B> {
     }
 
     /// Sleeps until a task waits or the lead gives no more. Who puts a task has the lock, too, and so sees that this thread sleeps.
-    fn sleep<R: Wait>(&self, rt: &R) {
+    fn sleep<R: Wait + Clock>(&self, rt: &R) {
         let todo = self.todo.lock(rt);
         let _ = self.asleep.fetch_add(1, Ordering::SeqCst);
         let todo = self.woken.wait_while(rt, todo, |todo| {
@@ -204,7 +205,7 @@ impl<S: Drop, T: Drop, W: Hand<S, T>, B: Roll> Board<S, T, W, B> {
     }
 
     /// Lets other threads run, and sleeps once so many looks found no task. Answers how many have found none then.
-    fn rest<R: Wait>(&self, rt: &R, looks: u32) -> u32 {
+    fn rest<R: Wait + Clock>(&self, rt: &R, looks: u32) -> u32 {
         if looks < LOOKS {
             thread::yield_now();
             looks + 1
@@ -215,7 +216,7 @@ impl<S: Drop, T: Drop, W: Hand<S, T>, B: Roll> Board<S, T, W, B> {
     }
 
     /// Works until the lead gives no more.
-    pub(crate) fn serve<R: Wait>(&self, rt: &R, hand: &W) {
+    pub(crate) fn serve<R: Wait + Clock>(&self, rt: &R, hand: &W) {
         let mut looks = 0;
         for _ in rt.forever() {
             if self.work(rt, hand) {
@@ -230,7 +231,7 @@ impl<S: Drop, T: Drop, W: Hand<S, T>, B: Roll> Board<S, T, W, B> {
     }
 
     /// Works until so many tasks are done.
-    pub(crate) fn help<R: Wait>(&self, rt: &R, hand: &W, out: usize) {
+    pub(crate) fn help<R: Wait + Clock>(&self, rt: &R, hand: &W, out: usize) {
         for _ in rt.forever() {
             if self.finished.load(Ordering::SeqCst) >= out {
                 return;
@@ -243,7 +244,7 @@ impl<S: Drop, T: Drop, W: Hand<S, T>, B: Roll> Board<S, T, W, B> {
     }
 
     /// Tells the threads that no more is given, and wakes those that sleep.
-    pub(crate) fn end<R: Wait>(&self, rt: &R) {
+    pub(crate) fn end<R: Wait + Clock>(&self, rt: &R) {
         let todo = self.todo.lock(rt);
         self.over.store(1, Ordering::SeqCst);
         drop(todo);
@@ -268,7 +269,7 @@ impl<S: Drop, T: Drop, W: Hand<S, T>, B: Roll> Board<S, T, W, B> {
     }
 
     /// What was told of these shares, in their order.
-    pub(crate) fn gather<R: Wait>(
+    pub(crate) fn gather<R: Wait + Clock>(
         &self,
         rt: &R,
         alloc: Global,
@@ -298,7 +299,7 @@ impl<S: Drop, T: Drop, W: Hand<S, T>, B: Roll> Board<S, T, W, B> {
     }
 
     /// Takes off all that was told.
-    pub(crate) fn clear<R: Wait>(&self, rt: &R) {
+    pub(crate) fn clear<R: Wait + Clock>(&self, rt: &R) {
         self.done.lock(rt).clear();
         self.finished.store(0, Ordering::SeqCst);
     }

@@ -4,6 +4,7 @@ ghost use Rattle.vsw_hands.specs.Hands.{Works};
 
 use crate::worked::Worked;
 use std::sync::Wait;
+use std::time::Clock;
 
 /// Works through shares, piece by piece. All threads have the same hand, by a `&`, and a share may go from thread to thread between its pieces.
 pub trait Hand<S, T> {
@@ -14,6 +15,6 @@ pub trait Hand<S, T> {
     ghost does: { S → T → Type 0 };
 
     /// Does the next piece of a share.
-    fn work<R: Wait>(&self, rt: &R, share: S) -> Worked<S, T>
+    fn work<R: Wait + Clock>(&self, rt: &R, share: S) -> Worked<S, T>
         ensures { (was : S) → goes was share → Works goes does was result };
 }

@@ -12,6 +12,7 @@ use crate::task::Brief;
 use std::alloc::Global;
 use std::marker::Model;
 use std::sync::Wait;
+use std::time::Clock;
 use vsw_base::NoMemory;
 
 /// Where the lead gives shares and takes what is told of them. Contracts see it as the shares that are out, in the order in which they were given.
@@ -36,7 +37,7 @@ impl<'p, S, T, W: Hand<S, T>, B: Roll> Model for Pool<'p, S, T, W, B> {
 
 /// Puts a share on the board, and keeps its brief.
 #[tactic(auto, using(crate::proofs::Gathered::shown_more))]
-fn give_one<R: Wait, S: Drop, T: Drop, W: Hand<S, T>, B: Roll>(
+fn give_one<R: Wait + Clock, S: Drop, T: Drop, W: Hand<S, T>, B: Roll>(
     rt: &R,
     board: &Board<S, T, W, B>,
     briefs: &mut Vec<Brief<S>>,
@@ -70,7 +71,7 @@ impl<'p, S: Drop, T: Drop, W: Hand<S, T>, B: Roll> Pool<'p, S, T, W, B> {
     }
 
     /// Gives a share to the hands. After `NoMemory` it isn't given.
-    pub fn give<R: Wait>(&mut self, rt: &R, share: S) -> Result<(), NoMemory>
+    pub fn give<R: Wait + Clock>(&mut self, rt: &R, share: S) -> Result<(), NoMemory>
         requires goes { W.goes share share }
         ensures given { OnOk result (self.new ≡ self.old ++ share ∷ []) }
         ensures same { OnErr result (self.new ≡ self.old) }
@@ -79,7 +80,7 @@ impl<'p, S: Drop, T: Drop, W: Hand<S, T>, B: Roll> Pool<'p, S, T, W, B> {
     }
 
     /// Works too until all shares are worked through, and takes what is told of them, in their order. After `NoMemory` what was told is lost.
-    pub fn take<R: Wait>(&mut self, rt: &R, alloc: Global) -> Result<Vec<T>, NoMemory>
+    pub fn take<R: Wait + Clock>(&mut self, rt: &R, alloc: Global) -> Result<Vec<T>, NoMemory>
         ensures told { IfOk result (λ tolds. AllDone W.does self.old tolds.items) }
         ensures none { self.new ≡ [] }
     {

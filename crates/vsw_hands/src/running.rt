@@ -13,13 +13,14 @@ use std::snapshot::Snapshot;
 use std::sync::Wait;
 use std::thread;
 use std::thread::{Scope, Threads};
+use std::time::Clock;
 use vsw_base::NoMemory;
 
 /// Starts so many threads that work for the hand, or fewer where the system refuses one.
 fn start_all<
     's,
     E,
-    R: Wait + Sync,
+    R: Wait + Clock + Sync,
     W: Hand<S, T> + Send + Sync,
     S: Send + Drop + 's,
     T: Send + Drop + 's,
@@ -36,7 +37,7 @@ fn start_all<
 }
 
 /// Leads in this thread, and ends the others.
-fn lead_here<R: Wait, W: Hand<S, T>, L: Lead<H, S, T, W>, H, S: Drop, T: Drop, B: Roll>(
+fn lead_here<R: Wait + Clock, W: Hand<S, T>, L: Lead<H, S, T, W>, H, S: Drop, T: Drop, B: Roll>(
     rt: &R,
     alloc: Global,
     hand: &W,
@@ -59,7 +60,7 @@ fn take_back<A>(one: &mut A)
 
 /// The hands work in threads of a scope, while this thread leads.
 fn run_beside<
-    R: Threads + Wait + Sync,
+    R: Threads + Wait + Clock + Sync,
     W: Hand<S, T> + Send + Sync,
     L: Lead<H, S, T, W>,
     H,
@@ -99,7 +100,7 @@ fn run_beside<
 /// Names the roll, and runs.
 fn run_named<
     B: Roll + Send + Sync,
-    R: Threads + Wait + Sync,
+    R: Threads + Wait + Clock + Sync,
     W: Hand<S, T> + Send + Sync,
     L: Lead<H, S, T, W>,
     H,
@@ -125,7 +126,7 @@ fn run_named<
 /// Starts up to `count` threads, each of which works for `hand`, and leads. Where the system refuses a thread there are fewer, and the lead
 /// does their work. After `NoMemory` nothing was done.
 pub fn run_hands<
-    R: Threads + Wait + Sync,
+    R: Threads + Wait + Clock + Sync,
     W: Hand<S, T> + Send + Sync,
     L: Lead<H, S, T, W>,
     H,

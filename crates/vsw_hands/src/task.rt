@@ -9,6 +9,7 @@ use boxcar::Pushed;
 use std::marker::{Model, PhantomData};
 use std::snapshot::Snapshot;
 use std::sync::Wait;
+use std::time::Clock;
 
 /// Shows which share was given.
 pub(crate) type Brief<S> = Pushed<Snapshot<S>>;
@@ -46,7 +47,7 @@ impl<S, T, W: Hand<S, T>, B: Roll> Model for Done<S, T, W, B> {
 }
 
 /// Does a task's next piece.
-pub(crate) fn go_on<R: Wait, S, T, W: Hand<S, T>, B: Roll>(
+pub(crate) fn go_on<R: Wait + Clock, S, T, W: Hand<S, T>, B: Roll>(
     rt: &R,
     hand: &W,
     task: Task<S, T, W, B>,

@@ -24,6 +24,7 @@ use std::alloc::Global;
 use std::mem::replace;
 use std::sync::{Arc, Wait};
 use std::thread::Threads;
+use std::time::Clock;
 use vsw_base::NoMemory;
 use vsw_crew::{Carried, Carrier, Crew, Naming, Owed, Picked, Share, Underway, Watch};
 use vsw_hands::{Lead, Pool, Roll, run_hands};
@@ -221,7 +222,7 @@ fn settle<'c, 'g, J: Naming, G, H: Host>(
 }
 
 /// While a round is out: puts the text of the one before, reads the next one, and compares rows of the ports.
-fn read_meanwhile<'c, 'g, J: Naming, G: Gate + Watch, R: Wait, H: Host>(
+fn read_meanwhile<'c, 'g, J: Naming, G: Gate + Watch, R: Wait + Clock, H: Host>(
     rt: &R,
     host: &mut H,
     crew: &mut Crew<'c, 'g, J, G>,
@@ -278,7 +279,7 @@ impl<'a, 'c, 'g, J: Naming, G: Gate + Watch> Ahead<'a, 'c, 'g, J, G> {
     }
 
     /// While a round is out: puts the text of the one before, and reads and picks the next one.
-    fn go_on<R: Wait, H: Host>(&mut self, rt: &R, host: &mut H) -> Result<(), TraceEnd>
+    fn go_on<R: Wait + Clock, H: Host>(&mut self, rt: &R, host: &mut H) -> Result<(), TraceEnd>
         requires owes { MayOwe self.old.crew.harbour self.old.owed }
         requires near { IsOpen (H.outside host.old) (in_batch self.old.run.reading []) }
         requires low { self.old.stretch.next < 1048576 }
@@ -311,7 +312,7 @@ impl<'a, 'c, 'g, J: Naming, G: Gate + Watch> Ahead<'a, 'c, 'g, J, G> {
     }
 
     /// Gives a round out, does what is to be done beside it, and ends it.
-    fn step<R: Wait, B: Roll, H: Host>(
+    fn step<R: Wait + Clock, B: Roll, H: Host>(
         &mut self,
         rt: &R,
         host: &mut H,
@@ -345,7 +346,7 @@ impl<'a, 'c, 'g, J: Naming, G: Gate + Watch> Ahead<'a, 'c, 'g, J, G> {
     }
 
     /// Does rounds as long as the next one goes out, and puts the last one's text.
-    fn do_rounds<R: Wait, B: Roll, H: Host>(
+    fn do_rounds<R: Wait + Clock, B: Roll, H: Host>(
         &mut self,
         rt: &R,
         host: &mut H,
@@ -375,7 +376,7 @@ impl<'a, 'c, 'g, J: Naming, G: Gate + Watch> Ahead<'a, 'c, 'g, J, G> {
     }
 
     /// The same, from the round that was read first.
-    fn lead_all<R: Wait, B: Roll, H: Host>(
+    fn lead_all<R: Wait + Clock, B: Roll, H: Host>(
         &mut self,
         rt: &R,
         host: &mut H,
@@ -411,7 +412,7 @@ impl<'a, 'c, 'g, J: Naming, G: Gate + Watch, H: Host> Lead<
 
     ghost leads = { λ a with b then. LeadsTo a (H.outside with) b (H.outside then) };
 
-    fn lead<R: Wait, B: Roll>(
+    fn lead<R: Wait + Clock, B: Roll>(
         &mut self,
         rt: &R,
         with: &mut H,
@@ -431,7 +432,7 @@ fn lead_hands<
     'g,
     J: Naming + Send + Sync,
     G: Gate + Watch + Sync,
-    R: Threads + Wait + Sync,
+    R: Threads + Wait + Clock + Sync,
     H: Host,
 >(rt: &R, alloc: Global, host: &mut H, ahead: &mut Ahead<'a, 'c, 'g, J, G>)
     requires may { MayLead ahead.old (H.outside host.old) }
@@ -449,7 +450,7 @@ pub(crate) fn run_ahead<
     'g,
     J: Naming + Send + Sync,
     G: Gate + Watch + Sync,
-    R: Threads + Wait + Sync,
+    R: Threads + Wait + Clock + Sync,
     H: Host,
 >(
     rt: &R,

@@ -21,6 +21,7 @@ use std::alloc::Global;
 use std::marker::Model;
 use std::sync::Wait;
 use std::thread::Threads;
+use std::time::Clock;
 use vsw_base::NoMemory;
 use vsw_crew::{Crew, Naming, Switch, Watch, run_round};
 use vsw_host::Host;
@@ -92,7 +93,13 @@ pub(crate) fn run_alone<G: Watch>(
 }
 
 /// Runs a round with a thread for each caller.
-fn run_beside<'c, 'g, J: Naming + Send + Sync, G: Gate + Watch + Sync, R: Threads + Wait + Sync>(
+fn run_beside<
+    'c,
+    'g,
+    J: Naming + Send + Sync,
+    G: Gate + Watch + Sync,
+    R: Threads + Wait + Clock + Sync,
+>(
     crew: &mut Crew<'c, 'g, J, G>,
     rt: &R,
     schedule: &Schedule,
@@ -112,7 +119,7 @@ impl<'c, 'g, J: Naming + Send + Sync, G: Gate + Watch + Sync> Runner<'c, 'g, J, 
     /// Runs the round of these packets, the first of which has the number `first` in the trace: the commands that name that
     /// number, first those before the packets, and then those beside them and the packets. Appends its text, and answers
     /// whether memory was wanting for one of them. After `NoMemory` nothing is said of the ports and of what was appended.
-    pub fn run_round<R: Threads + Wait + Sync>(
+    pub fn run_round<R: Threads + Wait + Clock + Sync>(
         &mut self,
         rt: &R,
         schedule: &Schedule,
@@ -139,7 +146,7 @@ pub(crate) fn go_ahead<
     'g,
     J: Naming + Send + Sync,
     G: Gate + Watch + Sync,
-    R: Threads + Wait + Sync,
+    R: Threads + Wait + Clock + Sync,
     H: Host,
 >(
     rt: &R,
@@ -173,7 +180,7 @@ pub(crate) fn go_streaming<
     'g,
     J: Naming + Send + Sync,
     G: Gate + Watch + Sync,
-    R: Threads + Wait + Sync,
+    R: Threads + Wait + Clock + Sync,
     H: Host,
 >(
     rt: &R,

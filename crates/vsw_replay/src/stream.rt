@@ -18,6 +18,7 @@ use crate::trace::{Run, Stretch, put_stretch, run_past};
 use std::alloc::Global;
 use std::sync::Wait;
 use std::thread::Threads;
+use std::time::Clock;
 use vsw_crew::{Crew, Naming, Watch};
 use vsw_host::{Host, Source, Unopened};
 use vsw_promise::Schedule;
@@ -31,7 +32,7 @@ fn run_whole<
     'g,
     J: Naming + Send + Sync,
     G: Gate + Watch + Sync,
-    R: Threads + Wait + Sync,
+    R: Threads + Wait + Clock + Sync,
     H: Host,
 >(
     rt: &R,
@@ -65,7 +66,7 @@ fn stream_step<
     'g,
     J: Naming + Send + Sync,
     G: Gate + Watch + Sync,
-    R: Threads + Wait + Sync,
+    R: Threads + Wait + Clock + Sync,
     H: Host,
 >(
     rt: &R,
@@ -103,7 +104,7 @@ fn stream_rounds<
     'g,
     J: Naming + Send + Sync,
     G: Gate + Watch + Sync,
-    R: Threads + Wait + Sync,
+    R: Threads + Wait + Clock + Sync,
     H: Host,
 >(
     rt: &R,
@@ -144,7 +145,7 @@ fn stream_opened<
     'g,
     J: Naming + Send + Sync,
     G: Gate + Watch + Sync,
-    R: Threads + Wait + Sync,
+    R: Threads + Wait + Clock + Sync,
     H: Host,
 >(
     rt: &R,
@@ -173,7 +174,7 @@ pub fn stream_trace<
     'g,
     J: Naming + Send + Sync,
     G: Gate + Watch + Sync,
-    R: Threads + Wait + Sync,
+    R: Threads + Wait + Clock + Sync,
     H: Host,
 >(
     rt: &R,

@@ -21,6 +21,7 @@ use crate::trace::{Run, Stretch};
 use std::alloc::Global;
 use std::sync::Wait;
 use std::thread::Threads;
+use std::time::Clock;
 use vsw_base::NoMemory;
 use vsw_crew::{Crew, Feeding, Naming, StreamCarried, StreamCarrier, StreamShare, Watch};
 use vsw_hands::{Lead, Pool, Roll, run_hands};
@@ -127,7 +128,7 @@ fn feed_round<'c, 'g, J: Naming, G: Gate + Watch, H: Host>(
 
 impl<'a, 'c, 'g, J: Naming, G: Gate + Watch> Streaming<'a, 'c, 'g, J, G> {
     /// Hands over the packets of a round, waits until they are carried, and puts its text.
-    fn carry<R: Wait, B: Roll, H: Host>(
+    fn carry<R: Wait + Clock, B: Roll, H: Host>(
         &mut self,
         rt: &R,
         host: &mut H,
@@ -172,7 +173,7 @@ impl<'a, 'c, 'g, J: Naming, G: Gate + Watch> Streaming<'a, 'c, 'g, J, G> {
     }
 
     /// Hands over the packets of a round and puts its text. Then the next round begins, or the trace ended.
-    fn stream<R: Wait, B: Roll, H: Host>(
+    fn stream<R: Wait + Clock, B: Roll, H: Host>(
         &mut self,
         rt: &R,
         host: &mut H,
@@ -200,7 +201,7 @@ impl<'a, 'c, 'g, J: Naming, G: Gate + Watch> Streaming<'a, 'c, 'g, J, G> {
     }
 
     /// Hands over the packets of rounds, as long as no command of the next one runs beside them.
-    fn stream_all<R: Wait, B: Roll, H: Host>(
+    fn stream_all<R: Wait + Clock, B: Roll, H: Host>(
         &mut self,
         rt: &R,
         host: &mut H,
@@ -241,7 +242,7 @@ impl<'a, 'c, 'g, J: Naming, G: Gate + Watch, H: Host> Lead<
 
     ghost leads = { λ a with b then. StreamsTo a (H.outside with) b (H.outside then) };
 
-    fn lead<R: Wait, B: Roll>(
+    fn lead<R: Wait + Clock, B: Roll>(
         &mut self,
         rt: &R,
         with: &mut H,
@@ -262,7 +263,7 @@ fn stream_hands<
     'g,
     J: Naming + Send + Sync,
     G: Gate + Watch + Sync,
-    R: Threads + Wait + Sync,
+    R: Threads + Wait + Clock + Sync,
     H: Host,
 >(rt: &R, alloc: Global, host: &mut H, streaming: &mut Streaming<'a, 'c, 'g, J, G>)
     requires may { MayStream streaming.old (H.outside host.old) }
@@ -279,7 +280,7 @@ pub(crate) fn run_streaming<
     'g,
     J: Naming + Send + Sync,
     G: Gate + Watch + Sync,
-    R: Threads + Wait + Sync,
+    R: Threads + Wait + Clock + Sync,
     H: Host,
 >(
     rt: &R,

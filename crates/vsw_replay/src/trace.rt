@@ -22,6 +22,7 @@ use crate::sheets::put_text;
 use std::alloc::Global;
 use std::sync::Wait;
 use std::thread::Threads;
+use std::time::Clock;
 use vsw_base::NoMemory;
 use vsw_crew::{Naming, Watch};
 use vsw_host::{Host, Source, Unopened};
@@ -56,7 +57,13 @@ pub(crate) struct Stretch {
 }
 
 /// Runs the round of the batch, of which the first packet has this number, and prints it.
-fn run_text<'c, 'g, J: Naming + Send + Sync, G: Gate + Watch + Sync, R: Threads + Wait + Sync>(
+fn run_text<
+    'c,
+    'g,
+    J: Naming + Send + Sync,
+    G: Gate + Watch + Sync,
+    R: Threads + Wait + Clock + Sync,
+>(
     rt: &R,
     runner: &mut Runner<'c, 'g, J, G>,
     schedule: &Schedule,
@@ -85,7 +92,7 @@ fn put_round<
     'g,
     J: Naming + Send + Sync,
     G: Gate + Watch + Sync,
-    R: Threads + Wait + Sync,
+    R: Threads + Wait + Clock + Sync,
     H: Host,
 >(
     rt: &R,
@@ -124,7 +131,7 @@ pub(crate) fn put_stretch<
     'g,
     J: Naming + Send + Sync,
     G: Gate + Watch + Sync,
-    R: Threads + Wait + Sync,
+    R: Threads + Wait + Clock + Sync,
     H: Host,
 >(
     rt: &R,
@@ -154,7 +161,7 @@ fn put_next<
     'g,
     J: Naming + Send + Sync,
     G: Gate + Watch + Sync,
-    R: Threads + Wait + Sync,
+    R: Threads + Wait + Clock + Sync,
     H: Host,
 >(
     rt: &R,
@@ -197,7 +204,7 @@ pub(crate) fn run_past<
     'g,
     J: Naming + Send + Sync,
     G: Gate + Watch + Sync,
-    R: Threads + Wait + Sync,
+    R: Threads + Wait + Clock + Sync,
     H: Host,
 >(
     rt: &R,
@@ -298,7 +305,7 @@ fn run_stretch<
     'g,
     J: Naming + Send + Sync,
     G: Gate + Watch + Sync,
-    R: Threads + Wait + Sync,
+    R: Threads + Wait + Clock + Sync,
     H: Host,
 >(
     rt: &R,
@@ -332,7 +339,7 @@ fn go_step<
     'g,
     J: Naming + Send + Sync,
     G: Gate + Watch + Sync,
-    R: Threads + Wait + Sync,
+    R: Threads + Wait + Clock + Sync,
     H: Host,
 >(
     rt: &R,
@@ -368,7 +375,7 @@ fn run_stretches<
     'g,
     J: Naming + Send + Sync,
     G: Gate + Watch + Sync,
-    R: Threads + Wait + Sync,
+    R: Threads + Wait + Clock + Sync,
     H: Host,
 >(
     rt: &R,
@@ -459,7 +466,7 @@ fn run_opened<
     'g,
     J: Naming + Send + Sync,
     G: Gate + Watch + Sync,
-    R: Threads + Wait + Sync,
+    R: Threads + Wait + Clock + Sync,
     H: Host,
 >(
     rt: &R,
@@ -489,7 +496,7 @@ pub fn run_trace<
     'g,
     J: Naming + Send + Sync,
     G: Gate + Watch + Sync,
-    R: Threads + Wait + Sync,
+    R: Threads + Wait + Clock + Sync,
     H: Host,
 >(
     rt: &R,

@@ -10,6 +10,23 @@ use rtrb::Consumer;
 use std::alloc::Global;
 use std::sync::Wait;
 use std::thread;
+use std::time::{Clock, Duration};
+
+/// How often a thread looks for what comes next before it sleeps.
+const LOOKS: u32 = 200;
+
+/// For how many microseconds it sleeps before it looks again. Nobody wakes it, so an item may wait so long.
+const SLEEP: u64 = 50;
+
+/// Lets other threads run, and sleeps for a while once so many looks found nothing. Answers how many have found nothing then.
+fn rest<R: Clock>(rt: &R, looks: u32) -> u32 {
+    if looks < LOOKS {
+        thread::yield_now();
+        return looks + 1;
+    }
+    rt.sleep(Duration::from_micros(SLEEP));
+    looks
+}
 
 /// The end of a ring that takes. One thread at a time has it; it may move to another. What is taken was seen by one load.
 #[derive(Drop)]
@@ -18,17 +35,18 @@ pub struct Drain<T, P: Rule<T> = AnyItem> {
 }
 
 impl<T, P: Rule<T>> Drain<T, P> {
-    /// Takes what comes next, an item or the end, once the other thread has handed it over.
-    pub fn next<R: Wait>(&mut self, rt: &R) -> Taken<T>
+    /// Takes what comes next, an item or the end, once the other thread has handed it over. Where nothing comes for long, it sleeps between its looks.
+    pub fn next<R: Wait + Clock>(&mut self, rt: &R) -> Taken<T>
         requires open { is_at_end self.old ≡ false }
         ensures takes { Takes P.fits self.old result self.new }
         ensures ring { SameDrain self.old self.new }
     {
+        let mut looks = 0;
         for _ in rt.forever() {
             if let Ok(next) = self.ring.pop() {
                 return next;
             }
-            thread::yield_now();
+            looks = rest(rt, looks);
         }
         unreachable!()
     }

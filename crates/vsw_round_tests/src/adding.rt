@@ -8,6 +8,7 @@ use std::alloc::Global;
 use std::sync::Wait;
 use std::sync::atomic::{AtomicU64, Ordering};
 use std::thread;
+use std::time::Clock;
 use vsw_hands::{Hand, Lead, Pool, Roll, Worked};
 
 /// A share: the numbers from `left` down to 1 are to be added to `sum`, one a piece.
@@ -57,7 +58,7 @@ impl<'a> Hand<Part, Sum> for Adding<'a> {
 
     ghost does = { IsSumOf };
 
-    fn work<R: Wait>(&self, _rt: &R, share: Part) -> Worked<Part, Sum> {
+    fn work<R: Wait + Clock>(&self, _rt: &R, share: Part) -> Worked<Part, Sum> {
         if share.left != 0 {
             return Worked::More(Part {
                 round: share.round,
@@ -110,7 +111,7 @@ impl Counting {
 }
 
 /// Gives the shares of a round, and looks at what is told. False if memory is wanting.
-fn lead_round<R: Wait, B: Roll>(
+fn lead_round<R: Wait + Clock, B: Roll>(
     rt: &R,
     alloc: Global,
     counting: &mut Counting,
@@ -144,7 +145,7 @@ impl<'a> Lead<Global, Part, Sum, Adding<'a>> for Counting {
 
     ghost leads = { λ before thing after later. after.rounds ≡ before.rounds };
 
-    fn lead<R: Wait, B: Roll>(
+    fn lead<R: Wait + Clock, B: Roll>(
         &mut self,
         rt: &R,
         with: &mut Global,

@@ -5,12 +5,13 @@ use std::alloc::Global;
 use std::sync::Wait;
 use std::sync::atomic::AtomicU64;
 use std::thread::Threads;
+use std::time::Clock;
 use vsw_base::NoMemory;
 use vsw_hands::run_hands;
 
 /// What came of so many rounds of so many shares, each of so many pieces, with so many threads beside the lead. Shares that are to meet wait
 /// for each other.
-fn run<R: Threads + Wait + Sync>(
+fn run<R: Threads + Wait + Clock + Sync>(
     rt: &R,
     alloc: Global,
     threads: usize,

@@ -8,6 +8,7 @@ use crate::memory::HEADER;
 use std::alloc::Global;
 use std::sync::Wait;
 use std::thread::Threads;
+use std::time::Clock;
 use vsw_run::Status;
 
 const CHECK: &[&str] = &["vsw", "check", "policy", "commands", "trace", "report"];
@@ -17,7 +18,7 @@ const LEGAL: Ending<'static> = (Status::Done, &[b"legal\n"], b"");
 const ILLEGAL: Ending<'static> = (Status::Illegal, &[b"illegal\n"], b"");
 
 /// Checks this report of a run over these files, with these calls failing.
-fn check_claim<R: Threads + Wait + Sync>(
+fn check_claim<R: Threads + Wait + Clock + Sync>(
     rt: &R,
     alloc: Global,
     files: &Files<'_>,
@@ -32,7 +33,7 @@ fn check_claim<R: Threads + Wait + Sync>(
 }
 
 /// Checks this report of a run over this trace, under the rule that allows.
-fn check_report<R: Threads + Wait + Sync>(
+fn check_report<R: Threads + Wait + Clock + Sync>(
     rt: &R,
     alloc: Global,
     trace: &[&[u8]],

@@ -8,6 +8,7 @@ use crate::memory::HEADER;
 use std::alloc::{AllocError, Global};
 use std::sync::Wait;
 use std::thread::Threads;
+use std::time::Clock;
 use vsw_run::Status;
 
 #[test]
@@ -50,7 +51,7 @@ fn a_fault_is_named_and_what_was_put_stays(rt: HostRuntime) -> Result<(), Wrong>
 }
 
 /// Runs over commands that end the run before the trace is opened, which is no capture.
-fn check_commands<R: Threads + Wait + Sync>(
+fn check_commands<R: Threads + Wait + Clock + Sync>(
     rt: &R,
     alloc: Global,
     commands: &[u8],
@@ -82,7 +83,7 @@ fn feeds(alloc: Global, count: usize) -> Result<Vec<u8>, AllocError> {
 }
 
 /// Runs over commands of so many line feeds.
-fn check_feeds<R: Threads + Wait + Sync>(
+fn check_feeds<R: Threads + Wait + Clock + Sync>(
     rt: &R,
     alloc: Global,
     count: usize,
@@ -113,7 +114,7 @@ const BAD_WORDS: [&[&str]; 6] = [
 ];
 
 /// Runs over words that are refused.
-fn check_usage<R: Threads + Wait + Sync>(
+fn check_usage<R: Threads + Wait + Clock + Sync>(
     rt: &R,
     alloc: Global,
     words: &[&str],

@@ -6,6 +6,7 @@ use crate::memory::HEADER;
 use std::alloc::Global;
 use std::sync::Wait;
 use std::thread::Threads;
+use std::time::Clock;
 use vsw_run::Status;
 
 /// The query to port 54, its checksum left as it was; from an address of no port; and cut.
@@ -19,7 +20,7 @@ const STRANGE: &[u8] =
 const SNAPPED: &[u8] = b"\x00\x00\x00\x00\x00\x00\x00\x00\x2c\x00\x00\x00\x2d\x00\x00\x00";
 
 /// Answers this trace from these rows, with these calls failing.
-fn answer<R: Threads + Wait + Sync>(
+fn answer<R: Threads + Wait + Clock + Sync>(
     rt: &R,
     alloc: Global,
     rows: &[&[u8]],

@@ -8,6 +8,7 @@ use crate::memory::{HEADER, words_of};
 use std::alloc::Global;
 use std::sync::Wait;
 use std::thread::Threads;
+use std::time::Clock;
 use vsw_app::{Open, run_words};
 use vsw_host::MemoryHost;
 use vsw_run::Status;
@@ -24,7 +25,7 @@ fn files_of<'a>(trace: &'a [&'a [u8]]) -> Files<'a> {
 }
 
 /// Runs over a trace of these pieces, with these calls failing.
-fn export<R: Threads + Wait + Sync>(
+fn export<R: Threads + Wait + Clock + Sync>(
     rt: &R,
     alloc: Global,
     trace: &[&[u8]],
@@ -44,7 +45,7 @@ fn a_packet_leaves_its_row(rt: HostRuntime) -> Result<(), Wrong> {
 }
 
 /// The host behind a run that left its rows.
-fn exported<R: Threads + Wait + Sync>(
+fn exported<R: Threads + Wait + Clock + Sync>(
     rt: &R,
     alloc: Global,
     mut host: MemoryHost,
@@ -59,7 +60,7 @@ fn exported<R: Threads + Wait + Sync>(
 }
 
 /// Answers the query from what a host put.
-fn answer_by<R: Threads + Wait + Sync>(
+fn answer_by<R: Threads + Wait + Clock + Sync>(
     rt: &R,
     alloc: Global,
     left: &MemoryHost,
@@ -74,7 +75,7 @@ fn answer_by<R: Threads + Wait + Sync>(
 }
 
 /// Answers the query from the rows that a run over it leaves.
-fn answer_again<R: Threads + Wait + Sync>(
+fn answer_again<R: Threads + Wait + Clock + Sync>(
     rt: &R,
     alloc: Global,
     host: MemoryHost,

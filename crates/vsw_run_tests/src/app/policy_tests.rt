@@ -5,6 +5,7 @@ use crate::memory::FORWARD;
 use std::alloc::{AllocError, Global};
 use std::sync::Wait;
 use std::thread::Threads;
+use std::time::Clock;
 use vsw_run::Status;
 
 /// The pieces of a policy file: up to the layers of the only port, up to the rules of the only group, a
@@ -24,7 +25,7 @@ const END: &[u8] = b"]}]}";
 
 /// Runs over a policy of these pieces, and compares the status and the complaint. The host holds no other
 /// file, and nothing is put.
-fn check_policy<R: Threads + Wait + Sync>(
+fn check_policy<R: Threads + Wait + Clock + Sync>(
     rt: &R,
     alloc: Global,
     policy: &[&[u8]],
@@ -37,7 +38,7 @@ fn check_policy<R: Threads + Wait + Sync>(
     }
 }
 
-fn check_refused<R: Threads + Wait + Sync>(
+fn check_refused<R: Threads + Wait + Clock + Sync>(
     rt: &R,
     alloc: Global,
     policy: &[&[u8]],
@@ -46,7 +47,7 @@ fn check_refused<R: Threads + Wait + Sync>(
     check_policy(rt, alloc, policy, Status::Refused, complaint)
 }
 
-fn check_limit<R: Threads + Wait + Sync>(
+fn check_limit<R: Threads + Wait + Clock + Sync>(
     rt: &R,
     alloc: Global,
     policy: &[&[u8]],

@@ -8,10 +8,11 @@ use crate::memory::HEADER;
 use std::alloc::{AllocError, Global};
 use std::sync::Wait;
 use std::thread::Threads;
+use std::time::Clock;
 use vsw_run::Status;
 
 /// A trace of one packet, and its report: the lines of port 1, and the loose lines.
-fn check_packet<'a, R: Threads + Wait + Sync>(
+fn check_packet<'a, R: Threads + Wait + Clock + Sync>(
     rt: &R,
     alloc: Global,
     policy: &'a [&'a [u8]],

@@ -4,6 +4,7 @@ use crate::memory::{FORWARD, HEADER, STREAM, file, words_of};
 use std::alloc::{AllocError, Global};
 use std::sync::Wait;
 use std::thread::Threads;
+use std::time::Clock;
 use vsw_app::{Open, run_words};
 use vsw_host::{MemoryFile, MemoryHost, are_distinct};
 use vsw_run::{Status, Word};
@@ -177,7 +178,7 @@ fn is_joined(alloc: Global, bytes: &[u8], pieces: &[&[u8]]) -> bool {
 }
 
 /// Runs, and compares how the run ends.
-fn check_words<R: Threads + Wait + Sync>(
+fn check_words<R: Threads + Wait + Clock + Sync>(
     rt: &R,
     alloc: Global,
     host: &mut MemoryHost,
@@ -196,7 +197,7 @@ fn check_words<R: Threads + Wait + Sync>(
     }
 }
 
-pub fn check<R: Threads + Wait + Sync>(
+pub fn check<R: Threads + Wait + Clock + Sync>(
     rt: &R,
     alloc: Global,
     host: &mut MemoryHost,
@@ -210,7 +211,7 @@ pub fn check<R: Threads + Wait + Sync>(
 }
 
 /// Runs over these files by these words, with these calls failing.
-fn check_words_of<R: Threads + Wait + Sync>(
+fn check_words_of<R: Threads + Wait + Clock + Sync>(
     rt: &R,
     alloc: Global,
     words: &[&str],
@@ -225,7 +226,7 @@ fn check_words_of<R: Threads + Wait + Sync>(
 }
 
 /// Runs over these files by `forward`, and then by `stream`, with these calls failing: both end so.
-pub fn check_files<R: Threads + Wait + Sync>(
+pub fn check_files<R: Threads + Wait + Clock + Sync>(
     rt: &R,
     alloc: Global,
     files: &Files<'_>,
@@ -237,7 +238,7 @@ pub fn check_files<R: Threads + Wait + Sync>(
 }
 
 /// Runs over a trace of these pieces, with these calls failing.
-pub fn check_trace<R: Threads + Wait + Sync>(
+pub fn check_trace<R: Threads + Wait + Clock + Sync>(
     rt: &R,
     alloc: Global,
     trace: &[&[u8]],

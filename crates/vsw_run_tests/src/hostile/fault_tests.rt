@@ -9,6 +9,7 @@ use crate::memory::{FORWARD, STREAM, words_of};
 use std::alloc::Global;
 use std::sync::Wait;
 use std::thread::Threads;
+use std::time::Clock;
 use vsw_app::{Open, run_words};
 use vsw_host::MemoryHost;
 use vsw_run::{Status, Word};
@@ -40,7 +41,7 @@ const FAULTS: [(u64, Status, Option<&[&str]>, &str); 13] = [
 ];
 
 /// Lets one call after the other fail.
-fn check_faults<R: Threads + Wait + Sync>(
+fn check_faults<R: Threads + Wait + Clock + Sync>(
     rt: &R,
     alloc: Global,
     small: &Small,
@@ -69,7 +70,7 @@ fn each_call_that_fails_ends_a_run_after_what_was_read(rt: HostRuntime) -> Resul
 }
 
 /// Whether a run whose reads give so many bytes at most puts the report.
-fn reads<R: Threads + Wait + Sync>(
+fn reads<R: Threads + Wait + Clock + Sync>(
     rt: &R,
     alloc: Global,
     small: &Small,
@@ -88,7 +89,7 @@ fn reads<R: Threads + Wait + Sync>(
     }
 }
 
-fn check_reads<R: Threads + Wait + Sync>(
+fn check_reads<R: Threads + Wait + Clock + Sync>(
     rt: &R,
     alloc: Global,
     small: &Small,
@@ -115,7 +116,7 @@ fn reads_of_any_size_give_the_same_report(rt: HostRuntime) -> Result<(), WrongAt
 }
 
 /// How a run ends whose reads give 61 bytes at most, and of whose calls this fails: its status, and the host that it leaves.
-fn left<R: Threads + Wait + Sync>(
+fn left<R: Threads + Wait + Clock + Sync>(
     rt: &R,
     alloc: Global,
     small: &Small,
@@ -163,7 +164,7 @@ fn a_stream_ends_as_forward_at_each_call_that_fails(rt: HostRuntime) -> Result<(
 }
 
 /// Runs over these files, and tells whether the run ends as one of a cut trace, with a front of the words that tell so.
-fn ends_cut<R: Threads + Wait + Sync>(
+fn ends_cut<R: Threads + Wait + Clock + Sync>(
     rt: &R,
     alloc: Global,
     words: &[Word],
@@ -180,7 +181,7 @@ fn ends_cut<R: Threads + Wait + Sync>(
 }
 
 /// Lets one call after the other fail, from the one on that puts the first words.
-fn check_complaints<R: Threads + Wait + Sync>(
+fn check_complaints<R: Threads + Wait + Clock + Sync>(
     rt: &R,
     alloc: Global,
     words: &[Word],

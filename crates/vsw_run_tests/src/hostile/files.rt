@@ -7,6 +7,7 @@ use crate::whole::running::{add, tried};
 use std::alloc::{AllocError, Global};
 use std::sync::Wait;
 use std::thread::Threads;
+use std::time::Clock;
 use vsw_host::{MemoryFile, MemoryHost, are_distinct};
 use vsw_run::Status;
 
@@ -166,7 +167,7 @@ impl Small {
 pub type Ending = (Status, &'static [&'static str], &'static str);
 
 /// Whether a run over these files by these words ends so.
-pub fn ends<R: Threads + Wait + Sync>(
+pub fn ends<R: Threads + Wait + Clock + Sync>(
     rt: &R,
     alloc: Global,
     words: &[&str],

@@ -9,6 +9,7 @@ use crate::whole::policies::{ALLOWING, END, LAYER, LAYER_END, PORT};
 use std::alloc::Global;
 use std::sync::Wait;
 use std::thread::Threads;
+use std::time::Clock;
 use vsw_run::Status;
 
 /// What a run over no packet, one packet, and the packet with its reply puts, with both commands.
@@ -54,7 +55,7 @@ fn ending_of_trace(len: usize) -> Ending {
 }
 
 /// Whether a run over so many bytes of the trace ends as it must.
-fn ends_there<R: Threads + Wait + Sync>(
+fn ends_there<R: Threads + Wait + Clock + Sync>(
     rt: &R,
     alloc: Global,
     small: &mut Small,
@@ -67,7 +68,7 @@ fn ends_there<R: Threads + Wait + Sync>(
 }
 
 /// Runs by one worker over each front of the trace, the longest first.
-fn check_traces<R: Threads + Wait + Sync>(
+fn check_traces<R: Threads + Wait + Clock + Sync>(
     rt: &R,
     alloc: Global,
     small: &mut Small,
@@ -91,7 +92,7 @@ fn each_front_of_a_trace_ends_where_its_records_do(rt: HostRuntime) -> Result<()
 }
 
 /// Runs by four workers over the trace up to where its endings change, and a byte before and behind.
-fn check_ends<R: Threads + Wait + Sync>(
+fn check_ends<R: Threads + Wait + Clock + Sync>(
     rt: &R,
     alloc: Global,
     small: &mut Small,
@@ -118,7 +119,7 @@ fn the_same_ends_are_met_by_four_workers(rt: HostRuntime) -> Result<(), WrongAt>
 const ONE_LAYER: &[&str] = &[PORT, LAYER, ALLOWING, LAYER_END, END];
 
 /// Runs over each front of the policy but the whole, the longest first.
-fn check_policies<R: Threads + Wait + Sync>(
+fn check_policies<R: Threads + Wait + Clock + Sync>(
     rt: &R,
     alloc: Global,
     small: &mut Small,
@@ -184,7 +185,7 @@ fn ending_of_commands(len: usize) -> Ending {
 }
 
 /// Runs over each front of the commands, the longest first.
-fn check_commands<R: Threads + Wait + Sync>(
+fn check_commands<R: Threads + Wait + Clock + Sync>(
     rt: &R,
     alloc: Global,
     small: &mut Small,

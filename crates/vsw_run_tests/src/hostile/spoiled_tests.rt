@@ -8,6 +8,7 @@ use crate::whole::running::{Wrong, add, end, tried};
 use std::alloc::{AllocError, Global};
 use std::sync::Wait;
 use std::thread::Threads;
+use std::time::Clock;
 use vsw_host::MemoryHost;
 use vsw_run::Status;
 
@@ -310,7 +311,7 @@ fn count_lines(text: &[u8]) -> usize {
 }
 
 /// Runs by four workers, and counts the lines.
-fn check_lines<R: Threads + Wait + Sync>(
+fn check_lines<R: Threads + Wait + Clock + Sync>(
     rt: &R,
     alloc: Global,
     host: &mut MemoryHost,

@@ -9,6 +9,7 @@ use crate::whole::running::{Wrong, host_over, tried};
 use std::alloc::Global;
 use std::sync::Wait;
 use std::thread::Threads;
+use std::time::Clock;
 use vsw_run::Status;
 
 /// The policy of one layer, number 10 of controller 1, whose rule 5 of group 1 allows 10.0.0.0/24.
@@ -28,7 +29,7 @@ const DROP_5: &str =
     r#"{"rule":5,"priority":10,"when":[{"field":"dst_ip","any":["10.0.0.0/24"]}],"action":"drop","stateful":false,"last":false}"#;
 
 /// Runs over this policy, these commands and these frames, and compares what is put.
-fn check<R: Threads + Wait + Sync>(
+fn check<R: Threads + Wait + Clock + Sync>(
     rt: &R,
     alloc: Global,
     policy: &[&str],

@@ -9,6 +9,7 @@ use crate::whole::running::{Wrong, host_over, tried};
 use std::alloc::Global;
 use std::sync::Wait;
 use std::thread::Threads;
+use std::time::Clock;
 use vsw_run::Status;
 
 /// The words of a command with so many workers.
@@ -25,7 +26,7 @@ fn words_by<'a>(command: &'a str, workers: &'a str) -> [&'a str; 7] {
 }
 
 /// A run of `deliver` with so many workers over a policy of two ports.
-fn check_by<R: Threads + Wait + Sync>(
+fn check_by<R: Threads + Wait + Clock + Sync>(
     rt: &R,
     alloc: Global,
     workers: &str,
@@ -39,7 +40,7 @@ fn check_by<R: Threads + Wait + Sync>(
 }
 
 /// The same of one worker, of two and of sixteen.
-fn check<R: Threads + Wait + Sync>(
+fn check<R: Threads + Wait + Clock + Sync>(
     rt: &R,
     alloc: Global,
     policy: &[&str],

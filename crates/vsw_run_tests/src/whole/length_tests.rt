@@ -6,6 +6,7 @@ use crate::whole::running::{Wrong, add, end, host_of, tried};
 use std::alloc::{AllocError, Global};
 use std::sync::Wait;
 use std::thread::Threads;
+use std::time::Clock;
 use vsw_host::MemoryHost;
 use vsw_run::Status;
 
@@ -59,7 +60,7 @@ fn is_whole(report: &[u8]) -> bool {
         && report.ends_with(WHOLE_END)
 }
 
-fn try_whole<R: Threads + Wait + Sync>(
+fn try_whole<R: Threads + Wait + Clock + Sync>(
     rt: &R,
     alloc: Global,
     host: &mut MemoryHost,

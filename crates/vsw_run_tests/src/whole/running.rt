@@ -4,6 +4,7 @@ use crate::memory::{FORWARD, empty_trace, file, text_of, words_of};
 use std::alloc::{AllocError, Global};
 use std::sync::Wait;
 use std::thread::Threads;
+use std::time::Clock;
 use vsw_app::{Open, run_words};
 use vsw_host::{MemoryFile, MemoryHost, are_distinct};
 use vsw_run::{Status, Word};
@@ -107,7 +108,7 @@ pub fn host_over(
     host_of(alloc, policy, commands, trace, failing)
 }
 
-fn run<R: Threads + Wait + Sync>(
+fn run<R: Threads + Wait + Clock + Sync>(
     rt: &R,
     alloc: Global,
     texts: &[&str],
@@ -118,7 +119,7 @@ fn run<R: Threads + Wait + Sync>(
 }
 
 /// Runs by these words, and compares how the run ends and what it complains.
-pub fn end<R: Threads + Wait + Sync>(
+pub fn end<R: Threads + Wait + Clock + Sync>(
     rt: &R,
     alloc: Global,
     texts: &[&str],
@@ -154,7 +155,7 @@ fn compare(put: &[u8], report: &[&str]) -> Result<(), Wrong> {
     }
 }
 
-fn try_run<R: Threads + Wait + Sync>(
+fn try_run<R: Threads + Wait + Clock + Sync>(
     rt: &R,
     alloc: Global,
     texts: &[&str],
@@ -169,7 +170,7 @@ fn try_run<R: Threads + Wait + Sync>(
 
 /// Runs by these words over this host, if it could be made, and compares how the run ends, what it
 /// puts, in pieces, and what it complains.
-pub fn tried<R: Threads + Wait + Sync>(
+pub fn tried<R: Threads + Wait + Clock + Sync>(
     rt: &R,
     alloc: Global,
     texts: &[&str],
@@ -191,7 +192,7 @@ fn after_lines<'a>(put: &'a [u8], entries: &str, lines: &[&str]) -> Option<&'a [
     after(rest, lines)
 }
 
-fn try_round<R: Threads + Wait + Sync>(
+fn try_round<R: Threads + Wait + Clock + Sync>(
     rt: &R,
     alloc: Global,
     host: &mut MemoryHost,
@@ -207,7 +208,7 @@ fn try_round<R: Threads + Wait + Sync>(
 
 /// Runs over this policy and these frames, and compares the report: port 1 has so many entries of history
 /// and these lines, and no packet is loose.
-pub fn check<R: Threads + Wait + Sync>(
+pub fn check<R: Threads + Wait + Clock + Sync>(
     rt: &R,
     alloc: Global,
     policy: &[&str],

@@ -4,6 +4,7 @@ use crate::whole::running::{Wrong, tried};
 use std::alloc::Global;
 use std::sync::Wait;
 use std::thread::Threads;
+use std::time::Clock;
 use vsw_host::MemoryHost;
 use vsw_run::Status;
 
@@ -13,7 +14,7 @@ fn host_of(alloc: Global, failing: &[u64]) -> Option<MemoryHost> {
 }
 
 /// Compares the summary that a run puts over so many packets, drawn from this number.
-fn check<R: Threads + Wait + Sync>(
+fn check<R: Threads + Wait + Clock + Sync>(
     rt: &R,
     alloc: Global,
     start: &str,

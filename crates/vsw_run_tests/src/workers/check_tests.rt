@@ -8,11 +8,12 @@ use std::process::Abort;
 use std::sync::Wait;
 use std::test::Fail;
 use std::thread::Threads;
+use std::time::Clock;
 use vsw_app::{Open, run_words};
 use vsw_run::Status;
 
 /// How a check ends, for a run of so many workers, of this report of the hundred flows beside a command.
-pub fn status_of<R: Abort + Threads + Wait + Sync>(
+pub fn status_of<R: Abort + Threads + Wait + Clock + Sync>(
     rt: &R,
     alloc: Global,
     workers: &str,

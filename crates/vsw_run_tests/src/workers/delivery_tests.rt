@@ -7,6 +7,7 @@ use std::process::Abort;
 use std::sync::Wait;
 use std::test::Fail;
 use std::thread::Threads;
+use std::time::Clock;
 use vsw_app::Open;
 
 /// Port 1, and port 2 of the address that all packets go to.
@@ -57,7 +58,7 @@ fn wanted(alloc: Global, workers: u32) -> Result<Vec<u8>, Fail> {
     Ok(report)
 }
 
-fn check<R: Abort + Threads + Wait + Sync>(
+fn check<R: Abort + Threads + Wait + Clock + Sync>(
     rt: &R,
     alloc: Global,
     name: &str,

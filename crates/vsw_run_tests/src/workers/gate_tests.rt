@@ -9,9 +9,10 @@ use std::process::Abort;
 use std::sync::Wait;
 use std::test::Fail;
 use std::thread::Threads;
+use std::time::Clock;
 
 /// How many workers of a run with so many have seen all others in their first jobs.
-fn met<R: Abort + Threads + Wait + Sync>(
+fn met<R: Abort + Threads + Wait + Clock + Sync>(
     rt: &R,
     alloc: Global,
     workers: u32,

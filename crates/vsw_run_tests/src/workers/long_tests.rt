@@ -8,6 +8,7 @@ use std::process::Abort;
 use std::sync::Wait;
 use std::test::Fail;
 use std::thread::Threads;
+use std::time::Clock;
 use vsw_app::Open;
 
 /// How many packets there are, each of which becomes an entry.
@@ -45,7 +46,7 @@ fn queries(alloc: Global) -> Result<Vec<u8>, Fail> {
 }
 
 /// Whether a run with so many workers ends well, and its report as it must.
-fn ends_well<R: Abort + Threads + Wait + Sync>(
+fn ends_well<R: Abort + Threads + Wait + Clock + Sync>(
     rt: &R,
     alloc: Global,
     workers: &str,

@@ -9,6 +9,7 @@ use std::str;
 use std::sync::Wait;
 use std::test::Fail;
 use std::thread::Threads;
+use std::time::Clock;
 use vsw_app::Open;
 
 fn check(rt: &impl Abort, report: &[u8], judge: &mut Judge) -> Result<(), Fail> {
@@ -20,7 +21,7 @@ fn check(rt: &impl Abort, report: &[u8], judge: &mut Judge) -> Result<(), Fail> 
 }
 
 /// Runs with so many workers, and judges the report.
-fn run<R: Abort + Threads + Wait + Sync>(
+fn run<R: Abort + Threads + Wait + Clock + Sync>(
     rt: &R,
     alloc: Global,
     name: &str,

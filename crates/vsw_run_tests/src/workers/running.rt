@@ -8,6 +8,7 @@ use std::process::Abort;
 use std::sync::Wait;
 use std::test::Fail;
 use std::thread::Threads;
+use std::time::Clock;
 use vsw_app::{Watch, run_words};
 use vsw_host::{MemoryFile, MemoryHost, are_distinct};
 use vsw_run::{Status, Word};
@@ -47,7 +48,7 @@ pub fn host_of(
 }
 
 /// Runs, and gives what is put.
-fn run_on<R: Abort + Threads + Wait + Sync, G: Gate + Watch + Sync>(
+fn run_on<R: Abort + Threads + Wait + Clock + Sync, G: Gate + Watch + Sync>(
     rt: &R,
     alloc: Global,
     words: &[Word],
@@ -60,7 +61,7 @@ fn run_on<R: Abort + Threads + Wait + Sync, G: Gate + Watch + Sync>(
 }
 
 /// What is put of a run by this command with so many workers over these files, under this gate, where it is at most so many bytes.
-pub fn report_by<R: Abort + Threads + Wait + Sync, G: Gate + Watch + Sync>(
+pub fn report_by<R: Abort + Threads + Wait + Clock + Sync, G: Gate + Watch + Sync>(
     rt: &R,
     alloc: Global,
     command: &str,
@@ -86,7 +87,7 @@ pub fn report_by<R: Abort + Threads + Wait + Sync, G: Gate + Watch + Sync>(
 }
 
 /// The same by `forward`.
-pub fn report_within<R: Abort + Threads + Wait + Sync, G: Gate + Watch + Sync>(
+pub fn report_within<R: Abort + Threads + Wait + Clock + Sync, G: Gate + Watch + Sync>(
     rt: &R,
     alloc: Global,
     workers: &str,
@@ -98,7 +99,7 @@ pub fn report_within<R: Abort + Threads + Wait + Sync, G: Gate + Watch + Sync>(
 }
 
 /// The same of at most 262,144 bytes.
-pub fn report_of<R: Abort + Threads + Wait + Sync, G: Gate + Watch + Sync>(
+pub fn report_of<R: Abort + Threads + Wait + Clock + Sync, G: Gate + Watch + Sync>(
     rt: &R,
     alloc: Global,
     workers: &str,
@@ -118,7 +119,7 @@ pub fn flows(alloc: Global) -> Result<Vec<u8>, Fail> {
 }
 
 /// What is put of a run by this command over the three layers and the hundred flows.
-pub fn report_of_flows_by<R: Abort + Threads + Wait + Sync, G: Gate + Watch + Sync>(
+pub fn report_of_flows_by<R: Abort + Threads + Wait + Clock + Sync, G: Gate + Watch + Sync>(
     rt: &R,
     alloc: Global,
     command: &str,
@@ -131,7 +132,7 @@ pub fn report_of_flows_by<R: Abort + Threads + Wait + Sync, G: Gate + Watch + Sy
 }
 
 /// The same by `forward`.
-pub fn report_of_flows<R: Abort + Threads + Wait + Sync, G: Gate + Watch + Sync>(
+pub fn report_of_flows<R: Abort + Threads + Wait + Clock + Sync, G: Gate + Watch + Sync>(
     rt: &R,
     alloc: Global,
     workers: &str,

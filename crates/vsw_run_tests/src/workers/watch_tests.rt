@@ -10,6 +10,7 @@ use std::process::Abort;
 use std::sync::Wait;
 use std::test::Fail;
 use std::thread::Threads;
+use std::time::Clock;
 
 /// UDP from 10.0.0.5:1234 to 10.0.0.9:53 with the text "hi", from port 1.
 const QUERY: &str =
@@ -27,7 +28,7 @@ fn queries(alloc: Global) -> Result<Vec<u8>, Fail> {
     Ok(trace)
 }
 
-fn tell_queries<R: Abort + Threads + Wait + Sync>(
+fn tell_queries<R: Abort + Threads + Wait + Clock + Sync>(
     rt: &R,
     alloc: Global,
     notes: &Notes,
@@ -64,7 +65,7 @@ fn alike(alloc: Global) -> Result<Vec<u8>, Fail> {
     Ok(trace)
 }
 
-fn tell_alone<R: Abort + Threads + Wait + Sync>(
+fn tell_alone<R: Abort + Threads + Wait + Clock + Sync>(
     rt: &R,
     alloc: Global,
     notes: &Notes,
@@ -147,7 +148,7 @@ fn count_with(notes: &Notes, from: u32, to: u32, cause: u64) -> u32 {
     count
 }
 
-fn tell_around<R: Abort + Threads + Wait + Sync>(
+fn tell_around<R: Abort + Threads + Wait + Clock + Sync>(
     rt: &R,
     alloc: Global,
     notes: &Notes,

@@ -1,8 +1,7 @@
 //! What the words of a row's body make of a packet.
 
 ghost use Rattle.std.specs.Prelude.{◌≡◌, ◌<◌, ◌+◌, ◌*◌, ℕ, List, None, Some, false, true, nat_lt, if◌then◌else◌};
-ghost use Rattle.vsw_answer.specs.Private.Said.{IsEdited, IsOf, fate_said};
-ghost use Rattle.vsw_base.specs.declared.fate.Cause.TheVariants as cause;
+ghost use Rattle.vsw_answer.specs.Private.Said.{IsEdited, IsOf, fate_passed, fate_said};
 ghost use Rattle.vsw_base.specs.declared.fate.Fate.TheVariants as fate;
 ghost use Rattle.vsw_base.specs.declared.fate.Verdict.TheVariants as verdict;
 ghost use Rattle.vsw_words.specs.Doing.{AreOf};
@@ -102,7 +101,7 @@ fn edit(words: &[u64; 57], stack: &Stack, edits: bool, edited: &mut Stack)
 #[inline(always)]
 fn pass(crossing: &Crossing, words: &[u64; 57], edited: &mut Stack) -> Outcome
     requires body { (by : List Act) × (until : ℕ) × AreOf words.now verdict.Pass by until × (fit.fits by crossing.now.id.stack ≡ true) }
-    ensures fate { (by : List Act) (until : ℕ) → AreOf words.now verdict.Pass by until → fit.fits by crossing.now.id.stack ≡ true → result.fate ≡ (if long.is_long crossing.now (apply by crossing.now.id.stack) (fit.kept by) then fate.Drop cause.Long else fate.Pass (long.outgoing_size crossing.now (apply by crossing.now.id.stack) (fit.kept by))) }
+    ensures fate { (by : List Act) (until : ℕ) → AreOf words.now verdict.Pass by until → fit.fits by crossing.now.id.stack ≡ true → result.fate ≡ fate_passed crossing.now by }
     ensures edited { (by : List Act) (until : ℕ) → AreOf words.now verdict.Pass by until → fit.fits by crossing.now.id.stack ≡ true → IsEdited crossing.now by edited.new result }
     ensures own { result.own ≡ true → IsOwn crossing.now edited.new result.kept }
     ensures entry { result.entry ≡ false }

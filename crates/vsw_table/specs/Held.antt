@@ -1,5 +1,5 @@
 -- What contracts see of a writer, a pass or a note, and what their calls do.
-use Rattle.std.specs.Prelude.{ℕ, ◌≡◌, ◌≢◌, ◌⊎◌, ◌-◌, ◌<◌, ◌≤◌, nat_lt, if◌then◌else◌, Bool, true, false, List, [], ◌∷◌, ◌++◌, length, take, replicate, slice_index_or, slice_set, Option, Some, None}
+use Rattle.std.specs.Prelude.{ℕ, ◌≡◌, ◌≢◌, ◌⊎◌, ◌+◌, ◌-◌, ◌%◌, ◌<◌, ◌≤◌, nat_lt, if◌then◌else◌, Bool, true, false, List, [], ◌∷◌, ◌++◌, length, take, replicate, slice_index_or, slice_set, Option, Some, None}
 use mathlib.Core.List.{IsPrefix}
 use Rattle.atomic_table.specs.Seated.{TableId}
 use Rattle.vsw_stamps.specs.declared.shown.Seen.{Seen}
@@ -83,3 +83,10 @@ Fills used words whole = (19 ≤ length words) × (length words ≤ 73) × (leng
 abbrev pub Found : (List ℕ → ℕ) → List ℕ → ℕ → List Tried → Type 0
 Found used whole row [] = ⊥
 Found used whole row (x ∷ xs) = ((x.row ≡ row) × (x.stamp ≢ 0) × (x.again ≡ Some x.stamp) × Fills used x.words whole) ⊎ Found used whole row xs
+
+-- one of the eight rows from this slot on was found to be this whole row, or none of them has an answer for the key
+abbrev pub FoundNear : (List ℕ → ℕ) → List ℕ → (rows slot : ℕ) → List Tried → Type 0
+FoundNear used whole rows slot xs = (j : ℕ) × (j < 8) × Found used whole ((slot + j) % rows) xs
+
+abbrev pub MissedNear : List ℕ → (rows slot : ℕ) → List Tried → Type 0
+MissedNear key rows slot xs = (j : ℕ) → j < 8 → Missed key ((slot + j) % rows) xs

@@ -6,7 +6,7 @@ ghost use Rattle.vsw_stamps.specs.Sound.{AreRight};
 ghost use Rattle.vsw_table.specs.declared.view.Tried.{Tried};
 ghost use Rattle.vsw_table.specs.Places.{table_size};
 ghost use Rattle.vsw_table.specs.Steps.{stamped, worded, compared, ended, Counted};
-ghost use Rattle.vsw_table.specs.Held.{HasTop, IsRead, Fills, Found, IsMissed, Missed};
+ghost use Rattle.vsw_table.specs.Held.{HasTop, IsRead, Fills, Found, FoundNear, IsMissed, MissedNear};
 
 use crate::place::{stamp_place, word_place};
 use crate::rule::{Compare, Count, End, Kept, Key, ReadStamp, ReadWord};
@@ -217,8 +217,8 @@ pub(crate) fn look_from<S: Story>(
     ensures same { IsRead seat.old.me.0 seat.new.me.0 × (seat.new.me.1 ≡ []) × (seat.new.me.0.tried ≡ []) }
     ensures count { (length seat.new.me.0.front ≡ result.1) × (seat.old.me.0.looks < seat.new.me.0.looks) × (result.1 < 4294967296) }
     ensures found { MatchBool result.0
-        (((o : S.Opening) → seat.old.me.0.opening ≡ Some o → S.good o seat.new.me.0.front (key.now ++ body.new)) × ((j : ℕ) × (j < 8) × Found S.used (key.now ++ body.new) ((slot + j) % rows) seat.new.me.0.last))
-        ((j : ℕ) → j < 8 → Missed key.now ((slot + j) % rows) seat.new.me.0.last) }
+        (((o : S.Opening) → seat.old.me.0.opening ≡ Some o → S.good o seat.new.me.0.front (key.now ++ body.new)) × FoundNear S.used (key.now ++ body.new) rows slot seat.new.me.0.last)
+        (MissedNear key.now rows slot seat.new.me.0.last) }
 {
     for i in 0..8 {
         if let Some(count) = try_row(shared, seat, rows, (slot + i) % rows, key, body) {

@@ -4,7 +4,7 @@ ghost use mathlib.Core.List.{IsPrefix};
 ghost use Rattle.vsw_table.specs.Places.{table_size};
 ghost use Rattle.vsw_table.specs.Rules.{permits_of, first_view, one_more, newcomer, stamp_at, row_at, counted_record};
 ghost use Rattle.vsw_table.specs.Steps.{shaken};
-ghost use Rattle.vsw_table.specs.Held.{Meets, after_entry, passed, renewed, put_in, IsRead, Found, Missed};
+ghost use Rattle.vsw_table.specs.Held.{Meets, after_entry, passed, renewed, put_in, IsRead, FoundNear, MissedNear};
 ghost use Rattle.vsw_table.specs.Answers.{IfHit, IfMiss};
 
 use crate::look::{count, look_from};
@@ -164,9 +164,9 @@ impl<S: Story> Lookup<S> {
         requires { (pass.old.table ≡ self.now.0) × (slot < self.now.2) × (pass.old.view.opening ≡ Some self.now.1) }
         ensures same { IsRead pass.old.view pass.new.view × (pass.new.table ≡ pass.old.table) }
         ensures hit { IfHit result (λ n. (length pass.new.view.front ≡ n) × S.good self.now.1 pass.new.view.front (key.now ++ body.new)) }
-        ensures found { IfHit result (λ n. (j : ℕ) × (j < 8) × Found S.used (key.now ++ body.new) ((slot + j) % self.now.2) pass.new.view.last) }
+        ensures found { IfHit result (λ n. FoundNear S.used (key.now ++ body.new) self.now.2 slot pass.new.view.last) }
         ensures begun { pass.old.view.looks < pass.new.view.looks }
-        ensures miss { IfMiss result (λ n. (length pass.new.view.front ≡ n) × ((j : ℕ) → j < 8 → Missed key.now ((slot + j) % self.now.2) pass.new.view.last)) }
+        ensures miss { IfMiss result (λ n. (length pass.new.view.front ≡ n) × MissedNear key.now self.now.2 slot pass.new.view.last) }
     {
         let (found, count) = look_from(
             &self.table.shared,

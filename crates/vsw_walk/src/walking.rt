@@ -5,14 +5,13 @@ ghost use Rattle.vsw_base.specs.declared.fate.Verdict.TheVariants.{Pass};
 ghost use Rattle.vsw_base.specs.declared.header.Header.{Header};
 ghost use Rattle.vsw_walk.specs.Met.{ended_with, from, met, stepped, stopped};
 ghost use Rattle.vsw_walk.specs.Walk.{Walk, after, crossed, leaving, placed, until_after, until_of, walk_of, wanting};
-ghost use Rattle.vsw_walk.specs.Going.{GoesOn};
+ghost use Rattle.vsw_walk.specs.Going.{GoesOn, wants_by};
 ghost use Rattle.vsw_walk.specs.Made.{Leads};
 ghost use Rattle.vsw_policy.specs.Layer.{seen};
 ghost use Rattle.vsw_layerflow.specs.Pairs.{number_of};
 ghost use Rattle.vsw_rule.specs.declared.rule.Action.TheVariants.{Edit};
 ghost use Rattle.vsw_rule.specs.Match.{can_do};
 ghost use Rattle.vsw_walk.specs.Known as known;
-ghost use Rattle.vsw_walk.specs.Visit as visit;
 
 use crate::scratch::Scratch;
 use crate::{Decision, decide, last_use, set_towards};
@@ -50,7 +49,7 @@ fn go_by_rule(
     requires room { length scratch.old.changes + 2 ≤ 256 }
     requires few { length scratch.old.looked ≤ 128 }
     requires edits { length scratch.old.edits < length scratch.old.looked }
-    ensures { GoesOn rule.now.action (leaving place (option_map number_of (option_copied leaves.entry)) ++ wanting place (visit.wanted layer.now.next_pair crossing.now.id.dir crossing.now.control crossing.now.moment scratch.old.stack group rule.now)) scratch.old scratch.new kept result }
+    ensures { GoesOn rule.now.action (leaving place (option_map number_of (option_copied leaves.entry)) ++ wanting place (wants_by crossing.now layer.now.next_pair scratch.old.stack group rule.now)) scratch.old scratch.new kept result }
 {
     scratch.leave(place, leaves);
     if !rule.stateful {

@@ -1,7 +1,8 @@
 -- What a row that was found says of the packet that found it.
-use Rattle.std.specs.Prelude.{◌≡◌, ◌<◌, ◌≤◌, ◌++◌, ℕ, List, false, true, length}
+use Rattle.std.specs.Prelude.{◌≡◌, ◌<◌, ◌≤◌, ◌++◌, ℕ, List, false, true, length, if◌then◌else◌}
 use Rattle.vsw_answer.specs.declared.answer.RowAnswer.{RowAnswer}
 use Rattle.vsw_answer.specs.declared.answer.RowAnswer.TheVariants.{Read, Control, Miss, Late}
+use Rattle.vsw_base.specs.declared.fate.Cause.TheVariants.{Long}
 use Rattle.vsw_base.specs.declared.fate.Fate.{Fate}
 use Rattle.vsw_base.specs.declared.fate.Fate.TheVariants.{Pass, Drop}
 use Rattle.vsw_base.specs.declared.fate.Verdict.TheVariants as verdict
@@ -12,6 +13,7 @@ use Rattle.vsw_base.specs.declared.header.Header.{Header}
 use Rattle.vsw_base.specs.Frame.{Parts}
 use Rattle.vsw_port.specs.Cross.{fate_after}
 use Rattle.vsw_port.specs.Fate.{fate_by}
+use Rattle.vsw_port.specs.Long.{is_long, outgoing_size}
 use Rattle.vsw_port.specs.declared.event.Event.{Event}
 use Rattle.vsw_port.specs.Calls.{Carried, Reads}
 use Rattle.vsw_port.specs.History.{Opening, replay}
@@ -49,6 +51,10 @@ IsOf x words b = AreOf words b.verdict b.by b.until × (b.verdict ≡ verdict.Pa
 -- the fate that a body gives the packet
 abbrev pub fate_said : Crossing → Body → Fate
 fate_said x b = fate_by x (fate_after b.verdict (stop_by (row_with x b) x) (apply b.by x.id.stack) (fit.kept b.by))
+
+-- the fate of a packet that passes by these acts, unless it gets too long
+abbrev pub fate_passed : Crossing → List Act → Fate
+fate_passed x by = if is_long x (apply by x.id.stack) (fit.kept by) then Drop Long else Pass (outgoing_size x (apply by x.id.stack) (fit.kept by))
 
 -- the headers are those that the acts make of the packet's
 pub record AreEdited (x : Crossing) (acts : List Act) (edited : List Header) (kept : ℕ) : Type 0 where

@@ -25,12 +25,13 @@ fn worker_for(workers: u32, stack: &Stack) -> u32
     }
 }
 
-/// Packet `number` as its worker brings it to its port, or why it is loose.
+/// Packet `number` as its worker brings it to its port, or why it is loose. Its headers are read into `headers`.
 pub(crate) fn aim<'a>(
     workers: u32,
     macs: &[Mac],
     number: u32,
     captured: &Captured<'a>,
+    headers: &mut FrameRoom,
 ) -> Result<Packet<'a>, LooseCause>
     requires some { 1 ≤ workers }
     requires few { workers ≤ 16 }
@@ -43,8 +44,7 @@ pub(crate) fn aim<'a>(
     if captured.bytes.len() < captured.original as usize {
         return Err(LooseCause::Snapped);
     }
-    let mut headers = FrameRoom::new();
-    let read = read_frame(captured.bytes, &mut headers);
+    let read = read_frame(captured.bytes, headers);
     match &read {
         Err(fault) => Err(LooseCause::Malformed(*fault)),
         Ok(frame) => match choose_port(macs, frame.stack()) {

@@ -18,6 +18,7 @@ use crate::share::tell;
 use crate::work::Packet;
 use std::alloc::Global;
 use vsw_base::{Mac, NoMemory, Place};
+use vsw_frame::FrameRoom;
 use vsw_pcap::Captured;
 use vsw_report::Loose;
 
@@ -108,7 +109,8 @@ pub fn hand_over<'a>(
     ensures handed { (packets : List Record) → slice_get packets at ≡ Some (captured_of captured.now) → IfOk result (λ given. HandsOver workers first packets picks.old.items picks.new.items given) }
     ensures loose { OnOk result (loose.new.items ≡ loose.old.items ++ loose_after (first + at) (aim_of macs.now (captured_of captured.now))) }
 {
-    match aim(workers, macs, first + at, captured) {
+    let mut headers = FrameRoom::new();
+    match aim(workers, macs, first + at, captured, &mut headers) {
         Ok(packet) => {
             let given = given_of(alloc, &packet)?;
             let place = packet.place;

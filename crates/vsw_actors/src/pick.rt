@@ -19,6 +19,7 @@ use crate::share::{put_packet, tell};
 use crate::work::{Packet, Work};
 use std::alloc::Global;
 use vsw_base::{Mac, NoMemory, Place};
+use vsw_frame::FrameRoom;
 use vsw_pcap::{Batch, Captured};
 use vsw_report::Loose;
 
@@ -76,6 +77,7 @@ fn pick_packet<'a>(
     first: u32,
     at: u32,
     captured: &Captured<'a>,
+    headers: &mut FrameRoom,
     loose: &mut Vec<Loose>,
 ) -> Result<(), NoMemory>
     requires some { 1 ≤ workers }
@@ -90,7 +92,7 @@ fn pick_packet<'a>(
     ensures loose { OnOk result (loose.new.items ≡ loose.old.items ++ loose_after (first + at) (aim_of macs.now (captured_of captured.now))) }
 {
     let number = first + at;
-    match aim(workers, macs, number, captured) {
+    match aim(workers, macs, number, captured, headers) {
         Ok(packet) => {
             let place = packet.place;
             give_pick(picks, packet.worker, Pick { at, place })
@@ -125,9 +127,19 @@ fn pick_packets(
     ensures workers { OnOk result (length picks.new.items ≡ workers) }
     ensures loose { OnOk result (loose.new.items ≡ loose.old.items ++ loose_among macs.now (numbered first packets.now)) }
 {
+    let mut headers = FrameRoom::new();
     for place in 0..packets.len() {
         let captured = packets.at(place);
-        pick_packet(picks, workers, macs, first, place as u32, &captured, loose)?;
+        pick_packet(
+            picks,
+            workers,
+            macs,
+            first,
+            place as u32,
+            &captured,
+            &mut headers,
+            loose,
+        )?;
     }
     Ok(())
 }

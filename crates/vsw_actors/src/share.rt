@@ -19,6 +19,7 @@ use crate::work::{Packet, Work};
 use std::alloc::Global;
 use vsw_base::{Mac, NoMemory};
 use vsw_commandfile::Line;
+use vsw_frame::FrameRoom;
 use vsw_pcap::{Batch, Captured};
 use vsw_promise::Schedule;
 use vsw_report::Loose;
@@ -171,6 +172,7 @@ fn deal_packet<'a>(
     macs: &[Mac],
     number: u32,
     captured: &Captured<'a>,
+    headers: &mut FrameRoom,
     loose: &mut Vec<Loose>,
 ) -> Result<(), NoMemory>
     requires some { 1 ≤ workers }
@@ -182,7 +184,7 @@ fn deal_packet<'a>(
     ensures callers { length shares.new.items ≡ length shares.old.items }
     ensures loose { OnOk result (loose.new.items ≡ loose.old.items ++ loose_after number (aim_of macs.now (captured_of captured.now))) }
 {
-    match aim(workers, macs, number, captured) {
+    match aim(workers, macs, number, captured, headers) {
         Ok(packet) => give_packet(shares, &packet),
         Err(cause) => tell(
             loose,
@@ -212,6 +214,7 @@ fn deal_packets<'a>(
     ensures work { (cs : List ℕ) → AreWork (length macs.now) cs shares.old.items → OnOk result (AreWork (length macs.now) cs shares.new.items) }
     ensures loose { OnOk result (loose.new.items ≡ loose.old.items ++ loose_among macs.now (numbered first packets.now)) }
 {
+    let mut headers = FrameRoom::new();
     for place in 0..packets.len() {
         let captured = packets.at(place);
         deal_packet(
@@ -220,6 +223,7 @@ fn deal_packets<'a>(
             macs,
             first + place as u32,
             &captured,
+            &mut headers,
             loose,
         )?;
     }

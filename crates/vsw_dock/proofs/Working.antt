@@ -1,5 +1,5 @@
 -- A job at a station.
-use Rattle.std.proofs.Common.{◌≡◌, ◌≤◌, ◌+◌, ◌++◌, ◌∷◌, [], ℕ, List, Bool, true, false, length, refl, sym, ap, ◌∙◌, subst, arith}
+use Rattle.std.proofs.Common.{◌≡◌, ◌≤◌, ◌+◌, ◌++◌, ◌∷◌, [], ℕ, List, Bool, true, false, length, refl, sym, ap, ◌∙◌, subst, arith, Ok, Err}
 use Rattle.std.proofs.lemmas.List.{length-append, map-append}
 use Rattle.vsw_commandfile.specs.declared.line.Line.{Line}
 use Rattle.vsw_flows.specs.Flows.{IsOf, Looking, Writing}
@@ -14,6 +14,9 @@ use Rattle.vsw_live.specs.Calls as live
 use Rattle.vsw_live.specs.Calls.{asked, call_of, one_if}
 use Rattle.vsw_live.specs.declared.answer.Told.{Told}
 use Rattle.vsw_actors.specs.Passes.{Crosses}
+use Rattle.vsw_actors.specs.Work.{parts_in}
+use Rattle.vsw_base.specs.declared.packet.Control.TheVariants.{None}
+use Rattle.vsw_base.specs.Frame.{Parts, frame_of}
 use Rattle.vsw_report.specs.Line.{TextLine, text_of}
 use Rattle.vsw_promise.specs.Rounds as promise
 use Rattle.vsw_promise.specs.Told.{line_of}
@@ -25,6 +28,13 @@ use Rattle.vsw_dock.specs.Private.Does.{Does, HandsOn, IsCounted, Tells}
 use Rattle.vsw_dock.specs.Seen.{DockSeen, StationSeen}
 
 -- ---- what a job leaves
+
+abbrev no_parts : Parts
+no_parts = record { stack = []; control = None; levels = []; payload = [] }
+
+-- the parts that were read of a packet's bytes are those of its job
+pub read_is : (bytes : List ℕ) (p : Parts) → Ok p ≡ frame_of bytes → p ≡ parts_in bytes
+read_is bytes p e = ap (λ r. elim r [ Ok q ↦ q | Err fault ↦ no_parts ]) e
 
 -- a line was asked and told
 pub asked_so : (o : Opening) (p q : Writing) (before after : List TextLine) (was is : Bool) (l : Line) (t : Told) → live.Crosses o p q (asked l t)

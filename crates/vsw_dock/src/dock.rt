@@ -23,7 +23,6 @@ use std::sync::Wait;
 use vsw_actors::{Packet, Port, RowPort, Work};
 use vsw_answer::Watch;
 use vsw_base::{Mac, NoMemory};
-use vsw_frame::{FrameRoom, read_frame};
 use vsw_live::{LivePort, Naming};
 
 /// A port of the policy, shared by threads. Any actor with a station there may do its jobs. It hands packets on to the ports of some addresses.
@@ -111,11 +110,7 @@ impl<'g, J: Naming, G: Watch> Dock<'g, J, G> {
         ensures holds { result ≡ true → holds parcel.new }
         ensures room { parcel.old.room ≤ parcel.new.room }
     {
-        let mut headers = FrameRoom::new();
-        let Ok(frame) = read_frame(packet.bytes, &mut headers) else {
-            unreachable!();
-        };
-        let (answer, handed) = station.carry(rt, &self.port, packet, &frame, locals, parcel);
+        let (answer, handed) = station.carry(rt, &self.port, packet, locals, parcel);
         self.watch.answered(packet.worker, packet.number, &answer);
         handed
     }

@@ -1,13 +1,16 @@
 //! Where a caller stands at a port.
 
-ghost use Rattle.std.specs.Prelude.{◌≡◌, ◌≤◌, ◌<◌, ◌+◌, nat_lt, [], true, length, IfOk, IsOk, OnErr, OnOk};
+ghost use Rattle.std.specs.Prelude.{◌≡◌, ◌≤◌, ◌<◌, ◌+◌, nat_lt, [], true, length, IfOk, IsOk, Ok, OnErr, OnOk};
 ghost use Rattle.vsw_flows.specs.Flows.{IsOf};
+ghost use Rattle.vsw_base.specs.Frame.{Parts, frame_of};
 ghost use Rattle.vsw_dock.specs.Meeting.{StationMeets};
 ghost use Rattle.vsw_actors.specs.Actors.{handed};
+ghost use Rattle.vsw_actors.specs.Work.{job_in};
+ghost use Rattle.vsw_actors.specs.declared.work.Work.TheVariants as work;
 ghost use Rattle.vsw_dock.specs.Docks.{HasRoom, holds, parcel_in};
 ghost use Rattle.vsw_dock.specs.Private.Does.{Does, HandsOn, Tells};
 ghost use Rattle.vsw_frame.specs.Frame.{parts};
-ghost use Rattle.vsw_port.specs.Calls.{Ask, Carry, controller_at};
+ghost use Rattle.vsw_port.specs.Calls.{Ask, controller_at};
 ghost use Rattle.vsw_live.specs.Calls.{Crosses, FitsRoom, call_of, one_if};
 ghost use Rattle.vsw_report.specs.Line.{text_of};
 ghost use Rattle.vsw_policy.specs.Obey.{rules_given};
@@ -29,7 +32,7 @@ use vsw_answer::{Answer, Desk, Room, bytes_of};
 use vsw_base::{Control, Crossing, Dir, Mac, Moment, NoMemory, Sizes, Stack, Ufid};
 use vsw_commandfile::Line;
 use vsw_flows::PortStory;
-use vsw_frame::Frame;
+use vsw_frame::{Frame, FrameRoom, read_frame};
 use vsw_live::{Held, LivePort, Naming, Told, Unit};
 use vsw_report::Caller;
 use vsw_table::Pass;
@@ -44,6 +47,8 @@ pub struct Station {
     desk: Desk,
     room: Room,
     crossing: Crossing,
+    /// The headers of the packet that it carries.
+    headers: FrameRoom,
     lines: Caller,
     /// Whether there was memory for all lines.
     whole: bool,
@@ -194,6 +199,7 @@ impl Station {
             desk: Desk::new(),
             room,
             crossing: no_crossing(),
+            headers: FrameRoom::new(),
             lines: Caller::new(alloc),
             whole: true,
             left: 0,
@@ -231,26 +237,29 @@ impl Station {
         rt: &R,
         port: &LivePort<J>,
         packet: &Packet<'_>,
-        frame: &Frame<'_>,
         locals: &[Mac],
         parcel: &mut Parcel,
     ) -> (Answer, bool)
         requires of { IsOf port.now.looking self.old.pass }
         requires worker { packet.now.worker ≡ self.old.pass.view.number }
         requires permit { 0 < self.old.pass.view.permits }
+        requires frame { (parts : Parts) × (frame_of packet.now.bytes.now ≡ Ok parts) }
         requires few { length locals.now ≤ 16 }
         requires room { HasRoom locals.now parcel.old }
-        ensures does { HandsOn (opening_of port.now.looking.1) locals.now packet.now.place.port (Carry (crossing_by packet.now.worker packet.now.number packet.now.place packet.now.micros (parts frame.now)) (parts frame.now)) (handed result.1 (parcel_in parcel.new)) self.old self.new }
+        ensures does { HandsOn (opening_of port.now.looking.1) locals.now packet.now.place.port (job_in (work.Packet packet.now)) (handed result.1 (parcel_in parcel.new)) self.old self.new }
         ensures holds { result.1 ≡ true → holds parcel.new }
         ensures room { parcel.old.room ≤ parcel.new.room }
     {
-        bring(&mut self.crossing, packet, frame);
+        let Ok(frame) = read_frame(packet.bytes, &mut self.headers) else {
+            unreachable!();
+        };
+        bring(&mut self.crossing, packet, &frame);
         let answer = cross(
             rt,
             port,
             &mut self.pass,
             &self.crossing,
-            frame,
+            &frame,
             &mut self.desk,
             &mut self.room,
         );
@@ -260,10 +269,10 @@ impl Station {
             &mut self.whole,
             packet,
             &answer,
-            frame,
+            &frame,
             &self.room,
         );
-        let handed = hand(locals, packet, &answer, frame, &self.room, parcel);
+        let handed = hand(locals, packet, &answer, &frame, &self.room, parcel);
         (answer, handed)
     }
 

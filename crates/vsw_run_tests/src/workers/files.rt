@@ -44,3 +44,10 @@ pub const OPENS: &str = concat!(
     "{\"at\":16,\"when\":\"before\",\"controller\":1,\"port\":1,\"do\":\"set_default\",\"layer\":10,\"dir\":\"out\",\"default\":\"allow\"}\n",
     "{\"at\":17,\"when\":\"before\",\"controller\":1,\"port\":1,\"do\":\"remove_group\",\"layer\":10,\"group\":9}\n",
 );
+
+/// Before packets 100, 200 and 300 a command is refused, where a round ends.
+pub const CUTS: &str = concat!(
+    "{\"at\":100,\"when\":\"before\",\"controller\":1,\"port\":1,\"do\":\"remove_group\",\"layer\":10,\"group\":9}\n",
+    "{\"at\":200,\"when\":\"before\",\"controller\":1,\"port\":1,\"do\":\"remove_group\",\"layer\":10,\"group\":9}\n",
+    "{\"at\":300,\"when\":\"before\",\"controller\":1,\"port\":1,\"do\":\"remove_group\",\"layer\":10,\"group\":9}\n",
+);

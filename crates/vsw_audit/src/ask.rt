@@ -1,11 +1,11 @@
 //! What is told of a command, against what is done.
 
-ghost use Rattle.std.specs.Prelude.{◌≡◌, ◌≤◌, ◌<◌, ◌-◌, ◌^◌, IfOk, length, true};
+ghost use Rattle.std.specs.Prelude.{◌≡◌, ◌≤◌, ◌<◌, ◌-◌, ◌^◌, length, true};
 ghost use Rattle.vsw_policy.specs.Obey.{rules_given};
 ghost use Rattle.vsw_policy.specs.Obey as obey;
 ghost use Rattle.vsw_policy.specs.Sound.{Each, IsGoodRule, is_listed};
 ghost use Rattle.vsw_port.specs.Calls.{Asked};
-ghost use Rattle.vsw_audit.specs.Private.Lines.{Judges};
+ghost use Rattle.vsw_audit.specs.Private.Lines.{JudgesBy};
 
 use vsw_base::NoMemory;
 use vsw_commandfile::Line;
@@ -40,7 +40,7 @@ pub(crate) fn ask(
     requires listed { is_listed ledger.old.opening.controllers command.now.controller ≡ true }
     requires good { Each IsGoodRule (rules_given command.now.command) }
     requires room { 1 ≤ ledger.old.room }
-    ensures judges { IfOk result (λ answer. Judges ledger.old.opening ledger.old.journal (Asked command.now reply) entry ledger.new.journal answer) }
+    ensures judges { JudgesBy ledger.old (Asked command.now reply) entry ledger.new result }
     ensures opening { ledger.new.opening ≡ ledger.old.opening }
 {
     if !entry {

@@ -1,6 +1,6 @@
 //! What is told of a packet, against its crossing.
 
-ghost use Rattle.std.specs.Prelude.{◌≡◌, ◌≤◌, ◌<◌, ◌-◌, ◌^◌, ◌&&◌, not, ℕ, List, IfOk, OnOk, length, true, bytes_eq};
+ghost use Rattle.std.specs.Prelude.{◌≡◌, ◌≤◌, ◌<◌, ◌-◌, ◌^◌, ◌&&◌, not, ℕ, List, OnOk, length, true, bytes_eq};
 ghost use Rattle.vsw_frame.specs.Frame.{parts};
 ghost use Rattle.vsw_port.specs.Calls.{Carried};
 ghost use Rattle.vsw_port.specs.Cross.{made_by, makes};
@@ -9,7 +9,7 @@ ghost use Rattle.vsw_port.specs.Ledger.{layers_in};
 ghost use Rattle.vsw_port.specs.Walked.{IsWalk};
 ghost use Rattle.vsw_promise.specs.Jobs.{crossing_by};
 ghost use Rattle.vsw_answer.specs.Transit.{IsOfFrame};
-ghost use Rattle.vsw_audit.specs.Private.Lines.{Judges};
+ghost use Rattle.vsw_audit.specs.Private.Lines.{JudgesBy};
 
 use std::alloc::Global;
 use vsw_answer::{Room, bytes_of, leave};
@@ -157,7 +157,7 @@ pub(crate) fn carry(
     requires of { IsOfFrame rooms.old.crossing (parts frame.now) }
     requires room { 1 ≤ ledger.old.room }
     requires few { length ledger.old.journal < 2 ^ 32 - 1 }
-    ensures judges { IfOk result (λ answer. Judges ledger.old.opening ledger.old.journal (Carried rooms.old.crossing (parts frame.now) fate bytes.now) entry ledger.new.journal answer) }
+    ensures judges { JudgesBy ledger.old (Carried rooms.old.crossing (parts frame.now) fate bytes.now) entry ledger.new result }
     ensures opening { ledger.new.opening ≡ ledger.old.opening }
 {
     // It tells the proof that the packet's headers are those of a frame.

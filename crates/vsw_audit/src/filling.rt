@@ -3,9 +3,8 @@
 ghost use Rattle.std.specs.Prelude.{◌≡◌, ◌≤◌, ◌<◌, ◌+◌, ◌^◌, ◌++◌, ◌∷◌, [], ℕ, List, OnOk, IfOk, length};
 ghost use Rattle.vsw_pcap.specs.declared.capture.Record.{Record};
 ghost use Rattle.vsw_policy.specs.Sound.{Each};
-ghost use Rattle.vsw_port.specs.Calls.{Job};
 ghost use Rattle.vsw_audit.specs.Private.Rounds.{StandFrom, aims_of, asked_jobs, is_for, jobs_at, new_task, tasks_aimed, tasks_asked};
-ghost use Rattle.vsw_audit.specs.Private.Tasks.{AreTasks, Site};
+ghost use Rattle.vsw_audit.specs.Private.Tasks.{AddsJobs, AreTasks, Site};
 ghost use Rattle.vsw_commandfile.specs.declared.line.Line.{Line};
 
 use crate::dealing::Aim;
@@ -70,7 +69,7 @@ fn add_commands(
     during: bool,
 ) -> Result<(), NoMemory>
     requires few { length files.now.controllers.now ≤ 8 }
-    ensures { (s : Site) (js : List Job) → s.commands ≡ files.now.commands.now → s.opening.controllers ≡ files.now.controllers.now → AreTasks s tasks.old.items js → OnOk result (AreTasks s tasks.new.items (js ++ asked_jobs during files.now.commands.now first number)) }
+    ensures { AddsJobs files.now (asked_jobs during files.now.commands.now first number) tasks.old.items tasks.new.items result }
 {
     let places = files.commands.places(first);
     add_at(

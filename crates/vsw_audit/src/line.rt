@@ -9,8 +9,8 @@ ghost use Rattle.vsw_policy.specs.Layers as layers;
 ghost use Rattle.vsw_policy.specs.Sound as sound;
 ghost use Rattle.vsw_policy.specs.Sound.{Each};
 ghost use Rattle.vsw_port.specs.Calls.{Ask, Carried, Carry, Job};
-ghost use Rattle.vsw_audit.specs.Private.Tasks.{CanBeAsked, HasJobs, caller_in, carried_in, job_in, site_at, work_in};
-ghost use Rattle.vsw_audit.specs.Private.Lines.{Judges, JudgesLine, Steps, stage};
+ghost use Rattle.vsw_audit.specs.Private.Tasks.{CanBeAsked, HasJobs, caller_in, captured_of, carried_in, job_in, site_of, work_in};
+ghost use Rattle.vsw_audit.specs.Private.Lines.{JudgesBy, JudgesLineBy, Steps, stage};
 ghost use Rattle.vsw_audit.specs.declared.task.Work.TheVariants as work;
 
 use crate::ask::ask;
@@ -132,7 +132,7 @@ fn carry_record(
 ) -> Result<bool, NoMemory>
     requires room { 1 ≤ ledger.old.room }
     requires few { length ledger.old.journal < 2 ^ 32 - 1 }
-    ensures judges { (x : Crossing) (p : Parts) → carried_in port caller packet dir (record { moment = captured.now.moment; original = captured.now.original; bytes = captured.now.bytes.now }) ≡ Some (Carry x p) → IfOk result (λ answer. Judges ledger.old.opening ledger.old.journal (Carried x p fate bytes.now) entry ledger.new.journal answer) }
+    ensures judges { (x : Crossing) (p : Parts) → carried_in port caller packet dir (captured_of captured.now) ≡ Some (Carry x p) → JudgesBy ledger.old (Carried x p fate bytes.now) entry ledger.new result }
     ensures opening { ledger.new.opening ≡ ledger.old.opening }
 {
     let read = read_frame(captured.bytes, headers);
@@ -161,7 +161,7 @@ fn judge_packet(
     requires count { line.now.count ≡ length ledger.old.journal }
     requires room { 1 ≤ ledger.old.room }
     requires few { length ledger.old.journal < 2 ^ 32 - 1 }
-    ensures judges { (j : Job) → work_in (site_at files.now.commands.now files.now.records.now port ledger.old.opening) caller (work.Carries packet dir) ≡ Some j → IfOk result (λ answer. JudgesLine ledger.old.opening ledger.old.journal j line.now ledger.new.journal answer) }
+    ensures judges { (j : Job) → work_in (site_of files.now port ledger.old) caller (work.Carries packet dir) ≡ Some j → JudgesLineBy ledger.old j line.now ledger.new result }
     ensures opening { ledger.new.opening ≡ ledger.old.opening }
 {
     let What::Fate { fate, bytes } = &line.what else {
@@ -197,7 +197,7 @@ fn judge_command(
     requires can_ask { Each (CanBeAsked ledger.old.opening.controllers) files.now.commands.now }
     requires count { line.now.count ≡ length ledger.old.journal }
     requires room { 1 ≤ ledger.old.room }
-    ensures judges { (l : Line) → slice_get files.now.commands.now place ≡ Some l → IfOk result (λ answer. JudgesLine ledger.old.opening ledger.old.journal (Ask l) line.now ledger.new.journal answer) }
+    ensures judges { (l : Line) → slice_get files.now.commands.now place ≡ Some l → JudgesLineBy ledger.old (Ask l) line.now ledger.new result }
     ensures opening { ledger.new.opening ≡ ledger.old.opening }
 {
     let What::Reply(reply) = &line.what else {
@@ -221,8 +221,8 @@ fn judge(
     line: &ToldLine,
 ) -> Result<bool, NoMemory>
     requires can_ask { Each (CanBeAsked ledger.old.opening.controllers) files.now.commands.now }
-    requires some { (j : Job) × (job_in (site_at files.now.commands.now files.now.records.now port ledger.old.opening) task ≡ Some j) }
-    ensures judges { (j : Job) → job_in (site_at files.now.commands.now files.now.records.now port ledger.old.opening) task ≡ Some j → IfOk result (λ answer. JudgesLine ledger.old.opening ledger.old.journal j line.now ledger.new.journal answer) }
+    requires some { (j : Job) × (job_in (site_of files.now port ledger.old) task ≡ Some j) }
+    ensures judges { (j : Job) → job_in (site_of files.now port ledger.old) task ≡ Some j → JudgesLineBy ledger.old j line.now ledger.new result }
     ensures opening { ledger.new.opening ≡ ledger.old.opening }
 {
     if line.count as usize != ledger.journal().len() {
@@ -267,9 +267,9 @@ pub(crate) fn replay_line(
     requires few { length files.now.controllers.now ≤ 8 }
     requires same { files.now.controllers.now ≡ ledger.old.opening.controllers }
     requires can_ask { Each (CanBeAsked ledger.old.opening.controllers) files.now.commands.now }
-    requires known { HasJobs (site_at files.now.commands.now files.now.records.now port ledger.old.opening) tasks.old.items }
+    requires known { HasJobs (site_of files.now port ledger.old) tasks.old.items }
     requires cursors { length cursors.old.items ≡ 24 }
-    ensures steps { IfOk result (λ answer. Steps (site_at files.now.commands.now files.now.records.now port ledger.old.opening) line.now (stage ledger.old.journal tasks.old.items cursors.old.items) (stage ledger.new.journal tasks.new.items cursors.new.items) answer) }
+    ensures steps { IfOk result (λ answer. Steps (site_of files.now port ledger.old) line.now (stage ledger.old.journal tasks.old.items cursors.old.items) (stage ledger.new.journal tasks.new.items cursors.new.items) answer) }
     ensures opening { ledger.new.opening ≡ ledger.old.opening }
 {
     let Some(caller) = caller_of(files.controllers, line.by) else {

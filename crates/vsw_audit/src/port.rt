@@ -4,15 +4,14 @@ ghost use Rattle.std.specs.Prelude.{◌≡◌, ◌≤◌, ◌<◌, ◌+◌, ◌^
 ghost use Rattle.std.specs.List.{slice_get};
 ghost use Rattle.vsw_pcap.specs.declared.capture.Record.{Record};
 ghost use Rattle.vsw_policy.specs.Sound.{Each};
-ghost use Rattle.vsw_port.specs.Calls.{Job};
 ghost use Rattle.vsw_promise.specs.Jobs.{Jobs};
 ghost use Rattle.vsw_promise.specs.Ports.{PortSeen};
 ghost use Rattle.vsw_promise.specs.Rounds.{opening_of};
 ghost use Rattle.vsw_check.specs.Report.{IsTold};
 ghost use Rattle.vsw_audit.specs.Private.Rounds.{AllReplay, AreDone, AreSeats, Finds, IsSeat, PortReplays, StandFrom, aims_of, histories, jobs_at};
 ghost use Rattle.vsw_audit.specs.Private.Rounds as rounds;
-ghost use Rattle.vsw_audit.specs.Private.Runs.{Follows};
-ghost use Rattle.vsw_audit.specs.Private.Tasks.{AreTasks, CanBeAsked, HasJobs, IsKnown, site_at};
+ghost use Rattle.vsw_audit.specs.Private.Runs.{FollowsJobs};
+ghost use Rattle.vsw_audit.specs.Private.Tasks.{AreTasks, CanBeAsked, HasJobs, IsKnown, site_of};
 
 use crate::carry::Rooms;
 use crate::dealing::Aim;
@@ -77,9 +76,9 @@ fn replay_lines(
     requires few { length files.now.controllers.now ≤ 8 }
     requires same { files.now.controllers.now ≡ ledger.old.opening.controllers }
     requires can_ask { Each (CanBeAsked ledger.old.opening.controllers) files.now.commands.now }
-    requires known { HasJobs (site_at files.now.commands.now files.now.records.now port ledger.old.opening) tasks.old.items }
+    requires known { HasJobs (site_of files.now port ledger.old) tasks.old.items }
     requires cursors { cursors.old.items ≡ replicate 24 0 }
-    ensures follows { (js : List Job) → AreTasks (site_at files.now.commands.now files.now.records.now port ledger.old.opening) tasks.old.items js → Each (IsKnown ledger.old.opening.controllers) js → IfOk result (λ answer. Follows (site_at files.now.commands.now files.now.records.now port ledger.old.opening) js ledger.old.journal lines.now ledger.new.journal tasks.new.items cursors.new.items answer) }
+    ensures follows { FollowsJobs (site_of files.now port ledger.old) tasks.old.items ledger.old lines.now ledger.new tasks.new.items cursors.new.items result }
     ensures opening { ledger.new.opening ≡ ledger.old.opening }
 {
     for place in 0..lines.len() {
@@ -145,11 +144,11 @@ fn replay_tasks(
     requires few { length files.now.controllers.now ≤ 8 }
     requires same { files.now.controllers.now ≡ ledger.old.opening.controllers }
     requires can_ask { Each (CanBeAsked ledger.old.opening.controllers) files.now.commands.now }
-    requires known { HasJobs (site_at files.now.commands.now files.now.records.now port ledger.old.opening) tasks.old.items }
+    requires known { HasJobs (site_of files.now port ledger.old) tasks.old.items }
     requires split { split ≤ length tasks.old.items }
     requires low { told.now.before ≡ length ledger.old.journal }
     requires told { IsTold told.now }
-    ensures finds { (p : PortSeen) (jobs : Jobs) → told.now.port ≡ p.number → opening_of p ≡ ledger.old.opening → split ≡ length jobs.first → AreTasks (site_at files.now.commands.now files.now.records.now port ledger.old.opening) tasks.old.items (jobs.first ++ jobs.later) → Each (IsKnown ledger.old.opening.controllers) (jobs.first ++ jobs.later)
+    ensures finds { (p : PortSeen) (jobs : Jobs) → told.now.port ≡ p.number → opening_of p ≡ ledger.old.opening → split ≡ length jobs.first → AreTasks (site_of files.now port ledger.old) tasks.old.items (jobs.first ++ jobs.later) → Each (IsKnown ledger.old.opening.controllers) (jobs.first ++ jobs.later)
         → IfOk result (λ answer. Finds (PortReplays workers p ledger.old.journal jobs told.now) ledger.new.journal answer) }
     ensures opening { ledger.new.opening ≡ ledger.old.opening }
 {

@@ -1,10 +1,12 @@
 -- What is found of one line of a report.
-use Rattle.std.specs.Prelude.{◌≡◌, ◌<◌, ℕ, suc, Bool, true, List, [], ◌∷◌, ◌++◌, drop, get_or, Some}
+use Rattle.std.specs.Prelude.{◌≡◌, ◌<◌, ℕ, suc, Bool, true, List, [], ◌∷◌, ◌++◌, drop, get_or, Some, Result, IfOk}
 use Rattle.std.specs.List.{slice_set}
+use Rattle.vsw_base.specs.declared.fault.NoMemory.{NoMemory}
 use Rattle.vsw_port.specs.declared.event.Event.{Event}
 use Rattle.vsw_port.specs.Calls.{Call, Deed, Job, ShowsAt, doer, entries_of, event_of, job_of}
 use Rattle.vsw_port.specs.Core.{entered}
 use Rattle.vsw_port.specs.History.{Opening, replay}
+use Rattle.vsw_port.specs.Ledger.{LedgerSeen}
 use Rattle.vsw_port.specs.Next.{IsDone, IsNext}
 use Rattle.vsw_promise.specs.Told.{line_of}
 use Rattle.vsw_report.specs.declared.told.ToldLine.{ToldLine}
@@ -17,10 +19,18 @@ pub record Judges (o : Opening) (h : List Event) (d : Deed) (entry : Bool) (new 
   pub yes : answer ≡ true → IsDone o h d entry × ShowsAt (replay o h) d × (new ≡ h ++ entered entry (event_of d))
   pub back : IsDone o h d entry → ShowsAt (replay o h) d → answer ≡ true
 
+-- unless memory was wanting, a deed is judged by the history of a ledger
+abbrev pub JudgesBy : LedgerSeen → Deed → Bool → LedgerSeen → Result Bool NoMemory → Type 0
+JudgesBy old d entry new r = IfOk r (λ answer. Judges old.opening old.journal d entry new.journal answer)
+
 -- a line that is told of a job is that of the next call on a history or not, and the history after it
 pub record JudgesLine (o : Opening) (h : List Event) (j : Job) (l : ToldLine) (new : List Event) (answer : Bool) : Type 0 where
   pub yes : answer ≡ true → (c : Call) × (job_of c.deed ≡ j) × (line_of c ≡ l) × IsNext o h c × (new ≡ h ++ entries_of (c ∷ []))
   pub back : (c : Call) → job_of c.deed ≡ j → line_of c ≡ l → IsNext o h c → answer ≡ true
+
+-- and so is a line that is told of a job
+abbrev pub JudgesLineBy : LedgerSeen → Job → ToldLine → LedgerSeen → Result Bool NoMemory → Type 0
+JudgesLineBy old j l new r = IfOk r (λ answer. JudgesLine old.opening old.journal j l new.journal answer)
 
 -- a port's history, what it has to do, and how far its callers are
 pub record Stage : Type 0 where

@@ -1,12 +1,15 @@
 -- Lines that follow one on another.
-use Rattle.std.specs.Prelude.{◌≡◌, ℕ, Bool, true, List, [], ◌∷◌, ◌++◌, length, map, take, get_or, Some}
+use Rattle.std.specs.Prelude.{◌≡◌, ℕ, Bool, true, List, [], ◌∷◌, ◌++◌, length, map, take, get_or, Some, Result, IfOk}
+use Rattle.vsw_base.specs.declared.fault.NoMemory.{NoMemory}
+use Rattle.vsw_policy.specs.Sound.{Each}
 use Rattle.vsw_port.specs.declared.event.Event.{Event}
 use Rattle.vsw_port.specs.Calls.{Call, Job, calls_of, doer, entries_of, job_of, jobs_by}
+use Rattle.vsw_port.specs.Ledger.{LedgerSeen}
 use Rattle.vsw_promise.specs.Told.{line_of}
 use Rattle.vsw_report.specs.declared.told.ToldLine.{ToldLine}
 use Rattle.vsw_audit.specs.declared.task.Task.{Task}
 use Rattle.vsw_audit.specs.Replay.{Runs}
-use Rattle.vsw_audit.specs.Private.Tasks.{AreTasks, Site, by, job_in}
+use Rattle.vsw_audit.specs.Private.Tasks.{AreTasks, IsKnown, Site, by, job_in}
 
 -- a task is that of a call, and was told what the call's line tells
 pub record IsDoneBy (s : Site) (t : Task) (c : Call) : Type 0 where
@@ -39,3 +42,8 @@ pub record Comes (s : Site) (js : List Job) (h : List Event) (lines : List ToldL
 pub record Follows (s : Site) (js : List Job) (h : List Event) (lines : List ToldLine) (new : List Event) (ts : List Task) (cursors : List ℕ) (answer : Bool) : Type 0 where
   pub yes : answer ≡ true → Comes s js h lines new ts cursors
   pub back : (calls : List Call) → Does s js h lines calls → answer ≡ true
+
+-- unless memory was wanting, the lines are followed, or not, whichever jobs of callers the tasks are of
+abbrev pub FollowsJobs : Site → List Task → LedgerSeen → List ToldLine → LedgerSeen → List Task → List ℕ → Result Bool NoMemory → Type 0
+FollowsJobs s ts old lines new left cursors r = (js : List Job) → AreTasks s ts js → Each (IsKnown s.opening.controllers) js
+    → IfOk r (λ answer. Follows s js old.journal lines new.journal left cursors answer)

@@ -1,18 +1,22 @@
 -- What is left to do at a port in a round, and what was told of what is done.
-use Rattle.std.specs.Prelude.{◌≡◌, ◌<◌, ℕ, suc, ◌+◌, ◌==◌, ◌&&◌, Bool, true, List, [], ◌∷◌, filter, take, drop, nat_le, nat_lt, Option, Some, None, option_and_then, option_map, if◌then◌else◌, Ok, Err}
+use Rattle.std.specs.Prelude.{◌≡◌, ◌<◌, ℕ, suc, ◌+◌, ◌==◌, ◌&&◌, Bool, true, List, [], ◌∷◌, ◌++◌, filter, take, drop, nat_le, nat_lt, Option, Some, None, option_and_then, option_map, if◌then◌else◌, Result, Ok, Err, OnOk, ⊤}
 use Rattle.std.specs.List.{slice_get}
+use Rattle.vsw_base.specs.declared.fault.NoMemory.{NoMemory}
 use Rattle.vsw_base.specs.declared.packet.Dir.{Dir}
 use Rattle.vsw_base.specs.Frame.{frame_of}
 use Rattle.vsw_commandfile.specs.declared.line.Line.{Line}
+use Rattle.vsw_pcap.specs.declared.batch.Captured.{Captured}
 use Rattle.vsw_pcap.specs.declared.capture.Record.{Record}
 use Rattle.vsw_policy.specs.Layers.{place_of}
 use Rattle.vsw_policy.specs.Obey.{rules_given}
 use Rattle.vsw_policy.specs.Sound.{Each, IsGoodRule, is_listed}
 use Rattle.vsw_port.specs.Calls.{Ask, Carry, Job, doer, job_doer}
 use Rattle.vsw_port.specs.History.{Opening}
+use Rattle.vsw_port.specs.Ledger.{LedgerSeen}
 use Rattle.vsw_promise.specs.Jobs.{crossing_by}
 use Rattle.vsw_report.specs.declared.told.By.{By}
 use Rattle.vsw_report.specs.declared.told.By.TheVariants.{Controller, Worker}
+use Rattle.vsw_audit.specs.declared.line.Files.{Files}
 use Rattle.vsw_audit.specs.declared.task.Task.{Task}
 use Rattle.vsw_audit.specs.declared.task.Work.{Work}
 use Rattle.vsw_audit.specs.declared.task.Work.TheVariants.{Asks, Carries}
@@ -26,6 +30,14 @@ pub record Site : Type 0 where
 
 abbrev pub site_at : List Line → List Record → ℕ → Opening → Site
 site_at commands records place opening = record { commands = commands; records = records; place = place; opening = opening }
+
+-- the port at a place, whose ledger this is
+abbrev pub site_of : Files → ℕ → LedgerSeen → Site
+site_of f place l = site_at f.commands.now f.records.now place l.opening
+
+-- the record that a batch lends
+abbrev pub captured_of : Captured → Record
+captured_of c = record { moment = c.moment; original = c.original; bytes = c.bytes.now }
 
 -- a record as this caller brings it to the port
 abbrev pub carried_in : ℕ → ℕ → ℕ → Dir → Record → Option Job
@@ -51,6 +63,11 @@ abbrev pub AreTasks : Site → List Task → List Job → Type 0
 AreTasks s [] [] = Unit {0}
 AreTasks s (t ∷ ts) (j ∷ js) = IsTask s t j × AreTasks s ts js
 AreTasks s _ _ = ⊥
+
+-- behind the tasks of any jobs, at a port with these files, come the tasks of these jobs
+abbrev pub AddsJobs : Files → List Job → (old new : List Task) → Result ⊤ NoMemory → Type 0
+AddsJobs f more old new r = (s : Site) (js : List Job) → s.commands ≡ f.commands.now → s.opening.controllers ≡ f.controllers.now → AreTasks s old js
+    → OnOk r (AreTasks s new (js ++ more))
 
 -- a job of one of sixteen workers, or of a listed controller
 abbrev pub IsKnown : List ℕ → Job → Type 0

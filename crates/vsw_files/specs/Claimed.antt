@@ -4,6 +4,7 @@ use Rattle.vsw_check.specs.Report.{IsReport, IsBadLine}
 use Rattle.vsw_check.specs.declared.report.Report.{Report}
 use Rattle.vsw_commandfile.specs.declared.line.Line.{Line}
 use Rattle.vsw_config.specs.declared.file.PolicyFile.{PolicyFile}
+use Rattle.vsw_files.specs.Early.{HasCommands}
 use Rattle.vsw_host.specs.Outside.{Opened, Outside, SameOutputs}
 use Rattle.vsw_pcap.specs.declared.capture.Record.{Record}
 use Rattle.vsw_reading.specs.declared.reading.Reading.{Reading}
@@ -65,3 +66,13 @@ ReadsTrace c old new policy lines (Err end) = HasChecked c old new end
 abbrev pub ReadsReport : Claim → Outside → Outside → PolicyFile → List Line → List Record → Result Report Ending → Type 0
 ReadsReport c old new policy lines records (Ok report) = HasReport c old new policy lines records report.rounds
 ReadsReport c old new policy lines records (Err end) = HasChecked c old new end
+
+-- the trace of this name is read next, whichever run has read its commands
+abbrev pub ReadsTraceNext : Outside → Outside → List ℕ → Result Reading Ending → Type 0
+ReadsTraceNext old new name r = (c : Claim) (start : Outside) (policy : PolicyFile) (lines : List Line) → c.run.trace ≡ name → HasCommands c.run start old policy lines
+    → ReadsTrace c start new policy lines r
+
+-- so is the report of this name, whichever run has read its records
+abbrev pub ReadsReportNext : Outside → Outside → List ℕ → Result Report Ending → Type 0
+ReadsReportNext old new name r = (c : Claim) (start : Outside) (policy : PolicyFile) (lines : List Line) (records : List Record) → c.report ≡ name → HasRecords c start old policy lines records
+    → ReadsReport c start new policy lines records r

@@ -1,12 +1,7 @@
 //! Reading a report, of a run that checks.
 
-ghost use Rattle.std.specs.Prelude.{◌≡◌, ◌≤◌, List, length};
-ghost use Rattle.vsw_commandfile.specs.declared.line.Line.{Line};
-ghost use Rattle.vsw_config.specs.declared.file.PolicyFile.{PolicyFile};
-ghost use Rattle.vsw_files.specs.Claimed.{HasRecords, JudgesReport, ReadsReport};
-ghost use Rattle.vsw_host.specs.Outside.{Outside};
-ghost use Rattle.vsw_pcap.specs.declared.capture.Record.{Record};
-ghost use Rattle.vsw_run.specs.Words.{Claim};
+ghost use Rattle.std.specs.Prelude.{◌≤◌, length};
+ghost use Rattle.vsw_files.specs.Claimed.{JudgesReport, ReadsReportNext};
 
 use std::alloc::Global;
 use vsw_check::{BadReport, Report, read_report};
@@ -30,7 +25,7 @@ fn judged_report(alloc: Global, bytes: &[u8]) -> Result<Report, Ending>
 
 /// Reads the report of this name, after the trace. Its text isn't kept.
 pub fn open_report<H: Host>(alloc: Global, host: &mut H, name: &str) -> Result<Report, Ending>
-    ensures { (c : Claim) (start : Outside) (policy : PolicyFile) (lines : List Line) (records : List Record) → c.report ≡ name.now → HasRecords c start (H.outside host.old) policy lines records → ReadsReport c start (H.outside host.new) policy lines records result }
+    ensures { ReadsReportNext (H.outside host.old) (H.outside host.new) name.now result }
 {
     let mut bytes = Vec::new(alloc);
     match read_file(host, name, REPORT_MAX, &mut bytes) {

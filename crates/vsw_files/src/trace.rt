@@ -1,15 +1,11 @@
 //! Reading a trace as a whole, of a run that checks.
 
 ghost use Rattle.std.specs.Prelude.{◌≡◌, ◌≤◌, List, ℕ, [], Ok};
-ghost use Rattle.vsw_commandfile.specs.declared.line.Line.{Line};
-ghost use Rattle.vsw_config.specs.declared.file.PolicyFile.{PolicyFile};
-ghost use Rattle.vsw_files.specs.Claimed.{ReadsTrace};
-ghost use Rattle.vsw_files.specs.Early.{HasCommands};
+ghost use Rattle.vsw_files.specs.Claimed.{ReadsTraceNext};
 ghost use Rattle.vsw_files.specs.Private.Whole.{EndsSo, OpensTrace, ReadsWhole};
 ghost use Rattle.vsw_host.specs.Outside.{Outside, SameOutputs};
 ghost use Rattle.vsw_reading.specs.Reads.{IsOpen, IsRead, StopsSo};
 ghost use Rattle.vsw_run.specs.Trace.{most_records};
-ghost use Rattle.vsw_run.specs.Words.{Claim};
 
 use std::alloc::Global;
 use vsw_base::NoMemory;
@@ -83,7 +79,7 @@ fn read_trace<H: Host>(alloc: Global, host: &mut H, name: &str) -> Result<Readin
 
 /// Reads the whole trace of this name, after the commands. Its records are in the batch.
 pub fn open_trace<H: Host>(alloc: Global, host: &mut H, name: &str) -> Result<Reading, Ending>
-    ensures { (c : Claim) (start : Outside) (policy : PolicyFile) (lines : List Line) → c.run.trace ≡ name.now → HasCommands c.run start (H.outside host.old) policy lines → ReadsTrace c start (H.outside host.new) policy lines result }
+    ensures { ReadsTraceNext (H.outside host.old) (H.outside host.new) name.now result }
 {
     read_trace(alloc, host, name)
 }

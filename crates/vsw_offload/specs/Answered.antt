@@ -97,6 +97,10 @@ pub record IsPacketOf (x : Crossing) (place : Place) (p : Parts) (moment : ℕ) 
   pub control : x.control ≡ p.control
   pub moment_is : x.moment ≡ moment
 
+-- what the rows of ports answer a frame at a port and a moment
+abbrev pub AnswersFrame : List PortRows → Place → Parts → ℕ → Option Fate → List ℕ → Type 0
+AnswersFrame ports place p moment fate bytes = (x : Crossing) → IsPacketOf x place p moment → Answered (rows_at ports place.port) x p fate bytes
+
 -- ---- what holds of it
 
 -- words say one row

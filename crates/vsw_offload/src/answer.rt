@@ -3,7 +3,6 @@
 ghost use Rattle.std.specs.Prelude.{◌≡◌, ◌≤◌, ◌<◌, ◌+◌, ℕ, IfNone, IfSome, List, Ok, Some, [], drop, get_or, length, true, false};
 ghost use Rattle.vsw_base.specs.declared.fate.Fate.TheVariants as fate;
 ghost use Rattle.vsw_base.specs.declared.fate.Verdict.TheVariants as verdict;
-ghost use Rattle.vsw_base.specs.declared.flow.Crossing.{Crossing};
 ghost use Rattle.vsw_base.specs.declared.flow.Ufid.{Ufid};
 ghost use Rattle.vsw_base.specs.declared.header.Header.{Header};
 ghost use Rattle.vsw_base.specs.declared.packet.Control.TheVariants as control;
@@ -12,11 +11,11 @@ ghost use Rattle.vsw_frame.specs.Bytes as bytes;
 ghost use Rattle.vsw_frame.specs.Frame.{parts};
 ghost use Rattle.vsw_frame.specs.Tiles.{outermost};
 ghost use Rattle.vsw_offload.specs.Answered as spec;
-ghost use Rattle.vsw_offload.specs.Answered.{Answered, IsPacketOf, bytes_by, bytes_given, bytes_told, fate_by, fate_given, passed};
-ghost use Rattle.vsw_offload.specs.Private.Heading.{AllMade, AreMade, IsByHead, PassesFrame};
+ghost use Rattle.vsw_offload.specs.Answered.{AnswersFrame, bytes_given, bytes_told, fate_by, fate_given, passed};
+ghost use Rattle.vsw_offload.specs.Private.Heading.{AllMade, AnswersByHead, AreMade, PassesFrame};
 ghost use Rattle.vsw_offload.specs.Private.Making.{IsEdited, IsMadeOf};
 ghost use Rattle.vsw_offload.specs.Private.Noting.{AllNoted};
-ghost use Rattle.vsw_offload.specs.Private.Saying.{SaysOf, SaysRow, bytes_with};
+ghost use Rattle.vsw_offload.specs.Private.Saying.{AreBytesBy, AreBytesOfPass, IsFateOfPass, SaysOf, SaysRow, bytes_with};
 ghost use Rattle.vsw_offload.specs.Rows.{AreRows, IsRow, key_of};
 ghost use Rattle.vsw_policy.specs.Sound.{Each};
 ghost use Rattle.vsw_rows.specs.Good.{Row};
@@ -171,8 +170,8 @@ fn edit_made(words: &[u64; 57], made: &Stack, frame: &Frame<'_>, out: &mut [u8])
     requires body { (by : List Act) × (until : ℕ) × AreOf words.now verdict.Pass by until × (fit.fits by (parts frame.now).stack ≡ true) }
     requires made { (by : List Act) (until : ℕ) → AreOf words.now verdict.Pass by until → made.now ≡ apply by (parts frame.now).stack }
     requires room { length out.old ≡ 65700 }
-    ensures fate { (by : List Act) (until : ℕ) → AreOf words.now verdict.Pass by until → fit.fits by (parts frame.now).stack ≡ true → result.fate ≡ fate_by by (parts frame.now) verdict.Pass }
-    ensures bytes { (by : List Act) (until : ℕ) → AreOf words.now verdict.Pass by until → fit.fits by (parts frame.now).stack ≡ true → bytes_told result.own (parts frame.now) result.fate out.new ≡ bytes_by by (parts frame.now) result.fate }
+    ensures fate { IsFateOfPass words.now (parts frame.now) result.fate }
+    ensures bytes { AreBytesOfPass words.now (parts frame.now) result out.new }
     ensures own { result.own ≡ false }
 {
     let kept = kept_by(words, frame);
@@ -185,8 +184,8 @@ fn edit_made(words: &[u64; 57], made: &Stack, frame: &Frame<'_>, out: &mut [u8])
 fn pass_anew(words: &[u64; 57], frame: &Frame<'_>, edited: &mut Stack, out: &mut [u8]) -> Given
     requires body { (by : List Act) × (until : ℕ) × AreOf words.now verdict.Pass by until × (fit.fits by (parts frame.now).stack ≡ true) }
     requires room { length out.old ≡ 65700 }
-    ensures fate { (by : List Act) (until : ℕ) → AreOf words.now verdict.Pass by until → fit.fits by (parts frame.now).stack ≡ true → result.fate ≡ fate_by by (parts frame.now) verdict.Pass }
-    ensures bytes { (by : List Act) (until : ℕ) → AreOf words.now verdict.Pass by until → fit.fits by (parts frame.now).stack ≡ true → bytes_told result.own (parts frame.now) result.fate out.new ≡ bytes_by by (parts frame.now) result.fate }
+    ensures fate { IsFateOfPass words.now (parts frame.now) result.fate }
+    ensures bytes { AreBytesOfPass words.now (parts frame.now) result out.new }
     ensures own { result.own ≡ true → result.fate ≡ fate.Pass (length (outermost (parts frame.now).levels)) }
 {
     // It tells the proof that the headers are those of a stack.
@@ -211,8 +210,8 @@ fn pass(
     requires body { (by : List Act) × (until : ℕ) × AreOf words.now verdict.Pass by until × (fit.fits by (parts frame.now).stack ≡ true) }
     requires made { IfSome made (λ m. IsMadeOf words.now m.now (parts frame.now).stack) }
     requires room { length out.old ≡ 65700 }
-    ensures fate { (by : List Act) (until : ℕ) → AreOf words.now verdict.Pass by until → fit.fits by (parts frame.now).stack ≡ true → result.fate ≡ fate_by by (parts frame.now) verdict.Pass }
-    ensures bytes { (by : List Act) (until : ℕ) → AreOf words.now verdict.Pass by until → fit.fits by (parts frame.now).stack ≡ true → bytes_told result.own (parts frame.now) result.fate out.new ≡ bytes_by by (parts frame.now) result.fate }
+    ensures fate { IsFateOfPass words.now (parts frame.now) result.fate }
+    ensures bytes { AreBytesOfPass words.now (parts frame.now) result out.new }
     ensures own { result.own ≡ true → result.fate ≡ fate.Pass (length (outermost (parts frame.now).levels)) }
 {
     match made {
@@ -234,7 +233,7 @@ fn given_by(
     requires made { IfSome made (λ m. IsMadeOf words.now m.now (parts frame.now).stack) }
     requires room { length out.old ≡ 65700 }
     ensures fate { (r : Row) → SaysOf words.now r (parts frame.now) → result.fate ≡ fate_by r.acts (parts frame.now) r.verdict }
-    ensures bytes { (r : Row) → SaysOf words.now r (parts frame.now) → bytes_told result.own (parts frame.now) result.fate out.new ≡ bytes_by r.acts (parts frame.now) result.fate }
+    ensures bytes { (r : Row) → SaysOf words.now r (parts frame.now) → AreBytesBy r.acts (parts frame.now) result out.new }
     ensures own { result.own ≡ true → result.fate ≡ fate.Pass (length (outermost (parts frame.now).levels)) }
 {
     match verdict_in(words) {
@@ -277,7 +276,7 @@ fn by_body(
     requires room { length out.old ≡ 65700 }
     ensures early { (r : Row) → SaysOf words.now r (parts frame.now) → IfSome result (λ g. moment ≤ r.until) }
     ensures fate { (r : Row) → SaysOf words.now r (parts frame.now) → IfSome result (λ g. g.fate ≡ fate_by r.acts (parts frame.now) r.verdict) }
-    ensures bytes { (r : Row) → SaysOf words.now r (parts frame.now) → IfSome result (λ g. bytes_told g.own (parts frame.now) g.fate out.new ≡ bytes_by r.acts (parts frame.now) g.fate) }
+    ensures bytes { (r : Row) → SaysOf words.now r (parts frame.now) → IfSome result (λ g. AreBytesBy r.acts (parts frame.now) g out.new) }
     ensures late { (r : Row) → SaysOf words.now r (parts frame.now) → IfNone result (r.until < moment) }
     ensures own { IfSome result (λ g. g.own ≡ true → g.fate ≡ fate.Pass (length (outermost (parts frame.now).levels))) }
 {
@@ -302,7 +301,7 @@ fn by_row(
     requires room { length out.old ≡ 65700 }
     ensures early { (r : Row) → SaysRow words.now r (parts frame.now) → IfSome result (λ g. moment ≤ r.until) }
     ensures fate { (r : Row) → SaysRow words.now r (parts frame.now) → IfSome result (λ g. g.fate ≡ fate_by r.acts (parts frame.now) r.verdict) }
-    ensures bytes { (r : Row) → SaysRow words.now r (parts frame.now) → IfSome result (λ g. bytes_told g.own (parts frame.now) g.fate out.new ≡ bytes_by r.acts (parts frame.now) g.fate) }
+    ensures bytes { (r : Row) → SaysRow words.now r (parts frame.now) → IfSome result (λ g. AreBytesBy r.acts (parts frame.now) g out.new) }
     ensures late { (r : Row) → SaysRow words.now r (parts frame.now) → IfNone result (r.until < moment) }
     ensures own { IfSome result (λ g. g.own ≡ true → g.fate ≡ fate.Pass (length (outermost (parts frame.now).levels))) }
 {
@@ -349,7 +348,7 @@ fn by_place(
     requires room { length out.old ≡ 65700 }
     ensures early { (r : Row) → SaysRow (get_or rows.now at []) r (parts frame.now) → IfSome result (λ g. moment ≤ r.until) }
     ensures fate { (r : Row) → SaysRow (get_or rows.now at []) r (parts frame.now) → IfSome result (λ g. g.fate ≡ fate_by r.acts (parts frame.now) r.verdict) }
-    ensures bytes { (r : Row) → SaysRow (get_or rows.now at []) r (parts frame.now) → IfSome result (λ g. bytes_told g.own (parts frame.now) g.fate out.new ≡ bytes_by r.acts (parts frame.now) g.fate) }
+    ensures bytes { (r : Row) → SaysRow (get_or rows.now at []) r (parts frame.now) → IfSome result (λ g. AreBytesBy r.acts (parts frame.now) g out.new) }
     ensures late { (r : Row) → SaysRow (get_or rows.now at []) r (parts frame.now) → IfNone result (r.until < moment) }
     ensures own { IfSome result (λ g. g.own ≡ true → g.fate ≡ fate.Pass (length (outermost (parts frame.now).levels))) }
 {
@@ -364,7 +363,7 @@ fn edit_bare(made: &Stack, frame: &Frame<'_>, out: &mut [u8]) -> Given
     requires edit { (by : List Act) × (is_form by ≡ true) × (fit.fits by (parts frame.now).stack ≡ true) × (made.now ≡ apply by (parts frame.now).stack) }
     requires room { length out.old ≡ 65700 }
     ensures fate { (by : List Act) → is_form by ≡ true → fit.fits by (parts frame.now).stack ≡ true → made.now ≡ apply by (parts frame.now).stack → result.fate ≡ fate_by by (parts frame.now) verdict.Pass }
-    ensures bytes { (by : List Act) → is_form by ≡ true → fit.fits by (parts frame.now).stack ≡ true → made.now ≡ apply by (parts frame.now).stack → bytes_told result.own (parts frame.now) result.fate out.new ≡ bytes_by by (parts frame.now) result.fate }
+    ensures bytes { (by : List Act) → is_form by ≡ true → fit.fits by (parts frame.now).stack ≡ true → made.now ≡ apply by (parts frame.now).stack → AreBytesBy by (parts frame.now) result out.new }
     ensures own { result.own ≡ false }
 {
     // It tells the proof that the headers are those of a stack.
@@ -386,7 +385,7 @@ fn by_stack(stacks: &[Stack], place: u32, frame: &Frame<'_>, out: &mut [u8]) -> 
     requires frame { (r : Row) × PassesFrame (parts frame.now) stacks.now (Some place) r }
     requires room { length out.old ≡ 65700 }
     ensures fate { (r : Row) → PassesFrame (parts frame.now) stacks.now (Some place) r → IfSome result (λ g. g.fate ≡ fate_by r.acts (parts frame.now) r.verdict) }
-    ensures bytes { (r : Row) → PassesFrame (parts frame.now) stacks.now (Some place) r → IfSome result (λ g. bytes_told g.own (parts frame.now) g.fate out.new ≡ bytes_by r.acts (parts frame.now) g.fate) }
+    ensures bytes { (r : Row) → PassesFrame (parts frame.now) stacks.now (Some place) r → IfSome result (λ g. AreBytesBy r.acts (parts frame.now) g out.new) }
     ensures own { IfSome result (λ g. g.own ≡ false) }
 {
     if !is_bare(frame) {
@@ -404,7 +403,7 @@ fn by_head(stacks: &[Stack], place: Option<u32>, frame: &Frame<'_>, out: &mut [u
     requires frame { (r : Row) × PassesFrame (parts frame.now) stacks.now place r }
     requires room { length out.old ≡ 65700 }
     ensures fate { (r : Row) → PassesFrame (parts frame.now) stacks.now place r → IfSome result (λ g. g.fate ≡ fate_by r.acts (parts frame.now) r.verdict) }
-    ensures bytes { (r : Row) → PassesFrame (parts frame.now) stacks.now place r → IfSome result (λ g. bytes_told g.own (parts frame.now) g.fate out.new ≡ bytes_by r.acts (parts frame.now) g.fate) }
+    ensures bytes { (r : Row) → PassesFrame (parts frame.now) stacks.now place r → IfSome result (λ g. AreBytesBy r.acts (parts frame.now) g out.new) }
     ensures own { IfSome result (λ g. g.own ≡ true → g.fate ≡ fate.Pass (length (outermost (parts frame.now).levels))) }
 {
     match place {
@@ -425,7 +424,7 @@ fn by_heads(
     requires made { (rows : List (List ℕ)) × AreMade rows edits.now × Each IsRow rows }
     requires id { (id : Ufid) × IsId id × (words.now ≡ key.key_words id.dir id.stack) × (id.stack ≡ (parts frame.now).stack) }
     requires room { length out.old ≡ 65700 }
-    ensures answered { (rows : List (List ℕ)) → AreMade rows edits.now → Each IsRow rows → (id : Ufid) → IsId id → words.now ≡ key.key_words id.dir id.stack → id.stack ≡ (parts frame.now).stack → IfSome result (λ g. IsByHead rows words.now moment (parts frame.now) g out.new) }
+    ensures answered { AnswersByHead edits.now words.now moment (parts frame.now) result out.new }
     ensures own { IfSome result (λ g. g.own ≡ true → g.fate ≡ fate.Pass (length (outermost (parts frame.now).levels))) }
 {
     match head_for(edits.heads.as_slice(), words, moment) {
@@ -450,7 +449,7 @@ pub(crate) fn answer(
     requires slots { 8 ≤ guesses.now.slots }
     requires noted { AllNoted guesses.now.places.items guesses.now.slots ports.now }
     requires room { length out.old ≡ 65700 }
-    ensures answered { (x : Crossing) → IsPacketOf x place (parts frame.now) moment → Answered (spec.rows_at ports.now place.port) x (parts frame.now) (fate_given result) (bytes_given (parts frame.now) result out.new) }
+    ensures answered { AnswersFrame ports.now place (parts frame.now) moment (fate_given result) (bytes_given (parts frame.now) result out.new) }
     ensures own { IfSome result (λ g. g.own ≡ true → g.fate ≡ fate.Pass (length (outermost (parts frame.now).levels))) }
 {
     if !is_plain(frame) {

@@ -5,7 +5,7 @@ ghost use Rattle.vsw_base.specs.declared.fate.Verdict.{Verdict};
 ghost use Rattle.vsw_base.specs.declared.fate.Verdict.TheVariants.{Pass};
 ghost use Rattle.vsw_base.specs.declared.header.Header.{Header};
 ghost use Rattle.vsw_offload.specs.Private.Finding.{HasOne};
-ghost use Rattle.vsw_offload.specs.Private.Heading.{AreHeads, IsHead, IsHeadFor, IsHeadOf, PassesBy, bare_of, head_key, no_head};
+ghost use Rattle.vsw_offload.specs.Private.Heading.{AreHeads, IsHead, IsHeadFor, PassesBy, TakesHead, bare_of, head_key, no_head};
 ghost use Rattle.vsw_offload.specs.Private.Making.{ArePlaces, EditsNone, IsPlaceOf};
 ghost use Rattle.vsw_offload.specs.Rows.{IsRow};
 ghost use Rattle.vsw_policy.specs.Sound.{Each};
@@ -166,7 +166,7 @@ fn head_of(words: &[u64; 73], place: Option<u32>) -> Option<Head>
 
 /// Puts a head into a slot, if that is free.
 fn put(heads: &mut Vec<Head>, slot: usize, head: Head) -> bool
-    ensures { (rows : List (List ℕ)) (stacks : List (List Header)) → IsHeadOf rows stacks head → AreHeads rows stacks heads.old.items → AreHeads rows stacks heads.new.items }
+    ensures { TakesHead head heads.old.items heads.new.items }
 {
     if slot >= heads.len() {
         return false;
@@ -204,7 +204,7 @@ fn make_slots(heads: &mut Vec<Head>, slots: u32) -> Result<(), NoMemory>
 /// Puts a head into the slot of its key, or into one of the two behind.
 fn put_near(heads: &mut Vec<Head>, slots: u32, key: &[u64; 16], head: Head)
     requires slots { 8 ≤ slots }
-    ensures { (rows : List (List ℕ)) (stacks : List (List Header)) → IsHeadOf rows stacks head → AreHeads rows stacks heads.old.items → AreHeads rows stacks heads.new.items }
+    ensures { TakesHead head heads.old.items heads.new.items }
 {
     let slot = slot_of(key, slots) as usize;
     if put(heads, slot, head) {

@@ -2,7 +2,7 @@
 
 ghost use Rattle.std.specs.Prelude.{◌≡◌, ◌≤◌, ◌<◌, ◌+◌, ◌*◌, ◌++◌, ◌∷◌, [], ℕ, List, IfOk, IfErr, OnOk, length, take, true, false};
 ghost use Rattle.vsw_offload.specs.Bad.{Address, Begins, Done, Entries, IsBadRows, Number, Ports, Reaches, next_size, ports_text};
-ghost use Rattle.vsw_offload.specs.Private.Reading.{HasRows, port_of};
+ghost use Rattle.vsw_offload.specs.Private.Reading.{HasRows, ReadsRow, RefusesRow, port_of};
 ghost use Rattle.vsw_offload.specs.Rows.{AreRows, head, is_among, macs_of, numbers_of, rows_bytes};
 ghost use Rattle.vsw_offload.specs.declared.fault.BadRows.TheVariants.{Memory};
 ghost use Rattle.vsw_offload.specs.declared.port_rows.PortRows.{PortRows};
@@ -139,8 +139,8 @@ fn read_row(
     requires within { at ≤ length bytes.now }
     ensures whole { OnOk result (at + 584 ≤ length bytes.now) }
     ensures more { OnOk result (length rows.new ≡ length rows.old + 1) }
-    ensures ok { (count : ℕ) (ps : List PortRows) (port mac entries told : ℕ) → HasRows bytes.now at count ps (port_of port mac entries rows.old) told → length rows.old < told → OnOk result (HasRows bytes.now (at + 584) count ps (port_of port mac entries rows.new) told) }
-    ensures bad { (count : ℕ) (ps : List PortRows) (port mac entries told : ℕ) → HasRows bytes.now at count ps (port_of port mac entries rows.old) told → length rows.old < told → IfErr result (λ why. IsBadRows bytes.now why) }
+    ensures ok { ReadsRow bytes.now at rows.old rows.new result }
+    ensures bad { RefusesRow bytes.now at rows.old result }
 {
     whole(bytes, at, ROW_LEN)?;
     let mut words = [0; 73];

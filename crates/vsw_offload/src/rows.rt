@@ -1,11 +1,10 @@
 //! The rows of a file.
 
 ghost use Rattle.std.specs.Prelude.{◌≡◌, ◌≤◌, IfOk, IfErr, IfSome, List, length, take, true};
-ghost use Rattle.vsw_base.specs.declared.flow.Crossing.{Crossing};
 ghost use Rattle.vsw_base.specs.declared.fate.Fate.TheVariants.{Pass};
 ghost use Rattle.vsw_frame.specs.Frame.{parts};
 ghost use Rattle.vsw_frame.specs.Tiles.{outermost};
-ghost use Rattle.vsw_offload.specs.Answered.{Answered, IsPacketOf, bytes_given, bytes_left, fate_given, rows_at};
+ghost use Rattle.vsw_offload.specs.Answered.{AnswersFrame, bytes_given, bytes_left, fate_given};
 ghost use Rattle.vsw_offload.specs.Bad.{IsBadRows};
 ghost use Rattle.vsw_offload.specs.Rows as spec;
 ghost use Rattle.vsw_offload.specs.Rows.{AreRows, rows_bytes};
@@ -157,7 +156,7 @@ impl Rows {
         out: &mut [u8],
     ) -> Option<Fate>
         requires room { length out.old ≡ 65700 }
-        ensures { (x : Crossing) → IsPacketOf x place (parts frame.now) moment → Answered (rows_at self.now place.port) x (parts frame.now) result (bytes_left result out.new) }
+        ensures { AnswersFrame self.now place (parts frame.now) moment result (bytes_left result out.new) }
     {
         self.answer_in(place, frame, moment, &mut AnswerRoom::new(), out)
     }
@@ -172,7 +171,7 @@ impl Rows {
         out: &mut [u8],
     ) -> Option<Fate>
         requires room { length out.old ≡ 65700 }
-        ensures { (x : Crossing) → IsPacketOf x place (parts frame.now) moment → Answered (rows_at self.now place.port) x (parts frame.now) result (bytes_left result out.new) }
+        ensures { AnswersFrame self.now place (parts frame.now) moment result (bytes_left result out.new) }
     {
         match self.answer_own(place, frame, moment, room, out) {
             None => None,
@@ -195,7 +194,7 @@ impl Rows {
         out: &mut [u8],
     ) -> Option<Given>
         requires room { length out.old ≡ 65700 }
-        ensures answered { (x : Crossing) → IsPacketOf x place (parts frame.now) moment → Answered (rows_at self.now place.port) x (parts frame.now) (fate_given result) (bytes_given (parts frame.now) result out.new) }
+        ensures answered { AnswersFrame self.now place (parts frame.now) moment (fate_given result) (bytes_given (parts frame.now) result out.new) }
         ensures own { IfSome result (λ g. g.own ≡ true → g.fate ≡ Pass (length (outermost (parts frame.now).levels))) }
     {
         answer(

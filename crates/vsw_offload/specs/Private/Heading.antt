@@ -1,6 +1,7 @@
 -- Heads of rows whose packets pass, and all that is made of rows.
-use Rattle.std.specs.Prelude.{◌≡◌, ◌≢◌, ◌≤◌, ◌<◌, ℕ, zero, suc, List, [], ◌∷◌, drop, get_or, length, true, Option, Some, None}
+use Rattle.std.specs.Prelude.{◌≡◌, ◌≢◌, ◌≤◌, ◌<◌, ℕ, zero, suc, List, [], ◌∷◌, drop, get_or, length, true, Option, Some, None, IfSome}
 use Rattle.vsw_base.specs.declared.fate.Verdict.TheVariants.{Pass}
+use Rattle.vsw_base.specs.declared.flow.Ufid.{Ufid}
 use Rattle.vsw_base.specs.declared.header.Header.{Header}
 use Rattle.vsw_base.specs.Frame.{Parts}
 use Rattle.vsw_base.specs.Shape.{encaps}
@@ -12,11 +13,14 @@ use Rattle.vsw_offload.specs.declared.port_rows.PortRows.{PortRows}
 use Rattle.vsw_offload.specs.Private.Finding.{HasOne}
 use Rattle.vsw_offload.specs.Private.Making.{ArePlaces, EditsNone, IsPlaceOf}
 use Rattle.vsw_offload.specs.Rows.{IsRow, key_of}
+use Rattle.vsw_policy.specs.Sound.{Each}
 use Rattle.vsw_rows.specs.Good.{Row}
 use Rattle.vsw_rows.specs.Rows.{Says}
 use Rattle.vsw_transpose.specs.Apply.{apply}
 use Rattle.vsw_transpose.specs.Fits as fit
 use Rattle.vsw_transpose.specs.Form.{is_form}
+use Rattle.vsw_words.specs.Key.{key_words}
+use Rattle.vsw_words.specs.Law.{IsId}
 
 -- a key with these words, and 0 in the place of the others
 abbrev pub bare_key : ℕ → ℕ → ℕ → ℕ → List ℕ
@@ -53,6 +57,10 @@ IsHeadOf rows stacks h = h.first ≢ 0 → (words : List ℕ) × HasOne rows wor
 
 abbrev pub AreHeads : List (List ℕ) → List (List Header) → List Head → Type 0
 AreHeads rows stacks hs = (n : ℕ) → IsHeadOf rows stacks (get_or hs n no_head)
+
+-- with a head of one of their rows more, heads are of their rows still
+abbrev pub TakesHead : Head → (old new : List Head) → Type 0
+TakesHead h old new = (rows : List (List ℕ)) (stacks : List (List Header)) → IsHeadOf rows stacks h → AreHeads rows stacks old → AreHeads rows stacks new
 
 -- a head is of what a key keeps, and good so late
 pub record IsHeadFor (h : Head) (key : List ℕ) (moment : ℕ) : Type 0 where
@@ -93,7 +101,12 @@ pub record AreMade (rows : List (List ℕ)) (e : Edits) : Type 0 where
   pub places : ArePlaces rows e.places e.stacks
   pub heads : AreHeads rows e.stacks e.heads
 
--- those of the rows of ports
+-- what is answered a frame of this key by the heads that were made, whichever rows they are of
+abbrev pub AnswersByHead : Edits → List ℕ → ℕ → Parts → Option Given → List ℕ → Type 0
+AnswersByHead e key moment p given out = (rows : List (List ℕ)) → AreMade rows e → Each IsRow rows → (id : Ufid) → IsId id → key ≡ key_words id.dir id.stack → id.stack ≡ p.stack
+    → IfSome given (λ g. IsByHead rows key moment p g out)
+
+-- what was made of the rows of ports
 abbrev pub AllMade : List PortRows → List Edits → Type 0
 AllMade [] [] = Unit {0}
 AllMade [] (e ∷ es) = ⊥

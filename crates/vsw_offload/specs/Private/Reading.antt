@@ -1,7 +1,8 @@
 -- The steps of reading a rows file.
-use Rattle.std.specs.Prelude.{◌≤◌, ℕ, List, [], ◌∷◌, Bool, true}
-use Rattle.vsw_offload.specs.Bad.{Begins, IsNewAt, Rows, text_of}
+use Rattle.std.specs.Prelude.{◌≤◌, ◌<◌, ◌+◌, ℕ, List, [], ◌∷◌, Bool, true, length, Result, OnOk, IfErr, ⊤}
+use Rattle.vsw_offload.specs.Bad.{Begins, IsBadRows, IsNewAt, Rows, text_of}
 use Rattle.vsw_offload.specs.Rows.{IsPortRows, is_before}
+use Rattle.vsw_offload.specs.declared.fault.BadRows.{BadRows}
 use Rattle.vsw_offload.specs.declared.port_rows.PortRows.{PortRows}
 
 -- a port with these rows
@@ -14,6 +15,15 @@ pub record HasRows (bytes : List ℕ) (at count : ℕ) (ps : List PortRows) (p :
   pub new : IsNewAt count ps p.port p.mac
   pub is : IsPortRows p
   pub few : rows ≤ 16384
+
+-- where fewer rows of a port were read than are told, one more is read at this place, or what is at fault with it is at fault with the file
+abbrev pub ReadsRow : List ℕ → ℕ → (old new : List (List ℕ)) → Result ⊤ BadRows → Type 0
+ReadsRow bytes at old new r = (count : ℕ) (ps : List PortRows) (port mac entries told : ℕ) → HasRows bytes at count ps (port_of port mac entries old) told → length old < told
+    → OnOk r (HasRows bytes (at + 584) count ps (port_of port mac entries new) told)
+
+abbrev pub RefusesRow : List ℕ → ℕ → List (List ℕ) → Result ⊤ BadRows → Type 0
+RefusesRow bytes at old r = (count : ℕ) (ps : List PortRows) (port mac entries told : ℕ) → HasRows bytes at count ps (port_of port mac entries old) told → length old < told
+    → IfErr r (λ why. IsBadRows bytes why)
 
 -- the words come behind the last of these rows
 abbrev pub is_next : List (List ℕ) → List ℕ → Bool

@@ -6,8 +6,11 @@ use Rattle.vsw_base.specs.declared.fate.Verdict.TheVariants as verdict
 use Rattle.vsw_base.specs.declared.header.Header.{Header}
 use Rattle.vsw_base.specs.Frame.{Parts}
 use Rattle.vsw_frame.specs.Bytes.{outgoing}
+use Rattle.vsw_offload.specs.Answered.{bytes_by, bytes_told, fate_by}
+use Rattle.vsw_offload.specs.declared.answer.Given.{Given}
 use Rattle.vsw_rows.specs.Good.{Row}
 use Rattle.vsw_rows.specs.Rows.{Says}
+use Rattle.vsw_transpose.specs.declared.act.Act.{Act}
 use Rattle.vsw_transpose.specs.Fits as fit
 use Rattle.vsw_words.specs.Doing.{AreOf}
 
@@ -25,3 +28,14 @@ pub record SaysRow (words : List ℕ) (r : Row) (p : Parts) : Type 0 where
 abbrev pub bytes_with : Parts → List Header → ℕ → Fate → List ℕ
 bytes_with p edited kept (Pass len) = outgoing p edited kept
 bytes_with p edited kept (Drop why) = []
+
+-- the bytes of what was given a frame are those that these acts leave of it
+abbrev pub AreBytesBy : List Act → Parts → Given → List ℕ → Type 0
+AreBytesBy acts p g out = bytes_told g.own p g.fate out ≡ bytes_by acts p g.fate
+
+-- the fate is that of a frame which passes by the acts of these words, and so are the bytes
+abbrev pub IsFateOfPass : List ℕ → Parts → Fate → Type 0
+IsFateOfPass words p fate = (by : List Act) (until : ℕ) → AreOf words verdict.Pass by until → fit.fits by p.stack ≡ true → fate ≡ fate_by by p verdict.Pass
+
+abbrev pub AreBytesOfPass : List ℕ → Parts → Given → List ℕ → Type 0
+AreBytesOfPass words p g out = (by : List Act) (until : ℕ) → AreOf words verdict.Pass by until → fit.fits by p.stack ≡ true → AreBytesBy by p g out

@@ -1,19 +1,30 @@
 -- What the ports of a switch do: calls, one after the other. Each is the next on its port's history.
-use Rattle.std.specs.Prelude.{◌≡◌, ◌<◌, ℕ, zero, suc, List, [], ◌∷◌, ◌++◌, filter, length, map, true, ◌==◌}
+use Rattle.std.specs.Prelude.{◌≡◌, ◌<◌, ℕ, zero, suc, List, [], ◌∷◌, ◌++◌, filter, length, map, not, true, ◌==◌, Result}
+use Rattle.vsw_answer.specs.Transit.{bytes_in}
+use Rattle.vsw_base.specs.declared.flow.Crossing.{Crossing}
+use Rattle.vsw_base.specs.Frame.{Parts}
 use Rattle.vsw_commandfile.specs.declared.line.Line.{Line}
 use Rattle.vsw_hairpin.specs.Handing.{HasHanded, with_hops}
-use Rattle.vsw_port.specs.Calls.{Call, Job, Carry, Ask, job_of, entries_of}
+use Rattle.vsw_port.specs.Calls.{Call, Carried, Job, Carry, Ask, job_of, entries_of}
 use Rattle.vsw_port.specs.Next.{IsNext}
 use Rattle.vsw_port.specs.Order.{ascending}
+use Rattle.vsw_port.specs.declared.crossing.Outcome.{Outcome}
 use Rattle.vsw_report.specs.Line.{TextLine, text_of}
+use Rattle.vsw_pcap.specs.declared.batch.Captured.{Captured}
 use Rattle.vsw_pcap.specs.declared.capture.Record.{Record}
 use Rattle.vsw_policy.specs.Layers.{place_of}
+use Rattle.vsw_policy.specs.Obey.{is_memory}
+use Rattle.vsw_policy.specs.Refusals.{reply_of}
 use Rattle.vsw_policy.specs.Sound.{is_listed}
-use Rattle.vsw_promise.specs.Jobs.{Placed, aim_of, loose_after, placed_packet}
+use Rattle.vsw_policy.specs.declared.refusal.Refusal.{Refusal}
+use Rattle.vsw_promise.specs.Jobs.{Placed, aim_of, handed_on, loose_after, placed_packet, second_job}
 use Rattle.vsw_promise.specs.Told.{by_of, line_of, what_of}
 use Rattle.vsw_report.specs.declared.round.Loose.{Loose}
 use Rattle.vsw_report.specs.declared.told.By.{By}
 use Rattle.vsw_report.specs.declared.told.By.TheVariants.{Worker, Controller}
+use Rattle.vsw_report.specs.declared.told.ToldLine.{ToldLine}
+use Rattle.vsw_report.specs.declared.told.What.{What}
+use Rattle.vsw_report.specs.declared.told.What.TheVariants as what
 use Rattle.vsw_switch.specs.Switch.{PortNow, SwitchNow}
 use Rattle.vsw_switch.specs.Tally.{counted_in}
 
@@ -33,6 +44,21 @@ told_workers (Controller c) line workers = workers
 abbrev pub told_controllers : List ℕ → By → TextLine → List (List TextLine) → List (List TextLine)
 told_controllers cs (Worker n) line controllers = controllers
 told_controllers cs (Controller c) line controllers = told_at (place_of c (ascending cs)) line controllers
+
+-- what is told of a packet with this outcome: its bytes are its frame's own, or those at the front of a room
+abbrev pub fate_told : Outcome → Parts → List ℕ → What
+fate_told o p out = what.Fate o.fate (bytes_in o.own p o.fate out)
+
+-- the line in which its worker tells it, and the one in which a controller tells the answer to its command
+abbrev pub packet_line : Crossing → Parts → Outcome → List ℕ → ℕ → ToldLine
+packet_line x p o out count = record { by = Worker x.caller; item = x.packet; entry = o.entry; count = count; what = fate_told o p out }
+
+abbrev pub reply_line : Line → Result (Unit {0}) Refusal → ℕ → ToldLine
+reply_line l answer count = record { by = Controller l.controller; item = l.number; entry = not (is_memory answer); count = count; what = what.Reply (reply_of answer) }
+
+-- the call of a packet with this outcome
+abbrev pub packet_call : Crossing → Parts → Outcome → List ℕ → ℕ → Call
+packet_call x p o out count = record { deed = Carried x p o.fate (bytes_in o.own p o.fate out); entry = o.entry; count = count }
 
 -- a port after a call: its history has the entry, if it is one, its caller the line, and its tally what became of the packet
 abbrev pub with_call : Call → PortNow → PortNow
@@ -107,6 +133,10 @@ pub record HandsOn (macs : List ℕ) (jobs : List Placed) (ps qs : List PortNow)
   pub does : DoesAll (with_hops jobs hops) ps qs
   pub handed : AreHanded macs does.calls jobs hops
 
+-- the jobs of a packet, of which this is told at the port at a place, for what it is handed on as from there
+abbrev pub second_jobs : List ℕ → Crossing → ℕ → What → List Placed
+second_jobs macs x from w = map (second_job x.caller x.packet x.moment) (handed_on macs (record { port = from; dir = x.id.dir }) w)
+
 -- the addresses and the numbers of the ports
 abbrev pub macs_in : SwitchNow → List ℕ
 macs_in s = map (λ p. p.mac) s.ports
@@ -135,6 +165,10 @@ placed_line numbers l = (place_of l.port numbers, Ask l)
 -- a command was asked of its port
 abbrev pub Asks : SwitchNow → Line → SwitchNow → Type 0
 Asks s l t = Works s (placed_line (numbers_in s) l ∷ []) t
+
+-- the record that a batch lends
+abbrev pub captured_of : Captured → Record
+captured_of c = record { moment = c.moment; original = c.original; bytes = c.bytes.now }
 
 -- packet n went to its port, and on to another if it was handed on, or it is loose
 abbrev pub Forwards : SwitchNow → ℕ → Record → SwitchNow → Type 0

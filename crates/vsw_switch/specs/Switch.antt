@@ -1,6 +1,7 @@
 -- The ports of a run: how they stand between two rounds, and in the midst of one.
-use Rattle.std.specs.Prelude.{◌≡◌, ◌≤◌, ◌<◌, ℕ, List, [], ◌∷◌, length, map, true}
+use Rattle.std.specs.Prelude.{◌≡◌, ◌≤◌, ◌<◌, ℕ, Bool, List, [], ◌∷◌, length, map, true}
 use Rattle.vsw_commandfile.specs.declared.line.Line.{Line}
+use Rattle.vsw_config.specs.declared.file.PolicyFile.{PolicyFile}
 use Rattle.vsw_hairpin.specs.Handing.{locals_of}
 use Rattle.vsw_port.specs.declared.event.Event.{Event}
 use Rattle.vsw_port.specs.History.{Opening, AllRight}
@@ -70,3 +71,12 @@ pub record IsServed (now : SwitchNow) (l : Line) : Type 0 where
 
 abbrev pub AreServed : SwitchNow → List Line → Type 0
 AreServed now ls = Each (IsServed now) ls
+
+-- the switch of a policy before the first round, whatever its commands are
+abbrev pub IsOpened : ℕ → PolicyFile → Bool → SwitchNow → Type 0
+IsOpened workers file local now = (commands : List Line) → IsAt (record { workers = workers; policy = file; commands = commands; local = local }) (map (λ p. []) (ports_of file)) now
+
+-- it can be asked all lines in which controllers of the policy ask its ports, and give good rules
+abbrev pub Serves : PolicyFile → SwitchNow → Type 0
+Serves file now = (lines : List Line) → Each (λ l. is_listed file.controllers l.controller ≡ true) lines → Each (λ l. is_listed (map (λ p. p.number) (ports_of file)) l.port ≡ true) lines
+    → Each (λ l. Each IsGoodRule (rules_given l.command)) lines → AreServed now lines

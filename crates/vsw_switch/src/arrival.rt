@@ -1,13 +1,13 @@
 //! A packet at its port, and at the one to which it is handed on.
 
 ghost use Rattle.std.specs.Prelude.{◌≡◌, ◌≤◌, ◌<◌, ◌∷◌, [], ℕ, IfOk, OnOk, length, map};
-ghost use Rattle.vsw_answer.specs.Transit.{bytes_in, len_of};
+ghost use Rattle.vsw_answer.specs.Transit.{len_of};
 ghost use Rattle.vsw_frame.specs.Frame.{parts};
 ghost use Rattle.vsw_policy.specs.Sound.{Each};
-ghost use Rattle.vsw_port.specs.Calls.{Carried, Carry};
-ghost use Rattle.vsw_promise.specs.Jobs.{crossing_by, handed_on, second_job, worker_of};
+ghost use Rattle.vsw_port.specs.Calls.{Carry};
+ghost use Rattle.vsw_promise.specs.Jobs.{crossing_by, worker_of};
 ghost use Rattle.vsw_report.specs.declared.told.What.TheVariants as what;
-ghost use Rattle.vsw_switch.specs.Does.{DoesAll, HandsOn, MakesAt};
+ghost use Rattle.vsw_switch.specs.Does.{DoesAll, HandsOn, MakesAt, captured_of, fate_told, packet_call, second_jobs};
 ghost use Rattle.vsw_switch.specs.Stay.{Arrives, standing};
 
 use crate::live::Live;
@@ -35,7 +35,7 @@ fn carry_at<G: Watch>(
 ) -> Result<Outcome, NoMemory>
     requires callers { Each (λ p. caller < length p.workers) ports.old.items }
     requires within { place.port < length ports.old.items }
-    ensures makes { IfOk result (λ o. (count : ℕ) × MakesAt place.port (record { deed = Carried rooms.new.crossing (parts frame.now) o.fate (bytes_in o.own (parts frame.now) o.fate rooms.new.room); entry = o.entry; count = count }) ports.old.items ports.new.items) }
+    ensures makes { IfOk result (λ o. (count : ℕ) × MakesAt place.port (packet_call rooms.new.crossing (parts frame.now) o rooms.new.room count) ports.old.items ports.new.items) }
     ensures crossing { rooms.new.crossing ≡ crossing_by caller packet place moment (parts frame.now) }
     ensures len { IfOk result (λ o. len_of o.fate ≤ 65700) }
     ensures stays { map standing ports.new.items ≡ map standing ports.old.items }
@@ -60,7 +60,7 @@ fn receive<G: Watch>(
     requires callers { Each (λ p. first.now.caller < length p.workers) ports.old.items }
     requires few { length locals.now ≤ 16 }
     requires within { length locals.now ≤ length ports.old.items }
-    ensures does { OnOk result (DoesAll (map (second_job first.now.caller first.now.packet first.now.moment) (handed_on locals.now (record { port = from; dir = first.now.id.dir }) (what.Fate fate bytes.now))) ports.old.items ports.new.items) }
+    ensures does { OnOk result (DoesAll (second_jobs locals.now first.now from (what.Fate fate bytes.now)) ports.old.items ports.new.items) }
     ensures stays { map standing ports.new.items ≡ map standing ports.old.items }
 {
     let left = Place {
@@ -102,7 +102,7 @@ fn hand<G: Watch>(
     requires few { length locals.now ≤ 16 }
     requires within { length locals.now ≤ length ports.old.items }
     requires len { len_of outcome.fate ≤ 65700 }
-    ensures does { OnOk result (DoesAll (map (second_job first.now.caller first.now.packet first.now.moment) (handed_on locals.now (record { port = from; dir = first.now.id.dir }) (what.Fate outcome.fate (bytes_in outcome.own (parts frame.now) outcome.fate room.now)))) ports.old.items ports.new.items) }
+    ensures does { OnOk result (DoesAll (second_jobs locals.now first.now from (fate_told outcome (parts frame.now) room.now)) ports.old.items ports.new.items) }
     ensures stays { map standing ports.new.items ≡ map standing ports.old.items }
 {
     let bytes = bytes_of(outcome.fate, outcome.own, frame, room);
@@ -169,7 +169,7 @@ pub(crate) fn arrive<G: Watch>(
     requires macs { macs.now ≡ map (λ p. p.mac) ports.old.items }
     requires few { length macs.now ≤ 16 }
     requires locals { length locals.now ≤ length macs.now }
-    ensures arrives { IfOk result (λ loose. Arrives workers packet locals.now macs.now (record { moment = captured.now.moment; original = captured.now.original; bytes = captured.now.bytes.now }) ports.old.items ports.new.items loose) }
+    ensures arrives { IfOk result (λ loose. Arrives workers packet locals.now macs.now (captured_of captured.now) ports.old.items ports.new.items loose) }
     ensures stays { map standing ports.new.items ≡ map standing ports.old.items }
 {
     if captured.bytes.len() < captured.original as usize {

@@ -5,11 +5,8 @@ ghost use Rattle.vsw_commandfile.specs.declared.line.Line.{Line};
 ghost use Rattle.vsw_frame.specs.Frame.{parts};
 ghost use Rattle.vsw_report.specs.Line.{text_of};
 ghost use Rattle.vsw_policy.specs.Obey.{is_memory};
-ghost use Rattle.vsw_policy.specs.Refusals.{reply_of};
-ghost use Rattle.vsw_report.specs.declared.told.By.TheVariants as by;
-ghost use Rattle.vsw_report.specs.declared.told.What.TheVariants as what;
-ghost use Rattle.vsw_switch.specs.Does.{told_at};
-ghost use Rattle.vsw_answer.specs.Transit.{bytes_in, len_of};
+ghost use Rattle.vsw_switch.specs.Does.{packet_line, reply_line, told_at};
+ghost use Rattle.vsw_answer.specs.Transit.{len_of};
 
 use std::alloc::Global;
 use vsw_answer::{Answer, Room, Watch, Why, bytes_of};
@@ -44,7 +41,7 @@ pub(crate) fn tell_packet(
 ) -> Result<(), NoMemory>
     requires worker { crossing.now.caller < length workers.old.items }
     requires len { len_of outcome.fate ≤ 65700 }
-    ensures told { OnOk result (workers.new.items ≡ told_at crossing.now.caller (text_of (record { by = by.Worker crossing.now.caller; item = crossing.now.packet; entry = outcome.entry; count = count; what = what.Fate outcome.fate (bytes_in outcome.own (parts frame.now) outcome.fate room.now) })) workers.old.items) }
+    ensures told { OnOk result (workers.new.items ≡ told_at crossing.now.caller (text_of (packet_line crossing.now (parts frame.now) outcome room.now count)) workers.old.items) }
     ensures stays { length workers.new.items ≡ length workers.old.items }
 {
     let bytes = bytes_of(outcome.fate, outcome.own, frame, room);
@@ -80,7 +77,7 @@ pub(crate) fn tell_reply(
     answer: Result<(), Refusal>,
 ) -> Result<(), NoMemory>
     requires place { place < length controllers.old.items }
-    ensures told { OnOk result (controllers.new.items ≡ told_at place (text_of (record { by = by.Controller line.now.controller; item = line.now.number; entry = not (is_memory answer); count = count; what = what.Reply (reply_of answer) })) controllers.old.items) }
+    ensures told { OnOk result (controllers.new.items ≡ told_at place (text_of (reply_line line.now answer count)) controllers.old.items) }
     ensures stays { length controllers.new.items ≡ length controllers.old.items }
 {
     let entry = is_entry(answer);

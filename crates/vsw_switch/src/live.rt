@@ -2,16 +2,16 @@
 
 ghost use Rattle.std.specs.Prelude.{◌≡◌, ◌≤◌, ◌<◌, ◌-◌, ◌^◌, ◌++◌, nat_lt, IfOk, OnOk, length, true};
 ghost use Rattle.vsw_frame.specs.Frame.{parts};
-ghost use Rattle.vsw_port.specs.Calls.{Ask, Carried};
+ghost use Rattle.vsw_port.specs.Calls.{Ask};
 ghost use Rattle.vsw_policy.specs.Obey.{rules_given};
 ghost use Rattle.vsw_policy.specs.Sound.{Each, IsGoodRule, is_listed};
 ghost use Rattle.vsw_promise.specs.Ports.{port_seen};
 ghost use Rattle.vsw_report.specs.Whole.{whole_text};
 ghost use Rattle.vsw_switch.specs.Close.{IsCounted, begun, is_short_now, text_now};
-ghost use Rattle.vsw_switch.specs.Does.{Does, Makes};
+ghost use Rattle.vsw_switch.specs.Does.{Does, Makes, packet_call};
 ghost use Rattle.vsw_switch.specs.Export.{Gives};
 ghost use Rattle.vsw_switch.specs.Stay.{CanOpen, port_at_first, standing};
-ghost use Rattle.vsw_answer.specs.Transit.{IsOfFrame, bytes_in, len_of};
+ghost use Rattle.vsw_answer.specs.Transit.{IsOfFrame, len_of};
 
 use crate::callers::{callers, tell_packet, tell_reply, tell_watch};
 use crate::numbers::place_of;
@@ -149,7 +149,7 @@ impl Live {
     ) -> Result<Outcome, NoMemory>
         requires worker { crossing.now.caller < length self.old.workers }
         requires of { IsOfFrame crossing.now (parts frame.now) }
-        ensures makes { IfOk result (λ o. Makes self.old (record { deed = Carried crossing.now (parts frame.now) o.fate (bytes_in o.own (parts frame.now) o.fate room.new); entry = o.entry; count = length self.old.journal }) self.new) }
+        ensures makes { IfOk result (λ o. Makes self.old (packet_call crossing.now (parts frame.now) o room.new (length self.old.journal)) self.new) }
         ensures len { IfOk result (λ o. len_of o.fate ≤ 65700) }
         ensures stays { standing self.new ≡ standing self.old }
     {

@@ -12,10 +12,10 @@ ghost use Rattle.vsw_promise.specs.Jobs.{Setting};
 ghost use Rattle.vsw_promise.specs.Ports.{port_seen, ports_of};
 ghost use Rattle.vsw_report.specs.Whole.{whole_text};
 ghost use Rattle.vsw_switch.specs.Close.{AreCounted, IsCounted, begun, entries_in, is_short_now, last_of, next_round, round_now, text_now};
-ghost use Rattle.vsw_switch.specs.Does.{Asks, DoesAll, Forwards, numbers_in};
+ghost use Rattle.vsw_switch.specs.Does.{Asks, DoesAll, Forwards, captured_of, numbers_in};
 ghost use Rattle.vsw_switch.specs.Export.{GivesAt, HasRowsAt};
 ghost use Rattle.vsw_switch.specs.Stay.{ArePorts, CanOpen, port_at_first, standing};
-ghost use Rattle.vsw_switch.specs.Switch.{AreServed, IsAt, IsServed, SwitchNow};
+ghost use Rattle.vsw_switch.specs.Switch.{AreServed, IsAt, IsOpened, IsServed, Serves, SwitchNow};
 
 use crate::arrival::arrive;
 use crate::live::Live;
@@ -196,8 +196,8 @@ impl Switch {
         requires good { IsGoodPolicy file.now }
         requires some { 0 < workers }
         requires few { workers ≤ 16 }
-        ensures opens { IfOk result (λ switch. (commands : List Line) → IsAt (record { workers = workers; policy = file.now; commands = commands; local = local }) (map (λ p. []) (ports_of file.now)) switch) }
-        ensures served { IfOk result (λ switch. (lines : List Line) → Each (λ l. is_listed file.now.controllers l.controller ≡ true) lines → Each (λ l. is_listed (map (λ p. p.number) (ports_of file.now)) l.port ≡ true) lines → Each (λ l. Each IsGoodRule (rules_given l.command)) lines → AreServed switch lines) }
+        ensures opens { IfOk result (λ switch. IsOpened workers file.now local switch) }
+        ensures served { IfOk result (λ switch. Serves file.now switch) }
     {
         let made = ports_of(alloc, file)?;
         let macs = macs(alloc, made.as_slice())?;
@@ -225,8 +225,8 @@ impl Switch {
         requires good { IsGoodPolicy file.now }
         requires some { 0 < workers }
         requires few { workers ≤ 16 }
-        ensures opens { IfOk result (λ switch. (commands : List Line) → IsAt (record { workers = workers; policy = file.now; commands = commands; local = local }) (map (λ p. []) (ports_of file.now)) switch) }
-        ensures served { IfOk result (λ switch. (lines : List Line) → Each (λ l. is_listed file.now.controllers l.controller ≡ true) lines → Each (λ l. is_listed (map (λ p. p.number) (ports_of file.now)) l.port ≡ true) lines → Each (λ l. Each IsGoodRule (rules_given l.command)) lines → AreServed switch lines) }
+        ensures opens { IfOk result (λ switch. IsOpened workers file.now local switch) }
+        ensures served { IfOk result (λ switch. Serves file.now switch) }
     {
         Switch::open_with(alloc, workers, file, local, Keeping::WhereCheaper)
     }
@@ -241,8 +241,8 @@ impl Switch {
         requires good { IsGoodPolicy file.now }
         requires some { 0 < workers }
         requires few { workers ≤ 16 }
-        ensures opens { IfOk result (λ switch. (commands : List Line) → IsAt (record { workers = workers; policy = file.now; commands = commands; local = local }) (map (λ p. []) (ports_of file.now)) switch) }
-        ensures served { IfOk result (λ switch. (lines : List Line) → Each (λ l. is_listed file.now.controllers l.controller ≡ true) lines → Each (λ l. is_listed (map (λ p. p.number) (ports_of file.now)) l.port ≡ true) lines → Each (λ l. Each IsGoodRule (rules_given l.command)) lines → AreServed switch lines) }
+        ensures opens { IfOk result (λ switch. IsOpened workers file.now local switch) }
+        ensures served { IfOk result (λ switch. Serves file.now switch) }
     {
         Switch::open_with(alloc, workers, file, local, Keeping::Always)
     }
@@ -265,7 +265,7 @@ impl Switch {
         packet: u32,
         captured: &Captured<'_>,
     ) -> Result<(), NoMemory>
-        ensures forwards { OnOk result (Forwards self.old packet (record { moment = captured.now.moment; original = captured.now.original; bytes = captured.now.bytes.now }) self.new) }
+        ensures forwards { OnOk result (Forwards self.old packet (captured_of captured.now) self.new) }
         ensures served { (lines : List Line) → AreServed self.old lines → AreServed self.new lines }
     {
         let macs = self.macs.as_slice();

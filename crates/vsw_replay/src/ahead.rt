@@ -4,16 +4,15 @@ ghost use Rattle.std.specs.Prelude.{◌≡◌, ◌<◌, ◌≤◌, ◌+◌, ◌^
 ghost use Rattle.std.specs.Arc.{arc_value};
 ghost use Rattle.vsw_crew.specs.Crew.{crew_now};
 ghost use Rattle.vsw_crew.specs.Shift.{HasNoneBeside, IsPicked, Owes};
-ghost use Rattle.vsw_crew.specs.Switch.{AreServed, SwitchNow};
+ghost use Rattle.vsw_crew.specs.Switch.{AreServed};
 ghost use Rattle.vsw_host.specs.Outside.{Outside, SameInputs};
-ghost use Rattle.vsw_pcap.specs.declared.capture.Record.{Record};
 ghost use Rattle.vsw_promise.specs.Jobs.{Setting};
 ghost use Rattle.vsw_reading.specs.Reads.{IsOpen};
 ghost use Rattle.vsw_reading.specs.declared.reading.Stop.TheVariants.{Full};
 ghost use Rattle.vsw_report.specs.Whole.{whole_text};
-ghost use Rattle.vsw_replay.specs.Private.Ahead.{IsOwing, with_batch};
+ghost use Rattle.vsw_replay.specs.Private.Ahead.{with_batch};
 ghost use Rattle.vsw_replay.specs.Private.Going.{GoesOn, IsFilled, IsNear};
-ghost use Rattle.vsw_replay.specs.Private.Leading.{AheadSo, GoesAhead, IsFit, IsLeading, IsPickedFor, KeepsCrew, LeadsTo, Led, MayLead, MayOwe, OwesAt, Paid, SettlesSo, StaysBeside, StepsTo, left_by, with_round};
+ghost use Rattle.vsw_replay.specs.Private.Leading.{GoesMeanwhile, IsFit, IsLeading, IsPickedFor, KeepsCrew, LeadsTo, Led, MayLead, MayOwe, OwesAt, Paid, ReadsMeanwhile, Settles, StaysBeside, StepsTo, with_round};
 ghost use Rattle.vsw_replay.specs.declared.ending.TraceEnd.TheVariants.{Memory};
 ghost use Rattle.vsw_replay.specs.Private.Next.{in_batch};
 
@@ -207,7 +206,7 @@ fn settle<'c, 'g, J: Naming, G, H: Host>(
     owed: Option<Owed>,
 ) -> Result<(), TraceEnd>
     requires owes { MayOwe crew.old.harbour owed }
-    ensures settles { (s : Setting) (start : Outside) (name : List ℕ) (packets : List Record) (switch : SwitchNow) (t : Stretch) → IsOwing s start (H.outside host.old) name (with_batch run.old packets) switch (left_by crew.old.harbour owed) t → SettlesSo s start (H.outside host.new) name (with_batch run.new packets) switch t result }
+    ensures settles { Settles crew.old.harbour owed (H.outside host.old) run.old (H.outside host.new) run.new result }
     ensures inputs { SameInputs (H.outside host.old) (H.outside host.new) }
     ensures crew { crew.new ≡ crew.old }
     ensures reading { run.new.reading ≡ run.old.reading }
@@ -235,7 +234,7 @@ fn read_meanwhile<'c, 'g, J: Naming, G: Gate + Watch, R: Wait + Clock, H: Host>(
     requires near { IsOpen (H.outside host.old) (in_batch run.old.reading []) }
     requires low { stretch.next < 1048576 }
     requires full { stretch.stop ≡ Full }
-    ensures ahead { (s : Setting) (start : Outside) (name : List ℕ) (packets : List Record) (switch : SwitchNow) → s.commands ≡ schedule.now → 0 < length packets → IsOwing s start (H.outside host.old) name (with_batch run.old packets) switch (left_by crew.old.harbour owed) stretch → AheadSo s start (H.outside host.new) name run.new switch stretch.first packets result }
+    ensures ahead { ReadsMeanwhile schedule.now crew.old.harbour owed stretch (H.outside host.old) run.old (H.outside host.new) run.new result }
     ensures near { IfOk result (λ next. IsNear (H.outside host.new) run.new next) }
     ensures first { IfOk result (λ next. next.first ≡ stretch.next) }
     ensures crew { crew.new ≡ crew.old }
@@ -284,7 +283,7 @@ impl<'a, 'c, 'g, J: Naming, G: Gate + Watch> Ahead<'a, 'c, 'g, J, G> {
         requires near { IsOpen (H.outside host.old) (in_batch self.old.run.reading []) }
         requires low { self.old.stretch.next < 1048576 }
         requires full { self.old.stretch.stop ≡ Full }
-        ensures ahead { (s : Setting) (start : Outside) (name : List ℕ) (packets : List Record) (switch : SwitchNow) → s.commands ≡ self.old.schedule.now → 0 < length packets → IsOwing s start (H.outside host.old) name (with_batch self.old.run packets) switch (left_by self.old.crew.harbour self.old.owed) self.old.stretch → GoesAhead s start (H.outside host.new) name self.new switch self.old.stretch.first packets result }
+        ensures ahead { GoesMeanwhile (H.outside host.old) self.old (H.outside host.new) self.new result }
         ensures near { OnOk result (IsNear (H.outside host.new) (with_round self.new.run self.new.picked) self.new.stretch) }
         ensures picked { OnOk result (IsPickedFor self.new.crew.harbour self.new.schedule.now (with_round self.new.run self.new.picked) self.new.stretch self.new.picked) }
         ensures first { OnOk result (self.new.stretch.first ≡ self.old.stretch.next) }

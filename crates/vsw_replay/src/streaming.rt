@@ -1,18 +1,15 @@
 //! The thread that leads where packets are handed over as they are read: it reads them, and the workers carry them in threads that stay.
 
 ghost use Rattle.std.specs.Prelude.{◌≡◌, ◌<◌, ◌≤◌, ◌+◌, ℕ, [], List, length, Ok, IfOk, IfSome, OnOk};
-ghost use Rattle.vsw_commandfile.specs.declared.line.Line.{Line};
-ghost use Rattle.vsw_crew.specs.Crew.{CrewSeen, crew_now};
+ghost use Rattle.vsw_crew.specs.Crew.{crew_now};
 ghost use Rattle.vsw_crew.specs.Shift.{HasNoneBeside};
-ghost use Rattle.vsw_crew.specs.StreamShares.{StreamSeen};
-ghost use Rattle.vsw_crew.specs.Streams.{IsFeeding};
 ghost use Rattle.vsw_crew.specs.Switch.{AreServed, SwitchNow};
 ghost use Rattle.vsw_host.specs.Outside.{Outside};
 ghost use Rattle.vsw_promise.specs.Jobs.{Setting};
 ghost use Rattle.vsw_reading.specs.declared.reading.Stop.TheVariants.{Full};
-ghost use Rattle.vsw_replay.specs.Private.Begun.{AddsTo, FilledSo, IsNearBegun, IsPart, NearTurn, PartNear, PartSo, TurnsTo};
+ghost use Rattle.vsw_replay.specs.Private.Begun.{AddsTo, FilledSo, IsNearBegun, IsPart, NearTurn, PartNear, PartSo};
 ghost use Rattle.vsw_replay.specs.Private.Going.{IsNear};
-ghost use Rattle.vsw_replay.specs.Private.Streaming.{CarriesSo, FeedsSo, HasToFeed, IsFeedingBut, IsToStream, KeepsLead, MayStream, StreamsTo};
+ghost use Rattle.vsw_replay.specs.Private.Streaming.{Carries, FeedsAll, FeedsOne, HasToFeed, IsToStream, KeepsLead, LeadTurns, MayStream, Streams, StreamsTo, Turns};
 
 use crate::ahead::{is_quiet, pay};
 use crate::begun::{Turn, follow, held, read_one};
@@ -70,7 +67,7 @@ fn feed_next<'c, 'g, J: Naming, G: Gate + Watch, H: Host>(
     requires near { IsNear (H.outside host.old) run.old begun }
     requires full { begun.stop ≡ Full }
     requires room { begun.first + length run.old.reading.batch ≤ begun.next }
-    ensures feeds { IfOk result (λ stop. (c : CrewSeen) (lines : List Line) (first : ℕ) (out : List StreamSeen) → c.harbour ≡ crew.now.harbour → IsFeedingBut c lines first run.old.reading.batch feeding.old out → FeedsSo c lines first run.new.reading.batch feeding.new out stop) }
+    ensures feeds { IfOk result (λ stop. FeedsOne crew.now.harbour run.old.reading.batch feeding.old run.new.reading.batch feeding.new stop) }
     ensures goes { (s : Setting) (start : Outside) (name : List ℕ) (switch : SwitchNow) → IsPart s start (H.outside host.old) name run.old switch begun.first begun.next → PartSo s start (H.outside host.new) name run.new switch begun result }
     ensures near { IfOk result (λ stop. PartNear (H.outside host.new) run.new begun stop) }
     ensures adds { IfOk result (λ stop. AddsTo run.old.reading.batch run.new.reading.batch stop) }
@@ -104,7 +101,7 @@ fn feed_round<'c, 'g, J: Naming, G: Gate + Watch, H: Host>(
     requires near { IsNear (H.outside host.old) run.old begun }
     requires full { begun.stop ≡ Full }
     requires room { begun.first + length run.old.reading.batch ≤ begun.next }
-    ensures feeds { IfOk result (λ t. (c : CrewSeen) (lines : List Line) (first : ℕ) (out : List StreamSeen) → c.harbour ≡ crew.now.harbour → IsFeedingBut c lines first run.old.reading.batch feeding.old out → IsFeeding c lines first run.new.reading.batch feeding.new out) }
+    ensures feeds { IfOk result (λ t. FeedsAll crew.now.harbour run.old.reading.batch feeding.old run.new.reading.batch feeding.new) }
     ensures goes { (s : Setting) (start : Outside) (name : List ℕ) (switch : SwitchNow) → IsPart s start (H.outside host.old) name run.old switch begun.first begun.next → FilledSo s start (H.outside host.new) name run.new switch result }
     ensures near { IfOk result (λ t. IsNear (H.outside host.new) run.new t) }
     ensures first { IfOk result (λ t. t.first ≡ begun.first) }
@@ -140,7 +137,7 @@ impl<'a, 'c, 'g, J: Naming, G: Gate + Watch> Streaming<'a, 'c, 'g, J, G> {
         requires near { IsNearBegun (H.outside host.old) self.old.run begun }
         requires full { begun.stop ≡ Full }
         requires quiet { HasNoneBeside self.old.schedule.now begun.first }
-        ensures goes { (s : Setting) (start : Outside) (name : List ℕ) → s.commands ≡ self.old.schedule.now → IsPart s start (H.outside host.old) name self.old.run (crew_now self.old.crew) begun.first begun.next → CarriesSo s start (H.outside host.new) name self.new.run (crew_now self.new.crew) result }
+        ensures goes { Carries begun (H.outside host.old) self.old (H.outside host.new) self.new result }
         ensures near { IfOk result (λ t. IsNear (H.outside host.new) self.new.run t) }
         ensures served { OnOk result (AreServed (crew_now self.new.crew) self.old.schedule.now) }
         ensures same { KeepsLead self.old self.new }
@@ -185,7 +182,7 @@ impl<'a, 'c, 'g, J: Naming, G: Gate + Watch> Streaming<'a, 'c, 'g, J, G> {
         requires near { IsNearBegun (H.outside host.old) self.old.run begun }
         requires full { begun.stop ≡ Full }
         requires quiet { HasNoneBeside self.old.schedule.now begun.first }
-        ensures goes { (s : Setting) (start : Outside) (name : List ℕ) → s.commands ≡ self.old.schedule.now → IsPart s start (H.outside host.old) name self.old.run (crew_now self.old.crew) begun.first begun.next → TurnsTo s start (H.outside host.new) name self.new.run (crew_now self.new.crew) result }
+        ensures goes { Streams begun (H.outside host.old) self.old (H.outside host.new) self.new result }
         ensures near { IfOk result (λ turn. NearTurn (H.outside host.new) self.new.run turn) }
         ensures served { OnOk result (AreServed (crew_now self.new.crew) self.old.schedule.now) }
         ensures same { KeepsLead self.old self.new }
@@ -211,7 +208,7 @@ impl<'a, 'c, 'g, J: Naming, G: Gate + Watch> Streaming<'a, 'c, 'g, J, G> {
         requires idle { pool.old ≡ [] }
         requires served { AreServed (crew_now self.old.crew) self.old.schedule.now }
         requires near { NearTurn (H.outside host.old) self.old.run first }
-        ensures goes { (s : Setting) (start : Outside) (name : List ℕ) → s.commands ≡ self.old.schedule.now → TurnsTo s start (H.outside host.old) name self.old.run (crew_now self.old.crew) (Ok first) → TurnsTo s start (H.outside host.new) name self.new.run (crew_now self.new.crew) result }
+        ensures goes { LeadTurns first (H.outside host.old) self.old (H.outside host.new) self.new result }
         ensures near { IfOk result (λ turn. NearTurn (H.outside host.new) self.new.run turn) }
         ensures served { OnOk result (AreServed (crew_now self.new.crew) self.old.schedule.now) }
         ensures same { KeepsLead self.old self.new }
@@ -293,7 +290,7 @@ pub(crate) fn run_streaming<
 ) -> (Crew<'c, 'g, J, G>, Run, Result<Turn, TraceEnd>)
     requires served { AreServed (crew_now crew) schedule.now }
     requires near { NearTurn (H.outside host.old) run turn }
-    ensures goes { (s : Setting) (start : Outside) (name : List ℕ) → s.commands ≡ schedule.now → TurnsTo s start (H.outside host.old) name run (crew_now crew.entry) (Ok turn) → TurnsTo s start (H.outside host.new) name result.1 (crew_now result.0) result.2 }
+    ensures goes { Turns schedule.now (H.outside host.old) run (crew_now crew.entry) (Ok turn) (H.outside host.new) result.1 (crew_now result.0) result.2 }
     ensures near { IfOk result.2 (λ t. NearTurn (H.outside host.new) result.1 t) }
     ensures served { OnOk result.2 (AreServed (crew_now result.0) schedule.now) }
 {

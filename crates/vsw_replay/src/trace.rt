@@ -6,12 +6,11 @@ ghost use Rattle.vsw_port.specs.declared.event.Event.{Event};
 ghost use Rattle.vsw_host.specs.Outside.{Outside, SameInputs, SameOutputs};
 ghost use Rattle.vsw_promise.specs.Jobs.{Setting};
 ghost use Rattle.vsw_promise.specs.Ports.{ports_of};
-ghost use Rattle.vsw_pcap.specs.declared.capture.Record.{Record};
 ghost use Rattle.vsw_replay.specs.Private.Begun.{BeginsSo};
 ghost use Rattle.vsw_replay.specs.Private.Exporting.{IsEarly};
 ghost use Rattle.vsw_replay.specs.Private.Going.{IsFilled, IsBetween, IsPast, IsOpened, IsFirst, IsNear, IsTurn, PutsRound, PutsStretch, PutsNext, GoesOn, is_run_of, unheaded_of, clean_of};
-ghost use Rattle.vsw_replay.specs.Private.Next.{ReadsOn, in_batch};
-ghost use Rattle.vsw_reading.specs.Reads.{IsOpen, IsRead};
+ghost use Rattle.vsw_replay.specs.Private.Next.{ReadsFrom, in_batch};
+ghost use Rattle.vsw_reading.specs.Reads.{IsOpen};
 ghost use Rattle.vsw_replay.specs.Runs.{RunsTrace};
 ghost use Rattle.vsw_crew.specs.Switch.{AreServed, IsAt, SwitchNow};
 
@@ -237,7 +236,7 @@ pub(crate) fn read_on<H: Host>(
 ) -> Result<Stretch, NoMemory>
     requires near { IsOpen (H.outside host.old) (in_batch run.old.reading []) }
     requires few { first < 1048576 }
-    ensures reads { (start : Outside) (name : List ℕ) (bytes : List ℕ) (given : List Record) → IsRead start (H.outside host.old) name run.old.reading bytes given → 0 < length given → length given ≡ first → ReadsOn schedule.now start (H.outside host.new) name run.new.reading given result }
+    ensures reads { ReadsFrom schedule.now first (H.outside host.old) run.old.reading (H.outside host.new) run.new.reading result }
     ensures near { IfOk result (λ next. IsNear (H.outside host.new) run.new next) }
     ensures first { IfOk result (λ next. next.first ≡ first) }
     ensures text { run.new.text ≡ run.old.text }

@@ -70,10 +70,20 @@ abbrev pub SettlesSo : Setting → Outside → Outside → List ℕ → Run → 
 SettlesSo s start now name run switch t (Ok u) = IsOwing s start now name run switch none_left t
 SettlesSo s start now name run switch t (Err e) = RunsTrace s start now name e
 
+-- what is owed is settled, whichever packets are in the batch
+abbrev pub Settles : HarbourSeen → Option Owed → Outside → Run → Outside → Run → Result ⊤ TraceEnd → Type 0
+Settles h owed before old after new r = (s : Setting) (start : Outside) (name : List ℕ) (packets : List Record) (switch : SwitchNow) (t : Stretch) → IsOwing s start before name (with_batch old packets) switch (left_by h owed) t
+    → SettlesSo s start after name (with_batch new packets) switch t r
+
 -- the next round was read while one is out, or the run ended
 abbrev pub AheadSo : Setting → Outside → Outside → List ℕ → Run → SwitchNow → ℕ → List Record → Result Stretch TraceEnd → Type 0
 AheadSo s start now name run switch first packets (Ok t) = IsAhead s start now name run switch first packets t
 AheadSo s start now name run switch first packets (Err e) = RunsTrace s start now name e
+
+-- what is owed is settled, and the next round is read, whichever packets the round has that is out
+abbrev pub ReadsMeanwhile : List Line → HarbourSeen → Option Owed → Stretch → Outside → Run → Outside → Run → Result Stretch TraceEnd → Type 0
+ReadsMeanwhile lines h owed t before old after new r = (s : Setting) (start : Outside) (name : List ℕ) (packets : List Record) (switch : SwitchNow) → s.commands ≡ lines → 0 < length packets
+    → IsOwing s start before name (with_batch old packets) switch (left_by h owed) t → AheadSo s start after name new switch t.first packets r
 
 -- ---- the lead
 
@@ -118,6 +128,11 @@ pub record KeepsCrew {J G : Type 0} (old new : Ahead J G) : Type 0 where
 abbrev pub GoesAhead : {J G : Type 0} → Setting → Outside → Outside → List ℕ → Ahead J G → SwitchNow → ℕ → List Record → Result ⊤ TraceEnd → Type 0
 GoesAhead s start now name a switch first packets (Ok u) = IsAhead s start now name (with_round a.run a.picked) switch first packets a.stretch
 GoesAhead s start now name a switch first packets (Err e) = RunsTrace s start now name e
+
+-- the lead does so, whichever packets the round has that is out
+abbrev pub GoesMeanwhile : {J G : Type 0} → Outside → Ahead J G → Outside → Ahead J G → Result ⊤ TraceEnd → Type 0
+GoesMeanwhile before old after new r = (s : Setting) (start : Outside) (name : List ℕ) (packets : List Record) (switch : SwitchNow) → s.commands ≡ old.schedule.now → 0 < length packets
+    → IsOwing s start before name (with_batch old.run packets) switch (left_by old.crew.harbour old.owed) old.stretch → GoesAhead s start after name new switch old.stretch.first packets r
 
 -- the first round was read and run in no part, and nothing is owed
 pub record MayLead {J G : Type 0} (a : Ahead J G) (now : Outside) : Type 0 where

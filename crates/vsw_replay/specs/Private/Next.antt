@@ -1,11 +1,12 @@
 -- The next round, as it is read: nothing is said of rounds that were run or put.
-use Rattle.std.specs.Prelude.{ℕ, List, ◌++◌, length, Result, Ok, Err}
+use Rattle.std.specs.Prelude.{◌≡◌, ◌<◌, ℕ, List, ◌++◌, length, Result, Ok, Err}
 use Rattle.vsw_base.specs.declared.fault.NoMemory.{NoMemory}
 use Rattle.vsw_commandfile.specs.declared.line.Line.{Line}
 use Rattle.vsw_host.specs.Outside.{Outside}
 use Rattle.vsw_host.specs.Source.{IsReading}
 use Rattle.vsw_pcap.specs.declared.capture.Record.{Record}
 use Rattle.vsw_reading.specs.Passed.{IsPassed}
+use Rattle.vsw_reading.specs.Reads.{IsRead}
 use Rattle.vsw_reading.specs.declared.reading.Reading.{Reading}
 use Rattle.vsw_replay.specs.Private.Cut.{IsNextCut}
 use Rattle.vsw_replay.specs.Private.Going.{IsAsLong, ShowsStop}
@@ -33,3 +34,8 @@ pub record IsReadShort (start now : Outside) (name : List ℕ) (r : Reading) (gi
 abbrev pub ReadsOn : List Line → Outside → Outside → List ℕ → Reading → List Record → Result Stretch NoMemory → Type 0
 ReadsOn commands start now name r given (Ok t) = IsReadUpTo commands start now name r given t
 ReadsOn commands start now name r given (Err e) = IsReadShort start now name r given
+
+-- the round that begins with this packet, which is not the first, is read, whatever was read before it
+abbrev pub ReadsFrom : List Line → ℕ → Outside → Reading → Outside → Reading → Result Stretch NoMemory → Type 0
+ReadsFrom commands first before old after new r = (start : Outside) (name : List ℕ) (bytes : List ℕ) (given : List Record) → IsRead start before name old bytes given → 0 < length given → length given ≡ first
+    → ReadsOn commands start after name new given r

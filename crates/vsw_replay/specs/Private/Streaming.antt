@@ -19,7 +19,7 @@ use Rattle.vsw_replay.specs.declared.ending.TraceEnd.{TraceEnd}
 use Rattle.vsw_replay.specs.declared.streaming.Streaming.{Streaming}
 use Rattle.vsw_replay.specs.declared.trace.Run.{Run}
 use Rattle.vsw_replay.specs.declared.trace.Stretch.{Stretch}
-use Rattle.vsw_replay.specs.Private.Begun.{NearTurn, TurnsTo}
+use Rattle.vsw_replay.specs.Private.Begun.{IsPart, NearTurn, TurnsTo}
 use Rattle.vsw_replay.specs.Private.Going.{AfterPut}
 use Rattle.vsw_replay.specs.Runs.{RunsTrace}
 
@@ -46,6 +46,14 @@ abbrev pub FeedsSo : CrewSeen → List Line → ℕ → List Record → Feeding 
 FeedsSo c lines first packets f out None = IsFeedingBut c lines first packets f out
 FeedsSo c lines first packets f out (Some st) = IsFeeding c lines first packets f out
 
+-- the packet that was read last is handed over, whichever round it is of, and a further one is read, or none
+abbrev pub FeedsOne : HarbourSeen → List Record → Feeding → List Record → Feeding → Option Stop → Type 0
+FeedsOne h packets old more new st = (c : CrewSeen) (lines : List Line) (first : ℕ) (out : List StreamSeen) → c.harbour ≡ h → IsFeedingBut c lines first packets old out → FeedsSo c lines first more new out st
+
+-- it and all that follow it in the round are handed over
+abbrev pub FeedsAll : HarbourSeen → List Record → Feeding → List Record → Feeding → Type 0
+FeedsAll h packets old more new = (c : CrewSeen) (lines : List Line) (first : ℕ) (out : List StreamSeen) → c.harbour ≡ h → IsFeedingBut c lines first packets old out → IsFeeding c lines first more new out
+
 -- ---- a round
 
 -- this round is next, has a packet, and no command runs beside its packets
@@ -64,6 +72,24 @@ pub record KeepsLead {J G : Type 0} (old new : Streaming J G) : Type 0 where
 abbrev pub CarriesSo : Setting → Outside → Outside → List ℕ → Run → SwitchNow → Result Stretch TraceEnd → Type 0
 CarriesSo s start now name run switch (Ok t) = AfterPut s start now name run switch t t.stop
 CarriesSo s start now name run switch (Err e) = RunsTrace s start now name e
+
+-- the round that was begun is handed over and carried, and its text is put
+abbrev pub Carries : {J G : Type 0} → Stretch → Outside → Streaming J G → Outside → Streaming J G → Result Stretch TraceEnd → Type 0
+Carries begun before old after new r = (s : Setting) (start : Outside) (name : List ℕ) → s.commands ≡ old.schedule.now → IsPart s start before name old.run (crew_now old.crew) begun.first begun.next
+    → CarriesSo s start after name new.run (crew_now new.crew) r
+
+-- it is, and then the next round is begun, or the trace ended
+abbrev pub Streams : {J G : Type 0} → Stretch → Outside → Streaming J G → Outside → Streaming J G → Result Turn TraceEnd → Type 0
+Streams begun before old after new r = (s : Setting) (start : Outside) (name : List ℕ) → s.commands ≡ old.schedule.now → IsPart s start before name old.run (crew_now old.crew) begun.first begun.next
+    → TurnsTo s start after name new.run (crew_now new.crew) r
+
+-- a run goes from one turn to another, or ends
+abbrev pub Turns : List Line → Outside → Run → SwitchNow → Result Turn TraceEnd → Outside → Run → SwitchNow → Result Turn TraceEnd → Type 0
+Turns lines before old was from after new is r = (s : Setting) (start : Outside) (name : List ℕ) → s.commands ≡ lines → TurnsTo s start before name old was from → TurnsTo s start after name new is r
+
+-- the lead's run does
+abbrev pub LeadTurns : {J G : Type 0} → Turn → Outside → Streaming J G → Outside → Streaming J G → Result Turn TraceEnd → Type 0
+LeadTurns first before old after new r = Turns old.schedule.now before old.run (crew_now old.crew) (Ok first) after new.run (crew_now new.crew) r
 
 -- ---- the lead
 

@@ -9,7 +9,8 @@ use Rattle.vsw_pcap.specs.declared.capture.Record.{Record}
 use Rattle.vsw_policy.specs.Sound.{Each}
 use Rattle.vsw_port.proofs.Calls.{each_append}
 use Rattle.vsw_port.specs.Calls.{Carry, job_doer}
-use Rattle.vsw_promise.specs.Jobs.{crossing_by, deal}
+use Rattle.vsw_promise.specs.Jobs.{crossing_by}
+use Rattle.vsw_many.specs.Dealing.{deal}
 use Rattle.vsw_promise.specs.Jobs as jobs
 use Rattle.vsw_actors.specs.Actors.{placed_of}
 use Rattle.vsw_actors.specs.Handed.{with_more}

@@ -9,7 +9,7 @@ use Rattle.vsw_port.specs.Calls.{job_doer}
 use Rattle.vsw_port.specs.Order.{counted}
 use Rattle.vsw_port.proofs.Calls.{each_append}
 use Rattle.vsw_policy.specs.Sound.{Each}
-use Rattle.vsw_promise.specs.Jobs.{deal}
+use Rattle.vsw_many.specs.Dealing.{deal}
 use Rattle.vsw_promise.specs.Jobs as jobs
 use Rattle.vsw_actors.specs.Deal.{AreWork, dealt, shared}
 use Rattle.vsw_actors.specs.Handed.{with_more}

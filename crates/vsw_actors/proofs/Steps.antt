@@ -10,7 +10,8 @@ use Rattle.vsw_port.specs.Order.{numbered}
 use Rattle.vsw_pcap.specs.declared.capture.Record.{Record}
 use Rattle.vsw_policy.specs.Layers.{place_of}
 use Rattle.vsw_policy.specs.Sound.{Each, is_listed}
-use Rattle.vsw_promise.specs.Jobs.{Placed, aim_of, loose_after, loose_among, placed_lines, placed_packet, placed_packets}
+use Rattle.vsw_promise.specs.Jobs.{Placed, aim_of, loose_after, loose_among, placed_packet, placed_packets}
+use Rattle.vsw_many.specs.Dealing.{placed_lines}
 use Rattle.vsw_report.specs.declared.round.Loose.{Loose}
 use Rattle.vsw_promise.specs.Schedule.{commands_at}
 use Rattle.vsw_actors.specs.Deal.{dealt}

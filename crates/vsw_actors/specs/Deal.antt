@@ -5,6 +5,7 @@ use Rattle.vsw_actors.specs.declared.actor.Placed.{Placed}
 use Rattle.vsw_port.specs.Order.{counted}
 use Rattle.vsw_policy.specs.Sound.{Each}
 use Rattle.vsw_promise.specs.Jobs as jobs
+use Rattle.vsw_many.specs.Dealing as dealing
 use Rattle.vsw_actors.specs.Work.{IsWork, job_in}
 use Rattle.vsw_actors.specs.declared.work.Work.{Work}
 
@@ -14,7 +15,7 @@ shared vs = map (λ v. map (placed_of job_in) v.items) vs
 
 -- what of these jobs is dealt to whom: to the workers, numbers 0 to 15, and then to these controllers
 abbrev pub dealt : List ℕ → List jobs.Placed → List (List jobs.Placed)
-dealt cs js = map (λ k. jobs.deal cs k js) (counted 0 (16 + length cs))
+dealt cs js = map (λ k. dealing.deal cs k js) (counted 0 (16 + length cs))
 
 -- all jobs in the shares may be done, each at one of so many ports
 abbrev pub AreWork : {G : Type 0} → ℕ → List ℕ → List (Vec (Placed Work) G) → Type 0

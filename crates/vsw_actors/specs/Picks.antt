@@ -9,6 +9,7 @@ use Rattle.vsw_port.specs.Calls.{Carry, Job}
 use Rattle.vsw_port.specs.Order.{counted}
 use Rattle.vsw_promise.specs.Jobs.{crossing_by}
 use Rattle.vsw_promise.specs.Jobs as jobs
+use Rattle.vsw_many.specs.Dealing as dealing
 use Rattle.vsw_actors.specs.Work.{parts_in}
 use Rattle.vsw_actors.specs.declared.pick.Pick.{Pick}
 
@@ -32,7 +33,7 @@ picked k first packets (v ∷ vs) = picked_jobs k first packets v.items ∷ pick
 
 -- what each of these workers is dealt of the jobs, beside these controllers
 abbrev pub dealt_to : ℕ → List ℕ → List jobs.Placed → List (List jobs.Placed)
-dealt_to workers cs js = map (λ k. jobs.deal cs k js) (counted 0 workers)
+dealt_to workers cs js = map (λ k. dealing.deal cs k js) (counted 0 workers)
 
 -- the pick is of a packet of the batch, whose bytes are a frame, and goes to one of so many ports
 pub record IsPick (ports : ℕ) (packets : List Record) (p : Pick) : Type 0 where

@@ -18,7 +18,8 @@ use Rattle.vsw_history_law.proofs.Callers.{eqb_is}
 use Rattle.vsw_report.specs.Line.{TextLine}
 use Rattle.vsw_policy.specs.Sound.{Each}
 use Rattle.vsw_promise.specs.Ports.{ports_of}
-use Rattle.vsw_promise.specs.Jobs.{Setting, numbers_of}
+use Rattle.vsw_promise.specs.Jobs.{Setting}
+use Rattle.vsw_many.specs.Dealing.{numbers_of}
 use Rattle.vsw_promise.specs.Schedule.{commands_at}
 use Rattle.vsw_crew.specs.Crew.{AreReady}
 use Rattle.vsw_crew.specs.Private.Round.{HasAsked, HasBegun}

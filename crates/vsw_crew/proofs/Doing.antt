@@ -27,6 +27,7 @@ use Rattle.vsw_harbour.specs.Passes.{AtRest}
 use Rattle.vsw_harbour.specs.Phases.{Track}
 use Rattle.vsw_policy.specs.Sound.{Each}
 use Rattle.vsw_promise.specs.Jobs as jobs
+use Rattle.vsw_many.specs.Dealing as dealing
 use Rattle.vsw_promise.specs.Rounds.{opening_of}
 use Rattle.vsw_promise.proofs.PortRounds.{take_whole}
 use Rattle.vsw_crew.specs.Private.Round.{DidBeside}
@@ -65,11 +66,11 @@ as_long k (d ∷ ds) [] ls s = absurd s
 as_long k (d ∷ ds) (h ∷ hs) [] s = absurd s
 
 -- those of a caller among jobs are the caller's
-dealt_own : (cs : List ℕ) (k : ℕ) (js : List jobs.Placed) → Each (λ t. job_doer cs t.1 ≡ k) (jobs.deal cs k js)
+dealt_own : (cs : List ℕ) (k : ℕ) (js : List jobs.Placed) → Each (λ t. job_doer cs t.1 ≡ k) (dealing.deal cs k js)
 dealt_own cs k [] = tt
 dealt_own cs k (t ∷ js) = by (job_doer cs t.1 == k) refl (dealt_own cs k js)
   where
-    by : (b : Bool) → (job_doer cs t.1 == k) ≡ b → Each (λ t. job_doer cs t.1 ≡ k) (jobs.deal cs k js) → Each (λ t. job_doer cs t.1 ≡ k) (if b then t ∷ jobs.deal cs k js else jobs.deal cs k js)
+    by : (b : Bool) → (job_doer cs t.1 == k) ≡ b → Each (λ t. job_doer cs t.1 ≡ k) (dealing.deal cs k js) → Each (λ t. job_doer cs t.1 ≡ k) (if b then t ∷ dealing.deal cs k js else dealing.deal cs k js)
     by true e rest = (eqb_is (job_doer cs t.1) k e, rest)
     by false e rest = rest
 
@@ -109,13 +110,13 @@ tail_is : {A : Type 0} (x y : A) (xs ys : List A) → x ∷ xs ≡ y ∷ ys → 
 tail_is x y xs ys e = cc e
 
 -- the first share, and the others
-shares_of : {G : Type 0} (cs : List ℕ) (k n : ℕ) (js : List jobs.Placed) (s : Vec (Placed Work) G) (ss : List (Vec (Placed Work) G)) → shared (s ∷ ss) ≡ map (λ i. jobs.deal cs i js) (counted k (suc n))
-    → (map (placed_of job_in) s.items ≡ jobs.deal cs k js) × (shared ss ≡ map (λ i. jobs.deal cs i js) (counted (suc k) n))
+shares_of : {G : Type 0} (cs : List ℕ) (k n : ℕ) (js : List jobs.Placed) (s : Vec (Placed Work) G) (ss : List (Vec (Placed Work) G)) → shared (s ∷ ss) ≡ map (λ i. dealing.deal cs i js) (counted k (suc n))
+    → (map (placed_of job_in) s.items ≡ dealing.deal cs k js) × (shared ss ≡ map (λ i. dealing.deal cs i js) (counted (suc k) n))
 shares_of cs k n js s ss e =
-    (head_is (map (placed_of job_in) s.items) (jobs.deal cs k js) (shared ss) (map (λ i. jobs.deal cs i js) (counted (suc k) n)) e, tail_is (map (placed_of job_in) s.items) (jobs.deal cs k js) (shared ss) (map (λ i. jobs.deal cs i js) (counted (suc k) n)) e)
+    (head_is (map (placed_of job_in) s.items) (dealing.deal cs k js) (shared ss) (map (λ i. dealing.deal cs i js) (counted (suc k) n)) e, tail_is (map (placed_of job_in) s.items) (dealing.deal cs k js) (shared ss) (map (λ i. dealing.deal cs i js) (counted (suc k) n)) e)
 
 rows_begin : {F G : Type 0} (h : HarbourSeen) (numbers macs listed asks : List ℕ) (k n : ℕ) (hs : List (List Event)) (js : List jobs.Placed) (rows : List (Vec (Lane StationSeen) F)) (ss : List (Vec (Placed Work) G)) → IsHarbour h numbers macs listed asks → length rows ≡ n
-    → shared ss ≡ map (λ i. jobs.deal h.controllers i js) (counted k n) → AreWork (length h.docks) h.controllers ss → AreFew ss → RowsStand k h.docks hs (no_calls h.docks) (rows_in rows) → RowsMay (needs_in ss) (rows_in rows) → MayBegin port_in locals pass_in job_in tells is_of permits takes k h.docks rows ss
+    → shared ss ≡ map (λ i. dealing.deal h.controllers i js) (counted k n) → AreWork (length h.docks) h.controllers ss → AreFew ss → RowsStand k h.docks hs (no_calls h.docks) (rows_in rows) → RowsMay (needs_in ss) (rows_in rows) → MayBegin port_in locals pass_in job_in tells is_of permits takes k h.docks rows ss
 rows_begin h numbers macs listed asks k zero hs js [] [] i size e w f s m = tt
 rows_begin h numbers macs listed asks k (suc n) hs js (r ∷ rs) (s ∷ ss) i size e w f x m =
     let share = shares_of h.controllers k n js s ss e in
@@ -137,7 +138,7 @@ rows_begin h numbers macs listed asks k (suc n) hs js [] [] i size e w f x m = a
 rows_begin h numbers macs listed asks k zero hs js (r ∷ rs) (s ∷ ss) i size e w f x m = absurd (omega (arith, size))
 
 rows_worked : {F G H : Type 0} (cs : List ℕ) (k n : ℕ) (ds : List DockSeen) (hs : List (List Event)) (js : List jobs.Placed) (rows : List (Vec (Lane StationSeen) F)) (ss : List (Vec (Placed Work) G)) (afters : List (Vec (Lane StationSeen) H)) → length rows ≡ n
-    → shared ss ≡ map (λ i. jobs.deal cs i js) (counted k n) → RowsStand k ds hs (no_calls ds) (rows_in rows) → HaveDone port_in locals pass_in job_in tells is_of permits k ds rows ss afters → RowsWork cs k ds hs (no_calls ds) js (rows_in afters)
+    → shared ss ≡ map (λ i. dealing.deal cs i js) (counted k n) → RowsStand k ds hs (no_calls ds) (rows_in rows) → HaveDone port_in locals pass_in job_in tells is_of permits k ds rows ss afters → RowsWork cs k ds hs (no_calls ds) js (rows_in afters)
 rows_worked cs k n ds hs js [] [] [] size e s d = tt
 rows_worked cs k (suc n) ds hs js (r ∷ rs) (s ∷ ss) (t ∷ ts) size e x d =
     let share = shares_of cs k n js s ss e in
@@ -211,7 +212,7 @@ shared_many [] = refl
 shared_many (s ∷ ss) = ap suc (shared_many ss)
 
 pub shares_many : {G : Type 0} (h : HarbourSeen) (js : List jobs.Placed) (ss : List (Vec (Placed Work) G)) → shared ss ≡ dealt h.controllers js → length ss ≡ callers h
-shares_many h js ss e = sym (shared_many ss) ∙ (ap length e ∙ counted_many (λ k. jobs.deal h.controllers k js) 0 (callers h))
+shares_many h js ss e = sym (shared_many ss) ∙ (ap length e ∙ counted_many (λ k. dealing.deal h.controllers k js) 0 (callers h))
 
 pub needs_many : {G : Type 0} (ss : List (Vec (Placed Work) G)) → length (needs_in ss) ≡ length ss
 needs_many [] = refl

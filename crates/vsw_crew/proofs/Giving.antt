@@ -21,7 +21,8 @@ use Rattle.vsw_port.specs.Order.{counted, numbered}
 use Rattle.vsw_port.specs.declared.event.Event.{Event}
 use Rattle.vsw_pcap.specs.declared.capture.Record.{Record}
 use Rattle.vsw_policy.specs.Sound.{Each}
-use Rattle.vsw_promise.specs.Jobs.{Placed, deal, placed_packets}
+use Rattle.vsw_promise.specs.Jobs.{Placed, placed_packets}
+use Rattle.vsw_many.specs.Dealing.{deal}
 use Rattle.vsw_crew.specs.Private.Round.{HasBegun, jobs_here, macs_in}
 use Rattle.vsw_crew.specs.Private.Shifting.{AreShares, needs_of, picks_many, shares_of}
 use Rattle.vsw_crew.specs.Shares.{IsShare, RowCarried, ShareSeen, share_of}

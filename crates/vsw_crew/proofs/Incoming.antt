@@ -13,7 +13,8 @@ use Rattle.vsw_pcap.specs.declared.capture.Record.{Record}
 use Rattle.vsw_port.specs.Order.{counted, numbered}
 use Rattle.vsw_port.specs.declared.event.Event.{Event}
 use Rattle.vsw_port.proofs.Fronts.{append_end}
-use Rattle.vsw_promise.specs.Jobs.{Placed, deal, placed_packets}
+use Rattle.vsw_promise.specs.Jobs.{Placed, placed_packets}
+use Rattle.vsw_many.specs.Dealing.{deal}
 use Rattle.vsw_rings.specs.Rings.{IsRing, fed, is_at_end, taken}
 use Rattle.vsw_rings.specs.declared.drain.Drain.{Drain}
 use Rattle.vsw_rings.specs.declared.feed.Feed.{Feed}

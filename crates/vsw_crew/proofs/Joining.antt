@@ -24,7 +24,8 @@ use Rattle.vsw_harbour.specs.Rounds.{AreJournals, calls_by_port, other_columns, 
 use Rattle.vsw_report.specs.Line.{TextLine}
 use Rattle.vsw_pcap.specs.declared.capture.Record.{Record}
 use Rattle.vsw_promise.specs.Ports.{PortSeen, ports_of}
-use Rattle.vsw_promise.specs.Jobs.{Placed, Setting, deal, loose_among, macs_of, numbers_of, placed_lines, placed_packets}
+use Rattle.vsw_promise.specs.Jobs.{Placed, Setting, loose_among, macs_of, placed_packets}
+use Rattle.vsw_many.specs.Dealing.{deal, numbers_of, placed_lines}
 use Rattle.vsw_report.specs.declared.round.Loose.{Loose}
 use Rattle.vsw_report.specs.declared.round.PortRound.{PortRound}
 use Rattle.vsw_crew.specs.Crew.{AreReady}

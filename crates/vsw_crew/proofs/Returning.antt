@@ -16,7 +16,8 @@ use Rattle.vsw_port.specs.Order.{numbered}
 use Rattle.vsw_port.specs.declared.event.Event.{Event}
 use Rattle.vsw_pcap.specs.declared.capture.Record.{Record}
 use Rattle.vsw_policy.specs.Sound.{Each, are_distinct}
-use Rattle.vsw_promise.specs.Jobs.{Setting, loose_among, numbers_of}
+use Rattle.vsw_promise.specs.Jobs.{Setting, loose_among}
+use Rattle.vsw_many.specs.Dealing.{numbers_of}
 use Rattle.vsw_crew.specs.Private.Round.{DidBeside, HasWorked, jobs_here}
 use Rattle.vsw_crew.specs.Private.Shifting.{ArePut}
 use Rattle.vsw_crew.specs.Shares.{DoesShare, ShareSeen}

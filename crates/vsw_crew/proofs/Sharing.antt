@@ -21,7 +21,8 @@ use Rattle.vsw_policy.specs.Sound.{Each}
 use Rattle.vsw_policy.specs.Layers.{place_of}
 use Rattle.vsw_port.specs.Calls.{Ask}
 use Rattle.vsw_history_law.proofs.Callers.{eqb_is}
-use Rattle.vsw_promise.specs.Jobs.{Placed, aim_of, deal, placed_lines, placed_packet, placed_packets}
+use Rattle.vsw_promise.specs.Jobs.{Placed, aim_of, placed_packet, placed_packets}
+use Rattle.vsw_many.specs.Dealing.{deal, placed_lines}
 use Rattle.vsw_crew.specs.Private.Round.{jobs_here, macs_in, numbers_in}
 use Rattle.vsw_crew.specs.Private.Shifting.{ArePut}
 use Rattle.vsw_crew.specs.Shares.{DoesShare, IsCarried, ShareSeen, jobs_in}

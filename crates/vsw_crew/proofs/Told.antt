@@ -20,7 +20,8 @@ use Rattle.vsw_report.specs.Line.{TextLine}
 use Rattle.vsw_pcap.specs.declared.capture.Record.{Record}
 use Rattle.vsw_policy.specs.Sound.{Each, are_distinct}
 use Rattle.vsw_promise.specs.Ports.{PortSeen, ports_of}
-use Rattle.vsw_promise.specs.Jobs.{Placed, Setting, numbers_of}
+use Rattle.vsw_promise.specs.Jobs.{Placed, Setting}
+use Rattle.vsw_many.specs.Dealing.{numbers_of}
 use Rattle.vsw_report.specs.declared.round.Loose.{Loose}
 use Rattle.vsw_crew.specs.Texts.{AreRising, AreSized, texts_by_port}
 use Rattle.vsw_crew.specs.Private.Round.{HasTold, HasWorked, numbers_in}

@@ -14,7 +14,8 @@ use Rattle.vsw_port.specs.Order.{numbered}
 use Rattle.vsw_port.specs.declared.event.Event.{Event}
 use Rattle.vsw_pcap.specs.declared.capture.Record.{Record}
 use Rattle.vsw_policy.specs.Sound.{Each}
-use Rattle.vsw_promise.specs.Jobs.{Setting, deal, loose_among, placed_packets}
+use Rattle.vsw_promise.specs.Jobs.{Setting, loose_among, placed_packets}
+use Rattle.vsw_many.specs.Dealing.{deal}
 use Rattle.vsw_promise.specs.Ports.{PortSeen}
 use Rattle.vsw_crew.specs.Crew.{CrewSeen, IsOfSome, crew_now}
 use Rattle.vsw_switch.specs.Round.{TellsRound}

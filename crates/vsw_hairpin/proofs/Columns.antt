@@ -11,7 +11,8 @@ use Rattle.vsw_port.specs.Calls.{Job, Carry, Ask, Call, job_of, job_doer, named}
 use Rattle.vsw_port.specs.Order.{numbered}
 use Rattle.vsw_port.proofs.Calls.{shares_join}
 use Rattle.vsw_port.proofs.Next.{shares_of}
-use Rattle.vsw_promise.specs.Jobs.{Placed, aim_of, at_place, deal, placed_packet, placed_packets}
+use Rattle.vsw_promise.specs.Jobs.{Placed, aim_of, at_place, placed_packet, placed_packets}
+use Rattle.vsw_many.specs.Dealing.{deal}
 use Rattle.vsw_promise.specs.Ports.{PortSeen}
 use Rattle.vsw_promise.specs.Rounds.{opening_of}
 use Rattle.vsw_promise.proofs.Handed.{each_at, place_append}

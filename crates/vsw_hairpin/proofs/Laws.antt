@@ -6,7 +6,8 @@ use Rattle.vsw_port.specs.declared.event.Event.{Event}
 use Rattle.vsw_port.specs.Calls.{Call, job_doer}
 use Rattle.vsw_port.specs.Order.{numbered}
 use Rattle.vsw_policy.specs.Layers.{place_of}
-use Rattle.vsw_promise.specs.Jobs.{Placed, Setting, deal, fates_told, macs_of, numbers_of, placed_lines, placed_packets}
+use Rattle.vsw_promise.specs.Jobs.{Placed, Setting, fates_told, macs_of, placed_packets}
+use Rattle.vsw_many.specs.Dealing.{deal, numbers_of, placed_lines}
 use Rattle.vsw_promise.specs.Ports.{PortSeen, ports_of}
 use Rattle.vsw_promise.proofs.Handed.{packets_untold}
 use Rattle.vsw_report.specs.declared.round.PortRound.{PortRound}

@@ -1,6 +1,7 @@
 -- Packets that are handed on between ports: what a call hands on, and callers that do at once what their calls hand on.
 use Rattle.std.specs.Prelude.{◌≡◌, ℕ, suc, List, [], ◌∷◌, ◌++◌, map, get_or, if◌then◌else◌}
-use Rattle.vsw_promise.specs.Jobs.{Placed, Setting, at_place, deal, handed_on, macs_of, second_job}
+use Rattle.vsw_promise.specs.Jobs.{Placed, Setting, at_place, handed_on, macs_of, second_job}
+use Rattle.vsw_many.specs.Dealing.{deal}
 use Rattle.vsw_promise.specs.Ports.{PortSeen}
 use Rattle.vsw_promise.specs.Rounds.{opening_of}
 use Rattle.vsw_port.specs.declared.event.Event.{Event}

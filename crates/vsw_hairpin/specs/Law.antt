@@ -8,7 +8,8 @@ use Rattle.vsw_port.specs.Calls.{Call}
 use Rattle.vsw_port.specs.Order.{numbered}
 use Rattle.vsw_history_law.specs.Law.{AreServed}
 use Rattle.vsw_history_law.specs.Plain.{IsAsk}
-use Rattle.vsw_promise.specs.Jobs.{Placed, Setting, macs_of, numbers_of, placed_lines, placed_packets}
+use Rattle.vsw_promise.specs.Jobs.{Placed, Setting, macs_of, placed_packets}
+use Rattle.vsw_many.specs.Dealing.{numbers_of, placed_lines}
 use Rattle.vsw_many.specs.Phases.{Lane}
 use Rattle.vsw_many.specs.Actors.{AreRows}
 use Rattle.vsw_many.specs.Rounds.{AreJournals, calls_by_port, ports_told}

@@ -9,7 +9,8 @@ use Rattle.vsw_dock.specs.Phases.{IsLane, Lane, calls_in}
 use Rattle.vsw_dock.specs.Rounds.{AreJournals, calls_by_port, column, other_columns}
 use Rattle.vsw_policy.specs.Sound.{Each}
 use Rattle.vsw_promise.specs.Ports.{PortSeen}
-use Rattle.vsw_promise.specs.Jobs.{Placed, deal}
+use Rattle.vsw_promise.specs.Jobs.{Placed}
+use Rattle.vsw_many.specs.Dealing.{deal}
 use Rattle.vsw_harbour.specs.Harbour.{AreLike, ports_in}
 
 pub worked_like : (place k : ℕ) (ps : List PortSeen) (ds : List DockSeen) (hs gs : List (List Event)) (ls : List Lane) (done : List Placed) → AreLike ps ds → HasWorked place k (ports_in ds) hs gs ls done → HasWorked place k ps hs gs ls done

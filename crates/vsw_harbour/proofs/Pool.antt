@@ -13,7 +13,8 @@ use Rattle.vsw_dock.specs.Lanes.{DoesOn, IsHop}
 use Rattle.vsw_dock.specs.Phases.{Lane, Track}
 use Rattle.vsw_dock.specs.Plain.{IsAsk}
 use Rattle.vsw_policy.specs.Sound.{Each}
-use Rattle.vsw_promise.specs.Jobs.{Placed, deal}
+use Rattle.vsw_promise.specs.Jobs.{Placed}
+use Rattle.vsw_many.specs.Dealing.{deal}
 use Rattle.vsw_promise.specs.Ports.{PortSeen}
 
 -- ---- whose jobs they are

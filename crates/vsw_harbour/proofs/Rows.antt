@@ -5,7 +5,7 @@ use Rattle.vsw_dock.specs.Opening.{rows_in}
 use Rattle.vsw_dock.specs.Seen.{DockSeen, StationSeen}
 use Rattle.vsw_port.specs.Calls.{Call, Job, job_doer}
 use Rattle.vsw_port.specs.declared.event.Event.{Event}
-use Rattle.vsw_promise.specs.Jobs.{deal}
+use Rattle.vsw_many.specs.Dealing.{deal}
 use Rattle.vsw_harbour.specs.Standing.{RowStands, RowsStand}
 use Rattle.vsw_harbour.specs.Working.{RowWorks, RowsWork}
 use Rattle.vsw_harbour.proofs.Standing.{works_none}

@@ -21,7 +21,8 @@ use Rattle.vsw_dock.specs.Phases.{Track}
 use Rattle.vsw_dock.specs.Rounds.{AreJournals, calls_by_port}
 use Rattle.vsw_dock.proofs.Actors.{actor_ends, filter_append}
 use Rattle.vsw_policy.specs.Sound.{Each}
-use Rattle.vsw_promise.specs.Jobs.{Placed, deal}
+use Rattle.vsw_promise.specs.Jobs.{Placed}
+use Rattle.vsw_many.specs.Dealing.{deal}
 use Rattle.vsw_promise.specs.Rounds.{opening_of}
 use Rattle.vsw_many.proofs.Turns.{rows_are_own}
 use Rattle.vsw_many.specs.Turns.{AreOwn, append_each}

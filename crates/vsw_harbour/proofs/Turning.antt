@@ -16,7 +16,8 @@ use Rattle.vsw_dock.specs.Rounds.{AreJournals, calls_by_port}
 use Rattle.vsw_policy.specs.Sound.{Each}
 use Rattle.vsw_promise.specs.Ports.{PortSeen, ports_of}
 use Rattle.vsw_policy.specs.Layers.{place_of}
-use Rattle.vsw_promise.specs.Jobs.{Placed, Setting, numbers_of}
+use Rattle.vsw_promise.specs.Jobs.{Placed, Setting}
+use Rattle.vsw_many.specs.Dealing.{numbers_of}
 use Rattle.vsw_promise.specs.Schedule.{commands_at}
 use Rattle.vsw_harbour.specs.Harbour.{AreLike, HarbourSeen, IsOfRun, MayAsk, callers, locals_in, ports_in}
 use Rattle.vsw_harbour.specs.Standing.{RowStands, RowsStand, Stands}

@@ -8,7 +8,8 @@ use Rattle.vsw_dock.specs.Seen.{DockSeen, StationSeen}
 use Rattle.vsw_port.specs.Calls.{Call, calls_of}
 use Rattle.vsw_port.specs.declared.event.Event.{Event}
 use Rattle.vsw_dock.specs.Phases.{Track}
-use Rattle.vsw_promise.specs.Jobs.{Placed, deal}
+use Rattle.vsw_promise.specs.Jobs.{Placed}
+use Rattle.vsw_many.specs.Dealing.{deal}
 use Rattle.vsw_harbour.specs.Harbour.{locals_in, ports_in}
 
 -- a lane on this track: the pass is where the track is, and the station tells these calls and then the track's

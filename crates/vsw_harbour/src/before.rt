@@ -18,7 +18,8 @@ ghost use Rattle.vsw_port.specs.declared.event.Event.{Event};
 ghost use Rattle.vsw_dock.specs.Rounds.{AreJournals};
 ghost use Rattle.vsw_policy.specs.Sound.{Each};
 ghost use Rattle.vsw_promise.specs.Ports.{ports_of};
-ghost use Rattle.vsw_promise.specs.Jobs.{Setting, numbers_of};
+ghost use Rattle.vsw_promise.specs.Jobs.{Setting};
+ghost use Rattle.vsw_many.specs.Dealing.{numbers_of};
 
 use crate::harbour::Harbour;
 use crate::meeting::meet_again;

@@ -21,7 +21,8 @@ use Rattle.vsw_history_law.specs.Law.{AreServed}
 use Rattle.vsw_history_law.proofs.Reports.{doer_job, map_append}
 use Rattle.vsw_report.specs.Line.{TextLine, text_of}
 use Rattle.vsw_report.specs.Order.{AllInCounts, in_order}
-use Rattle.vsw_promise.specs.Jobs.{Placed, Setting, at_place, deal, loose_among, macs_of, numbers_of, packets_between, placed_lines, placed_packets}
+use Rattle.vsw_promise.specs.Jobs.{Placed, Setting, at_place, loose_among, macs_of, packets_between, placed_packets}
+use Rattle.vsw_many.specs.Dealing.{deal, numbers_of, placed_lines}
 use Rattle.vsw_promise.specs.Rounds.{AllBegin, AreHistories, opening_of}
 use Rattle.vsw_promise.specs.Told.{line_of}
 use Rattle.vsw_promise.proofs.Handed.{each_packet}

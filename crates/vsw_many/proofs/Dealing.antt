@@ -15,7 +15,8 @@ use Rattle.vsw_report.specs.declared.round.LooseCause.{LooseCause}
 use Rattle.vsw_port.specs.Calls.{Ask, controller_at, job_doer, jobs_by}
 use Rattle.vsw_port.proofs.Calls.{each_append}
 use Rattle.vsw_port.proofs.Fronts.{append_end}
-use Rattle.vsw_promise.specs.Jobs.{Setting, Placed, jobs_of, at_place, deal, macs_of, packets_between, numbers_of, placed_jobs, placed_lines, placed_packets, worker_of}
+use Rattle.vsw_promise.specs.Jobs.{Setting, Placed, jobs_of, at_place, macs_of, packets_between, placed_packets, worker_of}
+use Rattle.vsw_many.specs.Dealing.{deal, numbers_of, placed_jobs, placed_lines}
 use Rattle.vsw_promise.proofs.Handed.{each_packet, place_append}
 use Rattle.vsw_report.specs.declared.round.PortRound.{PortRound}
 use Rattle.vsw_history_law.specs.Law.{AreServed}

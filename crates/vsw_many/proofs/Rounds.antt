@@ -10,7 +10,8 @@ use Rattle.vsw_port.specs.declared.event.Event.{Event}
 use Rattle.vsw_port.specs.Calls.{Job, Call, job_of, job_doer, jobs_by, doer, named, calls_of}
 use Rattle.vsw_port.specs.History.{Opening, AllRight}
 use Rattle.vsw_port.proofs.Fronts.{prefix_trans}
-use Rattle.vsw_promise.specs.Jobs.{Setting, Placed, Jobs, jobs_of, at_place, deal, placed_jobs, numbers_of}
+use Rattle.vsw_promise.specs.Jobs.{Setting, Placed, Jobs, jobs_of, at_place}
+use Rattle.vsw_many.specs.Dealing.{deal, numbers_of, placed_jobs}
 use Rattle.vsw_promise.specs.Rounds.{opening_of, ArePortRounds, AreRoundsAt, AreChained, AllBegin, AreHistories, end_before}
 use Rattle.vsw_promise.proofs.Exists.{begin_self, begin_trans, ports_later, none_yet, no_counts}
 use Rattle.vsw_history_law.proofs.Reports.{jobs_of_calls}

@@ -13,7 +13,8 @@ use Rattle.vsw_port.proofs.Calls.{each_append, each_of_all, order_join, shares_j
 use Rattle.vsw_port.proofs.Fronts.{append_end, prefix_self, prefix_trans}
 use Rattle.vsw_port.proofs.Next.{bytes_later, each_of}
 use Rattle.vsw_history_law.proofs.Reports.{map_append}
-use Rattle.vsw_promise.specs.Jobs.{Placed, Setting, at_place, deal, numbers_of}
+use Rattle.vsw_promise.specs.Jobs.{Placed, Setting, at_place}
+use Rattle.vsw_many.specs.Dealing.{deal, numbers_of}
 use Rattle.vsw_promise.proofs.Handed.{place_append}
 use Rattle.vsw_promise.specs.Rounds.{opening_of}
 use Rattle.vsw_many.specs.Passes.{PassNow}

@@ -4,7 +4,8 @@ use Rattle.vsw_promise.specs.Ports.{PortSeen}
 use Rattle.vsw_port.specs.declared.event.Event.{Event}
 use Rattle.vsw_port.specs.Calls.{Job, Call, job_of}
 use Rattle.vsw_port.specs.History.{Opening}
-use Rattle.vsw_promise.specs.Jobs.{Placed, at_place, deal}
+use Rattle.vsw_promise.specs.Jobs.{Placed, at_place}
+use Rattle.vsw_many.specs.Dealing.{deal}
 use Rattle.vsw_promise.specs.Rounds.{opening_of}
 use Rattle.vsw_many.specs.Passes.{PassNow, AtRest, Crosses, Meets}
 use Rattle.vsw_many.specs.Phases.{Track, IsTrack, Lane, IsLane}

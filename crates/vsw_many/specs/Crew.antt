@@ -11,7 +11,8 @@ use Rattle.vsw_report.specs.Short.{is_short_round}
 use Rattle.vsw_port.specs.declared.event.Event.{Event}
 use Rattle.vsw_port.specs.Calls.{Call, calls_of, controller_at}
 use Rattle.vsw_port.specs.Order.{ascending, counted, numbered}
-use Rattle.vsw_promise.specs.Jobs.{Setting, Placed, loose_among, macs_of, numbers_of, packets_between, placed_lines, placed_packets}
+use Rattle.vsw_promise.specs.Jobs.{Setting, Placed, loose_among, macs_of, packets_between, placed_packets}
+use Rattle.vsw_many.specs.Dealing.{numbers_of, placed_lines}
 use Rattle.vsw_promise.specs.Rounds.{IsRound, AllBegin, AreHistories}
 use Rattle.vsw_promise.specs.Told.{line_of}
 use Rattle.vsw_report.specs.Line.{TextLine, text_of}

@@ -10,7 +10,8 @@ use Rattle.vsw_history_law.specs.Law.{AreServed}
 use Rattle.vsw_report.specs.Line.{TextLine}
 use Rattle.vsw_report.specs.Order.{AllInCounts, in_order}
 use Rattle.vsw_report.specs.declared.round.PortRound.{PortRound}
-use Rattle.vsw_promise.specs.Jobs.{Setting, Placed, numbers_of}
+use Rattle.vsw_promise.specs.Jobs.{Setting, Placed}
+use Rattle.vsw_many.specs.Dealing.{numbers_of}
 use Rattle.vsw_many.specs.Phases.{Lane}
 use Rattle.vsw_many.specs.Actors.{AreRows}
 use Rattle.vsw_many.specs.Rounds.{AreJournals, Turns, calls_by_port}

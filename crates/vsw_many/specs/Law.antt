@@ -11,7 +11,8 @@ use Rattle.vsw_port.specs.Calls.{Job, Call, job_of, job_doer, jobs_by, doer, ent
 use Rattle.vsw_port.specs.History.{Opening, AllRight}
 use Rattle.vsw_port.specs.Next.{IsNext}
 use Rattle.vsw_history_law.specs.Law.{AreServed}
-use Rattle.vsw_promise.specs.Jobs.{Setting, Jobs, Placed, jobs_of, at_place, deal, placed_jobs, placed_packets, placed_lines, numbers_of, macs_of, packets_between}
+use Rattle.vsw_promise.specs.Jobs.{Setting, Jobs, Placed, jobs_of, at_place, placed_packets, macs_of, packets_between}
+use Rattle.vsw_many.specs.Dealing.{deal, numbers_of, placed_jobs, placed_lines}
 use Rattle.vsw_promise.specs.Rounds.{IsPortRound, AreRounds, AreHistories}
 use Rattle.vsw_report.specs.declared.round.PortRound.{PortRound}
 use Rattle.vsw_promise.specs.Told.{lines_of}

@@ -10,7 +10,8 @@ use Rattle.vsw_report.specs.declared.round.Round.{Round}
 use Rattle.vsw_port.specs.declared.event.Event.{Event}
 use Rattle.vsw_port.specs.Calls.{Job, Call, named}
 use Rattle.vsw_port.specs.History.{AllRight}
-use Rattle.vsw_promise.specs.Jobs.{Setting, Jobs, jobs_of, placed_jobs, loose_among, macs_of, packets_between}
+use Rattle.vsw_promise.specs.Jobs.{Setting, Jobs, jobs_of, loose_among, macs_of, packets_between}
+use Rattle.vsw_many.specs.Dealing.{placed_jobs}
 use Rattle.vsw_promise.specs.Rounds.{opening_of, end_before}
 use Rattle.vsw_many.specs.Phases.{Lane, calls_in, IsPhase, DoneInTurn, port_told}
 use Rattle.vsw_many.specs.Actors.{AreRows}

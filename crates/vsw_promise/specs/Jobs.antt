@@ -19,8 +19,7 @@ use Rattle.vsw_report.specs.declared.round.LooseCause.TheVariants.{Snapped, Malf
 use Rattle.vsw_report.specs.declared.round.PortRound.{PortRound}
 use Rattle.vsw_report.specs.declared.told.What.{What}
 use Rattle.vsw_report.specs.declared.told.What.TheVariants as what
-use Rattle.vsw_policy.specs.Layers.{place_of}
-use Rattle.vsw_port.specs.Calls.{Job, Carry, Ask, job_doer}
+use Rattle.vsw_port.specs.Calls.{Job, Carry, Ask}
 use Rattle.vsw_port.specs.Order.{ascending, counted, numbered}
 
 -- what a run is given beside its trace: the number of workers, the policy, the commands, and whether packets are handed on between its
@@ -125,10 +124,6 @@ Placed = ℕ × Job
 abbrev pub at_place : ℕ → List Placed → List Job
 at_place i js = map (λ t. t.1) (filter (λ t. t.0 == i) js)
 
--- the jobs of one caller among these, in its order
-abbrev pub deal : List ℕ → ℕ → List Placed → List Placed
-deal cs k js = filter (λ t. job_doer cs t.1 == k) js
-
 -- packet n once more, as it is handed on: the same worker brings it to the other port, inbound, at the same moment
 abbrev pub second_job : ℕ → ℕ → ℕ → Hop → Placed
 second_job worker n moment h = (h.port, Carry (crossing_by worker n (record { port = h.port; dir = In }) moment h.parts) h.parts)
@@ -162,17 +157,3 @@ jobs_of s records told first next place number = record {
   first = before_jobs s.commands first number;
   later = during_jobs s.commands first number ++ at_place place (placed_packets s.workers s.local (macs_of s.policy) told (packets_between records first next));
 }
-
--- ---- the same over all ports
-
--- the "during" commands of the round that begins with this packet, in file order, with the places of their ports among these numbers
-abbrev pub placed_lines : List ℕ → List Line → ℕ → List Placed
-placed_lines numbers commands first = map (λ l. (place_of l.port numbers, Ask l)) (filter (λ l. (l.at == first) && l.during) commands)
-
--- the numbers of the ports
-abbrev pub numbers_of : PolicyFile → List ℕ
-numbers_of policy = map (λ p. p.number) (ports_of policy)
-
--- all that is done beside each other in a round that tells this: the "during" commands, and the packets
-abbrev pub placed_jobs : Setting → List Record → List PortRound → ℕ → ℕ → List Placed
-placed_jobs s records told first next = placed_lines (numbers_of s.policy) s.commands first ++ placed_packets s.workers s.local (macs_of s.policy) told (packets_between records first next)

@@ -1,5 +1,5 @@
 use Rattle.std.proofs.Common.{◌≡◌, ◌+◌, ◌++◌, [], length, subst, ◌∙◌}
-use Rattle.vsw_promise.specs.Jobs.{placed_lines}
+use Rattle.vsw_many.specs.Dealing.{placed_lines}
 use Rattle.vsw_actors.specs.Deal.{AreWork, dealt, shared}
 use Rattle.vsw_actors.proofs.Sharing.{none_dealt, none_work}
 use Rattle.vsw_actors.proofs.share.deal.Goals as goal

@@ -11,9 +11,9 @@ use Rattle.vsw_base.specs.declared.flow.Place.{Place}
 use Rattle.vsw_base.specs.declared.header.Header.{Header}
 use Rattle.vsw_base.specs.declared.packet.Dir.TheVariants as dir
 use Rattle.vsw_base.specs.Frame.{Parts, frame_of}
-use Rattle.vsw_base.specs.Shape.{inner}
+use Rattle.vsw_base.specs.Shape.{destination_of, inner, source_of}
 use Rattle.vsw_commandfile.specs.declared.line.Line.{Line}
-use Rattle.vsw_header.specs.PortChoice.{choose, destination_of, in_of, out_of, place_of, source_of}
+use Rattle.vsw_header.specs.PortChoice.{choose, in_of, out_of, place_of}
 use Rattle.vsw_pcap.specs.declared.capture.Record.{Record}
 use Rattle.vsw_policy.specs.Layer.{LayerSeen}
 use Rattle.vsw_policy.specs.Sound.{Each}

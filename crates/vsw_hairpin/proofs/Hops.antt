@@ -9,8 +9,8 @@ use Rattle.vsw_base.specs.declared.header.Header.{Header}
 use Rattle.vsw_base.specs.declared.packet.Dir.{Dir}
 use Rattle.vsw_base.specs.declared.packet.Dir.TheVariants.{Out, In}
 use Rattle.vsw_base.specs.Frame.{Parts, frame_of}
-use Rattle.vsw_base.specs.Shape.{inner}
-use Rattle.vsw_header.specs.PortChoice.{destination_of, in_of, place_of}
+use Rattle.vsw_base.specs.Shape.{destination_of, inner}
+use Rattle.vsw_header.specs.PortChoice.{in_of, place_of}
 use Rattle.vsw_port.specs.Calls.{Job, Carry, Deed, Carried, Asked, Call, job_of}
 use Rattle.vsw_promise.specs.Jobs.{Hop, Placed, at_place, handed_on, hop_of, if_other, second_job}
 use Rattle.vsw_promise.specs.Told.{what_of}

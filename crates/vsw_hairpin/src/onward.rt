@@ -1,8 +1,8 @@
 //! Whether a packet that left a port is for another port of the switch.
 
 ghost use Rattle.std.specs.Prelude.{◌≡◌, ◌≢◌, ◌≤◌, ◌<◌, IfSome, length, map, option_and_then, option_map, option_to_list};
-ghost use Rattle.vsw_base.specs.Shape.{inner};
-ghost use Rattle.vsw_header.specs.PortChoice.{destination_of, in_of, place_of};
+ghost use Rattle.vsw_base.specs.Shape.{destination_of, inner};
+ghost use Rattle.vsw_header.specs.PortChoice.{in_of, place_of};
 ghost use Rattle.vsw_promise.specs.Jobs.{handed_on, hop_of, if_other};
 ghost use Rattle.vsw_report.specs.declared.told.What.TheVariants as what;
 ghost use Rattle.vsw_hairpin.specs.Hops.{hop_in};

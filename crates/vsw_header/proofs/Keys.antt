@@ -1,9 +1,9 @@
 -- The key of a stack without encapsulations.
 use Rattle.std.proofs.Common.{◌≡◌, ℕ, ◌*◌, List, [], ◌∷◌, refl, ap, arith, drop, get_or}
-use Rattle.vsw_base.specs.Shape.{encaps, inner}
+use Rattle.vsw_base.specs.Shape.{encaps, inner, vnis}
 use Rattle.vsw_base.specs.declared.header.Header.{Header}
 use Rattle.vsw_base.specs.declared.header.Header.TheVariants.{Ether, Ip, Vxlan, Ports, Six}
-use Rattle.vsw_header.specs.Key.{key_behind, key_from, vnis}
+use Rattle.vsw_header.specs.Key.{key_behind, key_from}
 
 no_networks : (hs : List Header) → encaps hs ≡ 0 → vnis hs ≡ []
 no_networks [] e = refl

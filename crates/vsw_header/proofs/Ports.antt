@@ -5,8 +5,8 @@ use Rattle.std.proofs.lemmas.Grind.{common_steps}
 use Rattle.vsw_base.specs.declared.header.Header.{Header}
 use Rattle.vsw_base.specs.declared.flow.Place.{Place}
 use Rattle.vsw_base.specs.declared.packet.Dir.TheVariants.{Out, In}
-use Rattle.vsw_base.specs.Shape.{inner}
-use Rattle.vsw_header.specs.PortChoice.{place_of, source_of, destination_of, choose, is_among, is_port, out_of, in_of}
+use Rattle.vsw_base.specs.Shape.{destination_of, inner, source_of}
+use Rattle.vsw_header.specs.PortChoice.{place_of, choose, is_among, is_port, out_of, in_of}
 
 among_is : (macs : List ℕ) (address : ℕ) → is_some (place_of macs address) ≡ is_among macs address
 among_is [] address = refl

@@ -5,16 +5,7 @@ use Rattle.vsw_base.specs.declared.address.Addr.TheVariants as addr
 use Rattle.vsw_base.specs.declared.flow.LayerKey.{LayerKey}
 use Rattle.vsw_base.specs.declared.header.Header.{Header}
 use Rattle.vsw_base.specs.declared.header.Header.TheVariants.{Ether, Ip, Vxlan, Ports, Six}
-use Rattle.vsw_base.specs.Shape.{encaps, inner}
-
--- the networks of the encapsulations, outermost first
-abbrev pub vnis : List Header → List ℕ
-vnis [] = []
-vnis (Ether dst src kind ∷ hs) = vnis hs
-vnis (Ip src dst proto part ∷ hs) = vnis hs
-vnis (Vxlan vni ∷ hs) = vni ∷ vnis hs
-vnis (Ports proto src dst ∷ hs) = vnis hs
-vnis (Six src dst proto ∷ hs) = vnis hs
+use Rattle.vsw_base.specs.Shape.{encaps, inner, vnis}
 
 -- source, destination, protocol and fragment mark of inner headers
 abbrev pub packet_of : List Header → Addr × Addr × ℕ × Bool

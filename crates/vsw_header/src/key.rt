@@ -1,8 +1,9 @@
 //! The keys by which a layer finds its pairs.
 
 ghost use Rattle.std.specs.Prelude.{◌≡◌, get_or};
+ghost use Rattle.vsw_base.specs.Shape.{vnis};
 ghost use Rattle.vsw_header.specs.Key as key;
-ghost use Rattle.vsw_header.specs.Key.{vnis, packet_of, ports_of, key_from, mirror_of};
+ghost use Rattle.vsw_header.specs.Key.{packet_of, ports_of, key_from, mirror_of};
 
 use vsw_base::{Addr, Header, LayerKey, Stack};
 

@@ -1,7 +1,8 @@
 //! The port that a packet is at.
 
 ghost use Rattle.std.specs.Prelude.{◌≡◌, ◌<◌, ◌^◌, length, IfSome, option_and_then};
-ghost use Rattle.vsw_header.specs.PortChoice.{place_of, source_of, destination_of, choose};
+ghost use Rattle.vsw_base.specs.Shape.{destination_of, source_of};
+ghost use Rattle.vsw_header.specs.PortChoice.{place_of, choose};
 
 use vsw_base::{Dir, Header, Mac, Place, Stack};
 

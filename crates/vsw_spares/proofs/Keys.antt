@@ -8,7 +8,7 @@ use Rattle.vsw_base.specs.declared.address.Addr.{Addr}
 use Rattle.vsw_base.specs.declared.address.Addr.TheVariants as addr
 use Rattle.vsw_base.specs.declared.header.Header.{Header}
 use Rattle.vsw_base.specs.declared.header.Header.TheVariants.{Ether, Ip, Vxlan, Ports, Six}
-use Rattle.vsw_base.specs.Shape.{encaps, inner, is_stack}
+use Rattle.vsw_base.specs.Shape.{destination_of, encaps, inner, is_stack, source_of}
 use Rattle.vsw_header.specs.Key as key
 use Rattle.vsw_header.specs.Key.{key_from}
 use Rattle.vsw_rule.specs.declared.field.Field.{Field}
@@ -156,8 +156,8 @@ be_value Proto hs items s h = in_proto (inner hs) items h
 be_value Part hs items s h = in_packet Part (λ p. if p.3 then 1 else 0) (λ p. is_in Part (if p.3 then 1 else 0) items) (inner hs) items (λ p. refl) h
 be_value SrcPort hs items s h = in_ports SrcPort (λ p. p.0) (inner hs) items h
 be_value DstPort hs items s h = in_ports DstPort (λ p. p.1) (inner hs) items h
-be_value OuterDstMac hs items s h = in_first OuterDstMac field.dst_mac hs items refl h
-be_value OuterSrcMac hs items s h = in_first OuterSrcMac field.src_mac hs items refl h
+be_value OuterDstMac hs items s h = in_first OuterDstMac destination_of hs items refl h
+be_value OuterSrcMac hs items s h = in_first OuterSrcMac source_of hs items refl h
 be_value OuterSrcIp hs items s h = in_first OuterSrcIp field.src_ip hs items refl h
 be_value OuterDstIp hs items s h = in_first OuterDstIp field.dst_ip hs items refl h
 be_value Vni hs items s h = in_vni hs items s h

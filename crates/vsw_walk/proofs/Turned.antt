@@ -10,10 +10,10 @@ use Rattle.vsw_base.specs.declared.header.Header.{Header}
 use Rattle.vsw_base.specs.declared.header.Header.TheVariants.{Ether, Ip, Vxlan, Ports, Six}
 use Rattle.vsw_base.specs.declared.packet.Control.{Control}
 use Rattle.vsw_base.specs.declared.packet.Dir.{Dir}
-use Rattle.vsw_base.specs.Shape.{is_stack, is_plain, encaps, inner}
+use Rattle.vsw_base.specs.Shape.{destination_of, is_stack, is_plain, encaps, inner, source_of, vnis}
 use Rattle.vsw_base.proofs.Stacks.{stack_cases, plain_cases, encapped}
 use Rattle.vsw_rule.specs.Edit.{written, with_set, edited}
-use Rattle.vsw_header.specs.Key.{vnis, packet_of, ports_of, key_from, mirror_of}
+use Rattle.vsw_header.specs.Key.{packet_of, ports_of, key_from, mirror_of}
 use Rattle.vsw_layerflow.specs.Pairs.{holds, probe, turned, front, back}
 use Rattle.vsw_layerflow.proofs.Lists.{same_self}
 use Rattle.vsw_rule.specs.declared.rule.Action.{Action}
@@ -70,8 +70,8 @@ Answers ks hs = ((packet_of ks).0 ≡ (packet_of hs).1) × ((packet_of ks).1 ≡
 -- the reverse set by inner headers
 abbrev pub reverse_for : Set → List Header → Set
 reverse_for set hs = record {
-  dst_mac = undone set.src_mac (field.src_mac hs);
-  src_mac = undone set.dst_mac (field.dst_mac hs);
+  dst_mac = undone set.src_mac (source_of hs);
+  src_mac = undone set.dst_mac (destination_of hs);
   src_ip = undone set.dst_ip (field.dst_ip hs);
   dst_ip = undone set.src_ip (field.src_ip hs);
   src_port = undone set.dst_port (field.dst_port hs);

@@ -3,6 +3,7 @@
 ghost use Rattle.std.specs.Prelude.{◌≡◌, List, false};
 ghost use Rattle.vsw_rule.specs.Edit.{edited};
 ghost use Rattle.vsw_header.specs.Key.{key_from};
+ghost use Rattle.vsw_base.specs.Shape.{destination_of, source_of};
 ghost use Rattle.vsw_rule.specs.Field as field;
 ghost use Rattle.vsw_base.specs.declared.header.Header.{Header};
 ghost use Rattle.vsw_walk.specs.Wanted as spec;
@@ -17,7 +18,7 @@ const TCP: u8 = 6;
 
 /// Destination and source of inner Ethernet.
 fn macs(headers: &[Header]) -> (Option<Mac>, Option<Mac>)
-    ensures { result ≡ (field.dst_mac headers.now, field.src_mac headers.now) }
+    ensures { result ≡ (destination_of headers.now, source_of headers.now) }
 {
     match headers {
         [Header::Ether { dst, src, .. }, ..] => (Some(*dst), Some(*src)),

@@ -7,10 +7,10 @@ use Rattle.vsw_base.specs.declared.header.Header.{Header}
 use Rattle.vsw_base.specs.declared.packet.Dir.{Dir}
 use Rattle.vsw_base.specs.declared.packet.Dir.TheVariants.{Out, In}
 use Rattle.vsw_base.specs.declared.flow.Ufid.{Ufid}
-use Rattle.vsw_base.specs.Shape.{is_stack, is_plain, encaps, inner}
+use Rattle.vsw_base.specs.Shape.{is_stack, is_plain, encaps, inner, vnis}
 use Rattle.vsw_base.specs.Fits.{AreFit}
 use Rattle.vsw_base.proofs.Stacks.{plain_cases, stack_cases, encapped}
-use Rattle.vsw_words.specs.Key.{key_words, joined, head_bounds, vni_bounds, side, padded, vnis, macs, addresses, sixes, inner_fields}
+use Rattle.vsw_words.specs.Key.{key_words, joined, head_bounds, vni_bounds, side, padded, macs, addresses, sixes, inner_fields}
 use Rattle.vsw_words.specs.Id.{split, dir_of, stack_from, id_of}
 use Rattle.vsw_words.specs.Law.{IsId}
 use Rattle.vsw_words.proofs.Fields.{Below, split_joined, high_is, low_is, whole_is, bit_is, bit_small}

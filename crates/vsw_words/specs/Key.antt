@@ -4,7 +4,7 @@ use Rattle.vsw_base.specs.declared.header.Header.{Header}
 use Rattle.vsw_base.specs.declared.header.Header.TheVariants.{Ether, Ip, Vxlan, Ports, Six}
 use Rattle.vsw_base.specs.declared.packet.Dir.{Dir}
 use Rattle.vsw_base.specs.declared.packet.Dir.TheVariants.{Out, In}
-use Rattle.vsw_base.specs.Shape.{encaps, inner}
+use Rattle.vsw_base.specs.Shape.{encaps, inner, vnis}
 
 -- fields in one word, each below its bound, the first lowest
 abbrev pub joined : List ℕ → List ℕ → ℕ
@@ -25,15 +25,6 @@ side In = 1
 -- so many words: the numbers of the list, and 0 behind them
 abbrev pub padded : ℕ → List ℕ → List ℕ
 padded n xs = take n (xs ++ replicate n 0)
-
--- the networks of the encapsulations, outermost first
-abbrev pub vnis : List Header → List ℕ
-vnis [] = []
-vnis (Ether dst src kind ∷ hs) = vnis hs
-vnis (Ip src dst proto part ∷ hs) = vnis hs
-vnis (Vxlan vni ∷ hs) = vni ∷ vnis hs
-vnis (Ports proto src dst ∷ hs) = vnis hs
-vnis (Six src dst proto ∷ hs) = vnis hs
 
 -- destination and source of the Ethernet headers, outermost first
 abbrev pub macs : List Header → List ℕ

@@ -4,8 +4,8 @@ use Rattle.std.specs.Prelude.{codes, bytes_eq, option_map, option_and_then}
 use Rattle.std.proofs.lemmas.Option.{none-some, same_Some}
 use Rattle.std.proofs.lemmas.Slice.Eq.{bytes_eq-Decides}
 use Rattle.vsw_run.specs.Grammar.{IsGenerate, Asks}
-use Rattle.vsw_run.specs.GrammarLaw.{ReadsGrammar, RefusesOthers, ReadsForward, OneReading}
-use Rattle.vsw_run.specs.Words.{Request, Claim, Query, Asked, Forward, Deliver, Stream, Offload, Check, Engine, Generate, number_in, forward_in, offload_in, check_in, engine_in, generate_in, asked_in, request_in}
+use Rattle.vsw_run.specs.GrammarLaw.{ReadsGrammar, RefusesOthers, OneReading}
+use Rattle.vsw_run.specs.Words.{Request, Claim, Query, Asked, Forward, Deliver, Stream, Offload, Check, Engine, Generate, number_in, forward_in, offload_in, check_in, engine_in, generate_in, asked_in}
 use Rattle.vsw_run.proofs.Decimals.{number_is, number_of}
 use Rattle.vsw_run.proofs.Forwards.{forward_reads, forward_is, offload_reads, offload_is, check_reads, check_is, engine_reads, engine_is}
 
@@ -161,17 +161,6 @@ refuses_others words = (λ e asked h. none-some asked (sym e ∙ asked_reads wor
   by : ((asked : Asked) → ¬ (Asks words asked)) → (r : Option Asked) → asked_in words ≡ r → asked_in words ≡ None
   by never None e = e
   by never (Some asked) e = absurd (never asked (asked_is words asked e))
-
-request_is : (words : List (List ℕ)) (q : Request) → request_in words ≡ Some q → Asks words (Forward q)
-request_is [] q e = absurd (none-some q e)
-request_is (program ∷ []) q e = absurd (none-some q e)
-request_is (program ∷ command ∷ words) q e = by (bytes_eq command (codes "forward")) refl e where
-  by : (b : Bool) → bytes_eq command (codes "forward") ≡ b → cond b (forward_in words) None ≡ Some q → Asks (program ∷ command ∷ words) (Forward q)
-  by true t e = forward_asks program command words q t e
-  by false t e = absurd (none-some q e)
-
-pub reads_forward : ReadsForward
-reads_forward words q = (request_is words q, λ h. ap request_in h.2 ∙ forward_reads h.1 q h.3)
 
 pub one_reading : OneReading
 one_reading words one other h k = same_Some one other (sym (asked_reads words one h) ∙ asked_reads words other k)

@@ -1,7 +1,7 @@
 -- The grammar, and what is worked out of the words, are one.
 use Rattle.std.specs.Prelude.{◌≡◌, ◌↔◌, List, ℕ, Some, None}
 use Rattle.vsw_run.specs.Grammar.{Asks}
-use Rattle.vsw_run.specs.Words.{Request, Asked, Forward, asked_in, request_in}
+use Rattle.vsw_run.specs.Words.{Asked, asked_in}
 
 -- words ask for something exactly where it is worked out of them
 abbrev pub ReadsGrammar : Type 0
@@ -10,10 +10,6 @@ ReadsGrammar = (words : List (List ℕ)) (asked : Asked) → (asked_in words ≡
 -- they are refused exactly where they ask for nothing
 abbrev pub RefusesOthers : Type 0
 RefusesOthers = (words : List (List ℕ)) → (asked_in words ≡ None) ↔ ((asked : Asked) → ¬ (Asks words asked))
-
--- the same, for who only forwards
-abbrev pub ReadsForward : Type 0
-ReadsForward = (words : List (List ℕ)) (request : Request) → (request_in words ≡ Some request) ↔ Asks words (Forward request)
 
 -- the grammar has one reading
 abbrev pub OneReading : Type 0

@@ -1,5 +1,5 @@
 -- The code's values as the definitions' values.
-use Rattle.std.specs.Prelude.{◌≡◌, ◌<◌, ◌≤◌, ◌^◌, ℕ, List, ◌++◌, Option, Some, None}
+use Rattle.std.specs.Prelude.{◌≡◌, ◌<◌, ◌≤◌, ◌^◌, ℕ, List, ◌++◌}
 use Rattle.vsw_run.specs.Words.{Request, Claim, Query, Asked, Forward, Deliver, Stream, Offload, Check, Engine, Generate, Opted, Named}
 use Rattle.vsw_run.specs.declared.forward.Request as requests
 use Rattle.vsw_run.specs.declared.claim.Claim as claims
@@ -35,16 +35,6 @@ asked_seen (asked.TheVariants.Offload r) = Offload (request_seen r)
 asked_seen (asked.TheVariants.Check c) = Check (claim_seen c)
 asked_seen (asked.TheVariants.Engine q) = Engine (query_seen q)
 asked_seen (asked.TheVariants.Generate start packets) = Generate start packets
-
--- what `forward` is asked for, where that is asked
-abbrev pub forwarded : asked.Asked → Option Request
-forwarded (asked.TheVariants.Forward r) = Some (request_seen r)
-forwarded (asked.TheVariants.Deliver r) = None
-forwarded (asked.TheVariants.Stream r) = None
-forwarded (asked.TheVariants.Offload r) = None
-forwarded (asked.TheVariants.Check c) = None
-forwarded (asked.TheVariants.Engine q) = None
-forwarded (asked.TheVariants.Generate start packets) = None
 
 -- the numbers lie within their bounds
 abbrev pub IsWithin : asked.Asked → Type 0

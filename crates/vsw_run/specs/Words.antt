@@ -160,8 +160,3 @@ asked_in _ = None
 abbrev pub AskReport : List (List ℕ) → (local : Bool) → Request → Type 0
 AskReport words false q = (asked_in words ≡ Some (Forward q)) ⊎ (asked_in words ≡ Some (Stream q))
 AskReport words true q = asked_in words ≡ Some (Deliver q)
-
--- the same, for who only forwards
-abbrev pub request_in : List (List ℕ) → Option Request
-request_in (program ∷ command ∷ words) = if bytes_eq command (codes "forward") then forward_in words else None
-request_in _ = None

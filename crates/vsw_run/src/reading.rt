@@ -1,8 +1,8 @@
 //! The words of the command line.
 
-ghost use Rattle.std.specs.Prelude.{◌≡◌, IfSome, option_and_then, option_map};
-ghost use Rattle.vsw_run.specs.Seen.{IsWithin, asked_seen, forwarded};
-ghost use Rattle.vsw_run.specs.Words.{asked_by, asked_in, generate_in, request_in};
+ghost use Rattle.std.specs.Prelude.{◌≡◌, IfSome, option_map};
+ghost use Rattle.vsw_run.specs.Seen.{IsWithin, asked_seen};
+ghost use Rattle.vsw_run.specs.Words.{asked_by, asked_in, generate_in};
 
 use crate::claim::{Claim, read_check};
 use crate::forward::{Request, read_forward, read_offload};
@@ -69,10 +69,9 @@ fn read(words: &[Word]) -> Option<Asked<'_>>
 }
 
 /// What the words ask for, if they are of the grammar. The first word is the program's name.
-#[tactic(auto, using(crate::proofs::Bounds::within, crate::proofs::Bounds::forwarded_is))]
+#[tactic(auto, using(crate::proofs::Bounds::within))]
 pub fn read_words(words: &[Word]) -> Option<Asked<'_>>
     ensures asked { option_map asked_seen result ≡ asked_in words.now }
-    ensures forward { option_and_then forwarded result ≡ request_in words.now }
     ensures within { IfSome result IsWithin }
 {
     read(words)

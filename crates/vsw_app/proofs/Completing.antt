@@ -22,8 +22,9 @@ use Rattle.vsw_config.specs.declared.file.PolicyFile.{PolicyFile}
 use Rattle.vsw_run.proofs.Exports.{forwarded, had_put}
 use Rattle.vsw_run.proofs.Runs.{runs_as}
 use Rattle.vsw_run.specs.Complaint.{status_of}
-use Rattle.vsw_run.specs.Files.{InTurn, HasBadPolicy, HasBadCommands, Reaches, TraceRead}
-use Rattle.vsw_run.specs.IsRun.{AreAdmitted, AskRun, EndsByTrace, IsComplete, IsCompleteAlone, IsRun, Runs, RunsBy, RunsGenerated}
+use Rattle.vsw_run.specs.ByTrace as of_trace
+use Rattle.vsw_run.specs.Files.{InTurn, HasBadPolicy, HasBadCommands, HasTrace, IsEarly, IsReadOf, Opens, Reaches}
+use Rattle.vsw_run.specs.IsRun.{AreAdmitted, AskRun, Ends, IsComplete, IsCompleteAlone, IsRun, Runs, RunsBy, RunsGenerated}
 use Rattle.vsw_promise.specs.Jobs.{Setting}
 use Rattle.vsw_run.specs.Trace.{All, Trace, IsRefused, HasMore, most_records}
 use Rattle.vsw_run.specs.declared.ending.Ending.{Ending}
@@ -116,65 +117,96 @@ record IsClean (words : List (List ℕ)) (old new : Outside) : Type 0 where
 found : (inputs : Option Inputs) (a : Inputs) (name other bytes held : List ℕ) → inputs ≡ Some a → name ≡ other → TellsHeld inputs name bytes → a.files other ≡ Some held → bytes ≡ held
 found inputs a name other bytes held e n t h = some_is bytes held (a.files other) (ap a.files (sym n) ∙ subst (λ i. TellsHeld i name bytes) e t) h
 
-good_policy : (local : Bool) (q : Request) (old new : Outside) (end : Ending) (why : ConfigFault) (a : Inputs) (bytes : List ℕ) (p : PolicyFile) (r : Runs local q old new end) → old.inputs ≡ Some a → a.files q.policy ≡ Some bytes → policy_file_of bytes ≡ Ok p → HasBadPolicy r.files why → ⊥
-good_policy local q old new end why a bytes p r told held good b =
+-- files that a run opened, as the words name them and the host told them
+record Reached (q : Request) (old new : Outside) (a : Inputs) (files : List Opened) : Type 0 where
+  told : old.inputs ≡ Some a
+  opens : Opens old new q files
+
+good_policy : (q : Request) (old new : Outside) (why : ConfigFault) (a : Inputs) (bytes : List ℕ) (p : PolicyFile) (files : List Opened) → Reached q old new a files → a.files q.policy ≡ Some bytes → policy_file_of bytes ≡ Ok p → HasBadPolicy files why → ⊥
+good_policy q old new why a bytes p files r held good b =
     let turn : InTurn q (b.policy ∷ []) = subst (InTurn q) b.only r.opens.in_turn in
     let holds : Each (λ f. TellsHeld old.inputs f.name f.bytes) (b.policy ∷ []) = subst (Each (λ f. TellsHeld old.inputs f.name f.bytes)) b.only r.opens.held in
-    let same = found old.inputs a b.policy.name q.policy b.policy.bytes bytes told turn holds.0 held in
+    let same = found old.inputs a b.policy.name q.policy b.policy.bytes bytes r.told turn holds.0 held in
     not_both p why (policy_file_of bytes) good (subst (λ w. policy_file_of w ≡ Err why) same b.bad)
 
-good_commands : (local : Bool) (q : Request) (old new : Outside) (end : Ending) (why : CommandsFault) (a : Inputs) (bytes text : List ℕ) (p : PolicyFile) (lines : List Line) (r : Runs local q old new end) → old.inputs ≡ Some a → a.files q.policy ≡ Some bytes → policy_file_of bytes ≡ Ok p → a.files q.commands ≡ Some text → commands_file_of p text ≡ Ok lines → HasBadCommands r.files why → ⊥
-good_commands local q old new end why a bytes text p lines r told held good holding right b =
+good_commands : (q : Request) (old new : Outside) (why : CommandsFault) (a : Inputs) (bytes text : List ℕ) (p : PolicyFile) (lines : List Line) (files : List Opened) → Reached q old new a files → a.files q.policy ≡ Some bytes → policy_file_of bytes ≡ Ok p → a.files q.commands ≡ Some text → commands_file_of p text ≡ Ok lines → HasBadCommands files why → ⊥
+good_commands q old new why a bytes text p lines files r held good holding right b =
     let turn : InTurn q (b.policy ∷ b.commands ∷ []) = subst (InTurn q) b.only r.opens.in_turn in
     let holds : Each (λ f. TellsHeld old.inputs f.name f.bytes) (b.policy ∷ b.commands ∷ []) = subst (Each (λ f. TellsHeld old.inputs f.name f.bytes)) b.only r.opens.held in
-    let same = found old.inputs a b.policy.name q.policy b.policy.bytes bytes told turn.1.named holds.0 held in
-    let alike = found old.inputs a b.commands.name q.commands b.commands.bytes text told turn.2 holds.1.0 holding in
+    let same = found old.inputs a b.policy.name q.policy b.policy.bytes bytes r.told turn.1.named holds.0 held in
+    let alike = found old.inputs a b.commands.name q.commands b.commands.bytes text r.told turn.2 holds.1.0 holding in
     let given : b.given ≡ p = ok_is b.given p (policy_file_of bytes) (subst (λ w. policy_file_of w ≡ Ok b.given) same b.good) good in
     not_both lines why (commands_file_of p text) right (subst (λ g. commands_file_of g text ≡ Err why) given (subst (λ w. commands_file_of b.given w ≡ Err why) alike b.bad))
 
 -- the trace that was read is of the file that the host holds
-of_file : (local : Bool) (q : Request) (old new : Outside) (files : List Opened) (file : List ℕ) (r : TraceRead local q old new files) → r.file.bytes ≡ file → IsOf file r.trace
-of_file local q old new files file r same = subst (λ w. IsOf w r.trace) same (record {
-  more = drop r.file.read r.file.bytes;
-  is = sym (take-append-drop r.file.read r.file.bytes) ∙ ap (λ w. w ++ drop r.file.read r.file.bytes) (sym r.read.bytes);
-  all = λ e. sym (r.read.bytes ∙ (ap (λ n. take n r.file.bytes) (subst (Reaches old new r.file) e r.read.reaches) ∙ take-length r.file.bytes));
+of_file : (old new : Outside) (f : Opened) (t : Trace) (file : List ℕ) → IsReadOf old new f t → f.bytes ≡ file → IsOf file t
+of_file old new f t file r same = subst (λ w. IsOf w t) same (record {
+  more = drop f.read f.bytes;
+  is = sym (take-append-drop f.read f.bytes) ∙ ap (λ w. w ++ drop f.read f.bytes) (sym r.bytes);
+  all = λ e. sym (r.bytes ∙ (ap (λ n. take n f.bytes) (subst (Reaches old new f) e r.reaches) ∙ take-length f.bytes));
 })
 
-trace_found : (local : Bool) (q : Request) (old new : Outside) (end e : Ending) (a : Inputs) (file : List ℕ) (r : Runs local q old new end) (ends : EndsByTrace local q old new r.files e) → old.inputs ≡ Some a → a.files q.trace ≡ Some file → IsOf file ends.reads.trace
-trace_found local q old new end e a file r ends told held =
-    let o = ends.reads.opened in
-    let three = o.policy ∷ o.commands ∷ ends.reads.file ∷ [] in
+trace_found : (local : Bool) (q : Request) (old new : Outside) (a : Inputs) (file : List ℕ) (files : List Opened) (s : Setting) (f : Opened) (t : Trace) → Reached q old new a files → HasTrace local q files s f → IsReadOf old new f t → a.files q.trace ≡ Some file → IsOf file t
+trace_found local q old new a file files s f t r o read held =
+    let three = o.policy ∷ o.commands ∷ f ∷ [] in
     let turn : InTurn q three = subst (InTurn q) o.all r.opens.in_turn in
     let holds : Each (λ f. TellsHeld old.inputs f.name f.bytes) three = subst (Each (λ f. TellsHeld old.inputs f.name f.bytes)) o.all r.opens.held in
-    of_file local q old new r.files file ends.reads (found old.inputs a ends.reads.file.name q.trace ends.reads.file.bytes file told turn.4 holds.1.1.0 held)
+    of_file old new f t file read (found old.inputs a f.name q.trace f.bytes file r.told turn.4 holds.1.1.0 held)
 
 -- ---- the run
 
 ends_well : (words : List (List ℕ)) (local : Bool) (q : Request) (old new : Outside) (end : Ending) (c : IsClean words old new) → c.admitted.request ≡ q → Runs local q old new end → (status_of end ≡ status.Done) ⊎ (status_of end ≡ status.Memory)
-ends_well words local q old new ending.Done c same r = inl refl
-ends_well words local q old new ending.Memory c same r = inr refl
-ends_well words local q old new ending.ReadFault c same r = absurd (c.no_read r.ends.0)
-ends_well words local q old new ending.WriteFault c same r = absurd (c.no_put r.ends.0)
-ends_well words local q old new ending.Usage c same r = absurd r.ends
-ends_well words local q old new (ending.Report why) c same r = absurd r.ends
-ends_well words local q old new ending.Illegal c same r = absurd r.ends
-ends_well words local q old new (ending.Rows why) c same r = absurd r.ends
-ends_well words local q old new (ending.Policy why) c same r =
-    let d = c.admitted in
-    absurd (good_policy local q old new (ending.Policy why) why d.files d.policy d.setting.policy r d.told (subst (λ k. d.files.files k.policy ≡ Some d.policy) same d.policy_held) d.policy_good r.ends.0)
-ends_well words local q old new (ending.Commands why) c same r =
-    let d = c.admitted in
-    absurd (good_commands local q old new (ending.Commands why) why d.files d.policy d.commands d.setting.policy d.setting.commands r d.told (subst (λ k. d.files.files k.policy ≡ Some d.policy) same d.policy_held) d.policy_good (subst (λ k. d.files.files k.commands ≡ Some d.commands) same d.commands_held) d.commands_good r.ends.0)
-ends_well words local q old new (ending.Trace bad) c same r =
-    let d = c.admitted in
-    let ends : EndsByTrace local q old new r.files (ending.Trace bad) = r.ends in
-    let of = trace_found local q old new (ending.Trace bad) (ending.Trace bad) d.files d.trace r ends d.told (subst (λ k. d.files.files k.trace ≡ Some d.trace) same d.trace_held) in
-    absurd (not_refused ends.reads.setting d.trace d.records ends.reads.trace bad ends.text d.trace_good of ends.tells)
-ends_well words local q old new ending.Records c same r =
-    let d = c.admitted in
-    let ends : EndsByTrace local q old new r.files ending.Records = r.ends in
-    let of = trace_found local q old new ending.Records ending.Records d.files d.trace r ends d.told (subst (λ k. d.files.files k.trace ≡ Some d.trace) same d.trace_held) in
-    absurd (not_over ends.reads.setting d.trace d.records ends.reads.trace ends.text d.trace_good d.few of ends.tells)
+ends_well words local q old new end c same r = by r.ends
+  where
+    d : AreAdmitted words old.inputs
+    d = c.admitted
+
+    reached : Reached q old new d.files r.files
+    reached = record { told = d.told; opens = r.opens }
+
+    policy_held : d.files.files q.policy ≡ Some d.policy
+    policy_held = subst (λ k. d.files.files k.policy ≡ Some d.policy) same d.policy_held
+
+    commands_held : d.files.files q.commands ≡ Some d.commands
+    commands_held = subst (λ k. d.files.files k.commands ≡ Some d.commands) same d.commands_held
+
+    trace_held : d.files.files q.trace ≡ Some d.trace
+    trace_held = subst (λ k. d.files.files k.trace ≡ Some d.trace) same d.trace_held
+
+    early : (end : Ending) → IsEarly old new r.files end → (status_of end ≡ status.Done) ⊎ (status_of end ≡ status.Memory)
+    early (ending.Policy why) e = absurd (good_policy q old new why d.files d.policy d.setting.policy r.files reached policy_held d.policy_good e)
+    early (ending.Commands why) e = absurd (good_commands q old new why d.files d.policy d.commands d.setting.policy d.setting.commands r.files reached policy_held d.policy_good commands_held d.commands_good e)
+    early ending.ReadFault e = absurd (c.no_read e.0)
+    early ending.Memory e = inr refl
+    early ending.Done e = absurd e
+    early ending.WriteFault e = absurd e
+    early (ending.Trace bad) e = absurd e
+    early ending.Records e = absurd e
+    early ending.Usage e = absurd e
+    early (ending.Report why) e = absurd e
+    early ending.Illegal e = absurd e
+    early (ending.Rows why) e = absurd e
+
+    of_held : (s : Setting) (f : Opened) (t : Trace) → HasTrace local q r.files s f → IsReadOf old new f t → IsOf d.trace t
+    of_held s f t o read = trace_found local q old new d.files d.trace r.files s f t reached o read trace_held
+
+    traced : (end : Ending) (s : Setting) (f : Opened) → HasTrace local q r.files s f → of_trace.Ends s (IsReadOf old new f) old new end → (status_of end ≡ status.Done) ⊎ (status_of end ≡ status.Memory)
+    traced ending.Done s f o e = inl refl
+    traced ending.Memory s f o e = inr refl
+    traced ending.ReadFault s f o e = absurd (c.no_read e.0)
+    traced ending.WriteFault s f o e = absurd (c.no_put e.0)
+    traced (ending.Trace bad) s f o e = absurd (not_refused s d.trace d.records e.trace bad e.text d.trace_good (of_held s f e.trace o e.reads) e.tells)
+    traced ending.Records s f o e = absurd (not_over s d.trace d.records e.trace e.text d.trace_good d.few (of_held s f e.trace o e.reads) e.tells)
+    traced (ending.Policy why) s f o e = absurd e
+    traced (ending.Commands why) s f o e = absurd e
+    traced ending.Usage s f o e = absurd e
+    traced (ending.Report why) s f o e = absurd e
+    traced ending.Illegal s f o e = absurd e
+    traced (ending.Rows why) s f o e = absurd e
+
+    by : Ends local q old new r.files end → (status_of end ≡ status.Done) ⊎ (status_of end ≡ status.Memory)
+    by (inl e) = early end e.0
+    by (inr e) = traced end e.setting e.file e.opened e.ends
 
 -- a run is complete
 pub complete_is : (words : List (List ℕ)) (old new : Outside) (s : Status) → IsRun words old new s → IsComplete words old new s

@@ -4,22 +4,16 @@ use Rattle.vsw_host.specs.Outside.{Outside}
 use Rattle.vsw_host.proofs.CallerLemmas.{TellsSince-SameInputs}
 use Rattle.vsw_run.specs.declared.ending.Ending.{Ending}
 use Rattle.vsw_run.specs.declared.ending.Ending.TheVariants as ending
-use Rattle.vsw_run.specs.IsRun.{EndsGenerated}
 use Rattle.vsw_replay.proofs.Summing.{nothing_put}
 use Rattle.vsw_replay.specs.declared.run.WorkloadEnd.{WorkloadEnd}
 use Rattle.vsw_replay.specs.declared.run.WorkloadEnd.TheVariants as end
-use Rattle.vsw_replay.specs.WorkloadRuns.{Ends, RunsWorkload}
-use Rattle.vsw_app.specs.Ending.{drawn_ending}
+use Rattle.vsw_replay.specs.WorkloadRuns.{RunsWorkload}
+use Rattle.vsw_replay.specs.Endings.{drawn_ending}
 use Rattle.vsw_app.specs.Stages.{HasGenerated}
-
-ends_so : (start packets : ℕ) (old new : Outside) (e : WorkloadEnd) → Ends start packets old new e → EndsGenerated start packets old new (drawn_ending e)
-ends_so start packets old new end.Done r = r
-ends_so start packets old new end.WriteFault r = r
-ends_so start packets old new end.Memory r = r
 
 pub generated : (start packets : ℕ) (old new : Outside) (e : WorkloadEnd) (end : Ending) → RunsWorkload start packets old new e → end ≡ drawn_ending e → HasGenerated start packets old new end
 generated start packets old new e end r is = subst (HasGenerated start packets old new) (sym is) (record {
-  runs = record { opens = TellsSince-SameInputs old new r.inputs; ends = ends_so start packets old new e r.ends };
+  runs = record { opens = TellsSince-SameInputs old new r.inputs; ends = r.ends };
   complained = r.complained;
   complain_faults = r.complain_faults;
 })

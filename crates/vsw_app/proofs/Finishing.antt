@@ -15,8 +15,12 @@ use Rattle.vsw_run.specs.declared.ending.RowsFault.{RowsFault}
 use Rattle.vsw_run.specs.declared.ending.RowsFault.TheVariants as fault
 use Rattle.vsw_run.specs.Complaint.{policy_status, commands_status, report_status, rows_status, status_of, complaint, Complains}
 use Rattle.vsw_run.specs.Exporting as exports
-use Rattle.vsw_run.specs.Files.{Opens, TraceRead}
-use Rattle.vsw_run.specs.IsRun.{Ends, EndsByTrace, EndsGenerated, BreaksOff, PutsSummary, Runs, RunsBy, IsRun}
+use Rattle.vsw_promise.specs.Jobs.{Setting}
+use Rattle.vsw_run.specs.ByTrace as of_trace
+use Rattle.vsw_run.specs.ByTrace.{BreaksOff, EndsSo}
+use Rattle.vsw_run.specs.Files.{IsEarly, IsReadOf, Opens}
+use Rattle.vsw_run.specs.Trace.{Trace}
+use Rattle.vsw_run.specs.IsRun.{Ends, EndsGenerated, PutsSummary, Runs, RunsBy, IsRun}
 use Rattle.vsw_run.specs.declared.ending.Ending.{Ending}
 use Rattle.vsw_run.specs.declared.ending.Ending.TheVariants as ending
 use Rattle.vsw_run.specs.declared.ending.ReportFault.{ReportFault}
@@ -39,64 +43,85 @@ record IsLater (b c : Outside) : Type 0 where
 opens_later : (q : Request) (old b c : Outside) (files : List Opened) → IsLater b c → Opens old b q files → Opens old c q files
 opens_later q old b c files l o = record { since = subst (λ i. TellsSince old.inputs i files) (sym l.inputs.inputs) o.since; held = o.held; within = o.within; in_turn = o.in_turn }
 
-read_later : (local : Bool) (q : Request) (old b c : Outside) (files : List Opened) → IsLater b c → TraceRead local q old b files → TraceRead local q old c files
-read_later local q old b c files l r = record { setting = r.setting; file = r.file; opened = r.opened; trace = r.trace; read = read_as old b old c r.file r.trace (rose_as old.input_faults b.input_faults old.input_faults c.input_faults refl l.inputs.input_faults) r.read }
+read_later : (old b c : Outside) (f : Opened) (t : Trace) → IsLater b c → IsReadOf old b f t → IsReadOf old c f t
+read_later old b c f t l r = read_as old b old c f t (rose_as old.input_faults b.input_faults old.input_faults c.input_faults refl l.inputs.input_faults) r
+
+read_rose : (old b c : Outside) → IsLater b c → Rose old.input_faults b.input_faults → Rose old.input_faults c.input_faults
+read_rose old b c l rose = rose_as old.input_faults b.input_faults old.input_faults c.input_faults refl l.inputs.input_faults rose
+
+put_rose : (old b c : Outside) → IsLater b c → Rose old.put_faults b.put_faults → Rose old.put_faults c.put_faults
+put_rose old b c l rose = rose_as old.put_faults b.put_faults old.put_faults c.put_faults refl l.put.put_faults rose
 
 grows_later : (old b c : Outside) (text : List ℕ) → IsLater b c → Grows old.put b.put text → Grows old.put c.put text
 grows_later old b c text l g = grows_as old.put b.put old.put c.put text refl l.put.put g
 
-by_trace_later : (local : Bool) (q : Request) (old b c : Outside) (files : List Opened) (end : Ending) → IsLater b c → EndsByTrace local q old b files end → EndsByTrace local q old c files end
-unfolding read_later
-by_trace_later local q old b c files end l e = record { reads = read_later local q old b c files l e.reads; text = e.text; tells = e.tells; puts = grows_later old b c e.text l e.puts }
+early_later : (old b c : Outside) (files : List Opened) (end : Ending) → IsLater b c → IsEarly old b files end → IsEarly old c files end
+early_later old b c files (ending.Policy why) l e = e
+early_later old b c files (ending.Commands why) l e = e
+early_later old b c files ending.ReadFault l e = (read_rose old b c l e.0, e.1)
+early_later old b c files ending.Memory l e = tt
+early_later old b c files ending.Done l e = absurd e
+early_later old b c files ending.WriteFault l e = absurd e
+early_later old b c files (ending.Trace bad) l e = absurd e
+early_later old b c files ending.Records l e = absurd e
+early_later old b c files ending.Usage l e = absurd e
+early_later old b c files (ending.Report why) l e = absurd e
+early_later old b c files ending.Illegal l e = absurd e
+early_later old b c files (ending.Rows why) l e = absurd e
 
-break_later : (local : Bool) (q : Request) (old b c : Outside) (files : List Opened) → IsLater b c → BreaksOff local q old b files → BreaksOff local q old c files
-unfolding read_later
-break_later local q old b c files l e = record { reads = read_later local q old b c files l e.reads; text = e.text; tells = e.tells; puts = (e.puts.0, grows_later old b c (take e.puts.0 e.text) l e.puts.1) }
+by_trace_later : (s : Setting) (f : Opened) (old b c : Outside) (end : Ending) → IsLater b c → EndsSo s (IsReadOf old b f) old b end → EndsSo s (IsReadOf old c f) old c end
+by_trace_later s f old b c end l e = record { trace = e.trace; reads = read_later old b c f e.trace l e.reads; text = e.text; tells = e.tells; puts = grows_later old b c e.text l e.puts }
+
+break_later : (s : Setting) (f : Opened) (old b c : Outside) → IsLater b c → BreaksOff s (IsReadOf old b f) old b → BreaksOff s (IsReadOf old c f) old c
+break_later s f old b c l e = record { trace = e.trace; reads = read_later old b c f e.trace l e.reads; text = e.text; tells = e.tells; puts = (e.puts.0, grows_later old b c (take e.puts.0 e.text) l e.puts.1) }
+
+trace_later : (s : Setting) (f : Opened) (old b c : Outside) (end : Ending) → IsLater b c → of_trace.Ends s (IsReadOf old b f) old b end → of_trace.Ends s (IsReadOf old c f) old c end
+trace_later s f old b c ending.Done l e = by_trace_later s f old b c ending.Done l e
+trace_later s f old b c (ending.Trace bad) l e = by_trace_later s f old b c (ending.Trace bad) l e
+trace_later s f old b c ending.Records l e = by_trace_later s f old b c ending.Records l e
+trace_later s f old b c ending.ReadFault l (rose, e) = (read_rose old b c l rose, by_trace_later s f old b c ending.ReadFault l e)
+trace_later s f old b c ending.WriteFault l (rose, e) = (put_rose old b c l rose, break_later s f old b c l e)
+trace_later s f old b c ending.Memory l (inl e) = inl (by_trace_later s f old b c ending.Memory l e)
+trace_later s f old b c ending.Memory l (inr e) = inr (break_later s f old b c l e)
+trace_later s f old b c (ending.Policy why) l e = absurd e
+trace_later s f old b c (ending.Commands why) l e = absurd e
+trace_later s f old b c ending.Usage l e = absurd e
+trace_later s f old b c (ending.Report why) l e = absurd e
+trace_later s f old b c ending.Illegal l e = absurd e
+trace_later s f old b c (ending.Rows why) l e = absurd e
 
 ends_later : (local : Bool) (q : Request) (old b c : Outside) (files : List Opened) (end : Ending) → IsLater b c → Ends local q old b files end → Ends local q old c files end
-ends_later local q old b c files (ending.Policy why) l e = (e.0, grows_later old b c [] l e.1)
-ends_later local q old b c files (ending.Commands why) l e = (e.0, grows_later old b c [] l e.1)
-ends_later local q old b c files (ending.Trace bad) l e = by_trace_later local q old b c files (ending.Trace bad) l e
-ends_later local q old b c files ending.Records l e = by_trace_later local q old b c files ending.Records l e
-ends_later local q old b c files ending.Done l e = by_trace_later local q old b c files ending.Done l e
-ends_later local q old b c files ending.ReadFault l (rose, inl e) = (rose_as old.input_faults b.input_faults old.input_faults c.input_faults refl l.inputs.input_faults rose, inl (e.0, grows_later old b c [] l e.1))
-ends_later local q old b c files ending.ReadFault l (rose, inr e) = (rose_as old.input_faults b.input_faults old.input_faults c.input_faults refl l.inputs.input_faults rose, inr (by_trace_later local q old b c files ending.ReadFault l e))
-ends_later local q old b c files ending.WriteFault l (rose, e) = (rose_as old.put_faults b.put_faults old.put_faults c.put_faults refl l.put.put_faults rose, break_later local q old b c files l e)
-ends_later local q old b c files ending.Memory l (inl e) = inl (grows_later old b c [] l e)
-ends_later local q old b c files ending.Memory l (inr (inl e)) = inr (inl (by_trace_later local q old b c files ending.Memory l e))
-ends_later local q old b c files ending.Memory l (inr (inr e)) = inr (inr (break_later local q old b c files l e))
-ends_later local q old b c files ending.Usage l e = absurd e
-ends_later local q old b c files (ending.Report why) l e = absurd e
-ends_later local q old b c files ending.Illegal l e = absurd e
-ends_later local q old b c files (ending.Rows why) l e = absurd e
+ends_later local q old b c files end l (inl e) = inl (early_later old b c files end l e.0, grows_later old b c [] l e.1)
+ends_later local q old b c files end l (inr e) = inr (record { setting = e.setting; file = e.file; opened = e.opened; ends = trace_later e.setting e.file old b c end l e.ends })
 
 -- the same of a run that exports
-export_read_later : (q : Request) (old b c : Outside) (files : List Opened) (text : List ℕ) → IsLater b c → exports.ReadsExport q old b files text → exports.ReadsExport q old c files text
-unfolding read_later
-export_read_later q old b c files text l e = record { reads = read_later false q old b c files l e.reads; whole = e.whole; records = e.records; capture = e.capture; few = e.few; is = e.is }
+export_read_later : (s : Setting) (f : Opened) (old b c : Outside) (text : List ℕ) → IsLater b c → exports.ReadsExport s (IsReadOf old b f) text → exports.ReadsExport s (IsReadOf old c f) text
+export_read_later s f old b c text l e = record { trace = e.trace; reads = read_later old b c f e.trace l e.reads; whole = e.whole; records = e.records; capture = e.capture; few = e.few; is = e.is }
 
-unput_later : (q : Request) (old b c : Outside) (files : List Opened) (end : Ending) → IsLater b c → exports.EndsUnput q old b files end → exports.EndsUnput q old c files end
-unfolding read_later
-unput_later q old b c files end l e = record { reads = read_later false q old b c files l e.reads; text = e.text; tells = e.tells; nothing = grows_later old b c [] l e.nothing }
+unput_later : (s : Setting) (f : Opened) (old b c : Outside) (end : Ending) → IsLater b c → exports.EndsUnput s (IsReadOf old b f) old b end → exports.EndsUnput s (IsReadOf old c f) old c end
+unput_later s f old b c end l e = record { trace = e.trace; reads = read_later old b c f e.trace l e.reads; text = e.text; tells = e.tells; nothing = grows_later old b c [] l e.nothing }
 
-export_front_later : (q : Request) (old b c : Outside) (files : List Opened) → IsLater b c → exports.PutsExportFront q old b files → exports.PutsExportFront q old c files
-export_front_later q old b c files l e = record { text = e.text; read = export_read_later q old b c files e.text l e.read; count = e.count; puts = grows_later old b c (take e.count e.text) l e.puts }
+export_front_later : (s : Setting) (f : Opened) (old b c : Outside) → IsLater b c → exports.PutsExportFront s (IsReadOf old b f) old b → exports.PutsExportFront s (IsReadOf old c f) old c
+export_front_later s f old b c l e = record { text = e.text; read = export_read_later s f old b c e.text l e.read; puts = (e.puts.0, grows_later old b c (take e.puts.0 e.text) l e.puts.1) }
+
+export_trace_later : (s : Setting) (f : Opened) (old b c : Outside) (end : Ending) → IsLater b c → exports.TraceEnds s (IsReadOf old b f) old b end → exports.TraceEnds s (IsReadOf old c f) old c end
+export_trace_later s f old b c ending.Done l e = record { text = e.text; read = export_read_later s f old b c e.text l e.read; puts = grows_later old b c e.text l e.puts }
+export_trace_later s f old b c (ending.Trace bad) l e = unput_later s f old b c (ending.Trace bad) l e
+export_trace_later s f old b c ending.Records l e = unput_later s f old b c ending.Records l e
+export_trace_later s f old b c ending.ReadFault l (rose, e) = (read_rose old b c l rose, unput_later s f old b c ending.ReadFault l e)
+export_trace_later s f old b c ending.WriteFault l (rose, e) = (put_rose old b c l rose, export_front_later s f old b c l e)
+export_trace_later s f old b c ending.Memory l (inl e) = inl (record { trace = e.trace; reads = read_later old b c f e.trace l e.reads; nothing = grows_later old b c [] l e.nothing })
+export_trace_later s f old b c ending.Memory l (inr e) = inr (export_front_later s f old b c l e)
+export_trace_later s f old b c (ending.Policy why) l e = absurd e
+export_trace_later s f old b c (ending.Commands why) l e = absurd e
+export_trace_later s f old b c ending.Usage l e = absurd e
+export_trace_later s f old b c (ending.Report why) l e = absurd e
+export_trace_later s f old b c ending.Illegal l e = absurd e
+export_trace_later s f old b c (ending.Rows why) l e = absurd e
 
 export_later : (q : Request) (old b c : Outside) (files : List Opened) (end : Ending) → IsLater b c → exports.Ends q old b files end → exports.Ends q old c files end
-export_later q old b c files (ending.Policy why) l e = (e.0, grows_later old b c [] l e.1)
-export_later q old b c files (ending.Commands why) l e = (e.0, grows_later old b c [] l e.1)
-export_later q old b c files (ending.Trace bad) l e = unput_later q old b c files (ending.Trace bad) l e
-export_later q old b c files ending.Records l e = unput_later q old b c files ending.Records l e
-export_later q old b c files ending.Done l e = record { text = e.text; read = export_read_later q old b c files e.text l e.read; puts = grows_later old b c e.text l e.puts }
-export_later q old b c files ending.ReadFault l (rose, inl e) = (rose_as old.input_faults b.input_faults old.input_faults c.input_faults refl l.inputs.input_faults rose, inl (e.0, grows_later old b c [] l e.1))
-export_later q old b c files ending.ReadFault l (rose, inr e) = (rose_as old.input_faults b.input_faults old.input_faults c.input_faults refl l.inputs.input_faults rose, inr (unput_later q old b c files ending.ReadFault l e))
-export_later q old b c files ending.WriteFault l (rose, e) = (rose_as old.put_faults b.put_faults old.put_faults c.put_faults refl l.put.put_faults rose, export_front_later q old b c files l e)
-export_later q old b c files ending.Memory l (inl e) = inl (grows_later old b c [] l e)
-export_later q old b c files ending.Memory l (inr e) = inr (export_front_later q old b c files l e)
-export_later q old b c files ending.Usage l e = absurd e
-export_later q old b c files (ending.Report why) l e = absurd e
-export_later q old b c files ending.Illegal l e = absurd e
-export_later q old b c files (ending.Rows why) l e = absurd e
+export_later q old b c files end l (inl e) = inl (early_later old b c files end l e.0, grows_later old b c [] l e.1)
+export_later q old b c files end l (inr e) = inr (record { setting = e.setting; file = e.file; opened = e.opened; ends = export_trace_later e.setting e.file old b c end l e.ends })
 
 -- the same of a run that checks
 checked_later : (k : Claim) (old b c : Outside) (files : List Opened) (end : Ending) → IsLater b c → checks.Ends k old b files end → checks.Ends k old c files end
@@ -286,13 +311,22 @@ own ending.Illegal = tt
 end_of : (words : List (List ℕ)) (old new : Outside) (s t : Status) (r : IsRun words old new s) → s ≡ t → IsOwn t r.end
 end_of words old new s t r e = subst (λ u. IsOwn u r.end) (sym r.status_is ∙ e) (own r.end)
 
+-- no run over files ends by Usage
+no_usage : {A : Type 0} (local : Bool) (q : Request) (old new : Outside) (files : List Opened) → Ends local q old new files ending.Usage → A
+no_usage local q old new files (inl e) = absurd e.0
+no_usage local q old new files (inr e) = absurd e.ends
+
+no_export_usage : {A : Type 0} (q : Request) (old new : Outside) (files : List Opened) → exports.Ends q old new files ending.Usage → A
+no_export_usage q old new files (inl e) = absurd e.0
+no_export_usage q old new files (inr e) = absurd e.ends
+
 -- words outside the grammar have no other status
 usage_by : (o : Option Asked) (old new : Outside) (end : Ending) → RunsBy o old new end → (end ≡ ending.Usage) ↔ (o ≡ None)
 usage_by None old new end r = ((λ e. refl), (λ e. r.usage))
-usage_by (Some (Forward q)) old new end r = ((λ e. absurd (subst (Ends false q old new r.files) e r.ends)), (λ e. absurd (cc e)))
-usage_by (Some (Deliver q)) old new end r = ((λ e. absurd (subst (Ends true q old new r.files) e r.ends)), (λ e. absurd (cc e)))
-usage_by (Some (Stream q)) old new end r = ((λ e. absurd (subst (Ends false q old new r.files) e r.ends)), (λ e. absurd (cc e)))
-usage_by (Some (Offload q)) old new end r = ((λ e. absurd (subst (exports.Ends q old new r.files) e r.ends)), (λ e. absurd (cc e)))
+usage_by (Some (Forward q)) old new end r = ((λ e. no_usage false q old new r.files (subst (Ends false q old new r.files) e r.ends)), (λ e. absurd (cc e)))
+usage_by (Some (Deliver q)) old new end r = ((λ e. no_usage true q old new r.files (subst (Ends true q old new r.files) e r.ends)), (λ e. absurd (cc e)))
+usage_by (Some (Stream q)) old new end r = ((λ e. no_usage false q old new r.files (subst (Ends false q old new r.files) e r.ends)), (λ e. absurd (cc e)))
+usage_by (Some (Offload q)) old new end r = ((λ e. no_export_usage q old new r.files (subst (exports.Ends q old new r.files) e r.ends)), (λ e. absurd (cc e)))
 usage_by (Some (Check k)) old new end r = ((λ e. absurd (subst (checks.Ends k old new r.files) e r.ends)), (λ e. absurd (cc e)))
 usage_by (Some (Engine q)) old new end r = ((λ e. absurd (subst (rows.Ends q old new r.files) e r.ends)), (λ e. absurd (cc e)))
 usage_by (Some (Generate start packets)) old new end r = ((λ e. absurd (subst (EndsGenerated start packets old new) e r.ends)), (λ e. absurd (cc e)))
@@ -302,13 +336,29 @@ usage_is words old new s r =
     let both = usage_by (asked_in words) old new r.end r.runs in
     ((λ e. both.0 (end_of words old new s status.Usage r e)), (λ e. r.status_is ∙ ap status_of (both.1 e)))
 
+read_rises : (local : Bool) (q : Request) (old new : Outside) (files : List Opened) → Ends local q old new files ending.ReadFault → Rose old.input_faults new.input_faults
+read_rises local q old new files (inl e) = e.0.0
+read_rises local q old new files (inr e) = e.ends.0
+
+export_read_rises : (q : Request) (old new : Outside) (files : List Opened) → exports.Ends q old new files ending.ReadFault → Rose old.input_faults new.input_faults
+export_read_rises q old new files (inl e) = e.0.0
+export_read_rises q old new files (inr e) = e.ends.0
+
+write_rises : (local : Bool) (q : Request) (old new : Outside) (files : List Opened) → Ends local q old new files ending.WriteFault → Rose old.put_faults new.put_faults
+write_rises local q old new files (inl e) = absurd e.0
+write_rises local q old new files (inr e) = e.ends.0
+
+export_write_rises : (q : Request) (old new : Outside) (files : List Opened) → exports.Ends q old new files ending.WriteFault → Rose old.put_faults new.put_faults
+export_write_rises q old new files (inl e) = absurd e.0
+export_write_rises q old new files (inr e) = e.ends.0
+
 -- a fault has its cause
 read_by : (o : Option Asked) (old new : Outside) (end : Ending) → RunsBy o old new end → end ≡ ending.ReadFault → Rose old.input_faults new.input_faults
 read_by None old new end r e = absurd (let u = r.usage in cc (u, e))
-read_by (Some (Forward q)) old new end r e = (subst (Ends false q old new r.files) e r.ends).0
-read_by (Some (Deliver q)) old new end r e = (subst (Ends true q old new r.files) e r.ends).0
-read_by (Some (Stream q)) old new end r e = (subst (Ends false q old new r.files) e r.ends).0
-read_by (Some (Offload q)) old new end r e = (subst (exports.Ends q old new r.files) e r.ends).0
+read_by (Some (Forward q)) old new end r e = read_rises false q old new r.files (subst (Ends false q old new r.files) e r.ends)
+read_by (Some (Deliver q)) old new end r e = read_rises true q old new r.files (subst (Ends true q old new r.files) e r.ends)
+read_by (Some (Stream q)) old new end r e = read_rises false q old new r.files (subst (Ends false q old new r.files) e r.ends)
+read_by (Some (Offload q)) old new end r e = export_read_rises q old new r.files (subst (exports.Ends q old new r.files) e r.ends)
 read_by (Some (Check k)) old new end r e = (subst (checks.Ends k old new r.files) e r.ends).0
 read_by (Some (Engine q)) old new end r e = (subst (rows.Ends q old new r.files) e r.ends).0
 read_by (Some (Generate start packets)) old new end r e = absurd (subst (EndsGenerated start packets old new) e r.ends)
@@ -318,10 +368,10 @@ read_fault_is words old new s r e = read_by (asked_in words) old new r.end r.run
 
 write_by : (o : Option Asked) (old new : Outside) (end : Ending) → RunsBy o old new end → end ≡ ending.WriteFault → Rose old.put_faults new.put_faults
 write_by None old new end r e = absurd (let u = r.usage in cc (u, e))
-write_by (Some (Forward q)) old new end r e = (subst (Ends false q old new r.files) e r.ends).0
-write_by (Some (Deliver q)) old new end r e = (subst (Ends true q old new r.files) e r.ends).0
-write_by (Some (Stream q)) old new end r e = (subst (Ends false q old new r.files) e r.ends).0
-write_by (Some (Offload q)) old new end r e = (subst (exports.Ends q old new r.files) e r.ends).0
+write_by (Some (Forward q)) old new end r e = write_rises false q old new r.files (subst (Ends false q old new r.files) e r.ends)
+write_by (Some (Deliver q)) old new end r e = write_rises true q old new r.files (subst (Ends true q old new r.files) e r.ends)
+write_by (Some (Stream q)) old new end r e = write_rises false q old new r.files (subst (Ends false q old new r.files) e r.ends)
+write_by (Some (Offload q)) old new end r e = export_write_rises q old new r.files (subst (exports.Ends q old new r.files) e r.ends)
 write_by (Some (Check k)) old new end r e = (subst (checks.Ends k old new r.files) e r.ends).0
 write_by (Some (Engine q)) old new end r e = (subst (rows.Ends q old new r.files) e r.ends).0
 write_by (Some (Generate start packets)) old new end r e = (subst (EndsGenerated start packets old new) e r.ends).0

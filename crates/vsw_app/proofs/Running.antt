@@ -5,47 +5,33 @@ use Rattle.vsw_host.specs.Outside.{Opened, Outside, Grows, Rose}
 use Rattle.vsw_host.specs.Told.{TellsHeld}
 use Rattle.vsw_host.proofs.CallerLemmas.{TellsSince-refl}
 use Rattle.vsw_config.specs.declared.file.PolicyFile.{PolicyFile}
-use Rattle.vsw_run.specs.Files.{IsReadOf, Opens, Reaches, TraceRead}
-use Rattle.vsw_run.specs.IsRun.{Ends, EndsByTrace, BreaksOff}
+use Rattle.vsw_run.specs.ByTrace as of_trace
+use Rattle.vsw_run.specs.ByTrace.{BreaksOff, EndsSo}
+use Rattle.vsw_run.specs.Files.{HasTrace, IsEarly, IsReadOf, Opens, Reaches}
+use Rattle.vsw_run.specs.IsRun.{Ends}
 use Rattle.vsw_promise.specs.Jobs.{Setting}
 use Rattle.vsw_run.specs.Trace.{Reach, All as Whole, Fault, Stopped, Trace}
 use Rattle.vsw_run.specs.declared.ending.Ending.{Ending}
 use Rattle.vsw_run.specs.declared.ending.Ending.TheVariants as ending
-use Rattle.vsw_replay.specs.Runs.{Reads, OpensNothing, EndsSo, RunsTrace}
+use Rattle.vsw_replay.specs.Endings.{ending_of}
+use Rattle.vsw_replay.specs.Runs.{EndsUnopened, Reads, OpensNothing, RunsTrace}
 use Rattle.vsw_replay.specs.Runs as runs
 use Rattle.vsw_replay.specs.declared.ending.TraceEnd.{TraceEnd}
 use Rattle.vsw_replay.specs.declared.ending.TraceEnd.TheVariants as end
 use Rattle.vsw_run.specs.Words.{Request}
-use Rattle.vsw_app.specs.Ending.{ending_of}
 use Rattle.vsw_app.specs.Stages.{HasEnded}
-use Rattle.vsw_files.specs.Early.{EndsEarly, HasCommands, IsEarly}
+use Rattle.vsw_files.specs.Early.{EndsEarly, HasCommands}
 use Rattle.vsw_files.proofs.Growing.{grows_none, grows_same, grows_as, rose_from, rose_as}
 use Rattle.vsw_files.proofs.Opening.{opens_more, opens_same}
 
 -- ---- a run that ended before its trace
 
 pub ended_early : (local : Bool) (q : Request) (old new : Outside) (end : Ending) → EndsEarly q old new end → HasEnded local q old new end
-ended_early local q old new end e = by end e.why
-  where
-    none : Grows old.put new.put []
-    none = grows_same old.put new.put e.outputs.put
-
-    so : (end : Ending) → Ends local q old new e.files end → HasEnded local q old new end
-    so end ends = record { runs = record { files = e.files; opens = e.opens; ends = ends }; complained = e.outputs.complained; complain_faults = e.outputs.complain_faults }
-
-    by : (end : Ending) → IsEarly old new e.files end → HasEnded local q old new end
-    by (ending.Policy why) w = so (ending.Policy why) (w, none)
-    by (ending.Commands why) w = so (ending.Commands why) (w, none)
-    by ending.ReadFault w = so ending.ReadFault (w.0, inl (w.1, none))
-    by ending.Memory w = so ending.Memory (inl none)
-    by ending.Done w = absurd w
-    by ending.Usage w = absurd w
-    by ending.WriteFault w = absurd w
-    by (ending.Trace bad) w = absurd w
-    by ending.Records w = absurd w
-    by (ending.Report why) w = absurd w
-    by ending.Illegal w = absurd w
-    by (ending.Rows why) w = absurd w
+ended_early local q old new end e = record {
+  runs = record { files = e.files; opens = e.opens; ends = inl (e.why, grows_same old.put new.put e.outputs.put) };
+  complained = e.outputs.complained;
+  complain_faults = e.outputs.complain_faults;
+}
 
 -- ---- no memory before the trace
 
@@ -76,14 +62,11 @@ opens_trace q old now new p lines h t r =
     (record { named = r.named; since = r.since; held = subst (λ n. TellsHeld now.inputs n r.file.bytes) (sym r.named) r.held; within = r.within })
     (p, lines, h.policy_is, h.are, r.named)
 
-unfoldable pub reads_trace : (local : Bool) (q : Request) (old now new : Outside) (p : PolicyFile) (lines : List Line) (h : HasCommands q old now p lines) (t : Trace) (r : Reads now new q.trace t) → TraceRead local q old new (files_with q old now p lines h r.file)
-reads_trace local q old now new p lines h t r = record {
-  setting = setting_of local q p lines;
-  file = r.file;
-  opened = record { policy = h.policy_file; commands = h.file; all = refl; workers = refl; hands_on = refl; policy_good = h.policy_is.good; commands_good = h.are.good };
-  trace = t;
-  read = read_as now new old new r.file t (rose_from old.input_faults now.input_faults new.input_faults h.read.later) r.read;
-}
+pub has_trace : (local : Bool) (q : Request) (old now : Outside) (p : PolicyFile) (lines : List Line) (h : HasCommands q old now p lines) (f : Opened) → HasTrace local q (files_with q old now p lines h f) (setting_of local q p lines) f
+has_trace local q old now p lines h f = record { policy = h.policy_file; commands = h.file; all = refl; workers = refl; hands_on = refl; policy_good = h.policy_is.good; commands_good = h.are.good }
+
+pub read_since : (q : Request) (old now new : Outside) (p : PolicyFile) (lines : List Line) (h : HasCommands q old now p lines) (t : Trace) (r : Reads now new q.trace t) → IsReadOf old new r.file t
+read_since q old now new p lines h t r = read_as now new old new r.file t (rose_from old.input_faults now.input_faults new.input_faults h.read.later) r.read
 
 -- all that a run of the trace leaves, but for its ending
 record IsBehind (q : Request) (old now new : Outside) (p : PolicyFile) (lines : List Line) : Type 0 where
@@ -99,23 +82,23 @@ finished local q old now new p lines b end files opens ends = record {
 }
 
 -- the trace gave the ending
-by_trace : (local : Bool) (q : Request) (old now new : Outside) (p : PolicyFile) (lines : List Line) (h : HasCommands q old now p lines) (end : Ending) (e : EndsSo (setting_of local q p lines) now new q.trace end) → EndsByTrace local q old new (files_with q old now p lines h e.reads.file) end
-unfolding reads_trace
+by_trace : (local : Bool) (q : Request) (old now new : Outside) (p : PolicyFile) (lines : List Line) (h : HasCommands q old now p lines) (end : Ending) (e : EndsSo (setting_of local q p lines) (Reads now new q.trace) now new end) → EndsSo (setting_of local q p lines) (IsReadOf old new e.reads.file) old new end
 by_trace local q old now new p lines h end e = record {
-  reads = reads_trace local q old now new p lines h e.trace e.reads;
+  trace = e.trace;
+  reads = read_since q old now new p lines h e.trace e.reads;
   text = e.text;
   tells = e.tells;
   puts = grows_as now.put new.put old.put new.put e.text (sym h.read.outputs.put) refl e.puts;
 }
 
 -- or the run broke off
-by_break : (local : Bool) (q : Request) (old now new : Outside) (p : PolicyFile) (lines : List Line) (h : HasCommands q old now p lines) (e : runs.BreaksOff (setting_of local q p lines) now new q.trace) → BreaksOff local q old new (files_with q old now p lines h e.reads.file)
-unfolding reads_trace
+by_break : (local : Bool) (q : Request) (old now new : Outside) (p : PolicyFile) (lines : List Line) (h : HasCommands q old now p lines) (e : BreaksOff (setting_of local q p lines) (Reads now new q.trace) now new) → BreaksOff (setting_of local q p lines) (IsReadOf old new e.reads.file) old new
 by_break local q old now new p lines h e = record {
-  reads = reads_trace local q old now new p lines h e.trace e.reads;
+  trace = e.trace;
+  reads = read_since q old now new p lines h e.trace e.reads;
   text = e.text;
   tells = e.tells;
-  puts = (e.count, grows_as now.put new.put old.put new.put (take e.count e.text) (sym h.read.outputs.put) refl e.puts);
+  puts = (e.puts.0, grows_as now.put new.put old.put new.put (take e.puts.0 e.text) (sym h.read.outputs.put) refl e.puts.1);
 }
 
 -- the trace wasn't opened
@@ -125,26 +108,45 @@ opens_behind q old now new p lines h o = opens_same q old now new (h.policy_file
 pub nothing_put : (q : Request) (old now new : Outside) (p : PolicyFile) (lines : List Line) → HasCommands q old now p lines → OpensNothing now new → Grows old.put new.put []
 nothing_put q old now new p lines h o = grows_as now.put new.put old.put new.put [] (sym h.read.outputs.put) refl o.nothing
 
+-- a run whose trace wasn't opened is early
+pub early_behind : (q : Request) (old now new : Outside) (p : PolicyFile) (lines : List Line) (h : HasCommands q old now p lines) (e : TraceEnd) → EndsUnopened now new e → OpensNothing now new × IsEarly old new (h.policy_file ∷ h.file ∷ []) (ending_of e)
+early_behind q old now new p lines h end.ReadFault (rose, o) = (o, rose_from old.input_faults now.input_faults new.input_faults h.read.later rose, record { few = omega arith; cut_short = h.read.short })
+early_behind q old now new p lines h end.Memory o = (o, tt)
+early_behind q old now new p lines h end.Done o = absurd o
+early_behind q old now new p lines h end.WriteFault o = absurd o
+early_behind q old now new p lines h (end.Refused bad) o = absurd o
+early_behind q old now new p lines h end.Records o = absurd o
+
 -- the run ends as its trace did
 pub traced : (local : Bool) (q : Request) (old now new : Outside) (p : PolicyFile) (lines : List Line) (e : TraceEnd) → HasCommands q old now p lines → RunsTrace (setting_of local q p lines) now new q.trace e → HasEnded local q old new (ending_of e)
-traced local q old now new p lines e h r = by e r.ends
+traced local q old now new p lines e h r = by r.ends
   where
     b : IsBehind q old now new p lines
     b = record { files = h; complained = r.complained; complain_faults = r.complain_faults }
 
-    by : (e : TraceEnd) → runs.Ends (setting_of local q p lines) now new q.trace e → HasEnded local q old new (ending_of e)
-    by end.Done d = finished local q old now new p lines b ending.Done _ (opens_trace q old now new p lines h d.trace d.reads) (by_trace local q old now new p lines h ending.Done d)
-    by (end.Refused bad) d = finished local q old now new p lines b (ending.Trace bad) _ (opens_trace q old now new p lines h d.trace d.reads) (by_trace local q old now new p lines h (ending.Trace bad) d)
-    by end.Records d = finished local q old now new p lines b ending.Records _ (opens_trace q old now new p lines h d.trace d.reads) (by_trace local q old now new p lines h ending.Records d)
-    by end.ReadFault (rose, inl none) = finished local q old now new p lines b ending.ReadFault (h.policy_file ∷ h.file ∷ []) (opens_behind q old now new p lines h none)
-        (rose_from old.input_faults now.input_faults new.input_faults h.read.later rose, inl (record { few = omega arith; cut_short = h.read.short }, nothing_put q old now new p lines h none))
-    by end.ReadFault (rose, inr d) = finished local q old now new p lines b ending.ReadFault _ (opens_trace q old now new p lines h d.trace d.reads)
-        (rose_from old.input_faults now.input_faults new.input_faults h.read.later rose, inr (by_trace local q old now new p lines h ending.ReadFault d))
-    by end.WriteFault (rose, d) = finished local q old now new p lines b ending.WriteFault _ (opens_trace q old now new p lines h d.trace d.reads)
-        (rose_as now.put_faults new.put_faults old.put_faults new.put_faults (sym h.read.outputs.put_faults) refl rose, by_break local q old now new p lines h d)
-    by end.Memory (inl none) = finished local q old now new p lines b ending.Memory (h.policy_file ∷ h.file ∷ []) (opens_behind q old now new p lines h none) (inl (nothing_put q old now new p lines h none))
-    by end.Memory (inr (inl d)) = finished local q old now new p lines b ending.Memory _ (opens_trace q old now new p lines h d.trace d.reads) (inr (inl (by_trace local q old now new p lines h ending.Memory d)))
-    by end.Memory (inr (inr d)) = finished local q old now new p lines b ending.Memory _ (opens_trace q old now new p lines h d.trace d.reads) (inr (inr (by_break local q old now new p lines h d)))
+    so : (end : Ending) (t : Trace) (f : Reads now new q.trace t) → of_trace.Ends (setting_of local q p lines) (IsReadOf old new f.file) old new end → HasEnded local q old new end
+    so end t f ends = finished local q old now new p lines b end (files_with q old now p lines h f.file) (opens_trace q old now new p lines h t f) (inr (record { setting = setting_of local q p lines; file = f.file; opened = has_trace local q old now p lines h f.file; ends = ends }))
+
+    ends : (end : Ending) → of_trace.Ends (setting_of local q p lines) (Reads now new q.trace) now new end → HasEnded local q old new end
+    ends ending.Done d = so ending.Done d.trace d.reads (by_trace local q old now new p lines h ending.Done d)
+    ends (ending.Trace bad) d = so (ending.Trace bad) d.trace d.reads (by_trace local q old now new p lines h (ending.Trace bad) d)
+    ends ending.Records d = so ending.Records d.trace d.reads (by_trace local q old now new p lines h ending.Records d)
+    ends ending.ReadFault (rose, d) = so ending.ReadFault d.trace d.reads (rose_from old.input_faults now.input_faults new.input_faults h.read.later rose, by_trace local q old now new p lines h ending.ReadFault d)
+    ends ending.WriteFault (rose, d) = so ending.WriteFault d.trace d.reads (rose_as now.put_faults new.put_faults old.put_faults new.put_faults (sym h.read.outputs.put_faults) refl rose, by_break local q old now new p lines h d)
+    ends ending.Memory (inl d) = so ending.Memory d.trace d.reads (inl (by_trace local q old now new p lines h ending.Memory d))
+    ends ending.Memory (inr d) = so ending.Memory d.trace d.reads (inr (by_break local q old now new p lines h d))
+    ends (ending.Policy why) d = absurd d
+    ends (ending.Commands why) d = absurd d
+    ends ending.Usage d = absurd d
+    ends (ending.Report why) d = absurd d
+    ends ending.Illegal d = absurd d
+    ends (ending.Rows why) d = absurd d
+
+    by : runs.Ends (setting_of local q p lines) now new q.trace e → HasEnded local q old new (ending_of e)
+    by (inl o) =
+        let early = early_behind q old now new p lines h e o in
+        finished local q old now new p lines b (ending_of e) (h.policy_file ∷ h.file ∷ []) (opens_behind q old now new p lines h early.0) (inl (early.1, nothing_put q old now new p lines h early.0))
+    by (inr d) = ends (ending_of e) d
 
 pub traced_as : (local : Bool) (q : Request) (old now new : Outside) (p : PolicyFile) (lines : List Line) (e : TraceEnd) (end : Ending) → HasCommands q old now p lines → RunsTrace (setting_of local q p lines) now new q.trace e → end ≡ ending_of e → HasEnded local q old new end
 traced_as local q old now new p lines e end h r is = subst (HasEnded local q old new) (sym is) (traced local q old now new p lines e h r)

@@ -3,7 +3,8 @@
 ghost use Rattle.std.specs.Prelude.{◌≡◌};
 ghost use Rattle.vsw_host.specs.Outside.{SameInputs};
 ghost use Rattle.vsw_run.specs.Complaint.{policy_status, commands_status, report_status, rows_status, status_of, complaint, Complains};
-ghost use Rattle.vsw_app.specs.Ending.{answered, drawn_ending, ending_of};
+ghost use Rattle.vsw_app.specs.Ending.{answered};
+ghost use Rattle.vsw_replay.specs.Endings.{drawn_ending, ending_of};
 ghost use Rattle.vsw_app.specs.Speaks.{KeepsPut};
 
 use crate::complaint::say_ending;

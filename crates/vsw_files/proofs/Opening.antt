@@ -14,11 +14,11 @@ use Rattle.vsw_config.specs.Policy.{policy_file_of}
 use Rattle.vsw_config.specs.declared.file.ConfigFault.{ConfigFault}
 use Rattle.vsw_config.specs.declared.file.ConfigFault.TheVariants as policy
 use Rattle.vsw_config.specs.declared.file.PolicyFile.{PolicyFile}
-use Rattle.vsw_run.specs.Files.{InTurn, Opens, ShowsPolicy, ShowsCommands}
+use Rattle.vsw_run.specs.Files.{InTurn, IsEarly, Opens, ShowsPolicy, ShowsCommands}
 use Rattle.vsw_run.specs.declared.ending.Ending.{Ending}
 use Rattle.vsw_run.specs.declared.ending.Ending.TheVariants as ending
 use Rattle.vsw_run.specs.Words.{Request}
-use Rattle.vsw_files.specs.Early.{EndsEarly, HasCommands, HasPolicy, IsEarly, JudgesCommands, JudgesPolicy, ReadsCommands, ReadsPolicy}
+use Rattle.vsw_files.specs.Early.{EndsEarly, HasCommands, HasPolicy, JudgesCommands, JudgesPolicy, ReadsCommands, ReadsPolicy}
 use Rattle.vsw_files.specs.Opened.{OpensFew, OpensOne}
 use Rattle.vsw_files.proofs.Growing.{rose_from}
 use Rattle.vsw_files.proofs.Limits.{policy_over, policy_long, commands_over, commands_long}

@@ -4,7 +4,7 @@ use Rattle.vsw_check.specs.declared.report.Report.{Report}
 use Rattle.vsw_commandfile.specs.declared.line.Line.{Line}
 use Rattle.vsw_config.specs.declared.file.PolicyFile.{PolicyFile}
 use Rattle.vsw_files.specs.Claimed.{HasChecked, HasRecords, JudgesReport, ReadsReport, ReadsTrace}
-use Rattle.vsw_files.specs.Early.{EndsEarly, HasCommands, IsEarly}
+use Rattle.vsw_files.specs.Early.{EndsEarly, HasCommands}
 use Rattle.vsw_files.specs.Opened.{OpensFew, OpensOne}
 use Rattle.vsw_files.specs.Private.Whole.{OpensTrace, Traces}
 use Rattle.vsw_files.proofs.Growing.{grows_same, rose_from}
@@ -20,6 +20,7 @@ use Rattle.vsw_port.proofs.Calls.{each_append}
 use Rattle.vsw_reading.specs.declared.reading.Reading.{Reading}
 use Rattle.vsw_run.specs.Checks.{Ends, InTurn, Opens}
 use Rattle.vsw_run.specs.Files as files
+use Rattle.vsw_run.specs.Files.{IsEarly}
 use Rattle.vsw_run.specs.Words.{Claim}
 use Rattle.vsw_run.specs.declared.ending.Ending.{Ending}
 use Rattle.vsw_run.specs.declared.ending.Ending.TheVariants as ending

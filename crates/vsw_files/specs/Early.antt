@@ -2,10 +2,10 @@
 use Rattle.std.specs.Prelude.{◌≡◌, ◌≤◌, ℕ, List, [], ◌∷◌, Result, Ok, Err}
 use Rattle.vsw_commandfile.specs.Commands.{commands_file_of}
 use Rattle.vsw_commandfile.specs.declared.line.Line.{Line}
-use Rattle.vsw_host.specs.Outside.{Opened, Outside, Rose, SameOutputs}
+use Rattle.vsw_host.specs.Outside.{Opened, Outside, SameOutputs}
 use Rattle.vsw_config.specs.Policy.{policy_file_of}
 use Rattle.vsw_config.specs.declared.file.PolicyFile.{PolicyFile}
-use Rattle.vsw_run.specs.Files.{AreCommands, AreCutShort, HasBadCommands, HasBadPolicy, IsPolicy, LacksTrace, Opens}
+use Rattle.vsw_run.specs.Files.{AreCommands, AreCutShort, IsEarly, IsPolicy, Opens}
 use Rattle.vsw_run.specs.declared.ending.Ending.{Ending}
 use Rattle.vsw_run.specs.declared.ending.Ending.TheVariants as ending
 use Rattle.vsw_run.specs.Words.{Request}
@@ -45,15 +45,7 @@ pub record HasCommands (q : Request) (old new : Outside) (policy : PolicyFile) (
   pub policy_is : IsPolicy q.policy policy_file policy
   pub are : AreCommands q.commands file policy lines
 
--- why a run ends before its trace is opened
-abbrev pub IsEarly : Outside → Outside → List Opened → Ending → Type 0
-IsEarly old new files (ending.Policy why) = HasBadPolicy files why
-IsEarly old new files (ending.Commands why) = HasBadCommands files why
-IsEarly old new files ending.ReadFault = Rose old.input_faults new.input_faults × LacksTrace files
-IsEarly old new files ending.Memory = Unit {0}
-IsEarly old new files _ = ⊥
-
--- it ended so, and nothing was put or complained
+-- the run ended before it opened its trace, and nothing was put or complained
 pub record EndsEarly (q : Request) (old new : Outside) (end : Ending) : Type 0 where
   pub files : List Opened
   pub opens : Opens old new q files

@@ -103,7 +103,7 @@ head_unput s start old now name run switch t most x some e d f =
     let passed = headed start old name r p.bytes most t.stop some p.read p.says e in
     let reading = reading_put start old now name r.source.file p.bytes d.inputs p.read.reading in
     runs_so s start now name end.WriteFault (since_put start old now head_line (Err x) f.since d) reading.later
-    (omega (arith, f.since.puts_later, d.cause.failed), breaks_off s start now name (read_to Stopped p.bytes) head_line d.told.0 (reads_stopped start now name r.source.file p.bytes reading) (header_follows s p.bytes passed.form f.at.some f.at.few passed.header) (grows_then start.put old.put now.put [] (take d.told.0 head_line) f.puts d.told.1))
+    (inr (omega (arith, f.since.puts_later, d.cause.failed), breaks_off s start now name (read_to Stopped p.bytes) head_line d.told.0 (reads_stopped start now name r.source.file p.bytes reading) (header_follows s p.bytes passed.form f.at.some f.at.few passed.header) (grows_then start.put old.put now.put [] (take d.told.0 head_line) f.puts d.told.1)))
 
 -- ---- no header was accepted
 
@@ -111,7 +111,7 @@ fault_ends : (s : Setting) (start now : Outside) (name : List ℕ) (file : ℕ) 
 fault_ends s start now name file bytes seen e since r g rose is true t h =
     let few : length bytes < 24 = grind (arith, common_steps) in
     let same : end.ReadFault ≡ e = cc h in
-    subst (λ e. RunsTrace s start now name e) same (runs_so s start now name end.ReadFault since r.later (rose, inr (ends_so s start now name ending.ReadFault (read_to Fault bytes) [] (reads_fault start now name file bytes rose r) (refl, inl (record { few = few; nothing = refl })) g)))
+    subst (λ e. RunsTrace s start now name e) same (runs_so s start now name end.ReadFault since r.later (inr (rose, ends_so s start now name ending.ReadFault (read_to Fault bytes) [] (reads_fault start now name file bytes rose r) (refl, inl (record { few = few; nothing = refl })) g)))
 fault_ends s start now name file bytes seen e since r g rose is false t h = absurd (cc h)
 
 -- a trace with a bad header is refused by its 24 bytes, or by its end
@@ -123,15 +123,15 @@ bad_ends : (s : Setting) (start now : Outside) (name : List ℕ) (r : Reading) (
 bad_ends s start now name r bytes all NotPcap e since h g c d i =
     let t = shown_bad start now name r bytes all NotPcap h d in
     let same : end.Refused NotPcap ≡ e = cc i in
-    subst (λ e. RunsTrace s start now name e) same (runs_so s start now name (end.Refused NotPcap) since h.reading.later (ends_so s start now name (ending.Trace NotPcap) t.0 [] t.1 (record { refused = (ap header_of t.2 ∙ c.0, refl); shown = t.3; nothing = refl }) g))
+    subst (λ e. RunsTrace s start now name e) same (runs_so s start now name (end.Refused NotPcap) since h.reading.later (inr (ends_so s start now name (ending.Trace NotPcap) t.0 [] t.1 (record { refused = (ap header_of t.2 ∙ c.0, refl); shown = t.3; nothing = refl }) g)))
 bad_ends s start now name r bytes all Version e since h g c d i =
     let t = shown_bad start now name r bytes all Version h (inr d) in
     let same : end.Refused Version ≡ e = cc i in
-    subst (λ e. RunsTrace s start now name e) same (runs_so s start now name (end.Refused Version) since h.reading.later (ends_so s start now name (ending.Trace Version) t.0 [] t.1 (record { refused = (ap header_of t.2 ∙ c.0, refl); shown = t.3; nothing = refl }) g))
+    subst (λ e. RunsTrace s start now name e) same (runs_so s start now name (end.Refused Version) since h.reading.later (inr (ends_so s start now name (ending.Trace Version) t.0 [] t.1 (record { refused = (ap header_of t.2 ∙ c.0, refl); shown = t.3; nothing = refl }) g)))
 bad_ends s start now name r bytes all LinkType e since h g c d i =
     let t = shown_bad start now name r bytes all LinkType h (inr d) in
     let same : end.Refused LinkType ≡ e = cc i in
-    subst (λ e. RunsTrace s start now name e) same (runs_so s start now name (end.Refused LinkType) since h.reading.later (ends_so s start now name (ending.Trace LinkType) t.0 [] t.1 (record { refused = (ap header_of t.2 ∙ c.0, refl); shown = t.3; nothing = refl }) g))
+    subst (λ e. RunsTrace s start now name e) same (runs_so s start now name (end.Refused LinkType) since h.reading.later (inr (ends_so s start now name (ending.Trace LinkType) t.0 [] t.1 (record { refused = (ap header_of t.2 ∙ c.0, refl); shown = t.3; nothing = refl }) g)))
 bad_ends s start now name r bytes all (Cut at) e since h g c d i = absurd (cc i)
 bad_ends s start now name r bytes all (Huge at) e since h g c d i = absurd (cc i)
 
@@ -166,7 +166,7 @@ first_unfilled s start old now name run switch next e r outputs fills o =
     let bytes = f.bytes ++ f.more in
     let t = some_tells s bytes o.at.some o.at.few in
     runs_so s start now name end.Memory (since_read start old now o.since outputs) f.reading.later
-    (inr (inr (record { trace = read_to Stopped bytes; reads = reads_stopped start now name r.source.file bytes f.reading; text = t.0; tells = t.1; count = 0; puts = grows_read start old now [] outputs o.puts })))
+    (inr (inr (record { trace = read_to Stopped bytes; reads = reads_stopped start now name r.source.file bytes f.reading; text = t.0; tells = t.1; puts = (0, grows_read start old now [] outputs o.puts) })))
 
 -- ---- the trace wasn't opened
 
@@ -177,7 +177,7 @@ since_none (Some x) = record { files = refl; opened = sym (append-nil x.opened) 
 pub unopened_fault : (s : Setting) (start now : Outside) (name : List ℕ) (why : Unopened) → why ≡ unopened.Fault → OpensSource start now name (Err why) → RunsTrace s start now name end.ReadFault
 unopened_fault s start now name why e opens =
     let o = subst (λ w. OpensSource start now name (Err w)) e opens in record {
-      ends = (o.2, inl (record { since = o.3.since; nothing = subst (λ p. Grows start.put p []) (sym o.0.put) (grows_none start.put) }));
+      ends = inl (o.2, record { since = o.3.since; nothing = subst (λ p. Grows start.put p []) (sym o.0.put) (grows_none start.put) });
       complained = o.0.complained;
       complain_faults = o.0.complain_faults;
       inputs_later = o.1;

@@ -23,9 +23,11 @@ use Rattle.vsw_run.specs.declared.ending.Ending.{Ending}
 use Rattle.vsw_run.specs.declared.ending.Ending.TheVariants as ending
 use Rattle.vsw_crew.specs.Export.{AreRowsAt, HasRowsAt}
 use Rattle.vsw_crew.specs.Switch.{AllStandAt, IsAt, PortNow, SwitchNow}
-use Rattle.vsw_replay.specs.Exports.{ExportEnds, EndsUnput, ExportsTrace}
+use Rattle.vsw_run.specs.ByTrace.{EndsSo}
+use Rattle.vsw_run.specs.Exporting.{EndsUnput}
+use Rattle.vsw_replay.specs.Exports.{ExportEnds, ExportsTrace}
 use Rattle.vsw_replay.specs.Private.Exporting.{IsFile, IsThrough, IsWritten, Leaves, unput}
-use Rattle.vsw_replay.specs.Runs.{BreaksOff, EndsSo, OpensNothing, Reads, RunsTrace}
+use Rattle.vsw_replay.specs.Runs.{Ends, OpensNothing, Reads, RunsTrace}
 use Rattle.vsw_replay.specs.declared.ending.TraceEnd.{TraceEnd}
 use Rattle.vsw_replay.specs.declared.ending.TraceEnd.TheVariants as end
 use Rattle.vsw_replay.proofs.Completing.{read_to}
@@ -150,29 +152,37 @@ reaches_so old new f Stopped h = tt
 reads_so : (old new : Outside) (name : List ℕ) (t : Trace) → Reads (unput old) new name t → Reads old new name t
 reads_so old new name t r = record { file = r.file; named = r.named; since = r.since; held = r.held; within = r.within; read = record { bytes = r.read.bytes; reaches = reaches_so old new r.file t.reach r.read.reaches } }
 
-ends_unput : (s : Setting) (old new : Outside) (name : List ℕ) (e : Ending) → SameOutputs old new → EndsSo s (unput old) new name e → EndsUnput s old new name e
+ends_unput : (s : Setting) (old new : Outside) (name : List ℕ) (e : Ending) → SameOutputs old new → EndsSo s (Reads (unput old) new name) (unput old) new e → EndsUnput s (Reads old new name) old new e
 ends_unput s old new name e o x = record { trace = x.trace; reads = reads_so old new name x.trace x.reads; text = x.text; tells = x.tells; nothing = same_grows old new o }
 
 exports_so : (s : Setting) (old new : Outside) (name : List ℕ) (e : TraceEnd) → RunsTrace s (unput old) new name e → ExportEnds s old new name e → ExportsTrace s old new name e
 exports_so s old new name e r ends = record { ends = ends; complained = r.complained; complain_faults = r.complain_faults; inputs_later = r.inputs_later; puts_later = r.puts_later }
 
-fault_ends : (s : Setting) (old new : Outside) (name : List ℕ) → SameOutputs old new → OpensNothing (unput old) new ⊎ EndsSo s (unput old) new name ending.ReadFault → OpensNothing old new ⊎ EndsUnput s old new name ending.ReadFault
-fault_ends s old new name o (inl n) = inl (record { since = n.since; nothing = same_grows old new o })
-fault_ends s old new name o (inr x) = inr (ends_unput s old new name ending.ReadFault o x)
+unopened : (old new : Outside) → SameOutputs old new → OpensNothing (unput old) new → OpensNothing old new
+unopened old new o n = record { since = n.since; nothing = same_grows old new o }
 
-memory_ends : (s : Setting) (old new : Outside) (name : List ℕ) → SameOutputs old new → OpensNothing (unput old) new ⊎ EndsSo s (unput old) new name ending.Memory ⊎ BreaksOff s (unput old) new name → ExportEnds s old new name end.Memory
-memory_ends s old new name o (inl n) = inl (record { since = n.since; nothing = same_grows old new o })
-memory_ends s old new name o (inr (inl x)) = inr (inl (record { trace = x.trace; reads = reads_so old new name x.trace x.reads; nothing = same_grows old new o }))
-memory_ends s old new name o (inr (inr x)) = inr (inl (record { trace = x.trace; reads = reads_so old new name x.trace x.reads; nothing = same_grows old new o }))
+-- a run that puts nothing ends as the one does that would have put
+ends_so : (s : Setting) (old new : Outside) (name : List ℕ) (e : TraceEnd) → (e ≡ end.Done → ⊥) → (e ≡ end.WriteFault → ⊥) → SameOutputs old new → Ends s (unput old) new name e → ExportEnds s old new name e
+ends_so s old new name end.Done done fault o x = absurd (done refl)
+ends_so s old new name end.WriteFault done fault o x = absurd (fault refl)
+ends_so s old new name end.ReadFault done fault o (inl (rose, n)) = inl (rose, unopened old new o n)
+ends_so s old new name end.ReadFault done fault o (inr (rose, x)) = inr (rose, ends_unput s old new name ending.ReadFault o x)
+ends_so s old new name (end.Refused bad) done fault o (inl n) = absurd n
+ends_so s old new name (end.Refused bad) done fault o (inr x) = inr (ends_unput s old new name (ending.Trace bad) o x)
+ends_so s old new name end.Records done fault o (inl n) = absurd n
+ends_so s old new name end.Records done fault o (inr x) = inr (ends_unput s old new name ending.Records o x)
+ends_so s old new name end.Memory done fault o (inl n) = inl (unopened old new o n)
+ends_so s old new name end.Memory done fault o (inr (inl x)) = inr (inl (record { trace = x.trace; reads = reads_so old new name x.trace x.reads; nothing = same_grows old new o }))
+ends_so s old new name end.Memory done fault o (inr (inr x)) = inr (inl (record { trace = x.trace; reads = reads_so old new name x.trace x.reads; nothing = same_grows old new o }))
 
 -- before all rounds were run
 pub leaves_exports : (s : Setting) (old new : Outside) (name : List ℕ) (switch : SwitchNow) (e : TraceEnd) → (e ≡ end.Done → ⊥) → SameOutputs old new → Leaves s old new name switch e → ExportsTrace s old new name e
 leaves_exports s old new name switch end.Done other o r = absurd (other refl)
-leaves_exports s old new name switch end.ReadFault other o r = exports_so s old new name end.ReadFault r (r.ends.0, fault_ends s old new name o r.ends.1)
 leaves_exports s old new name switch end.WriteFault other o r = absurd r
-leaves_exports s old new name switch (end.Refused bad) other o r = exports_so s old new name (end.Refused bad) r (ends_unput s old new name (ending.Trace bad) o r.ends)
-leaves_exports s old new name switch end.Records other o r = exports_so s old new name end.Records r (ends_unput s old new name ending.Records o r.ends)
-leaves_exports s old new name switch end.Memory other o r = exports_so s old new name end.Memory r (memory_ends s old new name o r.ends)
+leaves_exports s old new name switch end.ReadFault other o r = exports_so s old new name end.ReadFault r (ends_so s old new name end.ReadFault (λ e. cc e) (λ e. cc e) o r.ends)
+leaves_exports s old new name switch (end.Refused bad) other o r = exports_so s old new name (end.Refused bad) r (ends_so s old new name (end.Refused bad) (λ e. cc e) (λ e. cc e) o r.ends)
+leaves_exports s old new name switch end.Records other o r = exports_so s old new name end.Records r (ends_so s old new name end.Records (λ e. cc e) (λ e. cc e) o r.ends)
+leaves_exports s old new name switch end.Memory other o r = exports_so s old new name end.Memory r (ends_so s old new name end.Memory (λ e. cc e) (λ e. cc e) o r.ends)
 
 -- no memory for the rows
 pub unmade_exports : (s : Setting) (old new : Outside) (name : List ℕ) (switch : SwitchNow) → SameOutputs old new → IsThrough s (unput old) new name switch → ExportsTrace s old new name end.Memory
@@ -200,17 +210,19 @@ pub put_exports : (s : Setting) (old mid new : Outside) (name text : List ℕ) (
 put_exports s old mid new name text switch u o t f d =
     let later : old.input_faults ≤ mid.input_faults = t.later in
     record {
-      ends = record {
-        trace = read_to All t.bytes;
-        reads = reads_whole old new name t.bytes (whole_put old mid new name t.bytes d.inputs t.whole);
-        read = refl;
-        records = t.records;
-        capture = t.capture;
-        few = t.few;
+      ends = inr (record {
         text = text;
-        is = is_export s (unput old) mid name text switch t f;
+        read = record {
+          trace = read_to All t.bytes;
+          reads = reads_whole old new name t.bytes (whole_put old mid new name t.bytes d.inputs t.whole);
+          whole = refl;
+          records = t.records;
+          capture = t.capture;
+          few = t.few;
+          is = is_export s (unput old) mid name text switch t f;
+        };
         puts = subst (λ p. Grows p new.put text) o.put d.told;
-      };
+      });
       complained = d.complained ∙ o.complained;
       complain_faults = d.complain_faults ∙ o.complain_faults;
       inputs_later = omega (arith, later, d.inputs.input_faults);
@@ -222,19 +234,20 @@ pub unput_exports : (s : Setting) (old mid new : Outside) (name text : List ℕ)
 unput_exports s old mid new name text switch e o t f d =
     let later : old.input_faults ≤ mid.input_faults = t.later in
     record {
-      ends = (
+      ends = inr (
         subst (λ n. Rose n new.put_faults) o.put_faults d.cause.failed,
         record {
-          trace = read_to All t.bytes;
-          reads = reads_whole old new name t.bytes (whole_put old mid new name t.bytes d.inputs t.whole);
-          read = refl;
-          records = t.records;
-          capture = t.capture;
-          few = t.few;
           text = text;
-          is = is_export s (unput old) mid name text switch t f;
-          count = d.told.0;
-          puts = subst (λ p. Grows p new.put (take d.told.0 text)) o.put d.told.1;
+          read = record {
+            trace = read_to All t.bytes;
+            reads = reads_whole old new name t.bytes (whole_put old mid new name t.bytes d.inputs t.whole);
+            whole = refl;
+            records = t.records;
+            capture = t.capture;
+            few = t.few;
+            is = is_export s (unput old) mid name text switch t f;
+          };
+          puts = (d.told.0, subst (λ p. Grows p new.put (take d.told.0 text)) o.put d.told.1);
         },
       );
       complained = d.complained ∙ o.complained;

@@ -146,7 +146,7 @@ next_more s start old now name run switch first r full same outputs peeks b =
     let some : 0 < length rest = subst (λ q. 0 < length (q.left ++ p.0)) same p.2 in
     let so : AreSoFar s b.given (cuts_within s.commands (length b.given)) b.rounds b.histories = subst (λ n. AreSoFar s b.given (cuts_within s.commands n) b.rounds b.histories) (sym b.count) b.so in
     runs_so s start now name end.Records (since_read start old now b.since outputs) p.1.later
-    (ends_so s start now name ending.Records (read_to Stopped bytes) (report_text b.rounds) (reads_stopped start now name r.source.file bytes p.1)
+    (inr (ends_so s start now name ending.Records (read_to Stopped bytes) (report_text b.rounds) (reads_stopped start now name r.source.file bytes p.1)
     (record {
       records = b.given;
       at = length bytes - length rest;
@@ -156,7 +156,7 @@ next_more s start old now name run switch first r full same outputs peeks b =
       full = b.count ∙ full;
       tells = tells_within s b.given b.rounds b.histories so;
     })
-    (grows_read start old now (report_text b.rounds) outputs b.puts))
+    (grows_read start old now (report_text b.rounds) outputs b.puts)))
 
 -- none does
 pub next_none : (s : Setting) (start old now : Outside) (name : List ℕ) (run : Run) (switch : SwitchNow) (first next : ℕ) (st : Stop) (r : Reading) → first ≡ most_records → r.reader ≡ run.reading.reader → r.batch ≡ [] → (st ≡ stop.Full → ⊥) → IsNextCut s.commands first next → SameOutputs old now → PeeksSo old now (cleared run.reading) r st

@@ -22,7 +22,7 @@ past_clean s start now name true switch first e f =
     runs_so s start now name end.Memory f.since f.later (inr (inl (ends_so s start now name ending.Memory (read_to All f.bytes) (report_text f.rounds) (reads_whole start now name f.bytes f.whole) (all_tells s f.bytes f.records f.rounds f.histories true f.capture f.few so f.short_is) f.puts)))
 past_clean s start now name false switch first e f =
     let so = subst (λ c. AreSoFar s f.records c f.rounds f.histories) (until_last s.commands first (length f.records) e f.behind) f.so in
-    runs_so s start now name end.Done f.since f.later (ends_so s start now name ending.Done (read_to All f.bytes) (report_text f.rounds) (reads_whole start now name f.bytes f.whole) (all_tells s f.bytes f.records f.rounds f.histories false f.capture f.few so f.short_is) f.puts)
+    runs_so s start now name end.Done f.since f.later (inr (ends_so s start now name ending.Done (read_to All f.bytes) (report_text f.rounds) (reads_whole start now name f.bytes f.whole) (all_tells s f.bytes f.records f.rounds f.histories false f.capture f.few so f.short_is) f.puts))
 
 -- no command names a further packet
 pub past_ends : (s : Setting) (start now : Outside) (name : List ℕ) (lines : List Line) (short : Bool) (switch : SwitchNow) (first : ℕ) → s.commands ≡ lines → next_at (first + 1) lines ≡ None → IsPast s start now name short switch first → RunsTrace s start now name (clean_of short)

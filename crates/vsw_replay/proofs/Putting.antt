@@ -137,10 +137,10 @@ after_for s start now name run switch t bytes all rounds hs stop.End i so at put
 }
 after_for s start now name run switch t bytes all rounds hs stop.Fault i so at put =
     runs_so s start now name end.ReadFault put.since i.reading.later
-    (i.shows.0, inr (ends_so s start now name ending.ReadFault (read_to Fault bytes) (report_text rounds) (reads_fault start now name run.reading.source.file bytes i.shows.0 i.reading) (refl, inr (pauses_front s (read_to Fault bytes) all (report_text rounds) i.shows.1 i.shows.2 (tells_within s all rounds hs so))) put.puts))
+    (inr (i.shows.0, ends_so s start now name ending.ReadFault (read_to Fault bytes) (report_text rounds) (reads_fault start now name run.reading.source.file bytes i.shows.0 i.reading) (refl, inr (pauses_front s (read_to Fault bytes) all (report_text rounds) i.shows.1 i.shows.2 (tells_within s all rounds hs so))) put.puts))
 after_for s start now name run switch t bytes all rounds hs (stop.Bad bad) i so at put =
     let b = bad_tells s start now name run.reading.source.file bytes all (report_text rounds) bad i.reading i.passed (λ at e. reads_whole start now name bytes (i.shows.0 at e)) i.shows.1 i.shows.2 (tells_within s all rounds hs so) in
-    runs_so s start now name (end.Refused bad) put.since i.reading.later (ends_so s start now name (ending.Trace bad) b.0 (report_text rounds) b.1 b.2 put.puts)
+    runs_so s start now name (end.Refused bad) put.since i.reading.later (inr (ends_so s start now name (ending.Trace bad) b.0 (report_text rounds) b.1 b.2 put.puts))
 
 -- ---- the records of a filled stretch
 
@@ -182,7 +182,7 @@ fault_ends s start old now name rounds r text e since later is c g d =
     let whole : report_text rounds ++ text ≡ report_text (rounds ++ r ∷ []) = ap (λ t. report_text rounds ++ t) is ∙ sym (report_push rounds r) in
     let n : ℕ = length (report_text rounds) + d.told.0 in
     let put : Grows start.put now.put (take n (report_text (rounds ++ r ∷ []))) = grows_is start.put now.put (take n (report_text rounds ++ text)) (take n (report_text (rounds ++ r ∷ []))) (ap (take n) whole) (front_then start.put old.put now.put (report_text rounds) text d.told.0 g d.told.1) in
-    runs_so s start now name end.WriteFault (since_put start old now text (Err e) since d) later (omega (arith, since.puts_later, d.cause.failed), breaks_off s start now name c.trace (report_text (rounds ++ r ∷ [])) n c.reads c.follows put)
+    runs_so s start now name end.WriteFault (since_put start old now text (Err e) since d) later (inr (omega (arith, since.puts_later, d.cause.failed), breaks_off s start now name c.trace (report_text (rounds ++ r ∷ [])) n c.reads c.follows put))
 
 pub put_by : (start old now : Outside) (rounds : List Round) (r : Round) (text : List ℕ) (u : ⊤) (was short is : Bool) → Since start old → are_short rounds ≡ was → Grows start.put old.put (report_text rounds) → text ≡ round_text r → short ≡ (was || is) → is ≡ is_short_round r → DoesPut old now text (Ok u) → IsPutBy start now (rounds ++ r ∷ []) short
 put_by start old now rounds r text u was short is since e g t f h d = record {

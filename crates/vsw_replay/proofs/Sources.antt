@@ -12,7 +12,8 @@ use Rattle.vsw_reading.specs.declared.reading.Reading.{Reading}
 use Rattle.vsw_reading.specs.declared.reading.Stop.{Stop}
 use Rattle.vsw_reading.specs.declared.reading.Stop.TheVariants as stop
 use Rattle.vsw_replay.specs.Private.Going.{Since, ShowsStop}
-use Rattle.vsw_replay.specs.Runs.{Reads, EndsSo, BreaksOff, Ends, RunsTrace}
+use Rattle.vsw_run.specs.ByTrace.{BreaksOff, EndsSo}
+use Rattle.vsw_replay.specs.Runs.{Reads, Ends, RunsTrace}
 use Rattle.vsw_replay.proofs.Completing.{read_to, Follows}
 use Rattle.vsw_replay.proofs.Growing.{grows_is, front_more}
 use Rattle.vsw_reading.proofs.Staying.{whole_put, read_put, rose_put}
@@ -75,13 +76,13 @@ pub runs_so : (s : Setting) (start now : Outside) (name : List ℕ) (e : TraceEn
 runs_so s start now name e f later ends = record { ends = ends; complained = f.complained; complain_faults = f.complain_faults; inputs_later = later; puts_later = f.puts_later }
 
 -- a text was put that a run might have put
-pub ends_so : (s : Setting) (start now : Outside) (name : List ℕ) (e : Ending) (t : Trace) (text : List ℕ) → Reads start now name t → Tells s t e text → Grows start.put now.put text → EndsSo s start now name e
+pub ends_so : (s : Setting) (start now : Outside) (name : List ℕ) (e : Ending) (t : Trace) (text : List ℕ) → Reads start now name t → Tells s t e text → Grows start.put now.put text → EndsSo s (Reads start now name) start now e
 ends_so s start now name e t text reads tells puts = record { trace = t; reads = reads; text = text; tells = tells; puts = puts }
 
 -- a front of a front of such a text was put
-pub breaks_off : (s : Setting) (start now : Outside) (name : List ℕ) (t : Trace) (front : List ℕ) (n : ℕ) → Reads start now name t → Follows s t front → Grows start.put now.put (take n front) → BreaksOff s start now name
-breaks_off s start now name t front n reads f g = record { trace = t; reads = reads; text = front ++ f.more; tells = f.tells; count = min n (length front); puts = front_more start.put now.put front f.more n g }
+pub breaks_off : (s : Setting) (start now : Outside) (name : List ℕ) (t : Trace) (front : List ℕ) (n : ℕ) → Reads start now name t → Follows s t front → Grows start.put now.put (take n front) → BreaksOff s (Reads start now name) start now
+breaks_off s start now name t front n reads f g = record { trace = t; reads = reads; text = front ++ f.more; tells = f.tells; puts = (min n (length front), front_more start.put now.put front f.more n g) }
 
 -- all of that front was
-pub breaks_after : (s : Setting) (start now : Outside) (name : List ℕ) (t : Trace) (front : List ℕ) → Reads start now name t → Follows s t front → Grows start.put now.put front → BreaksOff s start now name
+pub breaks_after : (s : Setting) (start now : Outside) (name : List ℕ) (t : Trace) (front : List ℕ) → Reads start now name t → Follows s t front → Grows start.put now.put front → BreaksOff s (Reads start now name) start now
 breaks_after s start now name t front reads f g = breaks_off s start now name t front (length front) reads f (grows_is start.put now.put front (take (length front) front) (sym (take_all (length front) front (omega arith))) g)

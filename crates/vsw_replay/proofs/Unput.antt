@@ -170,7 +170,7 @@ unopened_fault_outputs start now name why e opens = (subst (λ w. OpensSource st
 pub unopened_fault : (s : Setting) (start now : Outside) (name : List ℕ) (switch : SwitchNow) (why : Unopened) → why ≡ unopened.Fault → OpensSource start now name (Err why) → Leaves s start now name switch end.ReadFault
 unopened_fault s start now name switch why e opens =
     let o = subst (λ w. OpensSource start now name (Err w)) e opens in
-    record { ends = (o.2, inl (record { since = o.3.since; nothing = tt })); complained = o.0.complained; complain_faults = o.0.complain_faults; inputs_later = o.1; puts_later = omega (arith, o.0.put_faults) }
+    record { ends = inl (o.2, record { since = o.3.since; nothing = tt }); complained = o.0.complained; complain_faults = o.0.complain_faults; inputs_later = o.1; puts_later = omega (arith, o.0.put_faults) }
 
 pub unopened_memory_outputs : (start now : Outside) (name : List ℕ) (why : Unopened) → why ≡ unopened.Memory → OpensSource start now name (Err why) → SameOutputs start now
 unopened_memory_outputs start now name why e opens = (subst (λ w. OpensSource start now name (Err w)) e opens).0

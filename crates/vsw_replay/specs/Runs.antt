@@ -1,12 +1,13 @@
 -- What the run of a trace opens, reads and puts, by how it ends.
-use Rattle.std.specs.Prelude.{◌≡◌, ◌≤◌, ◌⊎◌, ℕ, List, [], ◌∷◌, length, take}
-use Rattle.vsw_host.specs.Outside.{Opened, Outside, Grows, Rose}
+use Rattle.std.specs.Prelude.{◌≡◌, ◌≤◌, ◌⊎◌, ℕ, List, [], ◌∷◌, length}
+use Rattle.vsw_host.specs.Outside.{Opened, Outside, Rose}
 use Rattle.vsw_host.specs.Told.{TellsHeld, TellsSince}
-use Rattle.vsw_run.specs.declared.ending.Ending.{Ending}
-use Rattle.vsw_run.specs.declared.ending.Ending.TheVariants as ending
+use Rattle.vsw_run.specs.ByTrace as of_trace
+use Rattle.vsw_run.specs.ByTrace.{PutsNothing}
 use Rattle.vsw_run.specs.Files.{IsReadOf}
 use Rattle.vsw_promise.specs.Jobs.{Setting}
-use Rattle.vsw_run.specs.Trace.{Trace, Tells, MayTell}
+use Rattle.vsw_run.specs.Trace.{Trace}
+use Rattle.vsw_replay.specs.Endings.{ending_of}
 use Rattle.vsw_replay.specs.declared.ending.TraceEnd.{TraceEnd}
 use Rattle.vsw_replay.specs.declared.ending.TraceEnd.TheVariants as end
 
@@ -22,34 +23,19 @@ pub record Reads (old new : Outside) (name : List ℕ) (t : Trace) : Type 0 wher
 -- no file was opened, and nothing put
 pub record OpensNothing (old new : Outside) : Type 0 where
   pub since : TellsSince old.inputs new.inputs []
-  pub nothing : Grows old.put new.put []
+  pub nothing : PutsNothing old new
 
--- what was read of the trace gives this ending, and its text was put
-pub record EndsSo (s : Setting) (old new : Outside) (name : List ℕ) (end : Ending) : Type 0 where
-  pub trace : Trace
-  pub reads : Reads old new name trace
-  pub text : List ℕ
-  pub tells : Tells s trace end text
-  pub puts : Grows old.put new.put text
-
--- the run broke off, and put a front of a text that it might have put
-pub record BreaksOff (s : Setting) (old new : Outside) (name : List ℕ) : Type 0 where
-  pub trace : Trace
-  pub reads : Reads old new name trace
-  pub text : List ℕ
-  pub tells : MayTell s trace text
-  pub count : ℕ
-  pub puts : Grows old.put new.put (take count text)
+-- it ended so: it couldn't open the trace, or lacked memory before
+abbrev pub EndsUnopened : Outside → Outside → TraceEnd → Type 0
+EndsUnopened old new end.ReadFault = Rose old.input_faults new.input_faults × OpensNothing old new
+EndsUnopened old new end.Memory = OpensNothing old new
+EndsUnopened old new _ = ⊥
 
 -- the run of the trace of this name, by how it ended
 abbrev pub Ends : Setting → Outside → Outside → List ℕ → TraceEnd → Type 0
-Ends s old new name end.Done = EndsSo s old new name ending.Done
-Ends s old new name end.ReadFault = Rose old.input_faults new.input_faults × (OpensNothing old new ⊎ EndsSo s old new name ending.ReadFault)
-Ends s old new name end.WriteFault = Rose old.put_faults new.put_faults × BreaksOff s old new name
-Ends s old new name (end.Refused bad) = EndsSo s old new name (ending.Trace bad)
-Ends s old new name end.Records = EndsSo s old new name ending.Records
-Ends s old new name end.Memory = OpensNothing old new ⊎ EndsSo s old new name ending.Memory ⊎ BreaksOff s old new name
+Ends s old new name end = EndsUnopened old new end ⊎ of_trace.Ends s (Reads old new name) old new (ending_of end)
 
+-- nothing was complained, and counts of faults never fell
 pub record RunsTrace (s : Setting) (old new : Outside) (name : List ℕ) (end : TraceEnd) : Type 0 where
   pub ends : Ends s old new name end
   pub complained : new.complained ≡ old.complained

@@ -5,7 +5,7 @@ use Rattle.vsw_check.specs.Report.{IsReport}
 use Rattle.vsw_commandfile.proofs.LinesRead.{each_is_good}
 use Rattle.vsw_commandfile.specs.Commands.{commands_file_of}
 use Rattle.vsw_config.specs.Policy.{policy_file_of}
-use Rattle.vsw_host.specs.Outside.{Opened, Outside}
+use Rattle.vsw_host.specs.Outside.{Opened}
 use Rattle.vsw_pcap.specs.Capture.{Splits}
 use Rattle.vsw_pcap.specs.declared.capture.Form.{Form}
 use Rattle.vsw_pcap.specs.declared.capture.Record.{Record}
@@ -14,7 +14,7 @@ use Rattle.vsw_promise.specs.Jobs.{Setting}
 use Rattle.vsw_report.specs.declared.round.Round.{Round}
 use Rattle.vsw_run.proofs.Runs.{each_asked}
 use Rattle.vsw_run.proofs.Well.{workers_are}
-use Rattle.vsw_run.specs.IsRun.{EndsByTrace}
+use Rattle.vsw_run.specs.Files.{HasTrace}
 use Rattle.vsw_run.specs.Trace.{HasBadRecord, HasMore, Tells, TellsAll, TellsWithin, Trace}
 use Rattle.vsw_run.specs.Words.{Request, AskReport}
 use Rattle.vsw_run.specs.declared.ending.Ending.{Ending}
@@ -84,10 +84,9 @@ tells_read s t (ending.Report why) text f are w = absurd w
 tells_read s t ending.Illegal text f are w = absurd w
 tells_read s t (ending.Rows why) text f are w = absurd w
 
-has_files : (words : List (List ℕ)) (local : Bool) (q : Request) (old new : Outside) (files : List Opened) (end : Ending) → AskReport words local q → (ends : EndsByTrace local q old new files end) → HasFiles ends.reads.setting
-has_files words local q old new files end e ends =
+has_files : (words : List (List ℕ)) (local : Bool) (q : Request) (files : List Opened) (s : Setting) (file : Opened) → AskReport words local q → HasTrace local q files s file → HasFiles s
+has_files words local q files s file e o =
     let count = workers_are words local q e in
-    let o = ends.reads.opened in
     record {
       policy = o.policy.bytes;
       commands = o.commands.bytes;
@@ -98,11 +97,9 @@ has_files words local q old new files end e ends =
     }
 
 pub put_is_read : PutIsRead
-put_is_read words local q old new files end e ends are =
-    let file = ends.reads.file in
-    tells_read ends.reads.setting ends.reads.trace end ends.text (has_files words local q old new files end e ends) (subst IsBytes (sym ends.reads.read.bytes) (front file.read file.bytes are)) ends.tells
+put_is_read words local q old new files s file end e o are ends =
+    tells_read s ends.trace end ends.text (has_files words local q files s file e o) (subst IsBytes (sym ends.reads.bytes) (front file.read file.bytes are)) ends.tells
 
 pub done_is_read : DoneIsRead
-done_is_read words local q old new files e ends are =
-    let file = ends.reads.file in
-    all_read ends.reads.setting ends.reads.trace false ends.text (has_files words local q old new files ending.Done e ends) (subst IsBytes (sym ends.reads.read.bytes) (front file.read file.bytes are)) ends.tells
+done_is_read words local q old new files s file e o are ends =
+    all_read s ends.trace false ends.text (has_files words local q files s file e o) (subst IsBytes (sym ends.reads.bytes) (front file.read file.bytes are)) ends.tells

@@ -10,7 +10,8 @@ use Rattle.vsw_pcap.specs.declared.capture.Form.{Form}
 use Rattle.vsw_pcap.specs.declared.capture.Record.{Record}
 use Rattle.vsw_promise.specs.Jobs.{Setting}
 use Rattle.vsw_report.specs.declared.round.Round.{Round}
-use Rattle.vsw_run.specs.IsRun.{EndsByTrace}
+use Rattle.vsw_run.specs.ByTrace.{EndsSo}
+use Rattle.vsw_run.specs.Files.{HasTrace, IsReadOf}
 use Rattle.vsw_run.specs.Words.{Request, AskReport}
 use Rattle.vsw_run.specs.declared.ending.Ending.{Ending}
 use Rattle.vsw_run.specs.declared.ending.Ending.TheVariants as ending
@@ -23,10 +24,10 @@ FilesGive = (s : Setting) (policy commands trace back : List ℕ) (form : Form) 
 
 -- whatever a run over files ended by, what it put whole of its trace is nothing or a report, if that file is bytes
 abbrev pub PutIsRead : Type 0
-PutIsRead = (words : List (List ℕ)) (local : Bool) (q : Request) (old new : Outside) (files : List Opened) (end : Ending) → AskReport words local q → (ends : EndsByTrace local q old new files end) → IsBytes ends.reads.file.bytes
-    → (ends.text ≡ []) ⊎ ((rounds : List Round) × IsReport ends.text rounds)
+PutIsRead = (words : List (List ℕ)) (local : Bool) (q : Request) (old new : Outside) (files : List Opened) (s : Setting) (file : Opened) (end : Ending) → AskReport words local q → HasTrace local q files s file → IsBytes file.bytes
+    → (ends : EndsSo s (IsReadOf old new file) old new end) → (ends.text ≡ []) ⊎ ((rounds : List Round) × IsReport ends.text rounds)
 
 -- one that ended well put a report
 abbrev pub DoneIsRead : Type 0
-DoneIsRead = (words : List (List ℕ)) (local : Bool) (q : Request) (old new : Outside) (files : List Opened) → AskReport words local q → (ends : EndsByTrace local q old new files ending.Done) → IsBytes ends.reads.file.bytes
-    → (rounds : List Round) × IsReport ends.text rounds
+DoneIsRead = (words : List (List ℕ)) (local : Bool) (q : Request) (old new : Outside) (files : List Opened) (s : Setting) (file : Opened) → AskReport words local q → HasTrace local q files s file → IsBytes file.bytes
+    → (ends : EndsSo s (IsReadOf old new file) old new ending.Done) → (rounds : List Round) × IsReport ends.text rounds

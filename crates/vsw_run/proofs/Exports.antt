@@ -2,15 +2,18 @@
 use Rattle.std.proofs.Common.{inl, inr, ℕ, List, [], ◌++◌, Option, Some, None, refl}
 use Rattle.std.specs.Prelude.{option_map, false}
 use Rattle.vsw_host.specs.Outside.{Opened, Outside, Grows}
+use Rattle.vsw_promise.specs.Jobs.{Setting}
 use Rattle.vsw_report.specs.Print.{report_text}
 use Rattle.vsw_run.specs.declared.ending.Ending.{Ending}
 use Rattle.vsw_run.specs.declared.ending.Ending.TheVariants as ending
-use Rattle.vsw_run.specs.Exporting.{EndsUnput, PutsExportFront, ReadsExport, RunsExport}
+use Rattle.vsw_run.specs.ByTrace as of_trace
+use Rattle.vsw_run.specs.ByTrace.{BreaksOff, EndsSo}
+use Rattle.vsw_run.specs.Exporting.{EndsUnput, PutsExportFront, ReadsExport, RunsExport, TraceEnds}
 use Rattle.vsw_run.specs.Exporting as exporting
-use Rattle.vsw_run.specs.Files.{Reaches, TraceRead}
-use Rattle.vsw_run.specs.IsRun.{BreaksOff, Ends, EndsByTrace, Runs}
+use Rattle.vsw_run.specs.Files.{HasTrace, IsEarly, IsReadOf, Reaches}
+use Rattle.vsw_run.specs.IsRun.{Ends, Runs}
 use Rattle.vsw_run.specs.Law.{ExportsAsForwards}
-use Rattle.vsw_run.specs.Trace.{Reach, All, Fault, Stopped, TellsAll}
+use Rattle.vsw_run.specs.Trace.{Reach, All, Fault, Stopped, TellsAll, Trace}
 use Rattle.vsw_run.specs.Words.{Request}
 
 -- the host, had this text been put and nothing else
@@ -26,66 +29,79 @@ reaches_so old new f All text h = h
 reaches_so old new f Fault text h = h
 reaches_so old new f Stopped text h = tt
 
-read_so : (q : Request) (old new : Outside) (files : List Opened) (text : List ℕ) → TraceRead false q old new files → TraceRead false q old (had_put old new text) files
-read_so q old new files text r = record {
-  setting = r.setting;
-  file = r.file;
-  opened = r.opened;
-  trace = r.trace;
-  read = record { bytes = r.read.bytes; reaches = reaches_so old new r.file r.trace.reach text r.read.reaches };
-}
+read_so : (old new : Outside) (f : Opened) (t : Trace) (text : List ℕ) → IsReadOf old new f t → IsReadOf old (had_put old new text) f t
+read_so old new f t text r = record { bytes = r.bytes; reaches = reaches_so old new f t.reach text r.reaches }
 
 -- what was read and not told
-told_so : (q : Request) (old new : Outside) (files : List Opened) (end : Ending) (e : EndsUnput q old new files end) → EndsByTrace false q old (had_put old new e.text) files end
-unfolding read_so
-told_so q old new files end e = record { reads = read_so q old new files e.text e.reads; text = e.text; tells = e.tells; puts = grown old.put e.text }
+told_so : (s : Setting) (old new : Outside) (f : Opened) (end : Ending) (e : EndsUnput s (IsReadOf old new f) old new end) → EndsSo s (IsReadOf old (had_put old new e.text) f) old (had_put old new e.text) end
+told_so s old new f end e = record { trace = e.trace; reads = read_so old new f e.trace e.text e.reads; text = e.text; tells = e.tells; puts = grown old.put e.text }
 
 -- the report of the run of which rows were put
-abbrev report_of : (q : Request) (old new : Outside) (files : List Opened) (text : List ℕ) → ReadsExport q old new files text → List ℕ
-report_of q old new files text e = report_text e.is.rounds
+abbrev report_of : (s : Setting) (old new : Outside) (f : Opened) (text : List ℕ) → ReadsExport s (IsReadOf old new f) text → List ℕ
+report_of s old new f text e = report_text e.is.rounds
 
-tells_of : (q : Request) (old new : Outside) (files : List Opened) (text : List ℕ) (e : ReadsExport q old new files text) → TellsAll e.reads.setting e.reads.trace false (report_of q old new files text e)
-tells_of q old new files text e = record { read = e.whole; records = e.records; capture = e.capture; few = e.few; rounds = e.is.rounds; are = e.is.are; short_is = e.is.whole; text_is = refl }
+tells_of : (s : Setting) (old new : Outside) (f : Opened) (text : List ℕ) (e : ReadsExport s (IsReadOf old new f) text) → TellsAll s e.trace false (report_of s old new f text e)
+tells_of s old new f text e = record { read = e.whole; records = e.records; capture = e.capture; few = e.few; rounds = e.is.rounds; are = e.is.are; short_is = e.is.whole; text_is = refl }
 
-whole_so : (q : Request) (old new : Outside) (files : List Opened) (text : List ℕ) (e : ReadsExport q old new files text) → EndsByTrace false q old (had_put old new (report_of q old new files text e)) files ending.Done
-unfolding read_so
-whole_so q old new files text e =
-    let report = report_of q old new files text e in record { reads = read_so q old new files report e.reads; text = report; tells = tells_of q old new files text e; puts = grown old.put report }
+whole_so : (s : Setting) (old new : Outside) (f : Opened) (text : List ℕ) (e : ReadsExport s (IsReadOf old new f) text)
+    → EndsSo s (IsReadOf old (had_put old new (report_of s old new f text e)) f) old (had_put old new (report_of s old new f text e)) ending.Done
+whole_so s old new f text e =
+    let report = report_of s old new f text e in record { trace = e.trace; reads = read_so old new f e.trace report e.reads; text = report; tells = tells_of s old new f text e; puts = grown old.put report }
 
 -- none of it
-broken_so : (q : Request) (old new : Outside) (files : List Opened) (e : PutsExportFront q old new files) → BreaksOff false q old (had_put old new []) files
-unfolding read_so
-broken_so q old new files e = record {
-  reads = read_so q old new files [] e.read.reads;
-  text = report_of q old new files e.text e.read;
-  tells = inl (ending.Done, tells_of q old new files e.text e.read);
+broken_so : (s : Setting) (old new : Outside) (f : Opened) (e : PutsExportFront s (IsReadOf old new f) old new) → BreaksOff s (IsReadOf old (had_put old new []) f) old (had_put old new [])
+broken_so s old new f e = record {
+  trace = e.read.trace;
+  reads = read_so old new f e.read.trace [] e.read.reads;
+  text = report_of s old new f e.text e.read;
+  tells = inl (ending.Done, tells_of s old new f e.text e.read);
   puts = (0, grown old.put []);
 }
 
 abbrev RanSo : Request → Outside → Outside → Ending → Type 0
 RanSo q old new end = (text : List ℕ) × Runs false q old (had_put old new text) end
 
+early_so : (old new : Outside) (files : List Opened) (end : Ending) → IsEarly old new files end → IsEarly old (had_put old new []) files end
+early_so old new files (ending.Policy why) e = e
+early_so old new files (ending.Commands why) e = e
+early_so old new files ending.ReadFault e = e
+early_so old new files ending.Memory e = tt
+early_so old new files ending.Done e = absurd e
+early_so old new files ending.WriteFault e = absurd e
+early_so old new files (ending.Trace bad) e = absurd e
+early_so old new files ending.Records e = absurd e
+early_so old new files ending.Usage e = absurd e
+early_so old new files (ending.Report why) e = absurd e
+early_so old new files ending.Illegal e = absurd e
+early_so old new files (ending.Rows why) e = absurd e
+
 pub forwarded : (q : Request) (old new : Outside) (end : Ending) → RunsExport q old new end → RanSo q old new end
-forwarded q old new end r = by end r.ends
+forwarded q old new end r = by r.ends
   where
     so : (end : Ending) (text : List ℕ) → Ends false q old (had_put old new text) r.files end → RanSo q old new end
     so end text ends = (text, record { files = r.files; opens = record { since = r.opens.since; held = r.opens.held; within = r.opens.within; in_turn = r.opens.in_turn }; ends = ends })
 
-    by : (end : Ending) → exporting.Ends q old new r.files end → RanSo q old new end
-    by (ending.Policy why) e = so (ending.Policy why) [] (e.0, grown old.put [])
-    by (ending.Commands why) e = so (ending.Commands why) [] (e.0, grown old.put [])
-    by (ending.Trace bad) e = so (ending.Trace bad) e.text (told_so q old new r.files (ending.Trace bad) e)
-    by ending.Records e = so ending.Records e.text (told_so q old new r.files ending.Records e)
-    by ending.Done e = so ending.Done (report_of q old new r.files e.text e.read) (whole_so q old new r.files e.text e.read)
-    by ending.ReadFault (rose, inl e) = so ending.ReadFault [] (rose, inl (e.0, grown old.put []))
-    by ending.ReadFault (rose, inr e) = so ending.ReadFault e.text (rose, inr (told_so q old new r.files ending.ReadFault e))
-    by ending.WriteFault (rose, e) = so ending.WriteFault [] (rose, broken_so q old new r.files e)
-    by ending.Memory (inl e) = so ending.Memory [] (inl (grown old.put []))
-    by ending.Memory (inr e) = so ending.Memory [] (inr (inr (broken_so q old new r.files e)))
-    by ending.Usage e = absurd e
-    by (ending.Report why) e = absurd e
-    by ending.Illegal e = absurd e
-    by (ending.Rows why) e = absurd e
+    traced : (end : Ending) (s : Setting) (f : Opened) (text : List ℕ) → HasTrace false q r.files s f → of_trace.Ends s (IsReadOf old (had_put old new text) f) old (had_put old new text) end → RanSo q old new end
+    traced end s f text o ends = so end text (inr (record { setting = s; file = f; opened = o; ends = ends }))
+
+    ends_so : (end : Ending) (s : Setting) (f : Opened) → HasTrace false q r.files s f → TraceEnds s (IsReadOf old new f) old new end → RanSo q old new end
+    ends_so ending.Done s f o e = traced ending.Done s f (report_of s old new f e.text e.read) o (whole_so s old new f e.text e.read)
+    ends_so (ending.Trace bad) s f o e = traced (ending.Trace bad) s f e.text o (told_so s old new f (ending.Trace bad) e)
+    ends_so ending.Records s f o e = traced ending.Records s f e.text o (told_so s old new f ending.Records e)
+    ends_so ending.ReadFault s f o (rose, e) = traced ending.ReadFault s f e.text o (rose, told_so s old new f ending.ReadFault e)
+    ends_so ending.WriteFault s f o (rose, e) = traced ending.WriteFault s f [] o (rose, broken_so s old new f e)
+    ends_so ending.Memory s f o (inl e) = so ending.Memory [] (inl (tt, grown old.put []))
+    ends_so ending.Memory s f o (inr e) = traced ending.Memory s f [] o (inr (broken_so s old new f e))
+    ends_so (ending.Policy why) s f o e = absurd e
+    ends_so (ending.Commands why) s f o e = absurd e
+    ends_so ending.Usage s f o e = absurd e
+    ends_so (ending.Report why) s f o e = absurd e
+    ends_so ending.Illegal s f o e = absurd e
+    ends_so (ending.Rows why) s f o e = absurd e
+
+    by : exporting.Ends q old new r.files end → RanSo q old new end
+    by (inl e) = so end [] (inl (early_so old new r.files end e.0, grown old.put []))
+    by (inr e) = ends_so end e.setting e.file e.opened e.ends
 
 pub exports_as_forwards : ExportsAsForwards
 exports_as_forwards q old new end r =

@@ -21,8 +21,10 @@ use Rattle.vsw_report.specs.declared.round.Round.{Round}
 use Rattle.vsw_run.specs.Complaint.{status_of}
 use Rattle.vsw_pcap.specs.Capture.{IsCapture}
 use Rattle.vsw_pcap.proofs.Unique.{captures_are_unique}
-use Rattle.vsw_run.specs.Files.{InTurn, HasBadPolicy, HasBadCommands, Reaches, TraceRead}
-use Rattle.vsw_run.specs.IsRun.{IsRun, Runs, RunsBy, RunsGenerated, EndsByTrace, PutsSummary}
+use Rattle.vsw_run.specs.ByTrace as of_trace
+use Rattle.vsw_run.specs.ByTrace.{EndsSo}
+use Rattle.vsw_run.specs.Files.{InTurn, HasBadPolicy, HasBadCommands, HasTrace, IsEarly, IsReadOf, Opens, Reaches}
+use Rattle.vsw_run.specs.IsRun.{Ends, IsRun, Runs, RunsBy, RunsGenerated, PutsSummary}
 use Rattle.vsw_promise.specs.Alone.{rounds_alone}
 use Rattle.vsw_run.specs.Generated.{Summarizes, alone_under, generated_records}
 use Rattle.vsw_promise.specs.Summary.{summary_text}
@@ -141,15 +143,15 @@ take_drop zero xs = refl
 take_drop (suc n) [] = refl
 take_drop (suc n) (x ∷ xs) = ap (λ w. x ∷ w) (take_drop n xs)
 
-of_file : (local : Bool) (q : Request) (old new : Outside) (files : List Opened) (r : TraceRead local q old new files) → IsOfFile r.file.bytes r.trace
-of_file local q old new files r = record {
-  more = drop r.file.read r.file.bytes;
-  is = take_drop r.file.read r.file.bytes ∙ ap (λ w. w ++ drop r.file.read r.file.bytes) (sym r.read.bytes);
-  all = λ e. sym (r.read.bytes ∙ (ap (λ n. take n r.file.bytes) (whole e) ∙ take_whole r.file.bytes));
+of_file : (old new : Outside) (f : Opened) (t : Trace) → IsReadOf old new f t → IsOfFile f.bytes t
+of_file old new f t r = record {
+  more = drop f.read f.bytes;
+  is = take_drop f.read f.bytes ∙ ap (λ w. w ++ drop f.read f.bytes) (sym r.bytes);
+  all = λ e. sym (r.bytes ∙ (ap (λ n. take n f.bytes) (whole e) ∙ take_whole f.bytes));
 }
   where
-    whole : r.trace.reach ≡ Whole → r.file.read ≡ length r.file.bytes
-    whole e = subst (Reaches old new r.file) e r.read.reaches
+    whole : t.reach ≡ Whole → f.read ≡ length f.bytes
+    whole e = subst (Reaches old new f) e r.reaches
 
 -- what the ending of a run by its trace shows of the file
 record Shown (s : Setting) (file : List ℕ) (e : Ending) (text : List ℕ) : Type 0 where
@@ -175,24 +177,27 @@ shown_by s file t (ending.Report why) text b i r = absurd b
 shown_by s file t ending.Illegal text b i r = absurd b
 shown_by s file t (ending.Rows why) text b i r = absurd b
 
-found_trace : (local : Bool) (q : Request) (old new : Outside) (a : Inputs) (e : Ending) (r : Runs local q old new e) → old.inputs ≡ Some a → IsByTrace e → EndsByTrace local q old new r.files e → FoundTrace local q a.files old.put new.put e
-found_trace local q old new a e r told b ends =
-    let o = ends.reads.opened in
-    let file = ends.reads.file in
+-- the files that were opened, as the words name them and the host told them
+record Reached (q : Request) (old new : Outside) (a : Inputs) (files : List Opened) : Type 0 where
+  told : old.inputs ≡ Some a
+  opens : Opens old new q files
+
+found_trace : (local : Bool) (q : Request) (old new : Outside) (a : Inputs) (e : Ending) (files : List Opened) (s : Setting) (file : Opened) → Reached q old new a files → HasTrace local q files s file → IsByTrace e → EndsSo s (IsReadOf old new file) old new e → FoundTrace local q a.files old.put new.put e
+found_trace local q old new a e files s file r o b ends =
     let turn : InTurn q (o.policy ∷ o.commands ∷ file ∷ []) = subst (InTurn q) o.all r.opens.in_turn in
     let held : Each (λ f. TellsHeld old.inputs f.name f.bytes) (o.policy ∷ o.commands ∷ file ∷ []) = subst (Each (λ f. TellsHeld old.inputs f.name f.bytes)) o.all r.opens.held in
-    let shown = shown_by ends.reads.setting file.bytes ends.reads.trace e ends.text b (of_file local q old new r.files ends.reads) ends.tells in record {
-      setting = ends.reads.setting;
+    let shown = shown_by s file.bytes ends.trace e ends.text b (of_file old new file ends.trace ends.reads) ends.tells in record {
+      setting = s;
       policy = o.policy.bytes;
-      policy_held = held_as a old.inputs o.policy.name q.policy o.policy.bytes told turn.2.named held.0;
+      policy_held = held_as a old.inputs o.policy.name q.policy o.policy.bytes r.told turn.2.named held.0;
       policy_good = o.policy_good;
       commands = o.commands.bytes;
-      commands_held = held_as a old.inputs o.commands.name q.commands o.commands.bytes told turn.3.named held.1.0;
+      commands_held = held_as a old.inputs o.commands.name q.commands o.commands.bytes r.told turn.3.named held.1.0;
       commands_good = o.commands_good;
       workers = o.workers;
       hands_on = o.hands_on;
       file = file.bytes;
-      held = held_as a old.inputs file.name q.trace file.bytes told turn.4 held.1.1.0;
+      held = held_as a old.inputs file.name q.trace file.bytes r.told turn.4 held.1.1.0;
       records = shown.records;
       says = shown.says;
       text = ends.text;
@@ -200,39 +205,63 @@ found_trace local q old new a e r told b ends =
       puts = ends.puts;
     }
 
-found_policy : (local : Bool) (q : Request) (old new : Outside) (a : Inputs) (e : Ending) (why : ConfigFault) (r : Runs local q old new e) → old.inputs ≡ Some a → HasBadPolicy r.files why → FoundPolicy q a.files why
-found_policy local q old new a e why r told b =
+found_policy : (q : Request) (old new : Outside) (a : Inputs) (why : ConfigFault) (files : List Opened) → Reached q old new a files → HasBadPolicy files why → FoundPolicy q a.files why
+found_policy q old new a why files r b =
     let turn : InTurn q (b.policy ∷ []) = subst (InTurn q) b.only r.opens.in_turn in
     let held : Each (λ f. TellsHeld old.inputs f.name f.bytes) (b.policy ∷ []) = subst (Each (λ f. TellsHeld old.inputs f.name f.bytes)) b.only r.opens.held in
-    record { policy = b.policy.bytes; held = held_as a old.inputs b.policy.name q.policy b.policy.bytes told turn held.0; bad = b.bad }
+    record { policy = b.policy.bytes; held = held_as a old.inputs b.policy.name q.policy b.policy.bytes r.told turn held.0; bad = b.bad }
 
-found_commands : (local : Bool) (q : Request) (old new : Outside) (a : Inputs) (e : Ending) (why : CommandsFault) (r : Runs local q old new e) → old.inputs ≡ Some a → HasBadCommands r.files why → FoundCommands q a.files why
-found_commands local q old new a e why r told b =
+found_commands : (q : Request) (old new : Outside) (a : Inputs) (why : CommandsFault) (files : List Opened) → Reached q old new a files → HasBadCommands files why → FoundCommands q a.files why
+found_commands q old new a why files r b =
     let turn : InTurn q (b.policy ∷ b.commands ∷ []) = subst (InTurn q) b.only r.opens.in_turn in
     let held : Each (λ f. TellsHeld old.inputs f.name f.bytes) (b.policy ∷ b.commands ∷ []) = subst (Each (λ f. TellsHeld old.inputs f.name f.bytes)) b.only r.opens.held in record {
       policy = b.policy.bytes;
-      policy_held = held_as a old.inputs b.policy.name q.policy b.policy.bytes told turn.1.named held.0;
+      policy_held = held_as a old.inputs b.policy.name q.policy b.policy.bytes r.told turn.1.named held.0;
       given = b.given;
       good = b.good;
       commands = b.commands.bytes;
-      held = held_as a old.inputs b.commands.name q.commands b.commands.bytes told turn.2 held.1.0;
+      held = held_as a old.inputs b.commands.name q.commands b.commands.bytes r.told turn.2 held.1.0;
       bad = b.bad;
     }
 
 -- a run that wasn't ended by a fault or want of memory found one of the three
 found : (local : Bool) (q : Request) (old new : Outside) (a : Inputs) (e : Ending) → old.inputs ≡ Some a → HasNoFault old new → status_of e ≢ status.Memory → Runs local q old new e → Found local q a.files old.put new.put e
-found local q old new a (ending.Policy why) told clean n r = AtPolicy why refl (found_policy local q old new a (ending.Policy why) why r told r.ends.0) r.ends.1
-found local q old new a (ending.Commands why) told clean n r = AtCommands why refl (found_commands local q old new a (ending.Commands why) why r told r.ends.0) r.ends.1
-found local q old new a (ending.Trace bad) told clean n r = ByTrace tt (found_trace local q old new a (ending.Trace bad) r told tt r.ends)
-found local q old new a ending.Records told clean n r = ByTrace tt (found_trace local q old new a ending.Records r told tt r.ends)
-found local q old new a ending.Done told clean n r = ByTrace tt (found_trace local q old new a ending.Done r told tt r.ends)
-found local q old new a ending.ReadFault told clean n r = absurd (clean.read r.ends.0)
-found local q old new a ending.WriteFault told clean n r = absurd (clean.put r.ends.0)
-found local q old new a ending.Memory told clean n r = absurd (n refl)
-found local q old new a ending.Usage told clean n r = absurd r.ends
-found local q old new a (ending.Report why) told clean n r = absurd r.ends
-found local q old new a ending.Illegal told clean n r = absurd r.ends
-found local q old new a (ending.Rows why) told clean n r = absurd r.ends
+found local q old new a e told clean n r = by r.ends
+  where
+    reached : Reached q old new a r.files
+    reached = record { told = told; opens = r.opens }
+
+    early : (e : Ending) → status_of e ≢ status.Memory → Grows old.put new.put [] → IsEarly old new r.files e → Found local q a.files old.put new.put e
+    early (ending.Policy why) n g b = AtPolicy why refl (found_policy q old new a why r.files reached b) g
+    early (ending.Commands why) n g b = AtCommands why refl (found_commands q old new a why r.files reached b) g
+    early ending.ReadFault n g b = absurd (clean.read b.0)
+    early ending.Memory n g b = absurd (n refl)
+    early ending.Done n g b = absurd b
+    early ending.WriteFault n g b = absurd b
+    early (ending.Trace bad) n g b = absurd b
+    early ending.Records n g b = absurd b
+    early ending.Usage n g b = absurd b
+    early (ending.Report why) n g b = absurd b
+    early ending.Illegal n g b = absurd b
+    early (ending.Rows why) n g b = absurd b
+
+    traced : (e : Ending) (s : Setting) (file : Opened) → status_of e ≢ status.Memory → HasTrace local q r.files s file → of_trace.Ends s (IsReadOf old new file) old new e → Found local q a.files old.put new.put e
+    traced ending.Done s file n o d = ByTrace tt (found_trace local q old new a ending.Done r.files s file reached o tt d)
+    traced (ending.Trace bad) s file n o d = ByTrace tt (found_trace local q old new a (ending.Trace bad) r.files s file reached o tt d)
+    traced ending.Records s file n o d = ByTrace tt (found_trace local q old new a ending.Records r.files s file reached o tt d)
+    traced ending.ReadFault s file n o d = absurd (clean.read d.0)
+    traced ending.WriteFault s file n o d = absurd (clean.put d.0)
+    traced ending.Memory s file n o d = absurd (n refl)
+    traced (ending.Policy why) s file n o d = absurd d
+    traced (ending.Commands why) s file n o d = absurd d
+    traced ending.Usage s file n o d = absurd d
+    traced (ending.Report why) s file n o d = absurd d
+    traced ending.Illegal s file n o d = absurd d
+    traced (ending.Rows why) s file n o d = absurd d
+
+    by : Ends local q old new r.files e → Found local q a.files old.put new.put e
+    by (inl x) = early e n x.1 x.0
+    by (inr x) = traced e x.setting x.file n x.opened x.ends
 
 -- ---- two such runs
 

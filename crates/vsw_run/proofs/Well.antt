@@ -20,9 +20,10 @@ use Rattle.vsw_run.proofs.Runs.{each_asked, runs_over}
 use Rattle.vsw_run.proofs.Wholes.{done_reads_all}
 use Rattle.vsw_run.specs.Complaint.{commands_status, policy_status, report_status, rows_status, status_of}
 use Rattle.vsw_run.specs.Well.{DoneRanWell, RanWell}
-use Rattle.vsw_run.specs.Files.{IsWhole, Reaches}
+use Rattle.vsw_run.specs.ByTrace.{EndsSo, Puts}
+use Rattle.vsw_run.specs.Files.{IsReadOf, IsWhole, Reaches}
 use Rattle.vsw_run.specs.Grammar.{Asks, IsCount}
-use Rattle.vsw_run.specs.IsRun.{EndsByTrace, Puts, Runs}
+use Rattle.vsw_run.specs.IsRun.{Ends, EndsByTrace, Runs}
 use Rattle.vsw_run.specs.Trace.{TellsAll}
 use Rattle.vsw_run.specs.Words.{Forward, Deliver, Stream, Request, AskReport}
 use Rattle.vsw_run.specs.declared.ending.Ending.{Ending}
@@ -83,17 +84,17 @@ workers_are words false q (inl e) = let h : Asks words (Forward q) = (reads_gram
 workers_are words false q (inr e) = let h : Asks words (Stream q) = (reads_grammar words (Stream q)).0 e in counted h.3.option q.workers h.3.option_is
 workers_are words true q e = let h : Asks words (Deliver q) = (reads_grammar words (Deliver q)).0 e in counted h.3.option q.workers h.3.option_is
 
-ran_well : (local : Bool) (q : Request) (old new : Outside) → IsCount q.workers → Runs local q old new ending.Done → RanWell local q old new
-ran_well local q old new count run =
-    let ends : EndsByTrace local q old new run.files ending.Done = run.ends in
-    let o = ends.reads.opened in
-    let file = ends.reads.file in
-    let s = ends.reads.setting in
-    let all : TellsAll s ends.reads.trace false ends.text = ends.tells in
+ran_by : (local : Bool) (q : Request) (old new : Outside) → IsCount q.workers → (run : Runs local q old new ending.Done) → EndsByTrace local q old new run.files ending.Done → RanWell local q old new
+ran_by local q old new count run by =
+    let o = by.opened in
+    let file = by.file in
+    let s = by.setting in
+    let ends : EndsSo s (IsReadOf old new file) old new ending.Done = by.ends in
+    let all : TellsAll s ends.trace false ends.text = ends.tells in
     let asked = each_asked s.policy s.commands (each_is_good s.policy o.commands.bytes s.commands o.commands_good).can_ask in
     let served : AreServed s = record { least = omega (arith, o.workers, count.0); most = omega (arith, o.workers, count.1); asked = asked } in
-    let whole : IsWhole file = subst (Reaches old new file) all.read ends.reads.read.reaches in
-    let bytes : ends.reads.trace.bytes ≡ file.bytes = ends.reads.read.bytes ∙ (ap (λ n. take n file.bytes) whole ∙ take_whole file.bytes) in
+    let whole : IsWhole file = subst (Reaches old new file) all.read ends.reads.reaches in
+    let bytes : ends.trace.bytes ≡ file.bytes = ends.reads.bytes ∙ (ap (λ n. take n file.bytes) whole ∙ take_whole file.bytes) in
     let cs = cuts s.commands (length all.records) in
     let covered = (packets_are_covered s.commands all.records).0 in
     record {
@@ -115,6 +116,13 @@ ran_well local q old new count run =
       };
       puts = subst (Puts old new) all.text_is ends.puts;
     }
+
+ran_well : (local : Bool) (q : Request) (old new : Outside) → IsCount q.workers → Runs local q old new ending.Done → RanWell local q old new
+ran_well local q old new count run = by run.ends
+  where
+    by : Ends local q old new run.files ending.Done → RanWell local q old new
+    by (inl e) = absurd e.0
+    by (inr e) = ran_by local q old new count run e
 
 pub done_ran_well : DoneRanWell
 done_ran_well words local q old new e r =

@@ -19,6 +19,7 @@ use Rattle.vsw_run.specs.declared.ending.Ending.{Ending}
 use Rattle.vsw_run.specs.declared.ending.Ending.TheVariants as ending
 use Rattle.vsw_run.specs.declared.ending.RowsFault.{RowsFault}
 use Rattle.vsw_run.specs.declared.ending.RowsFault.TheVariants as rows
+use Rattle.vsw_run.specs.ByTrace.{PutsNothing}
 use Rattle.vsw_run.specs.Engine.{AreEngineLines, engine_head}
 use Rattle.vsw_run.specs.Files.{IsReadOf, IsWhole}
 use Rattle.vsw_run.specs.Trace.{All, Fault, Trace, most_records}
@@ -145,10 +146,6 @@ pub record BreaksOff (q : Query) (old new : Outside) (files : List Opened) : Typ
   pub tells : TellsLines reads.ports (Some records) text
   pub count : ℕ
   pub puts : Grows old.put new.put (take count text)
-
--- nothing was put
-abbrev pub PutsNothing : Outside → Outside → Type 0
-PutsNothing old new = Grows old.put new.put []
 
 -- what a run put, by how it ended. It ends by a read fault or a write fault only if the host counted one
 abbrev pub Ends : Query → Outside → Outside → List Opened → Ending → Type 0

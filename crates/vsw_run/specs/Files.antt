@@ -13,6 +13,8 @@ use Rattle.vsw_config.specs.declared.file.ConfigFault.{ConfigFault}
 use Rattle.vsw_config.specs.declared.file.ConfigFault.TheVariants as policy_fault
 use Rattle.vsw_config.specs.Policy.{policy_file_of}
 use Rattle.vsw_promise.specs.Jobs.{Setting}
+use Rattle.vsw_run.specs.declared.ending.Ending.{Ending}
+use Rattle.vsw_run.specs.declared.ending.Ending.TheVariants as ending
 use Rattle.vsw_run.specs.Words.{Request}
 use Rattle.vsw_run.specs.Trace.{Reach, All, Fault, Stopped, Trace}
 
@@ -114,10 +116,10 @@ pub record IsReadOf (old new : Outside) (f : Opened) (t : Trace) : Type 0 where
   pub bytes : t.bytes ≡ take f.read f.bytes
   pub reaches : Reaches old new f t.reach
 
--- what was read of the trace
-pub record TraceRead (local : Bool) (q : Request) (old new : Outside) (files : List Opened) : Type 0 where
-  pub setting : Setting
-  pub file : Opened
-  pub opened : HasTrace local q files setting file
-  pub trace : Trace
-  pub read : IsReadOf old new file trace
+-- why a run ends before it opened its trace. Want of memory needs no sign, and may come later
+abbrev pub IsEarly : Outside → Outside → List Opened → Ending → Type 0
+IsEarly old new files (ending.Policy why) = HasBadPolicy files why
+IsEarly old new files (ending.Commands why) = HasBadCommands files why
+IsEarly old new files ending.ReadFault = Rose old.input_faults new.input_faults × LacksTrace files
+IsEarly old new files ending.Memory = Unit {0}
+IsEarly old new files _ = ⊥

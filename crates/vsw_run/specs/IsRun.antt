@@ -1,6 +1,6 @@
 -- A run of the program: what it opens and reads, what it puts, what it complains, and its status.
-use Rattle.std.specs.Prelude.{◌≡◌, ◌⊎◌, ◌≤◌, ℕ, List, [], length, take, Bool, true, false, Option, Some, None, Ok}
-use Rattle.vsw_host.specs.Outside.{Inputs, Opened, Outside, Grows, Rose}
+use Rattle.std.specs.Prelude.{◌≡◌, ◌⊎◌, ◌≤◌, ℕ, List, length, Bool, true, false, Option, Some, None, Ok}
+use Rattle.vsw_host.specs.Outside.{Inputs, Opened, Outside, Rose}
 use Rattle.vsw_host.specs.Told.{TellsSince}
 use Rattle.vsw_commandfile.specs.Commands.{commands_file_of}
 use Rattle.vsw_pcap.specs.Capture.{IsCapture}
@@ -8,6 +8,8 @@ use Rattle.vsw_pcap.specs.declared.capture.Record.{Record}
 use Rattle.vsw_config.specs.Policy.{policy_file_of}
 use Rattle.vsw_run.specs.ByRows as rows
 use Rattle.vsw_run.specs.ByRows.{RunsByRows}
+use Rattle.vsw_run.specs.ByTrace as of_trace
+use Rattle.vsw_run.specs.ByTrace.{Puts, PutsFront, PutsNothing}
 use Rattle.vsw_run.specs.Checks.{AreGood, Checks}
 use Rattle.vsw_run.specs.Complaint.{status_of, complaint, Complains}
 use Rattle.vsw_run.specs.declared.ending.Ending.{Ending}
@@ -15,49 +17,22 @@ use Rattle.vsw_run.specs.declared.ending.Ending.TheVariants as ending
 use Rattle.vsw_run.specs.declared.ending.Status.{Status}
 use Rattle.vsw_run.specs.declared.ending.Status.TheVariants as status
 use Rattle.vsw_run.specs.Exporting.{RunsExport}
-use Rattle.vsw_run.specs.Files.{Opens, HasBadPolicy, HasBadCommands, LacksTrace, TraceRead}
+use Rattle.vsw_run.specs.Files.{HasTrace, IsEarly, IsReadOf, Opens}
 use Rattle.vsw_run.specs.Generated.{Summarizes}
 use Rattle.vsw_promise.specs.Jobs.{Setting}
-use Rattle.vsw_run.specs.Trace.{Tells, MayTell, most_records}
+use Rattle.vsw_run.specs.Trace.{most_records}
 use Rattle.vsw_run.specs.Words.{Request, Claim, Query, Asked, Forward, Deliver, Stream, Offload, Check, Engine, Generate, asked_in}
 
--- a text was put
-abbrev pub Puts : Outside → Outside → List ℕ → Type 0
-Puts old new text = Grows old.put new.put text
-
--- a front of a text was put
-abbrev pub PutsFront : Outside → Outside → List ℕ → Type 0
-PutsFront old new text = (count : ℕ) × Puts old new (take count text)
-
--- nothing was put
-abbrev pub PutsNothing : Outside → Outside → Type 0
-PutsNothing old new = Puts old new []
-
--- it gives this ending, and its text was put
+-- the trace was opened, and what was read of it gives this ending
 pub record EndsByTrace (local : Bool) (q : Request) (old new : Outside) (files : List Opened) (end : Ending) : Type 0 where
-  pub reads : TraceRead local q old new files
-  pub text : List ℕ
-  pub tells : Tells reads.setting reads.trace end text
-  pub puts : Puts old new text
+  pub setting : Setting
+  pub file : Opened
+  pub opened : HasTrace local q files setting file
+  pub ends : of_trace.Ends setting (IsReadOf old new file) old new end
 
--- the run broke off, and put a front of a text that it might have put
-pub record BreaksOff (local : Bool) (q : Request) (old new : Outside) (files : List Opened) : Type 0 where
-  pub reads : TraceRead local q old new files
-  pub text : List ℕ
-  pub tells : MayTell reads.setting reads.trace text
-  pub puts : PutsFront old new text
-
--- what a run over these files put, by how it ended. It ends by a read fault or a write fault only if the host counted one
+-- what a run over these files put: nothing before it opened its trace, or what is put of the trace
 abbrev pub Ends : (local : Bool) → Request → Outside → Outside → List Opened → Ending → Type 0
-Ends local q old new files (ending.Policy why) = HasBadPolicy files why × PutsNothing old new
-Ends local q old new files (ending.Commands why) = HasBadCommands files why × PutsNothing old new
-Ends local q old new files (ending.Trace bad) = EndsByTrace local q old new files (ending.Trace bad)
-Ends local q old new files ending.Records = EndsByTrace local q old new files ending.Records
-Ends local q old new files ending.Done = EndsByTrace local q old new files ending.Done
-Ends local q old new files ending.ReadFault = Rose old.input_faults new.input_faults × ((LacksTrace files × PutsNothing old new) ⊎ EndsByTrace local q old new files ending.ReadFault)
-Ends local q old new files ending.WriteFault = Rose old.put_faults new.put_faults × BreaksOff local q old new files
-Ends local q old new files ending.Memory = PutsNothing old new ⊎ EndsByTrace local q old new files ending.Memory ⊎ BreaksOff local q old new files
-Ends local q old new files _ = ⊥
+Ends local q old new files end = (IsEarly old new files end × PutsNothing old new) ⊎ EndsByTrace local q old new files end
 
 -- the words ask for a run over files, in which packets are handed on between ports or aren't
 pub record Runs (local : Bool) (q : Request) (old new : Outside) (end : Ending) : Type 0 where

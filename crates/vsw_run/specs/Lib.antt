@@ -5,6 +5,7 @@ pub mod Plain
 pub mod Seen
 pub mod Trace
 pub mod Files
+pub mod ByTrace
 pub mod Complaint
 pub mod Generated
 pub mod Checks

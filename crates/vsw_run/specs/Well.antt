@@ -16,7 +16,8 @@ use Rattle.vsw_report.specs.Print.{report_text}
 use Rattle.vsw_report.specs.declared.round.Round.{Round}
 use Rattle.vsw_run.specs.declared.ending.Status.TheVariants as status
 use Rattle.vsw_run.specs.Files.{HasTrace, IsWhole, Opens}
-use Rattle.vsw_run.specs.IsRun.{IsRun, Puts}
+use Rattle.vsw_run.specs.ByTrace.{Puts}
+use Rattle.vsw_run.specs.IsRun.{IsRun}
 use Rattle.vsw_run.specs.Words.{Request, AskReport}
 
 -- its rounds hold to these files and this setting

@@ -3,7 +3,6 @@ use Rattle.std.proofs.Common.{◌≡◌, ◌≤◌, ◌≢◌, ◌<◌, ℕ, suc
 use Rattle.vsw_port.specs.Calls.{Job, Call, entries_naming}
 use Rattle.vsw_port.specs.History.{Opening}
 use Rattle.vsw_port.proofs.Fronts.{prefix_take, prefix_length}
-use Rattle.vsw_hairpin.specs.Handing.{handed_by}
 use Rattle.vsw_promise.specs.Jobs.{Placed}
 use Rattle.vsw_promise.specs.Ports.{PortSeen}
 use Rattle.vsw_many.specs.Actors.{Moves}
@@ -13,22 +12,14 @@ use Rattle.vsw_policy.specs.Sound.{Each}
 use Rattle.vsw_actors.specs.declared.lane.Lane.{Lane}
 use Rattle.vsw_actors.specs.Actors.{handed}
 use Rattle.vsw_actors.proofs.Hops.{hops_own}
-use Rattle.vsw_actors.specs.Lanes.{start_of, front_of, fronts_of, IsTold, AreTold, IsFit, AreFit, AreFitBut, IsHop, Leads, MovesOn}
-
--- a pass does a job, and its station tells it
-abbrev pub Worked : {S : Type 0} → (S → PassNow) → (S → List Call → Type 0) → Opening → Job → S → S → Type 0
-Worked pass_in tells o j r s = (c : Call) × Crosses o (pass_in r) (pass_in s) j c × ((calls : List Call) → tells r calls → tells s (calls ++ c ∷ []))
-
--- and its call hands this on
-abbrev pub WorkedOn : {S : Type 0} → (S → PassNow) → (S → List Call → Type 0) → Opening → List ℕ → ℕ → Job → List Placed → S → S → Type 0
-WorkedOn pass_in tells o macs place j hops r s = (c : Call) × Crosses o (pass_in r) (pass_in s) j c × ((calls : List Call) → tells r calls → tells s (calls ++ c ∷ [])) × (handed_by macs place c.deed ≡ hops)
+use Rattle.vsw_actors.specs.Lanes.{start_of, front_of, fronts_of, CrossesOn, CrossesTold, IsTold, AreTold, IsFit, AreFit, AreFitBut, IsHop, Leads, MovesOn}
 
 start_stays : (o : Opening) (base : ℕ) (p q : PassNow) (j : Job) (c : Call) → Crosses o p q j c → base ≤ length p.front → start_of o.controllers base q ≡ start_of o.controllers base p
 start_stays o base p q j c x le =
     let front : take base q.front ≡ take base p.front = prefix_take p.front q.front base x.seen le in
     λ i. record { number = x.number i; front = front i; receipts = entries_naming o.controllers (x.number i) (front i) }
 
-pub lane_moves : {S : Type 0} (pass_in : S → PassNow) (tells : S → List Call → Type 0) (o : Opening) (j : Job) (l m : Lane S) → m.base ≡ l.base → l.base ≤ length (pass_in l.station).front → Worked pass_in tells o j l.station m.station
+pub lane_moves : {S : Type 0} (pass_in : S → PassNow) (tells : S → List Call → Type 0) (o : Opening) (j : Job) (l m : Lane S) → m.base ≡ l.base → l.base ≤ length (pass_in l.station).front → CrossesTold pass_in tells o j l.station m.station
     → (t : Track) → IsTold pass_in tells o.controllers l t → (u : Track) × IsTold pass_in tells o.controllers m u × Moves o j t u
 lane_moves pass_in tells o j l m base le w t told =
     let stays : start_of o.controllers m.base (pass_in m.station) ≡ start_of o.controllers l.base (pass_in l.station) = ap (λ n. start_of o.controllers n (pass_in m.station)) base ∙ start_stays o l.base (pass_in l.station) (pass_in m.station) j w.0 w.1 le in (
@@ -38,7 +29,7 @@ lane_moves pass_in tells o j l m base le w t told =
     )
 
 pub lane_moves_on : {S : Type 0} (pass_in : S → PassNow) (tells : S → List Call → Type 0) (o : Opening) (macs : List ℕ) (place : ℕ) (j : Job) (hops : List Placed) (l m : Lane S) → m.base ≡ l.base → l.base ≤ length (pass_in l.station).front
-    → WorkedOn pass_in tells o macs place j hops l.station m.station → (t : Track) → IsTold pass_in tells o.controllers l t → (u : Track) × IsTold pass_in tells o.controllers m u × MovesOn o macs place j hops t u
+    → CrossesOn pass_in tells o macs place j hops l.station m.station → (t : Track) → IsTold pass_in tells o.controllers l t → (u : Track) × IsTold pass_in tells o.controllers m u × MovesOn o macs place j hops t u
 lane_moves_on pass_in tells o macs place j hops l m base le w t told =
     let stays : start_of o.controllers m.base (pass_in m.station) ≡ start_of o.controllers l.base (pass_in l.station) = ap (λ n. start_of o.controllers n (pass_in m.station)) base ∙ start_stays o l.base (pass_in l.station) (pass_in m.station) j w.0 w.1 le in (
       record { start = t.start; now = pass_in m.station; calls = t.calls ++ w.0 ∷ [] },
@@ -47,13 +38,13 @@ lane_moves_on pass_in tells o macs place j hops l m base le w t told =
     )
 
 -- what it handed on is the same caller's, at another place
-pub worked_hop : {S : Type 0} (pass_in : S → PassNow) (tells : S → List Call → Type 0) (o : Opening) (macs : List ℕ) (place : ℕ) (j : Job) (was : Bool) (h : Placed) (r s : S) → WorkedOn pass_in tells o macs place j (handed was h) r s → was ≡ true → IsHop place j h
+pub worked_hop : {S : Type 0} (pass_in : S → PassNow) (tells : S → List Call → Type 0) (o : Opening) (macs : List ℕ) (place : ℕ) (j : Job) (was : Bool) (h : Placed) (r s : S) → CrossesOn pass_in tells o macs place j (handed was h) r s → was ≡ true → IsHop place j h
 worked_hop pass_in tells o macs place j was h r s w e = (subst (λ b. Each (IsHop place j) (handed b h)) e (subst (Each (IsHop place j)) w.3 (hops_own macs place w.0.deed j w.1.about))).0
 
-pub lane_front : {S : Type 0} (pass_in : S → PassNow) (tells : S → List Call → Type 0) (o : Opening) (j : Job) (l m : Lane S) → m.base ≡ l.base → l.base ≤ length (pass_in l.station).front → Worked pass_in tells o j l.station m.station → front_of pass_in m ≡ front_of pass_in l
+pub lane_front : {S : Type 0} (pass_in : S → PassNow) (tells : S → List Call → Type 0) (o : Opening) (j : Job) (l m : Lane S) → m.base ≡ l.base → l.base ≤ length (pass_in l.station).front → CrossesTold pass_in tells o j l.station m.station → front_of pass_in m ≡ front_of pass_in l
 lane_front pass_in tells o j l m base le w = ap (λ n. take n (pass_in m.station).front) base ∙ prefix_take (pass_in l.station).front (pass_in m.station).front l.base w.1.seen le
 
-pub lane_fit : {P S : Type 0} (pass_in : S → PassNow) (tells : S → List Call → Type 0) (is_of : P → S → Type 0) (permits : S → ℕ) (o : Opening) (j : Job) (p : P) (l m : Lane S) → m.base ≡ l.base → is_of p m.station → permits l.station ≤ permits m.station + 1 → Worked pass_in tells o j l.station m.station
+pub lane_fit : {P S : Type 0} (pass_in : S → PassNow) (tells : S → List Call → Type 0) (is_of : P → S → Type 0) (permits : S → ℕ) (o : Opening) (j : Job) (p : P) (l m : Lane S) → m.base ≡ l.base → is_of p m.station → permits l.station ≤ permits m.station + 1 → CrossesTold pass_in tells o j l.station m.station
     → (k more : ℕ) → IsFit pass_in is_of permits k (more + 1) p l → IsFit pass_in is_of permits k more p m
 lane_fit pass_in tells is_of permits o j p l m base station spent w k more f = record {
   station = station;

@@ -11,7 +11,7 @@ use Rattle.vsw_promise.specs.Jobs as jobs
 use Rattle.vsw_many.specs.Phases as many
 use Rattle.vsw_actors.specs.declared.actor.Placed.{Placed}
 use Rattle.vsw_actors.specs.declared.lane.Lane.{Lane}
-use Rattle.vsw_actors.specs.Actors.{locals_at, placed_of}
+use Rattle.vsw_actors.specs.Actors.{HasDone, locals_at, placed_of}
 
 -- the pass of each lane meets its port, whose history is this, and is then this pass
 abbrev pub AllMet : {P S : Type 0} → (P → PortSeen) → (S → PassNow) → List P → List (List Event) → List (Lane S) → List PassNow → Type 0
@@ -34,3 +34,8 @@ pub record IsWorked {J P S : Type 0} (port_in : P → PortSeen) (locals : P → 
   pub handed : HaveHanded (locals_at locals ps) (map (λ l. l.track.calls) row) (map (placed_of job_in) done) hops
   pub told : AllTell tells ls row
   pub rest : AllRest k (map port_in ps) gs qs
+
+-- an actor whose passes have met the ports has done its jobs of the round
+abbrev pub ActorsEnd : {J P S : Type 0} → (P → PortSeen) → (P → List ℕ) → (S → PassNow) → (J → Job) → (S → List Call → Type 0) → Type 0
+ActorsEnd {J} {P} {S} port_in locals pass_in job_in tells =
+    (k : ℕ) (ps : List P) (hs : List (List Event)) (gs : List (List Event)) (ls : List (Lane S)) (qs : List PassNow) (done : List (Placed J)) → HasDone port_in locals pass_in job_in tells k ps hs ls done → AllMet port_in pass_in ps gs ls qs → IsWorked port_in locals job_in tells k ps hs gs ls qs done

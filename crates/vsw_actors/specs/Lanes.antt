@@ -1,5 +1,5 @@
 -- The lanes of an actor, one a port.
-use Rattle.std.specs.Prelude.{◌≡◌, ◌≢◌, ◌≤◌, ◌<◌, ◌+◌, ℕ, suc, List, [], ◌∷◌, length, take}
+use Rattle.std.specs.Prelude.{◌≡◌, ◌≢◌, ◌≤◌, ◌<◌, ◌+◌, ℕ, suc, List, [], ◌∷◌, ◌++◌, length, take}
 use Rattle.vsw_port.specs.declared.event.Event.{Event}
 use Rattle.vsw_port.specs.Calls.{Job, Call, job_doer, entries_naming}
 use Rattle.vsw_port.specs.History.{Opening}
@@ -8,7 +8,7 @@ use Rattle.vsw_promise.specs.Ports.{PortSeen}
 use Rattle.vsw_promise.specs.Rounds.{opening_of}
 use Rattle.vsw_hairpin.specs.Handing.{handed_by}
 use Rattle.vsw_many.specs.Actors.{Moves}
-use Rattle.vsw_many.specs.Passes.{PassNow}
+use Rattle.vsw_many.specs.Passes.{PassNow, Crosses}
 use Rattle.vsw_many.specs.Phases.{Track}
 use Rattle.vsw_actors.specs.declared.lane.Lane.{Lane}
 
@@ -37,7 +37,23 @@ AreTold port_in pass_in tells [] [] [] = Unit {0}
 AreTold port_in pass_in tells (p ∷ ps) (l ∷ ls) (t ∷ ts) = IsTold pass_in tells (port_in p).controllers l t × AreTold port_in pass_in tells ps ls ts
 AreTold port_in pass_in tells _ _ _ = ⊥
 
+-- whichever track is that of a lane at a port as it was, one that it leads to so is that of the lane as it is
+abbrev pub IsLedOn : {P S : Type 0} → (P → PortSeen) → (S → PassNow) → (S → List Call → Type 0) → P → (Track → Track → Type 0) → Lane S → Lane S → Type 0
+IsLedOn port_in pass_in tells p on l m = (t : Track) → IsTold pass_in tells (port_in p).controllers l t → (u : Track) × IsTold pass_in tells (port_in p).controllers m u × on t u
+
+-- the same of the tracks of lanes, one a port
+abbrev pub AreLedOn : {P S : Type 0} → (P → PortSeen) → (S → PassNow) → (S → List Call → Type 0) → List P → (List Track → List Track → Type 0) → List (Lane S) → List (Lane S) → Type 0
+AreLedOn port_in pass_in tells ps on ls ms = (ts : List Track) → AreTold port_in pass_in tells ps ls ts → (us : List Track) × AreTold port_in pass_in tells ps ms us × on ts us
+
 -- ---- what a job does
+
+-- a pass does a job, and its station tells the call
+abbrev pub CrossesTold : {S : Type 0} → (S → PassNow) → (S → List Call → Type 0) → Opening → Job → S → S → Type 0
+CrossesTold pass_in tells o j r s = (c : Call) × Crosses o (pass_in r) (pass_in s) j c × ((calls : List Call) → tells r calls → tells s (calls ++ c ∷ []))
+
+-- and the call hands this on, from this place to ports of these addresses
+abbrev pub CrossesOn : {S : Type 0} → (S → PassNow) → (S → List Call → Type 0) → Opening → List ℕ → ℕ → Job → List Placed → S → S → Type 0
+CrossesOn pass_in tells o macs place j hops r s = (c : Call) × Crosses o (pass_in r) (pass_in s) j c × ((calls : List Call) → tells r calls → tells s (calls ++ c ∷ [])) × (handed_by macs place c.deed ≡ hops)
 
 -- one more job on a track of a port at this place, whose call hands this on to ports of these addresses
 pub record MovesOn (o : Opening) (macs : List ℕ) (place : ℕ) (j : Job) (hops : List Placed) (t u : Track) : Type 0 where

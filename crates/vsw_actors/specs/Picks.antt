@@ -1,5 +1,5 @@
 -- Packets of a batch, told by their places in it, and what workers carry of them.
-use Rattle.std.specs.Prelude.{◌≡◌, ◌≤◌, ◌<◌, ◌+◌, ℕ, suc, List, [], ◌∷◌, length, map, Option, Some, None, Ok, Vec}
+use Rattle.std.specs.Prelude.{◌≡◌, ◌≤◌, ◌<◌, ◌+◌, ℕ, suc, List, [], ◌∷◌, ◌++◌, length, map, Option, Some, None, Result, Ok, OnOk, Vec}
 use Rattle.std.specs.List.{slice_get}
 use Rattle.vsw_base.specs.declared.flow.Place.{Place}
 use Rattle.vsw_base.specs.Frame.{Parts, frame_of}
@@ -7,7 +7,7 @@ use Rattle.vsw_pcap.specs.declared.capture.Record.{Record}
 use Rattle.vsw_policy.specs.Sound.{Each}
 use Rattle.vsw_port.specs.Calls.{Carry, Job}
 use Rattle.vsw_port.specs.Order.{counted}
-use Rattle.vsw_promise.specs.Jobs.{crossing_by}
+use Rattle.vsw_promise.specs.Jobs.{aim_of, crossing_by, placed_packet}
 use Rattle.vsw_promise.specs.Jobs as jobs
 use Rattle.vsw_many.specs.Dealing as dealing
 use Rattle.vsw_actors.specs.Work.{parts_in}
@@ -51,3 +51,19 @@ ArePicks ports packets vs = Each (λ v. Each (IsPick ports packets) v.items) vs
 -- no worker has more picks than this
 abbrev pub AtMost : {G : Type 0} → ℕ → List (Vec Pick G) → Type 0
 AtMost n vs = Each (λ v. length v.items ≤ n) vs
+
+-- ---- picks that are given
+
+-- of whichever jobs these picks are what is dealt, those are what is dealt of them and, behind them, of a pick more, this worker's
+abbrev pub DealsPick : {T E G : Type 0} → Result T E → ℕ → Pick → List (Vec Pick G) → List (Vec Pick G) → Type 0
+DealsPick r worker pick olds news =
+    (first : ℕ) (packets : List Record) (workers : ℕ) (cs : List ℕ) (js : List jobs.Placed) → picked 0 first packets olds ≡ dealt_to workers cs js → OnOk r (picked 0 first packets news ≡ dealt_to workers cs (js ++ picked_job worker first packets pick ∷ []))
+
+-- the same of the packet at this place of a batch, which is this record: of what it is to the ports of these addresses
+abbrev pub DealsPacket : {T E G : Type 0} → Result T E → ℕ → List ℕ → ℕ → ℕ → Record → List (Vec Pick G) → List (Vec Pick G) → Type 0
+DealsPacket r workers macs first at x olds news =
+    (packets : List Record) (cs : List ℕ) (js : List jobs.Placed) → slice_get packets at ≡ Some x → picked 0 first packets olds ≡ dealt_to workers cs js → OnOk r (picked 0 first packets news ≡ dealt_to workers cs (js ++ placed_packet workers (first + at) x.moment [] (aim_of macs x)))
+
+-- of whichever batch these are picks, with this record at this place, those are too
+abbrev pub KeepsPicks : {T E G : Type 0} → Result T E → ℕ → ℕ → Record → List (Vec Pick G) → List (Vec Pick G) → Type 0
+KeepsPicks r ports at x olds news = (packets : List Record) → slice_get packets at ≡ Some x → ArePicks ports packets olds → OnOk r (ArePicks ports packets news)

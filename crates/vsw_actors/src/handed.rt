@@ -1,13 +1,12 @@
 //! Packets that are handed over to their workers with bytes of their own, while further ones are read.
 
-ghost use Rattle.std.specs.Prelude.{◌≡◌, ◌≤◌, ◌<◌, ◌+◌, ◌^◌, ◌++◌, [], ℕ, List, IfOk, OnOk, Some, None, length};
+ghost use Rattle.std.specs.Prelude.{◌≡◌, ◌≤◌, ◌<◌, ◌+◌, ◌^◌, ◌++◌, ℕ, List, IfOk, OnOk, Some, None, length};
 ghost use Rattle.std.specs.List.{slice_get};
 ghost use Rattle.vsw_pcap.specs.declared.capture.Record.{Record};
-ghost use Rattle.vsw_promise.specs.Jobs.{aim_of, loose_after, placed_packet};
-ghost use Rattle.vsw_promise.specs.Jobs as jobs;
+ghost use Rattle.vsw_promise.specs.Jobs.{aim_of, loose_after};
 ghost use Rattle.vsw_actors.specs.Actors.{placed_of};
 ghost use Rattle.vsw_actors.specs.Handed.{HandsOver, HasFrame, handed_job};
-ghost use Rattle.vsw_actors.specs.Picks.{ArePicks, dealt_to, picked};
+ghost use Rattle.vsw_actors.specs.Picks.{DealsPacket, KeepsPicks};
 ghost use Rattle.vsw_actors.specs.Private.Aims.{IsGivenOf, captured_of, packet_job};
 ghost use Rattle.vsw_actors.specs.Work.{MayDo, job_in};
 ghost use Rattle.vsw_actors.specs.declared.work.Work.TheVariants as work;
@@ -103,8 +102,8 @@ pub fn hand_over<'a>(
     requires ports { length macs.now ≤ 16 }
     requires workers { length picks.old.items ≡ workers }
     requires number { first + at < 2 ^ 32 }
-    ensures dealt { (packets : List Record) (cs : List ℕ) (js : List jobs.Placed) → slice_get packets at ≡ Some (captured_of captured.now) → picked 0 first packets picks.old.items ≡ dealt_to workers cs js → OnOk result (picked 0 first packets picks.new.items ≡ dealt_to workers cs (js ++ placed_packet workers (first + at) captured.now.moment [] (aim_of macs.now (captured_of captured.now)))) }
-    ensures fit { (packets : List Record) → slice_get packets at ≡ Some (captured_of captured.now) → ArePicks (length macs.now) packets picks.old.items → OnOk result (ArePicks (length macs.now) packets picks.new.items) }
+    ensures dealt { DealsPacket result workers macs.now first at (captured_of captured.now) picks.old.items picks.new.items }
+    ensures fit { KeepsPicks result (length macs.now) at (captured_of captured.now) picks.old.items picks.new.items }
     ensures workers { length picks.new.items ≡ length picks.old.items }
     ensures handed { (packets : List Record) → slice_get packets at ≡ Some (captured_of captured.now) → IfOk result (λ given. HandsOver workers first packets picks.old.items picks.new.items given) }
     ensures loose { OnOk result (loose.new.items ≡ loose.old.items ++ loose_after (first + at) (aim_of macs.now (captured_of captured.now))) }

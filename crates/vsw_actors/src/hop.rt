@@ -1,10 +1,9 @@
 //! A packet that was handed on, at the port to which it goes.
 
-ghost use Rattle.std.specs.Prelude.{◌≡◌, ◌≢◌, ◌<◌, ◌+◌, ℕ, List, length};
+ghost use Rattle.std.specs.Prelude.{◌≡◌, ◌≢◌, ◌<◌, ◌+◌, ℕ, length};
 ghost use Rattle.vsw_many.specs.Actors.{Moves};
-ghost use Rattle.vsw_many.specs.Phases.{Track};
 ghost use Rattle.vsw_promise.specs.Rounds.{opening_of};
-ghost use Rattle.vsw_actors.specs.Lanes.{AreFit, AreFitBut, AreTold, DoesAt, IsFit, IsReady, IsTold, IsUsable, front_of, fronts_of};
+ghost use Rattle.vsw_actors.specs.Lanes.{AreFit, AreFitBut, AreLedOn, DoesAt, IsFit, IsLedOn, IsReady, IsUsable, front_of, fronts_of};
 
 use crate::lane::Lane;
 use crate::port::Port;
@@ -21,7 +20,7 @@ fn receive<J, P: Port<J>, R: Wait>(
 )
     requires usable { IsUsable P.port_in P.pass_in P.is_of P.permits (P.parcel_in parcel.now).1 port.now lane.old }
     requires holds { P.holds parcel.now }
-    ensures moves { (t : Track) → IsTold P.pass_in P.tells (P.port_in port.now).controllers lane.old t → (u : Track) × IsTold P.pass_in P.tells (P.port_in port.now).controllers lane.new u × Moves (opening_of (P.port_in port.now)) (P.parcel_in parcel.now).1 t u }
+    ensures moves { IsLedOn P.port_in P.pass_in P.tells port.now (Moves (opening_of (P.port_in port.now)) (P.parcel_in parcel.now).1) lane.old lane.new }
     ensures fit { (k : ℕ) (more : ℕ) → IsFit P.pass_in P.is_of P.permits k (more + 1) port.now lane.old → IsFit P.pass_in P.is_of P.permits k more port.now lane.new }
     ensures front { front_of P.pass_in lane.new ≡ front_of P.pass_in lane.old }
 {
@@ -42,7 +41,7 @@ pub(crate) fn receive_at<J, P: Port<J>, R: Wait>(
     requires small { at + length ports.now < 65536 }
     requires ready { IsReady P.port_in P.pass_in P.is_of P.permits at place (P.parcel_in parcel.now).1 ports.now lanes.old }
     requires holds { P.holds parcel.now }
-    ensures does { (ts : List Track) → AreTold P.port_in P.pass_in P.tells ports.now lanes.old ts → (us : List Track) × AreTold P.port_in P.pass_in P.tells ports.now lanes.new us × DoesAt P.port_in at place (P.parcel_in parcel.now).1 ports.now ts us }
+    ensures does { AreLedOn P.port_in P.pass_in P.tells ports.now (DoesAt P.port_in at place (P.parcel_in parcel.now).1 ports.now) lanes.old lanes.new }
     ensures fit { (k : ℕ) (more : ℕ) (from : ℕ) → place ≢ from → AreFitBut P.pass_in P.is_of P.permits k more at from ports.now lanes.old → AreFit P.pass_in P.is_of P.permits k more ports.now lanes.new }
     ensures fronts { fronts_of P.pass_in lanes.new ≡ fronts_of P.pass_in lanes.old }
 {

@@ -1,15 +1,14 @@
 //! The packets of a round's workers as picks: small, and lending nothing, so that they can go to another thread with an `Arc<Batch>`.
 
-ghost use Rattle.std.specs.Prelude.{◌≡◌, ◌≤◌, ◌<◌, ◌+◌, ◌^◌, ◌++◌, ◌∷◌, [], ℕ, List, IfOk, OnOk, Some, false, length, map, replicate};
-ghost use Rattle.std.specs.List.{slice_get};
+ghost use Rattle.std.specs.Prelude.{◌≡◌, ◌≤◌, ◌<◌, ◌+◌, ◌^◌, ◌++◌, ◌∷◌, [], ℕ, List, IfOk, OnOk, false, length, map, replicate};
 ghost use Rattle.vsw_pcap.specs.declared.capture.Record.{Record};
 ghost use Rattle.vsw_policy.specs.Sound.{Each};
 ghost use Rattle.vsw_port.specs.Order.{numbered};
-ghost use Rattle.vsw_promise.specs.Jobs.{aim_of, loose_after, loose_among, placed_packet, placed_packets};
+ghost use Rattle.vsw_promise.specs.Jobs.{aim_of, loose_after, loose_among, placed_packets};
 ghost use Rattle.vsw_promise.specs.Jobs as jobs;
 ghost use Rattle.vsw_actors.specs.Actors.{placed_of};
 ghost use Rattle.vsw_actors.specs.Handed.{with_more};
-ghost use Rattle.vsw_actors.specs.Picks.{ArePicks, AtMost, IsPick, dealt_to, picked, picked_job, picked_jobs};
+ghost use Rattle.vsw_actors.specs.Picks.{ArePicks, AtMost, DealsPacket, DealsPick, IsPick, KeepsPicks, dealt_to, picked, picked_job, picked_jobs};
 ghost use Rattle.vsw_actors.specs.Private.Aims.{captured_of, packet_job};
 ghost use Rattle.vsw_actors.specs.Work.{IsWork, job_in};
 
@@ -59,7 +58,7 @@ fn put_pick(share: &mut Vec<Pick>, pick: Pick) -> Result<(), NoMemory>
 /// Gives a pick to a worker.
 pub(crate) fn give_pick(picks: &mut Vec<Vec<Pick>>, worker: u32, pick: Pick) -> Result<(), NoMemory>
     requires worker { worker < length picks.old.items }
-    ensures dealt { (first : ℕ) (packets : List Record) (workers : ℕ) (cs : List ℕ) (js : List jobs.Placed) → picked 0 first packets picks.old.items ≡ dealt_to workers cs js → OnOk result (picked 0 first packets picks.new.items ≡ dealt_to workers cs (js ++ picked_job worker first packets pick ∷ [])) }
+    ensures dealt { DealsPick result worker pick picks.old.items picks.new.items }
     ensures put { (first : ℕ) (packets : List Record) → OnOk result (picked 0 first packets picks.new.items ≡ with_more worker (picked_job worker first packets pick) (picked 0 first packets picks.old.items)) }
     ensures fit { (ports : ℕ) (packets : List Record) → IsPick ports packets pick → ArePicks ports packets picks.old.items → OnOk result (ArePicks ports packets picks.new.items) }
     ensures few { (n : ℕ) → AtMost n picks.old.items → OnOk result (AtMost (n + 1) picks.new.items) }
@@ -85,8 +84,8 @@ fn pick_packet<'a>(
     requires ports { length macs.now ≤ 16 }
     requires workers { length picks.old.items ≡ workers }
     requires number { first + at < 2 ^ 32 }
-    ensures dealt { (packets : List Record) (cs : List ℕ) (js : List jobs.Placed) → slice_get packets at ≡ Some (captured_of captured.now) → picked 0 first packets picks.old.items ≡ dealt_to workers cs js → OnOk result (picked 0 first packets picks.new.items ≡ dealt_to workers cs (js ++ placed_packet workers (first + at) captured.now.moment [] (aim_of macs.now (captured_of captured.now)))) }
-    ensures fit { (packets : List Record) → slice_get packets at ≡ Some (captured_of captured.now) → ArePicks (length macs.now) packets picks.old.items → OnOk result (ArePicks (length macs.now) packets picks.new.items) }
+    ensures dealt { DealsPacket result workers macs.now first at (captured_of captured.now) picks.old.items picks.new.items }
+    ensures fit { KeepsPicks result (length macs.now) at (captured_of captured.now) picks.old.items picks.new.items }
     ensures few { (n : ℕ) → AtMost n picks.old.items → OnOk result (AtMost (n + 1) picks.new.items) }
     ensures workers { length picks.new.items ≡ length picks.old.items }
     ensures loose { OnOk result (loose.new.items ≡ loose.old.items ++ loose_after (first + at) (aim_of macs.now (captured_of captured.now))) }

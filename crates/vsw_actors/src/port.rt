@@ -1,13 +1,13 @@
 //! What an actor needs of a port.
 
-ghost use Rattle.std.specs.Prelude.{◌≡◌, ◌≤◌, ◌<◌, ◌+◌, ◌++◌, ◌∷◌, [], ℕ, List, IfOk, true};
+ghost use Rattle.std.specs.Prelude.{◌≡◌, ◌≤◌, ◌<◌, ◌+◌, ℕ, List, IfOk, true};
 ghost use Rattle.vsw_port.specs.Calls.{Call, Job, job_doer};
-ghost use Rattle.vsw_many.specs.Passes.{PassNow, Crosses};
+ghost use Rattle.vsw_many.specs.Passes.{PassNow};
 ghost use Rattle.vsw_promise.specs.Jobs as jobs;
 ghost use Rattle.vsw_promise.specs.Ports.{PortSeen};
 ghost use Rattle.vsw_promise.specs.Rounds.{opening_of};
-ghost use Rattle.vsw_hairpin.specs.Handing.{handed_by};
 ghost use Rattle.vsw_actors.specs.Actors.{IsRoomy, handed};
+ghost use Rattle.vsw_actors.specs.Lanes.{CrossesOn, CrossesTold};
 
 use std::alloc::Global;
 use std::sync::Wait;
@@ -68,7 +68,7 @@ pub trait Port<J> {
         requires permit { 0 < permits station.old }
         requires taken { takes self.now place job.now }
         requires fits { fits self.now job.now parcel.old }
-        ensures crosses { (c : Call) × Crosses (opening_of (port_in self.now)) (pass_in station.old) (pass_in station.new) (job_in job.now) c × ((calls : List Call) → tells station.old calls → tells station.new (calls ++ c ∷ [])) × (handed_by (locals self.now) place c.deed ≡ handed result (parcel_in parcel.new)) }
+        ensures crosses { CrossesOn pass_in tells (opening_of (port_in self.now)) (locals self.now) place (job_in job.now) (handed result (parcel_in parcel.new)) station.old station.new }
         ensures station { is_of self.now station.new }
         ensures permits { permits station.old ≤ permits station.new + 1 }
         ensures holds { result ≡ true → holds parcel.new }
@@ -86,7 +86,7 @@ pub trait Port<J> {
         requires own { job_doer (port_in self.now).controllers (parcel_in parcel.now).1 ≡ (pass_in station.old).number }
         requires permit { 0 < permits station.old }
         requires holds { holds parcel.now }
-        ensures crosses { (c : Call) × Crosses (opening_of (port_in self.now)) (pass_in station.old) (pass_in station.new) (parcel_in parcel.now).1 c × ((calls : List Call) → tells station.old calls → tells station.new (calls ++ c ∷ [])) }
+        ensures crosses { CrossesTold pass_in tells (opening_of (port_in self.now)) (parcel_in parcel.now).1 station.old station.new }
         ensures station { is_of self.now station.new }
         ensures permits { permits station.old ≤ permits station.new + 1 };
 

@@ -1,15 +1,15 @@
 //! A port at which actors work.
 
-ghost use Rattle.std.specs.Prelude.{◌≡◌, ◌≤◌, ◌<◌, ◌+◌, ◌++◌, ◌∷◌, [], List, IfOk, Ok, false, length, true};
+ghost use Rattle.std.specs.Prelude.{◌≡◌, ◌≤◌, ◌<◌, ◌+◌, [], IfOk, Ok, false, length, true};
 ghost use Rattle.vsw_base.specs.Frame.{Parts, frame_of};
 ghost use Rattle.vsw_flows.specs.Flows.{IsOf};
 ghost use Rattle.vsw_actors.specs.Work.{job_in};
 ghost use Rattle.vsw_actors.specs.declared.work.Work.TheVariants as work;
 ghost use Rattle.vsw_actors.specs.Actors.{handed};
-ghost use Rattle.vsw_actors.specs.Passes.{Crosses};
+ghost use Rattle.vsw_actors.specs.Lanes.{CrossesTold};
 ghost use Rattle.vsw_actors.specs.declared.work.Work.{Work};
 ghost use Rattle.vsw_dock.specs.Docks.{HasRoom, fits, holds, is_of, parcel_in, pass_in, permits, port_in, tells};
-ghost use Rattle.vsw_port.specs.Calls.{Call, job_doer};
+ghost use Rattle.vsw_port.specs.Calls.{job_doer};
 ghost use Rattle.vsw_promise.specs.Rounds as promise;
 ghost use Rattle.vsw_dock.specs.Private.Does.{HandsOn};
 ghost use Rattle.vsw_policy.specs.Sound.{Each};
@@ -189,7 +189,7 @@ impl<'w, 'g, J: Naming, G: Watch> Port<Work<'w>> for Dock<'g, J, G> {
         requires own { job_doer (port_in self.now).controllers (parcel_in parcel.now).1 ≡ (pass_in station.old).number }
         requires permit { 0 < permits station.old }
         requires holds { holds parcel.now }
-        ensures crosses { (c : Call) × Crosses (promise.opening_of (port_in self.now)) (pass_in station.old) (pass_in station.new) (parcel_in parcel.now).1 c × ((calls : List Call) → tells station.old calls → tells station.new (calls ++ c ∷ [])) }
+        ensures crosses { CrossesTold pass_in tells (promise.opening_of (port_in self.now)) (parcel_in parcel.now).1 station.old station.new }
         ensures station { is_of self.now station.new }
         ensures permits { permits station.old ≤ permits station.new + 1 }
     {

@@ -2,13 +2,12 @@
 
 ghost use Rattle.std.specs.Prelude.{◌≡◌, ◌≤◌, length, map, true};
 ghost use Rattle.vsw_actors.specs.Actors.{handed};
-ghost use Rattle.vsw_answer.specs.Transit.{bytes_in};
 ghost use Rattle.vsw_dock.specs.Docks.{HasRoom, holds, parcel_in};
+ghost use Rattle.vsw_dock.specs.Private.Does.{packet_deed};
 ghost use Rattle.vsw_frame.specs.Frame.{parts};
 ghost use Rattle.vsw_hairpin.specs.Handing.{handed_by};
 ghost use Rattle.vsw_live.specs.Calls.{FitsRoom};
-ghost use Rattle.vsw_port.specs.Calls.{Carried};
-ghost use Rattle.vsw_promise.specs.Jobs.{crossing_by, handed_on, second_job};
+ghost use Rattle.vsw_promise.specs.Jobs.{handed_on, second_job};
 ghost use Rattle.vsw_report.specs.declared.told.What.TheVariants as what;
 
 use crate::parcel::Parcel;
@@ -55,7 +54,7 @@ pub(crate) fn hand(
     requires few { length locals.now ≤ 16 }
     requires fits { FitsRoom answer.now.fate }
     requires room { HasRoom locals.now parcel.old }
-    ensures hands { handed_by locals.now packet.now.place.port (Carried (crossing_by packet.now.worker packet.now.number packet.now.place packet.now.micros (parts frame.now)) (parts frame.now) answer.now.fate (bytes_in answer.now.own (parts frame.now) answer.now.fate room.now)) ≡ handed result (parcel_in parcel.new) }
+    ensures hands { handed_by locals.now packet.now.place.port (packet_deed packet.now (parts frame.now) answer.now room.now) ≡ handed result (parcel_in parcel.new) }
     ensures holds { result ≡ true → holds parcel.new }
     ensures room { parcel.old.room ≤ parcel.new.room }
 {

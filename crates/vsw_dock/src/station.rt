@@ -8,7 +8,7 @@ ghost use Rattle.vsw_actors.specs.Actors.{handed};
 ghost use Rattle.vsw_actors.specs.Work.{job_in};
 ghost use Rattle.vsw_actors.specs.declared.work.Work.TheVariants as work;
 ghost use Rattle.vsw_dock.specs.Docks.{HasRoom, holds, parcel_in};
-ghost use Rattle.vsw_dock.specs.Private.Does.{Does, HandsOn, Tells};
+ghost use Rattle.vsw_dock.specs.Private.Does.{Does, HandsOn, Tells, packet_line};
 ghost use Rattle.vsw_frame.specs.Frame.{parts};
 ghost use Rattle.vsw_port.specs.Calls.{Ask, controller_at};
 ghost use Rattle.vsw_live.specs.Calls.{Crosses, FitsRoom, call_of, one_if};
@@ -19,7 +19,7 @@ ghost use Rattle.vsw_promise.specs.Jobs.{crossing_by};
 ghost use Rattle.vsw_report.specs.declared.told.By.TheVariants as by;
 ghost use Rattle.vsw_report.specs.declared.told.What.TheVariants as what;
 ghost use Rattle.vsw_rows.specs.GoodRows.{opening_of};
-ghost use Rattle.vsw_answer.specs.Transit.{IsOfFrame, bytes_in};
+ghost use Rattle.vsw_answer.specs.Transit.{IsOfFrame};
 
 use crate::handing::hand;
 use crate::parcel::Parcel;
@@ -151,7 +151,7 @@ fn tell_packet(
     room: &Room,
 )
     requires fits { FitsRoom answer.now.fate }
-    ensures told { Tells lines.old whole.old lines.new whole.new (text_of (record { by = by.Worker packet.now.worker; item = packet.now.number; entry = answer.now.entry; count = answer.now.count; what = what.Fate answer.now.fate (bytes_in answer.now.own (parts frame.now) answer.now.fate room.now) })) }
+    ensures told { Tells lines.old whole.old lines.new whole.new (text_of (packet_line packet.now (parts frame.now) answer.now room.now)) }
 {
     let fate = answer.fate();
     let told = lines.tell_packet(

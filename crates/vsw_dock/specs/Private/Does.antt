@@ -1,13 +1,20 @@
 -- What a job leaves of a station.
 use Rattle.std.specs.Prelude.{◌≡◌, ◌+◌, ◌++◌, ◌∷◌, [], ℕ, List, Bool, true, length}
-use Rattle.vsw_port.specs.Calls.{Call, Job, job_of}
+use Rattle.vsw_actors.specs.declared.work.Packet.{Packet}
+use Rattle.vsw_answer.specs.Seen.{AnswerSeen}
+use Rattle.vsw_answer.specs.Transit.{bytes_in}
+use Rattle.vsw_base.specs.Frame.{Parts}
+use Rattle.vsw_port.specs.Calls.{Call, Carried, Deed, Job, job_of}
 use Rattle.vsw_port.specs.History.{Opening}
 use Rattle.vsw_live.specs.Calls.{Crosses}
+use Rattle.vsw_report.specs.declared.told.By.TheVariants as by
+use Rattle.vsw_report.specs.declared.told.ToldLine.{ToldLine}
+use Rattle.vsw_report.specs.declared.told.What.TheVariants as what
 use Rattle.vsw_report.specs.Line.{TextLine, text_of}
 use Rattle.vsw_promise.specs.Told.{line_of}
 use Rattle.vsw_flows.specs.Flows.{Writing}
 use Rattle.vsw_hairpin.specs.Handing.{handed_by}
-use Rattle.vsw_promise.specs.Jobs.{Placed}
+use Rattle.vsw_promise.specs.Jobs.{Placed, crossing_by}
 use Rattle.vsw_dock.specs.Seen.{StationSeen}
 
 -- a station counts the permits of its pass, and those that it was ever given
@@ -18,6 +25,14 @@ pub record IsCounted (p : Writing) (left granted : ℕ) : Type 0 where
 -- one line more is told, or else memory was wanting for one
 abbrev pub Tells : List TextLine → Bool → List TextLine → Bool → TextLine → Type 0
 Tells before was after is line = is ≡ true → (was ≡ true) × (after ≡ before ++ line ∷ [])
+
+-- the deed of a packet that was answered so, where its frame has these parts, and the line that tells it: it leaves with its frame's own bytes, or
+-- those at the front of a room
+abbrev pub packet_deed : Packet → Parts → AnswerSeen → List ℕ → Deed
+packet_deed p parts a out = Carried (crossing_by p.worker p.number p.place p.micros parts) parts a.fate (bytes_in a.own parts a.fate out)
+
+abbrev pub packet_line : Packet → Parts → AnswerSeen → List ℕ → ToldLine
+packet_line p parts a out = record { by = by.Worker p.worker; item = p.number; entry = a.entry; count = a.count; what = what.Fate a.fate (bytes_in a.own parts a.fate out) }
 
 -- a station did a job: its pass made the call, and its lines tell it
 pub record Does (o : Opening) (j : Job) (r s : StationSeen) : Type 0 where

@@ -1,12 +1,10 @@
 //! A frame leaves as its packet was answered.
 
 ghost use Rattle.std.specs.Prelude.{◌≡◌, List, true};
-ghost use Rattle.vsw_port.specs.Calls.{Shows};
 ghost use Rattle.vsw_policy.specs.Layer.{LayerSeen};
 ghost use Rattle.vsw_live.specs.Calls.{FitsRoom};
-ghost use Rattle.vsw_live.specs.Private.Locked.{IsFateAt};
+ghost use Rattle.vsw_live.specs.Private.Locked.{IsFateAt, LeavesSo};
 ghost use Rattle.vsw_port.specs.Crossed.{EditsPass, IsOwn};
-ghost use Rattle.vsw_answer.specs.Transit.{bytes_in};
 
 use crate::unit::Unit;
 use vsw_answer::Room;
@@ -17,7 +15,7 @@ use vsw_port::Outcome;
 pub(crate) fn leave(unit: &Unit<'_>, edited: &Stack, outcome: Outcome, room: &mut Room)
     requires answered { (ls : List LayerSeen) × IsFateAt ls unit.now.crossing outcome.fate × EditsPass ls unit.now.crossing edited.now outcome.kept outcome.fate }
     requires own { outcome.own ≡ true → IsOwn unit.now.crossing edited.now outcome.kept }
-    ensures shows { (ls : List LayerSeen) → IsFateAt ls unit.now.crossing outcome.fate → EditsPass ls unit.now.crossing edited.now outcome.kept outcome.fate → Shows ls unit.now.crossing unit.now.parts outcome.fate (bytes_in outcome.own unit.now.parts outcome.fate room.new) }
+    ensures shows { LeavesSo unit.now edited.now outcome room.new }
     ensures fits { FitsRoom outcome.fate }
 {
     // It tells the proof that the packet's headers are those of a stack.

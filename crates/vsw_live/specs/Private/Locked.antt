@@ -1,18 +1,22 @@
 -- What lies under a port's lock, and what its calls tell.
 use Rattle.std.specs.Prelude.{◌≡◌, ◌⊎◌, ℕ, List, take}
 use Rattle.vsw_answer.specs.Answers.{Pass}
+use Rattle.vsw_answer.specs.Transit.{bytes_in}
 use Rattle.vsw_base.specs.declared.fate.Cause.TheVariants.{Memory}
 use Rattle.vsw_base.specs.declared.fate.Fate.{Fate}
 use Rattle.vsw_base.specs.declared.fate.Fate.TheVariants.{Drop}
 use Rattle.vsw_base.specs.declared.flow.Crossing.{Crossing}
+use Rattle.vsw_base.specs.declared.header.Header.{Header}
 use Rattle.vsw_base.specs.Frame.{Parts}
 use Rattle.vsw_port.specs.Fate.{fate_at}
 use Rattle.vsw_flows.specs.Flows.{IsOf, Looking, Writing}
-use Rattle.vsw_port.specs.Calls.{Call, Carried, HasBytes}
+use Rattle.vsw_port.specs.Calls.{Call, Carried, HasBytes, Shows}
+use Rattle.vsw_port.specs.Crossed.{EditsPass}
 use Rattle.vsw_port.specs.History.{AllRight, Opening, replay}
 use Rattle.vsw_policy.specs.Layer.{LayerSeen}
 use Rattle.vsw_live.specs.Calls.{Crosses}
 use Rattle.vsw_live.specs.Ports.{PortSeen, StandsAt}
+use Rattle.vsw_live.specs.Seen.{UnitSeen}
 use Rattle.vsw_port.specs.declared.crossing.Outcome.{Outcome}
 use Rattle.vsw_rows.specs.GoodRows.{opening_of}
 
@@ -41,6 +45,10 @@ HasLookup ports place l = (n : ℕ) × StandsAt ports place (record { looking = 
 -- a packet has the fate of its crossing at these layers, or memory was wanting
 abbrev pub IsFateAt : List LayerSeen → Crossing → Fate → Type 0
 IsFateAt ls x fate = (fate ≡ fate_at ls x) ⊎ (fate ≡ Drop Memory)
+
+-- at whichever layers a packet has this outcome and these headers, its frame leaves with its own bytes, or those at the front of a room
+abbrev pub LeavesSo : UnitSeen → List Header → Outcome → List ℕ → Type 0
+LeavesSo u hs outcome out = (ls : List LayerSeen) → IsFateAt ls u.crossing outcome.fate → EditsPass ls u.crossing hs outcome.kept outcome.fate → Shows ls u.crossing u.parts outcome.fate (bytes_in outcome.own u.parts outcome.fate out)
 
 -- the layers with which a packet meets, after so many entries
 abbrev pub layers_met : Opening → Pass → ℕ → List LayerSeen

@@ -21,7 +21,7 @@ use Rattle.vsw_many.specs.Dealing.{numbers_of}
 use Rattle.vsw_promise.specs.Schedule.{commands_at}
 use Rattle.vsw_harbour.specs.Harbour.{AreLike, HarbourSeen, IsOfRun, MayAsk, callers, locals_in, ports_in}
 use Rattle.vsw_harbour.specs.Standing.{RowStands, RowsStand, Stands}
-use Rattle.vsw_harbour.specs.Steps.{AreAt, Did, Turned, asks_before, placed_ask}
+use Rattle.vsw_harbour.specs.Steps.{AreAt, AsksTurned, Did, PlacesTurned, Turned, asks_before, placed_ask}
 use Rattle.vsw_dock.proofs.HopLaws.{asked_rows}
 use Rattle.vsw_dock.specs.Plain.{IsAsk}
 use Rattle.vsw_harbour.proofs.Likes.{calls_like, journals_like, numbers_like, rows_like}
@@ -102,10 +102,6 @@ asks_more ds l ls = by l.during
     by true = refl
     by false = refl
 
--- what was done since all stood somewhere, of these commands
-abbrev pub AsksTurned : HarbourSeen → List Line → List (List (Lane StationSeen)) → List (List (Lane StationSeen)) → Type 0
-AsksTurned h cs rows met = (s : Setting) (hs : List (List Event)) (calls : List (List Call)) → IsOfRun h s → AreJournals (callers h) (ports_of s.policy) hs hs → RowsStand 0 h.docks hs calls rows → Turned h s hs calls (asks_before h.docks cs) met
-
 -- a command that runs beside the packets isn't asked
 pub during_turned : (h : HarbourSeen) (l : Line) (rows : List (List (Lane StationSeen))) → l.during ≡ true → AsksTurned h (l ∷ []) rows rows
 during_turned h l rows e s hs calls r j x = subst (λ w. Turned h s hs calls w rows) (sym (asks_none h.docks l e)) (turned_none h s hs calls rows r j x)
@@ -158,10 +154,6 @@ no_commands : (lines : List Line) (places : List ℕ) (cs : List Line) → lengt
 no_commands lines [] [] e a = refl
 no_commands lines [] (c ∷ cs) e a = absurd (cc a)
 no_commands lines (p ∷ ps) cs e a = absurd (omega (arith, e))
-
--- what was done since all stood somewhere, of the commands at these places of the file
-abbrev pub PlacesTurned : HarbourSeen → List Line → List ℕ → List (List (Lane StationSeen)) → List (List (Lane StationSeen)) → Type 0
-PlacesTurned h lines places rows met = (cs : List Line) (s : Setting) (hs : List (List Event)) (calls : List (List Call)) → AreAt lines places cs → IsOfRun h s → AreJournals (callers h) (ports_of s.policy) hs hs → RowsStand 0 h.docks hs calls rows → Turned h s hs calls (asks_before h.docks cs) met
 
 pub no_places : (h : HarbourSeen) (lines : List Line) (places : List ℕ) (rows : List (List (Lane StationSeen))) → length places ≡ 0 → PlacesTurned h lines places rows rows
 no_places h lines places rows e cs s hs calls a r j x = subst (λ (w : List Line). Turned h s hs calls (asks_before h.docks w) rows) (sym (no_commands lines places cs e a)) (none_turned h rows s hs calls r j x)

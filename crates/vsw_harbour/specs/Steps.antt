@@ -12,8 +12,9 @@ use Rattle.vsw_dock.specs.Rounds.{AreJournals, calls_by_port}
 use Rattle.vsw_policy.specs.Layers.{place_of}
 use Rattle.vsw_promise.specs.Ports.{ports_of}
 use Rattle.vsw_promise.specs.Jobs.{Placed, Setting}
-use Rattle.vsw_many.specs.Turns.{PlacedTurns, append_each}
-use Rattle.vsw_harbour.specs.Harbour.{HarbourSeen, callers, locals_in, ports_in}
+use Rattle.vsw_many.specs.Dealing.{numbers_of}
+use Rattle.vsw_many.specs.Turns.{PlacedTurns, append_each, placed_before}
+use Rattle.vsw_harbour.specs.Harbour.{HarbourSeen, IsOfRun, callers, locals_in, ports_in}
 use Rattle.vsw_harbour.specs.Standing.{RowsMay, RowsStand}
 
 -- since all stood at these histories, of whose rounds these calls are told, each caller has done its own of these jobs, and after each of them what
@@ -54,3 +55,17 @@ placed_ask ds l = (place_of l.port (map (λ d. d.number) ds), Ask l)
 -- of these commands those that run before the packets, each at its place
 abbrev pub asks_before : List DockSeen → List Line → List Placed
 asks_before ds cs = map (placed_ask ds) (filter (λ l. not l.during) cs)
+
+-- ---- commands that were asked since all stood somewhere
+
+-- in whichever run, those of these commands that run before the packets were asked in turn
+abbrev pub AsksTurned : HarbourSeen → List Line → List (List (Lane StationSeen)) → List (List (Lane StationSeen)) → Type 0
+AsksTurned h cs rows met = (s : Setting) (hs : List (List Event)) (calls : List (List Call)) → IsOfRun h s → AreJournals (callers h) (ports_of s.policy) hs hs → RowsStand 0 h.docks hs calls rows → Turned h s hs calls (asks_before h.docks cs) met
+
+-- the same of the commands at these places of the file
+abbrev pub PlacesTurned : HarbourSeen → List Line → List ℕ → List (List (Lane StationSeen)) → List (List (Lane StationSeen)) → Type 0
+PlacesTurned h lines places rows met = (cs : List Line) (s : Setting) (hs : List (List Event)) (calls : List (List Call)) → AreAt lines places cs → IsOfRun h s → AreJournals (callers h) (ports_of s.policy) hs hs → RowsStand 0 h.docks hs calls rows → Turned h s hs calls (asks_before h.docks cs) met
+
+-- and of those of the round that begins with this packet
+abbrev pub RoundTurned : HarbourSeen → List Line → ℕ → List (List (Lane StationSeen)) → List (List (Lane StationSeen)) → Type 0
+RoundTurned h lines first rows met = (s : Setting) (hs : List (List Event)) (calls : List (List Call)) → s.commands ≡ lines → IsOfRun h s → AreJournals (callers h) (ports_of s.policy) hs hs → RowsStand 0 h.docks hs calls rows → Turned h s hs calls (placed_before (numbers_of s.policy) s.commands first) met

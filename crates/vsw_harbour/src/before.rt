@@ -3,23 +3,18 @@
 ghost use Rattle.std.specs.Prelude.{◌≡◌, ◌≤◌, ◌<◌, ◌+◌, ◌∷◌, [], ℕ, List, OnOk, length};
 ghost use Rattle.vsw_dock.specs.Lanes.{IsOwn, IsTaken};
 ghost use Rattle.vsw_commandfile.specs.declared.line.Line.{Line};
-ghost use Rattle.vsw_many.specs.Turns.{placed_before};
 ghost use Rattle.vsw_dock.specs.Work.{job_in};
 ghost use Rattle.vsw_dock.specs.ActorsDone.{AreAlike};
 ghost use Rattle.vsw_dock.specs.Docks.{locals, port_in, takes};
 ghost use Rattle.vsw_dock.specs.Opening.{rows_in};
 ghost use Rattle.vsw_harbour.specs.Able.{IsAble, IsLine};
-ghost use Rattle.vsw_harbour.specs.Harbour.{IsOfRun, MayAsk, asks_of, callers};
+ghost use Rattle.vsw_harbour.specs.Harbour.{MayAsk, asks_of};
 ghost use Rattle.vsw_harbour.specs.Standing.{RowsStand};
-ghost use Rattle.vsw_harbour.specs.Steps.{AreAt, Did, MayGo, Turned, asks_before, placed_ask};
+ghost use Rattle.vsw_harbour.specs.Steps.{AreAt, AsksTurned, Did, MayGo, PlacesTurned, RoundTurned, placed_ask};
 ghost use Rattle.vsw_harbour.specs.Working.{RowsWork};
 ghost use Rattle.vsw_port.specs.Calls.{Call, job_doer};
 ghost use Rattle.vsw_port.specs.declared.event.Event.{Event};
-ghost use Rattle.vsw_dock.specs.Rounds.{AreJournals};
 ghost use Rattle.vsw_policy.specs.Sound.{Each};
-ghost use Rattle.vsw_promise.specs.Ports.{ports_of};
-ghost use Rattle.vsw_promise.specs.Jobs.{Setting};
-ghost use Rattle.vsw_many.specs.Dealing.{numbers_of};
 
 use crate::harbour::Harbour;
 use crate::meeting::meet_again;
@@ -115,7 +110,7 @@ fn ask_if<'g, J: Naming, G: Watch, R: Wait>(
 ) -> Result<(), NoMemory>
     requires may { MayGo harbour.now (asks_of harbour.now) (rows_in rows.old) }
     requires line { MayAsk harbour.now line.now }
-    ensures turned { OnOk result ((s : Setting) (hs : List (List Event)) (calls : List (List Call)) → IsOfRun harbour.now s → AreJournals (callers harbour.now) (ports_of s.policy) hs hs → RowsStand 0 harbour.now.docks hs calls (rows_in rows.old) → Turned harbour.now s hs calls (asks_before harbour.now.docks (line.now ∷ [])) (rows_in rows.new)) }
+    ensures turned { OnOk result (AsksTurned harbour.now (line.now ∷ []) (rows_in rows.old) (rows_in rows.new)) }
     ensures may { OnOk result (MayGo harbour.now (asks_of harbour.now) (rows_in rows.new)) }
 {
     if line.during {
@@ -136,7 +131,7 @@ pub fn ask_each<'g, J: Naming, G: Watch, R: Wait>(
     requires may { MayGo harbour.now (asks_of harbour.now) (rows_in rows.old) }
     requires lines { Each (MayAsk harbour.now) schedule.now }
     requires places { (cs : List Line) × AreAt schedule.now places.now cs }
-    ensures turned { OnOk result ((cs : List Line) (s : Setting) (hs : List (List Event)) (calls : List (List Call)) → AreAt schedule.now places.now cs → IsOfRun harbour.now s → AreJournals (callers harbour.now) (ports_of s.policy) hs hs → RowsStand 0 harbour.now.docks hs calls (rows_in rows.old) → Turned harbour.now s hs calls (asks_before harbour.now.docks cs) (rows_in rows.new)) }
+    ensures turned { OnOk result (PlacesTurned harbour.now schedule.now places.now (rows_in rows.old) (rows_in rows.new)) }
     ensures may { OnOk result (MayGo harbour.now (asks_of harbour.now) (rows_in rows.new)) }
 {
     if let Some((first, later)) = places.split_first() {
@@ -156,7 +151,7 @@ pub fn ask_before<'g, J: Naming, G: Watch, R: Wait>(
 ) -> Result<(), NoMemory>
     requires may { MayGo harbour.now (asks_of harbour.now) (rows_in rows.old) }
     requires lines { Each (MayAsk harbour.now) schedule.now }
-    ensures turned { OnOk result ((s : Setting) (hs : List (List Event)) (calls : List (List Call)) → s.commands ≡ schedule.now → IsOfRun harbour.now s → AreJournals (callers harbour.now) (ports_of s.policy) hs hs → RowsStand 0 harbour.now.docks hs calls (rows_in rows.old) → Turned harbour.now s hs calls (placed_before (numbers_of s.policy) s.commands first) (rows_in rows.new)) }
+    ensures turned { OnOk result (RoundTurned harbour.now schedule.now first (rows_in rows.old) (rows_in rows.new)) }
     ensures may { OnOk result (MayGo harbour.now (asks_of harbour.now) (rows_in rows.new)) }
 {
     ask_each(rt, harbour, rows, schedule, schedule.places(first))?;

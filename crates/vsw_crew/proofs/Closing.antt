@@ -8,7 +8,8 @@ use Rattle.vsw_harbour.specs.Seen.{StationSeen}
 use Rattle.vsw_pcap.specs.declared.capture.Record.{Record}
 use Rattle.vsw_port.specs.declared.event.Event.{Event}
 use Rattle.vsw_crew.specs.Crew.{AreReady, CrewSeen, seen_by}
-use Rattle.vsw_crew.specs.Private.Flowing.{DoesRound, IsClosed}
+use Rattle.vsw_crew.specs.Private.Flowing.{Closes, DoesRound}
+use Rattle.vsw_crew.specs.Private.Owing.{OwesSo}
 use Rattle.vsw_crew.specs.Shares.{ShareSeen}
 use Rattle.vsw_crew.specs.Shift.{IsOut, TellsOwed}
 use Rattle.vsw_crew.specs.StreamShares.{StreamSeen}
@@ -16,7 +17,7 @@ use Rattle.vsw_crew.specs.Streams.{IsFeeding}
 use Rattle.vsw_crew.specs.declared.feeding.Feeding.{Feeding}
 use Rattle.vsw_crew.specs.declared.owed.Owed.{Owed}
 use Rattle.vsw_crew.specs.declared.round.Worked.{Worked}
-use Rattle.vsw_crew.proofs.Shifts.{Began, OwesSo, at_start, of_start, tells_owed, to_start}
+use Rattle.vsw_crew.proofs.Shifts.{Began, at_start, of_start, tells_owed, to_start}
 
 pub opened_out : (h : HarbourSeen) (gs : List (List Event)) (crew : CrewSeen) (rows : List (List (Lane StationSeen))) (lines : List Line) (first : ℕ) (r : Result Feeding NoMemory) (out : List StreamSeen) → ◌≡◌ {A = CrewSeen} (record { harbour = h; histories = gs }) crew → AreReady h gs rows
     → IfOk r (λ f. (hs : List (List Event)) → AreReady h hs rows → IsFeeding (record { harbour = h; histories = hs }) lines first [] f out) → IfOk r (λ f. IsFeeding crew lines first [] f out)
@@ -26,10 +27,6 @@ opened_out h gs crew rows lines first (Ok x) out view ready f = subst (λ (w : C
 -- some crew began the round and these packets were handed over
 abbrev pub Feeds : CrewSeen → Feeding → List StreamSeen → Type 0
 Feeds crew f out = (c : CrewSeen) × (lines : List Line) × (first : ℕ) × (packets : List Record) × (c.harbour ≡ crew.harbour) × IsFeeding c lines first packets f out
-
--- what the round's end tells
-abbrev pub Closes : HarbourSeen → Feeding → List StreamSeen → Worked → Type 0
-Closes h f out w = (hs : List (List Event)) (lines : List Line) (first : ℕ) (packets : List Record) → IsFeeding (record { harbour = h; histories = hs }) lines first packets f out → IsClosed h hs lines first packets f.underway w
 
 pub may_close : (h : HarbourSeen) (crew : CrewSeen) (gs : List (List Event)) (f : Feeding) (out : List StreamSeen) → at_start h gs ≡ crew → Feeds crew f out → (hs : List (List Event)) × (lines : List Line) × (first : ℕ) × (packets : List Record) × IsFeeding (at_start h hs) lines first packets f out
 may_close h crew gs f out view x =

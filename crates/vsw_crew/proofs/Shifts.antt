@@ -13,7 +13,6 @@ use Rattle.vsw_promise.specs.Ports.{ports_of}
 use Rattle.vsw_promise.specs.Rounds.{AllBegin}
 use Rattle.vsw_port.specs.Order.{numbered}
 use Rattle.vsw_switch.specs.Round.{TellsRound}
-use Rattle.vsw_history_law.specs.Law.{AreAsked}
 use Rattle.vsw_harbour.specs.Crew.{crew_text, is_short_crew}
 use Rattle.vsw_harbour.specs.HarbourOpening.{rows_in}
 use Rattle.vsw_harbour.specs.Rounds.{AreJournals}
@@ -21,7 +20,7 @@ use Rattle.vsw_harbour.proofs.Dealing.{all_know}
 use Rattle.vsw_crew.specs.declared.round.Worked.{Worked}
 use Rattle.vsw_switch.specs.Switch.{AreServed, IsAt}
 use Rattle.vsw_crew.specs.Crew.{AreReady, AreRowsOf, CrewSeen, crew_now, seen_by, switch_now}
-use Rattle.vsw_crew.specs.Private.Owing.{HasOwed}
+use Rattle.vsw_crew.specs.Private.Owing.{HasOwed, OwesSo}
 use Rattle.vsw_crew.specs.Private.Round.{HasWorked}
 use Rattle.vsw_crew.specs.Private.Flowing.{DoesRound}
 use Rattle.vsw_crew.specs.Shares.{ShareSeen}
@@ -101,10 +100,6 @@ of_start P h c e p = subst (λ (k : HarbourSeen). P (at_start k c.histories)) (s
 
 pub to_start : (P : CrewSeen → Type 0) (h : HarbourSeen) (c : CrewSeen) → c.harbour ≡ h → P c → P (at_start h c.histories)
 to_start P h c e p = subst (λ (k : HarbourSeen). P (at_start k c.histories)) e p
-
--- what the calls tell
-abbrev pub OwesSo : HarbourSeen → ℕ → Worked → Owed → List (List (Lane StationSeen)) → Type 0
-OwesSo h first w o rows = (s : Setting) (hs : List (List Event)) (packets : List Record) → AreAsked s → HasWorked h s hs first packets w.befores.items w.firsts.items w.loose.items (rows_in w.rows.items) → HasOwed h s hs first packets o rows
 
 owed_of : (h : HarbourSeen) (gs : List (List Event)) (lines : List Line) (first : ℕ) (packets : List Record) (u : Underway) (out : List ShareSeen) (w : Worked) (o : Owed) (rows : List (List (Lane StationSeen))) → IsOut (at_start h gs) lines first packets u out → DoesRound h u out w → OwesSo h u.first w o rows → IsOwedOf h gs lines first packets o rows
 owed_of h gs lines first packets u out w o rows x does owes s run same =

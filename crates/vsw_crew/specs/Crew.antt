@@ -1,14 +1,17 @@
 -- A crew between two rounds.
-use Rattle.std.specs.Prelude.{◌≡◌, List, [], ◌∷◌, length, map}
+use Rattle.std.specs.Prelude.{◌≡◌, ℕ, Bool, List, [], ◌∷◌, length, map}
+use Rattle.vsw_commandfile.specs.declared.line.Line.{Line}
 use Rattle.vsw_harbour.specs.Lane.{Lane}
 use Rattle.vsw_harbour.specs.Docks.{port_in}
 use Rattle.vsw_harbour.specs.Seen.{DockSeen, StationSeen}
 use Rattle.vsw_port.specs.Order.{ascending, counted}
 use Rattle.vsw_port.specs.declared.event.Event.{Event}
+use Rattle.vsw_pcap.specs.declared.capture.Record.{Record}
 use Rattle.vsw_harbour.specs.Rounds.{AreJournals}
 use Rattle.vsw_promise.specs.Jobs.{Setting}
 use Rattle.vsw_promise.specs.Rounds.{opening_of}
-use Rattle.vsw_switch.specs.Switch.{PortNow, SwitchNow}
+use Rattle.vsw_switch.specs.Round.{TellsRound}
+use Rattle.vsw_switch.specs.Switch.{IsAt, PortNow, SwitchNow}
 use Rattle.vsw_switch.specs.Tally.{none}
 use Rattle.vsw_harbour.specs.Harbour.{HarbourSeen, IsOfRun, callers, locals_in, ports_in}
 use Rattle.vsw_harbour.specs.Standing.{RowsStand, no_calls}
@@ -64,3 +67,7 @@ switch_now h gs = record { workers = h.workers; locals = locals_in h.docks; port
 
 abbrev pub crew_now : CrewSeen → SwitchNow
 crew_now c = switch_now c.harbour c.histories
+
+-- in each run that is at ports as these were, the round of these packets is told so, and the ports are then these
+abbrev pub RunsRound : List Line → ℕ → List Record → SwitchNow → SwitchNow → Bool → List ℕ → List ℕ → Type 0
+RunsRound lines first packets before after short old new = (s : Setting) (hs : List (List Event)) → s.commands ≡ lines → IsAt s hs before → TellsRound s hs first packets after short old new

@@ -1,5 +1,5 @@
 -- A round whose packets are handed over as they are read: its workers' shares are out, each with the end of a ring, and then it is to be told.
-use Rattle.std.specs.Prelude.{◌≡◌, ◌≤◌, ◌<◌, ◌+◌, ◌^◌, ℕ, suc, List, [], ◌∷◌, drop, false, length, map}
+use Rattle.std.specs.Prelude.{◌≡◌, ◌≤◌, ◌<◌, ◌+◌, ◌^◌, ℕ, suc, List, [], ◌∷◌, ◌++◌, drop, false, length, map}
 use Rattle.vsw_actors.specs.Handed.{handed_job}
 use Rattle.vsw_actors.specs.Picks.{ArePicks, dealt_to, picked}
 use Rattle.vsw_actors.specs.declared.handed.Handed.{Handed}
@@ -75,3 +75,11 @@ pub record IsFeeding (c : CrewSeen) (lines : List Line) (first : ℕ) (packets :
   pub fit : ArePicks (length c.harbour.docks) packets f.picks.items
   pub loose : f.underway.loose.items ≡ loose_among (macs_in c.harbour) (numbered first packets)
   pub under : (s : Setting) → IsOfRun c.harbour s → s.commands ≡ lines → IsStreaming c.harbour s c.histories first f.underway out
+
+-- some crew of this harbour has begun the round of these packets, of which all but the last were handed over, and the round may have one more
+abbrev pub MayFeed : HarbourSeen → List Record → Feeding → Type 0
+MayFeed h packets f = (c : CrewSeen) × (lines : List Line) × (first : ℕ) × (before : List Record) × (last : Record) × (out : List StreamSeen) × (c.harbour ≡ h) × IsFeeding c lines first before f out × (packets ≡ before ++ last ∷ []) × (length before < f.most)
+
+-- whichever crew it is, the last of these packets was handed over too
+abbrev pub FeedsLast : HarbourSeen → List Record → Feeding → Feeding → Type 0
+FeedsLast h packets old new = (c : CrewSeen) (lines : List Line) (first : ℕ) (before : List Record) (last : Record) (out : List StreamSeen) → c.harbour ≡ h → IsFeeding c lines first before old out → packets ≡ before ++ last ∷ [] → length before < old.most → IsFeeding c lines first packets new out

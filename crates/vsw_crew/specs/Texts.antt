@@ -1,11 +1,15 @@
 -- The lines of all callers in a round, port by port. Each caller has a row: its lines at the ports, in the policy's order.
-use Rattle.std.specs.Prelude.{◌≡◌, ◌≤◌, ◌+◌, ℕ, List, [], ◌∷◌, ◌++◌, get_or, length, map, take}
+use Rattle.std.specs.Prelude.{◌≡◌, ◌≤◌, ◌+◌, ℕ, Bool, List, [], ◌∷◌, ◌++◌, IfOk, OnOk, Result, get_or, length, map, take}
 use Rattle.std.specs.List.{flat_map}
+use Rattle.vsw_many.specs.Crew.{AreCounted, crew_text, is_short_crew}
 use Rattle.vsw_report.specs.Line.{TextLine}
 use Rattle.vsw_report.specs.Order.{emptied}
 use Rattle.vsw_policy.specs.Layers.{place_of}
 use Rattle.vsw_policy.specs.Sound.{Each}
 use Rattle.vsw_port.specs.Order.{counted}
+use Rattle.vsw_port.specs.declared.event.Event.{Event}
+use Rattle.vsw_promise.specs.Ports.{PortSeen}
+use Rattle.vsw_report.specs.declared.round.Loose.{Loose}
 
 -- the row of a caller, and its lines at a port; there are none where there is no such place
 abbrev pub row_at : ℕ → List (List (List TextLine)) → List (List TextLine)
@@ -42,3 +46,11 @@ pub record AreSized (workers controllers : ℕ) (numbers befores afters : List �
 -- as many rows of as many callers, with no lines
 abbrev pub all_emptied : List (List (List TextLine)) → List (List (List TextLine))
 all_emptied rows = map emptied rows
+
+-- whichever ports have these numbers, and histories as long as counted, the text of their round stands behind what was, if its lines can be merged
+abbrev pub TellsTexts : {T E : Type 0} → Result T E → ℕ → (numbers befores afters : List ℕ) → List (List (List TextLine)) → List Loose → (old new : List ℕ) → Type 0
+TellsTexts r first numbers befores afters texts loose old new = (ps : List PortSeen) (hs gs : List (List Event)) → map (λ p. p.number) ps ≡ numbers → map length hs ≡ befores → map length gs ≡ afters → AreCounted hs gs texts → OnOk r (new ≡ old ++ crew_text first ps hs gs texts loose)
+
+-- and it is answered whether want of memory is told in it
+abbrev pub TellsTextsShort : {E : Type 0} → Result Bool E → (numbers befores afters : List ℕ) → List (List (List TextLine)) → Type 0
+TellsTextsShort r numbers befores afters texts = (ps : List PortSeen) (hs gs : List (List Event)) → map (λ p. p.number) ps ≡ numbers → map length hs ≡ befores → map length gs ≡ afters → AreCounted hs gs texts → IfOk r (λ short. short ≡ is_short_crew hs gs texts)

@@ -2,13 +2,12 @@
 
 ghost use Rattle.std.specs.Prelude.{◌≡◌, ◌≤◌, ◌++◌, List, IfOk, OnOk, drop, length, map, take};
 ghost use Rattle.vsw_crew.specs.Crew.{AreReady, IsOfSome};
-ghost use Rattle.vsw_crew.specs.Private.Round.{HasAsked, HasBegun};
+ghost use Rattle.vsw_crew.specs.Private.Round.{HasAsked, HasBegun, InEachRun};
 ghost use Rattle.vsw_crew.specs.Private.Rows.{cleared, lines_of};
 ghost use Rattle.vsw_harbour.specs.HarbourOpening.{rows_in};
-ghost use Rattle.vsw_harbour.specs.Harbour.{IsOfRun, MayAsk};
+ghost use Rattle.vsw_harbour.specs.Harbour.{MayAsk};
 ghost use Rattle.vsw_port.specs.declared.event.Event.{Event};
 ghost use Rattle.vsw_policy.specs.Sound.{Each};
-ghost use Rattle.vsw_promise.specs.Jobs.{Setting};
 
 use crate::Lines;
 use crate::lines::{are_whole, take_rows};
@@ -28,7 +27,7 @@ fn meet_to_ask<'g, J: Naming, G: Watch, R: Wait>(
 ) -> Result<(), NoMemory>
     requires ready { (hs : List (List Event)) × AreReady harbour.now hs (rows_in rows.old) }
     requires lines { Each (MayAsk harbour.now) schedule.now }
-    ensures asked { OnOk result ((s : Setting) (hs : List (List Event)) → IsOfRun harbour.now s → s.commands ≡ schedule.now → AreReady harbour.now hs (rows_in rows.old) → HasAsked harbour.now s hs first (rows_in rows.new)) }
+    ensures asked { OnOk result (InEachRun harbour.now schedule.now (rows_in rows.old) (λ s hs. HasAsked harbour.now s hs first (rows_in rows.new))) }
 {
     meet_all(rt, harbour.alloc, &harbour.docks, rows, &harbour.asks)?;
     ask_before(rt, harbour, rows, schedule, first)?;
@@ -45,7 +44,7 @@ fn meet_and_ask<'g, J: Naming, G: Watch, R: Wait>(
 ) -> Result<(), NoMemory>
     requires ready { (hs : List (List Event)) × AreReady harbour.now hs (rows_in rows.old) }
     requires lines { Each (MayAsk harbour.now) schedule.now }
-    ensures asked { OnOk result ((s : Setting) (hs : List (List Event)) → IsOfRun harbour.now s → s.commands ≡ schedule.now → AreReady harbour.now hs (rows_in rows.old) → HasAsked harbour.now s hs first (rows_in rows.new)) }
+    ensures asked { OnOk result (InEachRun harbour.now schedule.now (rows_in rows.old) (λ s hs. HasAsked harbour.now s hs first (rows_in rows.new))) }
 {
     if schedule.places(first).is_empty() {
         return Ok(());
@@ -76,7 +75,7 @@ fn begin_rows<'g, J: Naming, G: Watch, R: Wait>(
     requires run { IsOfSome harbour.now }
     requires ready { (hs : List (List Event)) × AreReady harbour.now hs (rows_in rows.old) }
     requires lines { Each (MayAsk harbour.now) schedule.now }
-    ensures begun { IfOk result (λ firsts. (s : Setting) (hs : List (List Event)) → IsOfRun harbour.now s → s.commands ≡ schedule.now → AreReady harbour.now hs (rows_in rows.old) → HasBegun harbour.now s hs first firsts.items (rows_in rows.new)) }
+    ensures begun { IfOk result (λ firsts. InEachRun harbour.now schedule.now (rows_in rows.old) (λ s hs. HasBegun harbour.now s hs first firsts.items (rows_in rows.new))) }
 {
     meet_and_ask(rt, harbour, rows, schedule, first)?;
     if !are_whole(rows) {
@@ -97,7 +96,7 @@ pub(crate) fn begin<'g, J: Naming, G: Watch, R: Wait>(
     requires run { IsOfSome harbour.now }
     requires ready { (hs : List (List Event)) × AreReady harbour.now hs (rows_in rows.old.items) }
     requires lines { Each (MayAsk harbour.now) schedule.now }
-    ensures begun { IfOk result (λ firsts. (s : Setting) (hs : List (List Event)) → IsOfRun harbour.now s → s.commands ≡ schedule.now → AreReady harbour.now hs (rows_in rows.old.items) → HasBegun harbour.now s hs first firsts.items (rows_in rows.new.items)) }
+    ensures begun { IfOk result (λ firsts. InEachRun harbour.now schedule.now (rows_in rows.old.items) (λ s hs. HasBegun harbour.now s hs first firsts.items (rows_in rows.new.items))) }
 {
     let firsts = begin_rows(rt, harbour, rows.as_mut_slice(), schedule, first)?;
     Ok(firsts)

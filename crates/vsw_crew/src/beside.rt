@@ -2,7 +2,7 @@
 
 ghost use Rattle.std.specs.Prelude.{◌≡◌, ◌++◌, ◌∷◌, [], List, IfOk, OnOk, length};
 ghost use Rattle.vsw_harbour.specs.Rows.{HaveDone, MayBegin};
-ghost use Rattle.vsw_crew.specs.Private.Round.{DidBeside};
+ghost use Rattle.vsw_crew.specs.Private.Round.{DoesBeside};
 ghost use Rattle.vsw_crew.specs.Private.Rows.{needs_in};
 ghost use Rattle.vsw_harbour.specs.Deal.{AreFew, AreWork, dealt, shared};
 ghost use Rattle.vsw_harbour.specs.Work.{job_in};
@@ -142,7 +142,7 @@ pub(crate) fn do_beside<
     requires dealt { (js : List jobs.Placed) × (shared shares.items ≡ dealt harbour.now.controllers js) }
     requires fit { AreWork (length harbour.now.docks) harbour.now.controllers shares.items }
     requires few { AreFew shares.items }
-    ensures did { IfOk result (λ after. (hs : List (List Event)) (js : List jobs.Placed) → RowsStand 0 harbour.now.docks hs (no_calls harbour.now.docks) (rows_in rows.items) → shared shares.entry.items ≡ dealt harbour.now.controllers js → DidBeside harbour.now hs js (rows_in after.items)) }
+    ensures did { IfOk result (λ after. DoesBeside harbour.now (rows_in rows.items) shares.entry.items (rows_in after.items)) }
 {
     let workers = harbour.workers as usize;
     let mut rows = rows;

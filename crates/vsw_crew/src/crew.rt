@@ -4,16 +4,14 @@ ghost use Rattle.std.specs.Arc.{arc_value};
 ghost use Rattle.std.specs.Prelude.{◌≡◌, ◌<◌, ◌+◌, ◌++◌, ◌^◌, [], ℕ, Bool, List, IfOk, OnOk, length};
 ghost use Rattle.vsw_commandfile.specs.declared.line.Line.{Line};
 ghost use Rattle.vsw_crew.specs.Shift.{HasNoneBeside, IsOut, IsPicked, Owes, TellsOwed};
-ghost use Rattle.vsw_crew.specs.Crew.{AreReady, AreRowsOf, CrewSeen, IsOfSome, crew_now, seen_by, switch_now};
-ghost use Rattle.vsw_crew.specs.Private.Round.{HasTold};
+ghost use Rattle.vsw_crew.specs.Crew.{AreReady, AreRowsOf, CrewSeen, IsOfSome, RunsRound, crew_now, seen_by, switch_now};
+ghost use Rattle.vsw_crew.specs.Private.Round.{HasTold, InEachRun};
 ghost use Rattle.vsw_harbour.specs.HarbourOpening.{rows_in};
-ghost use Rattle.vsw_harbour.specs.Harbour.{IsOfRun, MayAsk};
+ghost use Rattle.vsw_harbour.specs.Harbour.{MayAsk};
 ghost use Rattle.vsw_port.specs.declared.event.Event.{Event};
 ghost use Rattle.vsw_pcap.specs.declared.capture.Record.{Record};
 ghost use Rattle.vsw_policy.specs.Sound.{Each};
-ghost use Rattle.vsw_promise.specs.Jobs.{Setting};
-ghost use Rattle.vsw_switch.specs.Round.{TellsRound};
-ghost use Rattle.vsw_switch.specs.Switch.{AreServed, IsAt};
+ghost use Rattle.vsw_switch.specs.Switch.{AreServed};
 ghost use Rattle.vsw_report.specs.Whole.{whole_text};
 
 use crate::Lines;
@@ -194,7 +192,7 @@ fn run<'g, J: Naming + Send + Sync, G: Gate + Watch + Sync, R: Threads + Wait + 
     requires ready { (hs : List (List Event)) × AreReady harbour.now hs (rows_in rows.items) }
     requires lines { Each (MayAsk harbour.now) schedule.now }
     requires numbers { first + length packets.now < 2 ^ 32 }
-    ensures told { IfOk result (λ r. (s : Setting) (hs : List (List Event)) → IsOfRun harbour.now s → s.commands ≡ schedule.now → AreReady harbour.now hs (rows_in rows.items) → HasTold harbour.now s hs first packets.now r.0 (whole_text out.old) (whole_text out.new) (rows_in r.1.items)) }
+    ensures told { IfOk result (λ r. InEachRun harbour.now schedule.now (rows_in rows.items) (λ s hs. HasTold harbour.now s hs first packets.now r.0 (whole_text out.old) (whole_text out.new) (rows_in r.1.items))) }
 {
     let worked = work_round(rt, harbour, round, rows, schedule, first, packets)?;
     let told = tell(harbour, first, worked, out)?;
@@ -216,7 +214,7 @@ fn run_crew<'g, J: Naming + Send + Sync, G: Gate + Watch + Sync, R: Threads + Wa
     requires served { AreServed (switch_now harbour.now (seen_by (rows_in rows.old.items))) schedule.now }
     requires numbers { first + length packets.now < 2 ^ 32 }
     ensures rows { AreRowsOf harbour.now (rows_in rows.new.items) }
-    ensures runs { IfOk result (λ short. (s : Setting) (hs : List (List Event)) → s.commands ≡ schedule.now → IsAt s hs (switch_now harbour.now (seen_by (rows_in rows.old.items))) → TellsRound s hs first packets.now (switch_now harbour.now (seen_by (rows_in rows.new.items))) short (whole_text out.old) (whole_text out.new)) }
+    ensures runs { IfOk result (λ short. RunsRound schedule.now first packets.now (switch_now harbour.now (seen_by (rows_in rows.old.items))) (switch_now harbour.now (seen_by (rows_in rows.new.items))) short (whole_text out.old) (whole_text out.new)) }
     ensures served { (lines : List Line) → AreServed (switch_now harbour.now (seen_by (rows_in rows.old.items))) lines → AreServed (switch_now harbour.now (seen_by (rows_in rows.new.items))) lines }
 {
     let taken = replace(rows, Vec::new(harbour.alloc));
@@ -241,7 +239,7 @@ impl<'c, 'g, J: Naming + Send + Sync, G: Gate + Watch + Sync> Crew<'c, 'g, J, G>
     ) -> Result<bool, NoMemory>
         requires served { AreServed (crew_now self.old) schedule.now }
         requires numbers { first + length packets.now < 2 ^ 32 }
-        ensures runs { IfOk result (λ short. (s : Setting) (hs : List (List Event)) → s.commands ≡ schedule.now → IsAt s hs (crew_now self.old) → TellsRound s hs first packets.now (crew_now self.new) short (whole_text out.old) (whole_text out.new)) }
+        ensures runs { IfOk result (λ short. RunsRound schedule.now first packets.now (crew_now self.old) (crew_now self.new) short (whole_text out.old) (whole_text out.new)) }
         ensures served { (lines : List Line) → AreServed (crew_now self.old) lines → AreServed (crew_now self.new) lines }
     {
         let round = self.round;

@@ -1,16 +1,11 @@
 //! A round that was done and is to be told.
 
 ghost use Rattle.std.specs.Prelude.{◌≡◌, ◌++◌, ℕ, Bool, List, IfOk, OnOk};
-ghost use Rattle.vsw_crew.specs.Private.Owing.{GivesRooms, HasOwed};
-ghost use Rattle.vsw_crew.specs.Private.Round.{HasWorked};
+ghost use Rattle.vsw_crew.specs.Private.Owing.{GivesRooms, IsSomeRound, OwesSo};
 ghost use Rattle.vsw_crew.specs.Private.Rows.{AreGone};
 ghost use Rattle.vsw_crew.specs.Shift.{Owes};
 ghost use Rattle.vsw_harbour.specs.HarbourOpening.{rows_in};
-ghost use Rattle.vsw_history_law.specs.Law.{AreAsked};
-ghost use Rattle.vsw_pcap.specs.declared.capture.Record.{Record};
 ghost use Rattle.vsw_policy.specs.Sound.{Each};
-ghost use Rattle.vsw_port.specs.declared.event.Event.{Event};
-ghost use Rattle.vsw_promise.specs.Jobs.{Setting};
 ghost use Rattle.vsw_report.specs.Whole.{whole_text};
 
 use crate::Lines;
@@ -57,8 +52,8 @@ pub(crate) fn owe<'g, J: Naming, G>(
     rooms: Vec<Lines>,
 ) -> Result<(Owed, Vec<Vec<Lane<Station>>>), NoMemory>
     requires gone { Each AreGone rooms.items }
-    requires worked { (s : Setting) × (hs : List (List Event)) × (packets : List Record) × HasWorked harbour.now s hs first packets worked.befores.items worked.firsts.items worked.loose.items (rows_in worked.rows.items) }
-    ensures owed { IfOk result (λ r. (s : Setting) (hs : List (List Event)) (packets : List Record) → AreAsked s → HasWorked harbour.now s hs first packets worked.befores.items worked.firsts.items worked.loose.items (rows_in worked.rows.items) → HasOwed harbour.now s hs first packets r.0 (rows_in r.1.items)) }
+    requires worked { IsSomeRound harbour.now first worked }
+    ensures owed { IfOk result (λ r. OwesSo harbour.now first worked r.0 (rows_in r.1.items)) }
 {
     let Worked {
         befores,

@@ -1,12 +1,11 @@
 //! The lines of all callers at one port, brought together and given back.
 
-ghost use Rattle.std.specs.Prelude.{◌≡◌, ◌≤◌, ◌++◌, ◌∷◌, [], OnOk, IfOk, drop, length, map, set, take};
+ghost use Rattle.std.specs.Prelude.{◌≡◌, ◌≤◌, ◌++◌, ◌∷◌, [], OnOk, drop, length, map, set, take};
 ghost use Rattle.std.specs.List.{flat_map};
-ghost use Rattle.vsw_report.specs.Order.{AllInCounts};
 ghost use Rattle.vsw_policy.specs.Layers.{place_of};
 ghost use Rattle.vsw_crew.specs.Texts.{caller_at, row_at};
 ghost use Rattle.vsw_crew.specs.Private.Port.{AreOnce, all_gone, gone, lines_at, pair_at, quiet};
-ghost use Rattle.vsw_crew.specs.Private.Ports.{port_short, port_told};
+ghost use Rattle.vsw_crew.specs.Private.Ports.{TellsPort, TellsPortShort};
 ghost use Rattle.vsw_report.specs.Whole.{whole_text};
 
 use crate::caller_lines::Lines;
@@ -169,8 +168,8 @@ pub fn tell_port(
     requires once { AreOnce places.now }
     requires quiet { gathered.old.team.items ≡ quiet workers }
     requires grows { span.before ≤ span.after }
-    ensures text { AllInCounts span.before (lines_at workers places.now lines.old firsts.old place) span.after → OnOk result (whole_text out.new ≡ whole_text out.old ++ port_told span.number span.before span.after (lines_at workers places.now lines.old firsts.old place)) }
-    ensures short { AllInCounts span.before (lines_at workers places.now lines.old firsts.old place) span.after → IfOk result (λ short. short ≡ port_short span.before span.after (lines_at workers places.now lines.old firsts.old place)) }
+    ensures text { TellsPort result span.number span.before span.after (lines_at workers places.now lines.old firsts.old place) (whole_text out.old) (whole_text out.new) }
+    ensures short { TellsPortShort result span.before span.after (lines_at workers places.now lines.old firsts.old place) }
     ensures quiet { OnOk result (gathered.new.team.items ≡ quiet workers) }
     ensures lines { OnOk result (lines.new ≡ all_gone place lines.old) }
     ensures firsts { OnOk result (firsts.new ≡ all_gone place firsts.old) }

@@ -1,12 +1,10 @@
 //! The parts of all ports.
 
 ghost use Rattle.std.specs.Prelude.{◌≡◌, ◌≤◌, ◌++◌, ◌∷◌, [], ◌||◌, OnOk, IfOk, length, map};
-ghost use Rattle.std.specs.List.{flat_map, list_any};
-ghost use Rattle.vsw_port.specs.Order.{counted};
 ghost use Rattle.vsw_policy.specs.Layers as layers;
 ghost use Rattle.vsw_crew.specs.Texts.{AreRising};
 ghost use Rattle.vsw_crew.specs.Private.Port.{AreOnce, lines_at, quiet};
-ghost use Rattle.vsw_crew.specs.Private.Ports.{AreCountedAt, gone_to, short_at, told_at};
+ghost use Rattle.vsw_crew.specs.Private.Ports.{TellsPorts, TellsPortsShort, gone_to};
 ghost use Rattle.vsw_report.specs.Whole.{whole_text};
 
 use crate::caller_lines::Lines;
@@ -100,8 +98,8 @@ pub fn tell_ports(
     requires befores { length befores.now ≡ length numbers.now }
     requires afters { length afters.now ≡ length numbers.now }
     requires grows { AreRising befores.now afters.now }
-    ensures text { AreCountedAt (length numbers.now) befores.now afters.now (lines_at workers places.now lines.old firsts.old) → OnOk result (whole_text out.new ≡ whole_text out.old ++ flat_map (told_at numbers.now befores.now afters.now (lines_at workers places.now lines.old firsts.old)) (counted 0 (length numbers.now))) }
-    ensures short { AreCountedAt (length numbers.now) befores.now afters.now (lines_at workers places.now lines.old firsts.old) → IfOk result (λ short. short ≡ list_any (short_at befores.now afters.now (lines_at workers places.now lines.old firsts.old)) (counted 0 (length numbers.now))) }
+    ensures text { TellsPorts result numbers.now befores.now afters.now (lines_at workers places.now lines.old firsts.old) (whole_text out.old) (whole_text out.new) }
+    ensures short { TellsPortsShort result numbers.now befores.now afters.now (lines_at workers places.now lines.old firsts.old) }
     ensures lines { OnOk result (lines.new ≡ map (gone_to (length numbers.now)) lines.old) }
 {
     let mut gathered = rooms(alloc, workers)?;

@@ -1,11 +1,8 @@
 //! The text of a round.
 
-ghost use Rattle.std.specs.Prelude.{◌≡◌, ◌++◌, List, OnOk, IfOk, length, map};
-ghost use Rattle.vsw_many.specs.Crew.{AreCounted, crew_text, is_short_crew};
-ghost use Rattle.vsw_port.specs.declared.event.Event.{Event};
+ghost use Rattle.std.specs.Prelude.{◌≡◌, OnOk, length};
 ghost use Rattle.vsw_port.specs.Order.{ascending};
-ghost use Rattle.vsw_promise.specs.Ports.{PortSeen};
-ghost use Rattle.vsw_crew.specs.Texts.{AreRising, AreSized, all_emptied, texts_by_port};
+ghost use Rattle.vsw_crew.specs.Texts.{AreRising, AreSized, TellsTexts, TellsTextsShort, all_emptied, texts_by_port};
 ghost use Rattle.vsw_report.specs.Whole.{whole_text};
 
 use crate::caller_lines::Lines;
@@ -36,8 +33,8 @@ pub fn tell_round(
     requires sizes { AreSized workers (length controllers.now) numbers.now befores.now afters.now lines.old }
     requires listed { listed.now ≡ ascending controllers.now }
     requires grows { AreRising befores.now afters.now }
-    ensures text { (ps : List PortSeen) (hs gs : List (List Event)) → map (λ p. p.number) ps ≡ numbers.now → map length hs ≡ befores.now → map length gs ≡ afters.now → AreCounted hs gs (texts_by_port workers controllers.now listed.now lines.old firsts.old (length numbers.now)) → OnOk result (whole_text out.new ≡ whole_text out.old ++ crew_text first ps hs gs (texts_by_port workers controllers.now listed.now lines.old firsts.old (length numbers.now)) loose.now) }
-    ensures short { (ps : List PortSeen) (hs gs : List (List Event)) → map (λ p. p.number) ps ≡ numbers.now → map length hs ≡ befores.now → map length gs ≡ afters.now → AreCounted hs gs (texts_by_port workers controllers.now listed.now lines.old firsts.old (length numbers.now)) → IfOk result (λ short. short ≡ is_short_crew hs gs (texts_by_port workers controllers.now listed.now lines.old firsts.old (length numbers.now))) }
+    ensures text { TellsTexts result first numbers.now befores.now afters.now (texts_by_port workers controllers.now listed.now lines.old firsts.old (length numbers.now)) loose.now (whole_text out.old) (whole_text out.new) }
+    ensures short { TellsTextsShort result numbers.now befores.now afters.now (texts_by_port workers controllers.now listed.now lines.old firsts.old (length numbers.now)) }
     ensures taken { OnOk result (lines.new ≡ all_emptied lines.old) }
 {
     let places = places_of(alloc, controllers, listed)?;

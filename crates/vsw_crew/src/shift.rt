@@ -5,7 +5,7 @@ ghost use Rattle.std.specs.Prelude.{◌≡◌, ◌≤◌, ◌<◌, ◌+◌, ◌+
 ghost use Rattle.vsw_actors.specs.Picks.{AtMost};
 ghost use Rattle.vsw_crew.specs.Crew.{AreReady, IsOfSome};
 ghost use Rattle.vsw_crew.specs.Private.Flowing.{DoesRound};
-ghost use Rattle.vsw_crew.specs.Private.Shifting.{ArePut, AreShares, needs_of, picks_many, shares_of};
+ghost use Rattle.vsw_crew.specs.Private.Shifting.{ArePut, AreShares, GoesOut, needs_of, picks_many, shares_of};
 ghost use Rattle.vsw_crew.specs.Shares.{DoesShare, IsShare, ShareSeen, share_of};
 ghost use Rattle.vsw_hands.specs.Hands.{AllDone};
 ghost use Rattle.vsw_crew.specs.Shift.{HasNoneBeside, IsOut, IsPicked};
@@ -185,7 +185,7 @@ pub(crate) fn give<'p, 'c, 'g, J: Naming, G: Gate + Watch, R: Wait + Clock, B: R
     requires lines { Each (MayAsk harbour.now) schedule.now }
     requires picked { (packets : List Record) × IsPicked harbour.now picked.first packets picked }
     requires quiet { HasNoneBeside schedule.now picked.first }
-    ensures out { IfOk result (λ u. (hs : List (List Event)) (packets : List Record) → AreReady harbour.now hs (rows_in rows.items) → IsPicked harbour.now picked.first packets picked → IsOut (record { harbour = harbour.now; histories = hs }) schedule.now picked.first packets u pool.new) }
+    ensures out { IfOk result (λ u. GoesOut harbour.now (rows_in rows.items) schedule.now picked u pool.new) }
 {
     let Picked {
         first,

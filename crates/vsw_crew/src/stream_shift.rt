@@ -1,19 +1,15 @@
 //! A round whose packets come by rings: its shares are given to a pool, its packets are handed over, and the shares are taken back.
 
-ghost use Rattle.std.specs.Prelude.{◌≡◌, ◌≤◌, ◌<◌, ◌+◌, ◌++◌, ◌∷◌, ◌^◌, [], ℕ, List, IfOk, IfSome, OnOk, Some, Vec, drop, length, map};
-ghost use Rattle.std.specs.declared.alloc.Global.{Global};
+ghost use Rattle.std.specs.Prelude.{◌≡◌, ◌≤◌, ◌<◌, ◌+◌, ◌++◌, ◌∷◌, ◌^◌, [], ℕ, List, IfOk, IfSome, OnOk, Some, drop, length};
 ghost use Rattle.vsw_actors.specs.Handed.{HasFrame};
-ghost use Rattle.vsw_actors.specs.declared.pick.Pick.{Pick};
 ghost use Rattle.vsw_commandfile.specs.declared.line.Line.{Line};
-ghost use Rattle.vsw_crew.specs.Crew.{AreReady, CrewSeen, IsOfSome};
-ghost use Rattle.vsw_crew.specs.Private.Flowing.{AreEnded, AreEnds, AreFresh, AreStreamed, AreStreams, CameBack, IsClosed, IsPushed, MayEnd, MayPush, MayStream, needs_for, shares_with, streams_of};
+ghost use Rattle.vsw_crew.specs.Crew.{AreReady, IsOfSome};
+ghost use Rattle.vsw_crew.specs.Private.Flowing.{AreEnded, AreEnds, AreFresh, AreStreamed, AreStreams, Closes, ComeBack, IsPushed, MayEnd, MayPush, MayStream, needs_for, streams_of};
 ghost use Rattle.vsw_crew.specs.Shift.{HasNoneBeside};
 ghost use Rattle.vsw_crew.specs.StreamShares.{DoesStreamShare, StreamSeen};
-ghost use Rattle.vsw_crew.specs.Streams.{AreStreamsAt, IsFeeding, jobs_fed};
-ghost use Rattle.vsw_actors.specs.Picks.{picked};
-ghost use Rattle.vsw_rings.specs.Rings.{fed};
+ghost use Rattle.vsw_crew.specs.Streams.{FeedsLast, IsFeeding, MayFeed};
 ghost use Rattle.vsw_hands.specs.Hands.{AllDone};
-ghost use Rattle.vsw_harbour.specs.Harbour.{HarbourSeen, MayAsk, callers};
+ghost use Rattle.vsw_harbour.specs.Harbour.{MayAsk, callers};
 ghost use Rattle.vsw_harbour.specs.HarbourOpening.{rows_in};
 ghost use Rattle.vsw_harbour.specs.Meeting.{AllMeet};
 ghost use Rattle.vsw_harbour.specs.Standing.{RowsStand, no_calls};
@@ -269,8 +265,8 @@ pub(crate) fn feed_last<'g, J: Naming, G>(
     feeding: &mut Feeding,
     packets: &Batch,
 ) -> Result<(), NoMemory>
-    requires feeding { (c : CrewSeen) × (lines : List Line) × (first : ℕ) × (before : List Record) × (last : Record) × (out : List StreamSeen) × (c.harbour ≡ harbour.now) × IsFeeding c lines first before feeding.old out × (packets.now ≡ before ++ last ∷ []) × (length before < feeding.old.most) }
-    ensures feeding { OnOk result ((c : CrewSeen) (lines : List Line) (first : ℕ) (before : List Record) (last : Record) (out : List StreamSeen) → c.harbour ≡ harbour.now → IsFeeding c lines first before feeding.old out → packets.now ≡ before ++ last ∷ [] → length before < feeding.old.most → IsFeeding c lines first packets.now feeding.new out) }
+    requires feeding { MayFeed harbour.now packets.now feeding.old }
+    ensures feeding { OnOk result (FeedsLast harbour.now packets.now feeding.old feeding.new) }
     ensures most { feeding.new.most ≡ feeding.old.most }
 {
     let at = feeding.fed;
@@ -308,7 +304,7 @@ fn agree_all(
     rows: &mut Vec<Carried>,
 ) -> Result<(), NoMemory>
     requires may { (out : List StreamSeen) × AllDone DoesStreamShare out tolds.old × AreEnds feeds.old out }
-    ensures back { OnOk result ((k first : ℕ) (h : HarbourSeen) (gs : List (List Event)) (packets : List Record) (out : List StreamSeen) (picks : List (Vec Pick Global)) → AllDone DoesStreamShare out tolds.old → AreEnds feeds.old out → AreStreamsAt k h gs out → jobs_fed k (map fed feeds.old) ≡ picked k first packets picks → CameBack (shares_with first packets out picks) rows.old.items rows.new.items) }
+    ensures back { OnOk result (ComeBack feeds.old tolds.old rows.old.items rows.new.items) }
 {
     if let Some((told, others)) = tolds.split_first_mut() {
         let Some((feed, more)) = feeds.split_first_mut() else {
@@ -343,7 +339,7 @@ pub(crate) fn close_round<'p, 'c, 'g, J: Naming, G: Gate + Watch, R: Wait + Cloc
     feeding: Feeding,
 ) -> Result<Worked, NoMemory>
     requires feeding { (hs : List (List Event)) × (lines : List Line) × (first : ℕ) × (packets : List Record) × IsFeeding (record { harbour = harbour.now; histories = hs }) lines first packets feeding pool.old }
-    ensures closed { IfOk result (λ w. (hs : List (List Event)) (lines : List Line) (first : ℕ) (packets : List Record) → IsFeeding (record { harbour = harbour.now; histories = hs }) lines first packets feeding pool.old → IsClosed harbour.now hs lines first packets feeding.underway w) }
+    ensures closed { IfOk result (Closes harbour.now feeding pool.old) }
     ensures idle { OnOk result (pool.new ≡ []) }
 {
     let Feeding {

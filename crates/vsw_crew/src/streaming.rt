@@ -1,11 +1,10 @@
 //! A round whose packets are handed over while further ones are read.
 
-ghost use Rattle.std.specs.Prelude.{◌≡◌, ◌≤◌, ◌<◌, ◌+◌, ◌++◌, ◌∷◌, ◌^◌, [], ℕ, Bool, List, IfOk, OnOk, length};
+ghost use Rattle.std.specs.Prelude.{◌≡◌, ◌≤◌, ◌<◌, ◌+◌, ◌^◌, [], ℕ, Bool, List, IfOk, OnOk};
 ghost use Rattle.vsw_commandfile.specs.declared.line.Line.{Line};
 ghost use Rattle.vsw_crew.specs.Crew.{CrewSeen, crew_now, switch_now};
 ghost use Rattle.vsw_crew.specs.Shift.{HasNoneBeside, Owes, TellsOwed};
-ghost use Rattle.vsw_crew.specs.StreamShares.{StreamSeen};
-ghost use Rattle.vsw_crew.specs.Streams.{IsFeeding};
+ghost use Rattle.vsw_crew.specs.Streams.{FeedsLast, IsFeeding, MayFeed};
 ghost use Rattle.vsw_pcap.specs.declared.capture.Record.{Record};
 ghost use Rattle.vsw_port.specs.declared.event.Event.{Event};
 ghost use Rattle.vsw_switch.specs.Switch.{AreServed};
@@ -78,8 +77,8 @@ impl<'c, 'g, J: Naming, G: Gate + Watch> Crew<'c, 'g, J, G> {
 
     /// Hands over the last packet of the batch, behind those that were handed over before, or keeps it if it is loose.
     pub fn feed(&self, feeding: &mut Feeding, packets: &Batch) -> Result<(), NoMemory>
-        requires feeding { (c : CrewSeen) × (lines : List Line) × (first : ℕ) × (before : List Record) × (last : Record) × (out : List StreamSeen) × (c.harbour ≡ self.now.harbour) × IsFeeding c lines first before feeding.old out × (packets.now ≡ before ++ last ∷ []) × (length before < feeding.old.most) }
-        ensures feeding { OnOk result ((c : CrewSeen) (lines : List Line) (first : ℕ) (before : List Record) (last : Record) (out : List StreamSeen) → c.harbour ≡ self.now.harbour → IsFeeding c lines first before feeding.old out → packets.now ≡ before ++ last ∷ [] → length before < feeding.old.most → IsFeeding c lines first packets.now feeding.new out) }
+        requires feeding { MayFeed self.now.harbour packets.now feeding.old }
+        ensures feeding { OnOk result (FeedsLast self.now.harbour packets.now feeding.old feeding.new) }
         ensures most { feeding.new.most ≡ feeding.old.most }
     {
         let harbour = self.harbour;

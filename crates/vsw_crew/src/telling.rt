@@ -1,15 +1,10 @@
 //! A round that was done is told.
 
-ghost use Rattle.std.specs.Prelude.{◌≡◌, List, IfOk, OnOk, length, map};
-ghost use Rattle.vsw_crew.specs.Private.Round.{HasTold, HasWorked, numbers_in};
-ghost use Rattle.vsw_crew.specs.Private.Telling.{IsCounted, text_of, texts_so};
-ghost use Rattle.vsw_harbour.specs.Crew.{is_short_crew};
+ghost use Rattle.std.specs.Prelude.{◌≡◌, IfOk, OnOk, length};
+ghost use Rattle.vsw_crew.specs.Private.Owing.{IsSomeRound, TellsSo};
+ghost use Rattle.vsw_crew.specs.Private.Round.{numbers_in};
+ghost use Rattle.vsw_crew.specs.Private.Telling.{SaysShort, SaysText};
 ghost use Rattle.vsw_harbour.specs.HarbourOpening.{rows_in};
-ghost use Rattle.vsw_port.specs.declared.event.Event.{Event};
-ghost use Rattle.vsw_history_law.specs.Law.{AreAsked};
-ghost use Rattle.vsw_pcap.specs.declared.capture.Record.{Record};
-ghost use Rattle.vsw_promise.specs.Ports.{PortSeen};
-ghost use Rattle.vsw_promise.specs.Jobs.{Setting};
 ghost use Rattle.vsw_crew.specs.Texts.{AreRising, AreSized, all_emptied};
 ghost use Rattle.vsw_report.specs.Whole.{whole_text};
 
@@ -33,8 +28,8 @@ pub(crate) fn say<'g, J: Naming, G>(
 ) -> Result<bool, NoMemory>
     requires sizes { AreSized harbour.now.workers (length harbour.now.controllers) (numbers_in harbour.now) befores.now afters.now lines.old.items }
     requires grows { AreRising befores.now afters.now }
-    ensures text { (ps : List PortSeen) (hs gs : List (List Event)) → IsCounted harbour.now ps hs gs befores.now afters.now lines.old.items firsts.items → OnOk result (whole_text out.new ≡ text_of harbour.now first ps hs gs lines.old.items firsts.items loose.now (whole_text out.old)) }
-    ensures short { (ps : List PortSeen) (hs gs : List (List Event)) → IsCounted harbour.now ps hs gs befores.now afters.now lines.old.items firsts.items → IfOk result (λ short. short ≡ is_short_crew hs gs (texts_so harbour.now lines.old.items firsts.items)) }
+    ensures text { SaysText result harbour.now first befores.now afters.now lines.old.items firsts.items loose.now (whole_text out.old) (whole_text out.new) }
+    ensures short { SaysShort result harbour.now befores.now afters.now lines.old.items firsts.items }
     ensures taken { OnOk result (lines.new.items ≡ all_emptied lines.old.items) }
 {
     let mut firsts = firsts;
@@ -62,8 +57,8 @@ pub(crate) fn tell<'g, J: Naming, G>(
     worked: Worked,
     out: &mut RoundText,
 ) -> Result<(bool, Vec<Vec<Lane<Station>>>), NoMemory>
-    requires worked { (s : Setting) × (hs : List (List Event)) × (packets : List Record) × HasWorked harbour.now s hs first packets worked.befores.items worked.firsts.items worked.loose.items (rows_in worked.rows.items) }
-    ensures told { IfOk result (λ r. (s : Setting) (hs : List (List Event)) (packets : List Record) → AreAsked s → HasWorked harbour.now s hs first packets worked.befores.items worked.firsts.items worked.loose.items (rows_in worked.rows.items) → HasTold harbour.now s hs first packets r.0 (whole_text out.old) (whole_text out.new) (rows_in r.1.items)) }
+    requires worked { IsSomeRound harbour.now first worked }
+    ensures told { IfOk result (λ r. TellsSo harbour.now first worked r.0 (whole_text out.old) (whole_text out.new) (rows_in r.1.items)) }
 {
     let Worked {
         befores,

@@ -1,6 +1,8 @@
 -- The shares of a round whose packets come by rings, given and taken back.
 use Rattle.std.specs.Prelude.{◌≡◌, ◌≤◌, ◌<◌, ◌+◌, ◌-◌, ℕ, suc, false, List, [], ◌∷◌, ◌++◌, Option, Some, None, drop, length, map, replicate, Vec}
+use Rattle.std.specs.declared.alloc.Global.{Global}
 use Rattle.vsw_actors.specs.Handed.{with_more}
+use Rattle.vsw_actors.specs.Picks.{picked}
 use Rattle.vsw_actors.specs.declared.handed.Given.{Given}
 use Rattle.vsw_actors.specs.declared.handed.Handed.{Handed}
 use Rattle.vsw_actors.specs.declared.pick.Pick.{Pick}
@@ -20,10 +22,13 @@ use Rattle.vsw_rings.specs.declared.feed.Feed.{Feed}
 use Rattle.vsw_crew.specs.Private.Round.{HasWorked}
 use Rattle.vsw_crew.specs.Shares.{DoesShare, ShareSeen}
 use Rattle.vsw_crew.specs.Shift.{IsOut}
-use Rattle.vsw_crew.specs.StreamShares.{IsStreamShare, StreamSeen, stream_of}
+use Rattle.vsw_crew.specs.StreamShares.{DoesStreamShare, IsStreamShare, StreamSeen, stream_of}
+use Rattle.vsw_crew.specs.Streams.{AreStreamsAt, IsFeeding, jobs_fed}
+use Rattle.vsw_crew.specs.declared.feeding.Feeding.{Feeding}
 use Rattle.vsw_crew.specs.declared.round.Worked.{Worked}
 use Rattle.vsw_crew.specs.declared.share.Carried.{Carried}
 use Rattle.vsw_crew.specs.declared.stream_share.Frames.{Frames}
+use Rattle.vsw_crew.specs.declared.stream_share.StreamCarried.{StreamCarried}
 use Rattle.vsw_crew.specs.declared.underway.Underway.{Underway}
 
 -- by callers, so many entries for each worker, and none for the others
@@ -115,6 +120,11 @@ pub record CameBack (shares : List ShareSeen) (olds news : List Carried) : Type 
   pub news_are : news ≡ olds ++ rows
   pub done : AllDone DoesShare shares rows
 
+-- whichever shares went out with the other ends of these rings, and this is told of: where each ring was fed what its worker has picked, they came back
+abbrev pub ComeBack : List (Feed Handed Frames) → List StreamCarried → List Carried → List Carried → Type 0
+ComeBack feeds tolds olds news =
+    (k first : ℕ) (h : HarbourSeen) (gs : List (List Event)) (packets : List Record) (out : List StreamSeen) (picks : List (Vec Pick Global)) → AllDone DoesStreamShare out tolds → AreEnds feeds out → AreStreamsAt k h gs out → jobs_fed k (map fed feeds) ≡ picked k first packets picks → CameBack (shares_with first packets out picks) olds news
+
 -- ---- a round that is done
 
 -- whenever it began as the shares say, all was done that a round is
@@ -126,3 +136,7 @@ pub record IsClosed (h : HarbourSeen) (hs : List (List Event)) (lines : List Lin
   pub out : List ShareSeen
   pub is_out : IsOut (record { harbour = h; histories = hs }) lines first packets u out
   pub does : DoesRound h u out w
+
+-- whichever round it is whose packets were handed over, it began and is done so
+abbrev pub Closes : HarbourSeen → Feeding → List StreamSeen → Worked → Type 0
+Closes h f out w = (hs : List (List Event)) (lines : List Line) (first : ℕ) (packets : List Record) → IsFeeding (record { harbour = h; histories = hs }) lines first packets f out → IsClosed h hs lines first packets f.underway w

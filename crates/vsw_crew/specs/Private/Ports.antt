@@ -1,6 +1,7 @@
 -- What is told of the ports up to a place.
-use Rattle.std.specs.Prelude.{ℕ, zero, suc, ◌-◌, ◌<◌, Bool, List, [], ◌∷◌, ◌++◌, get_or}
+use Rattle.std.specs.Prelude.{◌≡◌, ℕ, zero, suc, ◌-◌, ◌<◌, Bool, List, [], ◌∷◌, ◌++◌, IfOk, OnOk, Result, get_or, length}
 use Rattle.std.specs.List.{flat_map, list_any}
+use Rattle.vsw_port.specs.Order.{counted}
 use Rattle.vsw_report.specs.Line.{TextLine}
 use Rattle.vsw_report.specs.Order.{AllInCounts, in_order}
 use Rattle.vsw_report.specs.Print.{port_line}
@@ -22,6 +23,21 @@ short_at befores afters texts place = port_short (get_or befores place 0) (get_o
 -- the counts of each caller's lines stand within those of the port, at each of so many ports
 abbrev pub AreCountedAt : ℕ → List ℕ → List ℕ → (ℕ → List (List TextLine)) → Type 0
 AreCountedAt ports befores afters texts = (place : ℕ) → place < ports → AllInCounts (get_or befores place 0) (texts place) (get_or afters place 0)
+
+-- if the counts of these lines stand within the port's, its part stands behind the text that was
+abbrev pub TellsPort : {T E : Type 0} → Result T E → (number before after : ℕ) → List (List TextLine) → (old new : List ℕ) → Type 0
+TellsPort r number before after texts old new = AllInCounts before texts after → OnOk r (new ≡ old ++ port_told number before after texts)
+
+-- and it is answered whether want of memory is told in it
+abbrev pub TellsPortShort : {E : Type 0} → Result Bool E → (before after : ℕ) → List (List TextLine) → Type 0
+TellsPortShort r before after texts = AllInCounts before texts after → IfOk r (λ short. short ≡ port_short before after texts)
+
+-- the same of all ports
+abbrev pub TellsPorts : {T E : Type 0} → Result T E → (numbers befores afters : List ℕ) → (ℕ → List (List TextLine)) → (old new : List ℕ) → Type 0
+TellsPorts r numbers befores afters texts old new = AreCountedAt (length numbers) befores afters texts → OnOk r (new ≡ old ++ flat_map (told_at numbers befores afters texts) (counted 0 (length numbers)))
+
+abbrev pub TellsPortsShort : {E : Type 0} → Result Bool E → (numbers befores afters : List ℕ) → (ℕ → List (List TextLine)) → Type 0
+TellsPortsShort r numbers befores afters texts = AreCountedAt (length numbers) befores afters texts → IfOk r (λ short. short ≡ list_any (short_at befores afters texts) (counted 0 (length numbers)))
 
 -- a row whose lines at the first ports are gone
 abbrev pub gone_to : ℕ → List (List TextLine) → List (List TextLine)

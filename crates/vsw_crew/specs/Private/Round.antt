@@ -1,5 +1,5 @@
 -- A round of a crew, step by step.
-use Rattle.std.specs.Prelude.{◌≡◌, ◌++◌, ℕ, Bool, false, List, [], length, map}
+use Rattle.std.specs.Prelude.{◌≡◌, ◌++◌, ℕ, Bool, false, List, [], length, map, Vec}
 use Rattle.vsw_harbour.specs.Lane.{Lane}
 use Rattle.vsw_commandfile.specs.declared.line.Line.{Line}
 use Rattle.vsw_harbour.specs.Crew.{CrewDid, CrewTells, crew_text, is_short_crew}
@@ -15,7 +15,10 @@ use Rattle.vsw_promise.specs.Ports.{ports_of}
 use Rattle.vsw_promise.specs.Jobs.{Placed, Setting, loose_among, macs_of, placed_packets}
 use Rattle.vsw_many.specs.Dealing.{numbers_of, placed_lines}
 use Rattle.vsw_report.specs.declared.round.Loose.{Loose}
+use Rattle.vsw_harbour.specs.Deal.{dealt, shared}
+use Rattle.vsw_harbour.specs.DealWork.{Work}
 use Rattle.vsw_harbour.specs.Harbour.{HarbourSeen, IsOfRun, callers, ports_in}
+use Rattle.vsw_harbour.specs.Placed as actor
 use Rattle.vsw_harbour.specs.Standing.{RowsStand, no_calls}
 use Rattle.vsw_harbour.specs.Steps.{Did}
 use Rattle.vsw_crew.specs.Crew.{AreReady}
@@ -56,6 +59,10 @@ pub record DidBeside (h : HarbourSeen) (hs : List (List Event)) (jobs : List Pla
   pub did : Did h quiet.histories (no_calls h.docks) jobs rows
   pub size : length rows ≡ callers h
 
+-- whenever all stood at some histories, and these shares are what is dealt of some jobs, they have met, and then each has done its own of them
+abbrev pub DoesBeside : {G : Type 0} → HarbourSeen → List (List (Lane StationSeen)) → List (Vec (actor.Placed Work) G) → List (List (Lane StationSeen)) → Type 0
+DoesBeside h rows shares after = (hs : List (List Event)) (js : List Placed) → RowsStand 0 h.docks hs (no_calls h.docks) rows → shared shares ≡ dealt h.controllers js → DidBeside h hs js after
+
 -- all was done that a round is, and the lines of the commands before the packets are taken
 pub record HasWorked (h : HarbourSeen) (s : Setting) (hs : List (List Event)) (first : ℕ) (packets : List Record) (befores : List ℕ) (firsts : List (List (List TextLine))) (loose : List Loose) (rows : List (List (Lane StationSeen))) : Type 0 where
   pub run : IsOfRun h s
@@ -77,3 +84,7 @@ pub record HasTold (h : HarbourSeen) (s : Setting) (hs : List (List Event)) (fir
   pub ready : AreReady h histories rows
   pub short_is : short ≡ is_short_crew hs histories texts
   pub text : new ≡ old ++ crew_text first (ports_of s.policy) hs histories texts (loose_among (macs_of s.policy) (numbered first packets))
+
+-- in each run of a harbour that has these commands, at whichever histories all were ready with these rows, this is done
+abbrev pub InEachRun : HarbourSeen → List Line → List (List (Lane StationSeen)) → (Setting → List (List Event) → Type 0) → Type 0
+InEachRun h lines rows does = (s : Setting) (hs : List (List Event)) → IsOfRun h s → s.commands ≡ lines → AreReady h hs rows → does s hs

@@ -2,11 +2,18 @@
 use Rattle.std.specs.Prelude.{◌≡◌, ◌-◌, ℕ, suc, List, [], ◌∷◌, ◌++◌, Some, length, replicate, Vec}
 use Rattle.std.specs.declared.alloc.Global.{Global}
 use Rattle.vsw_actors.specs.declared.pick.Pick.{Pick}
+use Rattle.vsw_commandfile.specs.declared.line.Line.{Line}
+use Rattle.vsw_harbour.specs.Harbour.{HarbourSeen}
 use Rattle.vsw_harbour.specs.Lane.{Lane}
 use Rattle.vsw_harbour.specs.Seen.{DockSeen, StationSeen}
 use Rattle.vsw_pcap.specs.declared.capture.Record.{Record}
+use Rattle.vsw_port.specs.declared.event.Event.{Event}
+use Rattle.vsw_crew.specs.Crew.{AreReady}
 use Rattle.vsw_crew.specs.Shares.{IsShare, ShareSeen, share_of}
+use Rattle.vsw_crew.specs.Shift.{IsOut, IsPicked}
+use Rattle.vsw_crew.specs.declared.picked.Picked.{Picked}
 use Rattle.vsw_crew.specs.declared.share.Carried.{Carried}
+use Rattle.vsw_crew.specs.declared.underway.Underway.{Underway}
 
 -- by callers, as many entries as each share has packets, and none for callers without a share
 abbrev pub picks_many : {G : Type 0} → List (Vec Pick G) → List ℕ
@@ -32,3 +39,7 @@ abbrev pub ArePut : List Carried → List (Vec (Lane StationSeen) Global) → Li
 ArePut [] olds news = news ≡ olds
 ArePut (t ∷ ts) (r ∷ rs) (s ∷ ss) = (t.row ≡ Some s) × ArePut ts rs ss
 ArePut _ _ _ = ⊥
+
+-- at whichever histories all were ready with these rows, and of whichever packets this is picked, the shares of their round are out
+abbrev pub GoesOut : HarbourSeen → List (List (Lane StationSeen)) → List Line → Picked → Underway → List ShareSeen → Type 0
+GoesOut h rows lines p u out = (hs : List (List Event)) (packets : List Record) → AreReady h hs rows → IsPicked h p.first packets p → IsOut (record { harbour = h; histories = hs }) lines p.first packets u out

@@ -1,5 +1,5 @@
 -- What each caller is dealt in a round.
-use Rattle.std.specs.Prelude.{◌<◌, ◌+◌, ◌^◌, ℕ, List, map, length, Vec}
+use Rattle.std.specs.Prelude.{◌≡◌, ◌<◌, ◌+◌, ◌^◌, ◌++◌, ℕ, List, map, length, OnOk, Result, Vec}
 use Rattle.vsw_actors.specs.Actors.{placed_of}
 use Rattle.vsw_actors.specs.declared.actor.Placed.{Placed}
 use Rattle.vsw_port.specs.Order.{counted}
@@ -16,6 +16,10 @@ shared vs = map (λ v. map (placed_of job_in) v.items) vs
 -- what of these jobs is dealt to whom: to the workers, numbers 0 to 15, and then to these controllers
 abbrev pub dealt : List ℕ → List jobs.Placed → List (List jobs.Placed)
 dealt cs js = map (λ k. dealing.deal cs k js) (counted 0 (16 + length cs))
+
+-- of whichever jobs these shares are what is dealt, those are what is dealt of them and, behind them, of these
+abbrev pub DealsMore : {T E G : Type 0} → Result T E → List ℕ → List jobs.Placed → List (Vec (Placed Work) G) → List (Vec (Placed Work) G) → Type 0
+DealsMore r cs more olds news = (js : List jobs.Placed) → shared olds ≡ dealt cs js → OnOk r (shared news ≡ dealt cs (js ++ more))
 
 -- all jobs in the shares may be done, each at one of so many ports
 abbrev pub AreWork : {G : Type 0} → ℕ → List ℕ → List (Vec (Placed Work) G) → Type 0

@@ -1,13 +1,13 @@
 -- Packets of a batch, told by their places in it, and what workers carry of them.
-use Rattle.std.specs.Prelude.{◌≡◌, ◌≤◌, ◌<◌, ◌+◌, ℕ, suc, List, [], ◌∷◌, ◌++◌, length, map, Option, Some, None, Result, Ok, OnOk, Vec}
+use Rattle.std.specs.Prelude.{◌≡◌, ◌≤◌, ◌<◌, ◌+◌, ℕ, suc, List, [], ◌∷◌, ◌++◌, false, length, map, Option, Some, None, Result, Ok, OnOk, Vec}
 use Rattle.std.specs.List.{slice_get}
 use Rattle.vsw_base.specs.declared.flow.Place.{Place}
 use Rattle.vsw_base.specs.Frame.{Parts, frame_of}
 use Rattle.vsw_pcap.specs.declared.capture.Record.{Record}
 use Rattle.vsw_policy.specs.Sound.{Each}
 use Rattle.vsw_port.specs.Calls.{Carry, Job}
-use Rattle.vsw_port.specs.Order.{counted}
-use Rattle.vsw_promise.specs.Jobs.{aim_of, crossing_by, placed_packet}
+use Rattle.vsw_port.specs.Order.{counted, numbered}
+use Rattle.vsw_promise.specs.Jobs.{aim_of, crossing_by, placed_packet, placed_packets}
 use Rattle.vsw_promise.specs.Jobs as jobs
 use Rattle.vsw_many.specs.Dealing as dealing
 use Rattle.vsw_actors.specs.Work.{parts_in}
@@ -34,6 +34,10 @@ picked k first packets (v ∷ vs) = picked_jobs k first packets v.items ∷ pick
 -- what each of these workers is dealt of the jobs, beside these controllers
 abbrev pub dealt_to : ℕ → List ℕ → List jobs.Placed → List (List jobs.Placed)
 dealt_to workers cs js = map (λ k. dealing.deal cs k js) (counted 0 workers)
+
+-- whichever controllers are beside them, these picks are what the workers are dealt of all packets of the batch, to the ports of these addresses
+abbrev pub AreDealt : {G : Type 0} → ℕ → List ℕ → ℕ → List Record → List (Vec Pick G) → Type 0
+AreDealt workers macs first packets vs = (cs : List ℕ) → picked 0 first packets vs ≡ dealt_to workers cs (placed_packets workers false macs [] (numbered first packets))
 
 -- the pick is of a packet of the batch, whose bytes are a frame, and goes to one of so many ports
 pub record IsPick (ports : ℕ) (packets : List Record) (p : Pick) : Type 0 where

@@ -1,14 +1,13 @@
 //! The packets of a round's workers as picks: small, and lending nothing, so that they can go to another thread with an `Arc<Batch>`.
 
-ghost use Rattle.std.specs.Prelude.{◌≡◌, ◌≤◌, ◌<◌, ◌+◌, ◌^◌, ◌++◌, ◌∷◌, [], ℕ, List, IfOk, OnOk, false, length, map, replicate};
+ghost use Rattle.std.specs.Prelude.{◌≡◌, ◌≤◌, ◌<◌, ◌+◌, ◌^◌, ◌++◌, ◌∷◌, [], ℕ, List, IfOk, OnOk, length, map, replicate};
 ghost use Rattle.vsw_pcap.specs.declared.capture.Record.{Record};
 ghost use Rattle.vsw_policy.specs.Sound.{Each};
 ghost use Rattle.vsw_port.specs.Order.{numbered};
-ghost use Rattle.vsw_promise.specs.Jobs.{aim_of, loose_after, loose_among, placed_packets};
-ghost use Rattle.vsw_promise.specs.Jobs as jobs;
+ghost use Rattle.vsw_promise.specs.Jobs.{aim_of, loose_after, loose_among};
 ghost use Rattle.vsw_actors.specs.Actors.{placed_of};
 ghost use Rattle.vsw_actors.specs.Handed.{with_more};
-ghost use Rattle.vsw_actors.specs.Picks.{ArePicks, AtMost, DealsPacket, DealsPick, IsPick, KeepsPicks, dealt_to, picked, picked_job, picked_jobs};
+ghost use Rattle.vsw_actors.specs.Picks.{AreDealt, ArePicks, AtMost, DealsPacket, DealsPick, IsPick, KeepsPicks, picked, picked_job, picked_jobs};
 ghost use Rattle.vsw_actors.specs.Private.Aims.{captured_of, packet_job};
 ghost use Rattle.vsw_actors.specs.Work.{IsWork, job_in};
 
@@ -120,7 +119,7 @@ fn pick_packets(
     requires ports { length macs.now ≤ 16 }
     requires none { map (λ v. v.items) picks.old.items ≡ replicate workers [] }
     requires numbers { first + length packets.now < 2 ^ 32 }
-    ensures dealt { OnOk result ((cs : List ℕ) → picked 0 first packets.now picks.new.items ≡ dealt_to workers cs (placed_packets workers false macs.now [] (numbered first packets.now))) }
+    ensures dealt { OnOk result (AreDealt workers macs.now first packets.now picks.new.items) }
     ensures fit { OnOk result (ArePicks (length macs.now) packets.now picks.new.items) }
     ensures few { OnOk result (AtMost (length packets.now) picks.new.items) }
     ensures workers { OnOk result (length picks.new.items ≡ workers) }
@@ -157,7 +156,7 @@ pub fn deal_picks(
     requires few { workers ≤ 16 }
     requires ports { length macs.now ≤ 16 }
     requires numbers { first + length packets.now < 2 ^ 32 }
-    ensures dealt { IfOk result (λ picks. (cs : List ℕ) → picked 0 first packets.now picks.items ≡ dealt_to workers cs (placed_packets workers false macs.now [] (numbered first packets.now))) }
+    ensures dealt { IfOk result (λ picks. AreDealt workers macs.now first packets.now picks.items) }
     ensures size { IfOk result (λ picks. length picks.items ≡ workers) }
     ensures fit { IfOk result (λ picks. ArePicks (length macs.now) packets.now picks.items) }
     ensures few { IfOk result (λ picks. AtMost (length packets.now) picks.items) }

@@ -9,7 +9,7 @@ ghost use Rattle.vsw_policy.specs.Sound.{Each, IsGoodRule, is_listed};
 ghost use Rattle.vsw_promise.specs.Jobs.{aim_of, loose_after, loose_among, placed_packet, placed_packets};
 ghost use Rattle.vsw_many.specs.Dealing.{placed_lines};
 ghost use Rattle.vsw_promise.specs.Jobs as jobs;
-ghost use Rattle.vsw_actors.specs.Deal.{AreFew, AreWork, dealt, shared};
+ghost use Rattle.vsw_actors.specs.Deal.{AreFew, AreWork, DealsMore, dealt, shared};
 ghost use Rattle.vsw_actors.specs.Private.Aims.{beside, captured_of, line_job, packet_job};
 ghost use Rattle.vsw_actors.specs.Work.{IsWork, job_in};
 
@@ -85,7 +85,7 @@ fn give_packet<'a>(
     packet: &Packet<'a>,
 ) -> Result<(), NoMemory>
     requires caller { packet.now.worker < length shares.old.items }
-    ensures dealt { (cs : List ℕ) (js : List jobs.Placed) → shared shares.old.items ≡ dealt cs js → OnOk result (shared shares.new.items ≡ dealt cs (js ++ placed_of job_in (packet_job packet.now) ∷ [])) }
+    ensures dealt { (cs : List ℕ) → DealsMore result cs (placed_of job_in (packet_job packet.now) ∷ []) shares.old.items shares.new.items }
     ensures work { (ports : ℕ) (cs : List ℕ) → IsWork ports cs (packet_job packet.now) → AreWork ports cs shares.old.items → OnOk result (AreWork ports cs shares.new.items) }
     ensures callers { length shares.new.items ≡ length shares.old.items }
 {
@@ -120,7 +120,7 @@ fn deal_line<'a>(
     requires port { is_listed numbers.now line.now.port ≡ true }
     requires controller { is_listed controllers.now line.now.controller ≡ true }
     requires rules { Each IsGoodRule (rules_given line.now.command) }
-    ensures dealt { (js : List jobs.Placed) → shared shares.old.items ≡ dealt controllers.now js → OnOk result (shared shares.new.items ≡ dealt controllers.now (js ++ beside numbers.now line.now)) }
+    ensures dealt { DealsMore result controllers.now (beside numbers.now line.now) shares.old.items shares.new.items }
     ensures work { AreWork (length numbers.now) controllers.now shares.old.items → OnOk result (AreWork (length numbers.now) controllers.now shares.new.items) }
     ensures callers { length shares.new.items ≡ length shares.old.items }
 {
@@ -144,7 +144,7 @@ fn deal_lines<'a>(
     requires ports { Each (λ l. is_listed numbers.now l.port ≡ true) schedule.now }
     requires controllers { Each (λ l. is_listed controllers.now l.controller ≡ true) schedule.now }
     requires rules { Each (λ l. Each IsGoodRule (rules_given l.command)) schedule.now }
-    ensures dealt { (js : List jobs.Placed) → shared shares.old.items ≡ dealt controllers.now js → OnOk result (shared shares.new.items ≡ dealt controllers.now (js ++ placed_lines numbers.now schedule.now first)) }
+    ensures dealt { DealsMore result controllers.now (placed_lines numbers.now schedule.now first) shares.old.items shares.new.items }
     ensures work { AreWork (length numbers.now) controllers.now shares.old.items → OnOk result (AreWork (length numbers.now) controllers.now shares.new.items) }
     ensures callers { length shares.new.items ≡ length shares.old.items }
 {
@@ -180,7 +180,7 @@ fn deal_packet<'a>(
     requires few { workers ≤ 16 }
     requires ports { length macs.now ≤ 16 }
     requires callers { 16 ≤ length shares.old.items }
-    ensures dealt { (cs : List ℕ) (js : List jobs.Placed) → shared shares.old.items ≡ dealt cs js → OnOk result (shared shares.new.items ≡ dealt cs (js ++ placed_packet workers number captured.now.moment [] (aim_of macs.now (captured_of captured.now)))) }
+    ensures dealt { (cs : List ℕ) → DealsMore result cs (placed_packet workers number captured.now.moment [] (aim_of macs.now (captured_of captured.now))) shares.old.items shares.new.items }
     ensures work { (cs : List ℕ) → AreWork (length macs.now) cs shares.old.items → OnOk result (AreWork (length macs.now) cs shares.new.items) }
     ensures callers { length shares.new.items ≡ length shares.old.items }
     ensures loose { OnOk result (loose.new.items ≡ loose.old.items ++ loose_after number (aim_of macs.now (captured_of captured.now))) }
@@ -211,7 +211,7 @@ fn deal_packets<'a>(
     requires ports { length macs.now ≤ 16 }
     requires callers { 16 ≤ length shares.old.items }
     requires numbers { first + length packets.now < 2 ^ 32 }
-    ensures dealt { (cs : List ℕ) (js : List jobs.Placed) → shared shares.old.items ≡ dealt cs js → OnOk result (shared shares.new.items ≡ dealt cs (js ++ placed_packets workers false macs.now [] (numbered first packets.now))) }
+    ensures dealt { (cs : List ℕ) → DealsMore result cs (placed_packets workers false macs.now [] (numbered first packets.now)) shares.old.items shares.new.items }
     ensures work { (cs : List ℕ) → AreWork (length macs.now) cs shares.old.items → OnOk result (AreWork (length macs.now) cs shares.new.items) }
     ensures loose { OnOk result (loose.new.items ≡ loose.old.items ++ loose_among macs.now (numbered first packets.now)) }
 {

@@ -15,7 +15,8 @@ use Rattle.vsw_promise.specs.Jobs as jobs
 use Rattle.vsw_actors.specs.Actors.{placed_of}
 use Rattle.vsw_actors.specs.Handed.{with_more}
 use Rattle.vsw_actors.specs.Picks.{ArePicks, AtMost, IsPick, carried_by, dealt_to, picked, picked_job, picked_jobs}
-use Rattle.vsw_actors.specs.Private.Aims.{IsBrought, IsCarried, captured_of, packet_job}
+use Rattle.vsw_actors.specs.Private.Aims.{IsBrought, IsCarried, packet_job}
+use Rattle.vsw_pcap.specs.Batch.{lent_record}
 use Rattle.vsw_actors.specs.Work.{IsWork, job_in, parts_in}
 use Rattle.vsw_actors.specs.declared.actor.Placed.{Placed}
 use Rattle.vsw_actors.specs.declared.pick.Pick.{Pick}
@@ -86,7 +87,7 @@ given_few n xs i x y p (Ok u) here e a = most_set n xs i x y p here e a
 -- ---- the packet of a pick
 
 -- a record's pick is the job of its packet
-pub pick_is : (worker first : ℕ) (c : Captured) (p : Packet) (packets : List Record) (q : Pick) → p.worker ≡ worker → p.number ≡ first + q.at → p.place ≡ q.place → p.micros ≡ c.moment → p.bytes.now ≡ c.bytes.now → slice_get packets q.at ≡ Some (captured_of c)
+pub pick_is : (worker first : ℕ) (c : Captured) (p : Packet) (packets : List Record) (q : Pick) → p.worker ≡ worker → p.number ≡ first + q.at → p.place ≡ q.place → p.micros ≡ c.moment → p.bytes.now ≡ c.bytes.now → slice_get packets q.at ≡ Some (lent_record c)
     → (p.place.port, job_in (work.Packet p)) ≡ picked_job worker first packets q
 pick_is worker first c p packets q who number place moment bytes there =
     ap (λ w. (p.place.port, Carry (crossing_by w p.number p.place p.micros (parts_in p.bytes.now)) (parts_in p.bytes.now))) who
@@ -96,16 +97,16 @@ pick_is worker first c p packets q who number place moment bytes there =
     ∙ (ap (λ w. (q.place.port, Carry (crossing_by worker (first + q.at) q.place c.moment (parts_in w)) (parts_in w))) bytes
     ∙ ap (λ w. (q.place.port, carried_by worker (first + q.at) q.place w)) (sym there)))))
 
-pub pick_work : (ports : ℕ) (cs : List ℕ) (c : Captured) (p : Packet) (packets : List Record) (q : Pick) → p.worker < 16 → p.place ≡ q.place → p.bytes.now ≡ c.bytes.now → slice_get packets q.at ≡ Some (captured_of c) → IsPick ports packets q → IsWork ports cs (packet_job p)
+pub pick_work : (ports : ℕ) (cs : List ℕ) (c : Captured) (p : Packet) (packets : List Record) (q : Pick) → p.worker < 16 → p.place ≡ q.place → p.bytes.now ≡ c.bytes.now → slice_get packets q.at ≡ Some (lent_record c) → IsPick ports packets q → IsWork ports cs (packet_job p)
 pick_work ports cs c p packets q who place bytes there is =
-    let same : is.captured ≡ captured_of c = cc (is.there, there) in
+    let same : is.captured ≡ lent_record c = cc (is.there, there) in
     (subst (λ (w : Place). w.port < ports) (sym place) is.port, refl, (who, is.parts, subst (λ bs. frame_of bs ≡ Ok is.parts) (ap (λ (r : Record). r.bytes) same ∙ sym bytes) is.frame))
 
-pub is_pick : (ports workers n at : ℕ) (c : Captured) (p : Packet) (packets : List Record) → slice_get packets at ≡ Some (captured_of c) → IsBrought workers n c p → IsCarried ports p → IsPick ports packets (record { at = at; place = p.place })
+pub is_pick : (ports workers n at : ℕ) (c : Captured) (p : Packet) (packets : List Record) → slice_get packets at ≡ Some (lent_record c) → IsBrought workers n c p → IsCarried ports p → IsPick ports packets (record { at = at; place = p.place })
 is_pick ports workers n at c p packets there b fit = record {
   port = fit.1;
-  within = there_within packets at (captured_of c) there;
-  captured = captured_of c;
+  within = there_within packets at (lent_record c) there;
+  captured = lent_record c;
   parts = fit.2;
   there = there;
   frame = subst (λ bs. frame_of bs ≡ Ok fit.2) b.bytes fit.3;

@@ -3,7 +3,8 @@
 ghost use Rattle.std.specs.Prelude.{◌≡◌, ◌≤◌, ◌<◌, ◌%◌, [], IfOk, length};
 ghost use Rattle.vsw_header.specs.FlowSum.{flow_sum_of};
 ghost use Rattle.vsw_promise.specs.Jobs.{aim_of, loose_after, placed_packet};
-ghost use Rattle.vsw_actors.specs.Private.Aims.{IsBrought, IsCarried, captured_of, loose_in, placed_in};
+ghost use Rattle.vsw_actors.specs.Private.Aims.{IsBrought, IsCarried, loose_in, placed_in};
+ghost use Rattle.vsw_pcap.specs.Batch.{lent_record};
 
 use crate::work::Packet;
 use vsw_base::{Mac, Stack};
@@ -36,8 +37,8 @@ pub(crate) fn aim<'a>(
     requires some { 1 ≤ workers }
     requires few { workers ≤ 16 }
     requires ports { length macs.now ≤ 16 }
-    ensures placed { placed_in result ≡ placed_packet workers number captured.now.moment [] (aim_of macs.now (captured_of captured.now)) }
-    ensures loose { loose_in number result ≡ loose_after number (aim_of macs.now (captured_of captured.now)) }
+    ensures placed { placed_in result ≡ placed_packet workers number captured.now.moment [] (aim_of macs.now (lent_record captured.now)) }
+    ensures loose { loose_in number result ≡ loose_after number (aim_of macs.now (lent_record captured.now)) }
     ensures fit { IfOk result (λ packet. IsCarried (length macs.now) packet) }
     ensures brought { IfOk result (IsBrought workers number captured.now) }
 {

@@ -7,7 +7,8 @@ ghost use Rattle.vsw_promise.specs.Jobs.{aim_of, loose_after};
 ghost use Rattle.vsw_actors.specs.Actors.{placed_of};
 ghost use Rattle.vsw_actors.specs.Handed.{HandsOver, HasFrame, handed_job};
 ghost use Rattle.vsw_actors.specs.Picks.{DealsPacket, KeepsPicks};
-ghost use Rattle.vsw_actors.specs.Private.Aims.{IsGivenOf, captured_of, packet_job};
+ghost use Rattle.vsw_actors.specs.Private.Aims.{IsGivenOf, packet_job};
+ghost use Rattle.vsw_pcap.specs.Batch.{lent_record};
 ghost use Rattle.vsw_actors.specs.Work.{MayDo, job_in};
 ghost use Rattle.vsw_actors.specs.declared.work.Work.TheVariants as work;
 
@@ -102,11 +103,11 @@ pub fn hand_over<'a>(
     requires ports { length macs.now ≤ 16 }
     requires workers { length picks.old.items ≡ workers }
     requires number { first + at < 2 ^ 32 }
-    ensures dealt { DealsPacket result workers macs.now first at (captured_of captured.now) picks.old.items picks.new.items }
-    ensures fit { KeepsPicks result (length macs.now) at (captured_of captured.now) picks.old.items picks.new.items }
+    ensures dealt { DealsPacket result workers macs.now first at (lent_record captured.now) picks.old.items picks.new.items }
+    ensures fit { KeepsPicks result (length macs.now) at (lent_record captured.now) picks.old.items picks.new.items }
     ensures workers { length picks.new.items ≡ length picks.old.items }
-    ensures handed { (packets : List Record) → slice_get packets at ≡ Some (captured_of captured.now) → IfOk result (λ given. HandsOver workers first packets picks.old.items picks.new.items given) }
-    ensures loose { OnOk result (loose.new.items ≡ loose.old.items ++ loose_after (first + at) (aim_of macs.now (captured_of captured.now))) }
+    ensures handed { (packets : List Record) → slice_get packets at ≡ Some (lent_record captured.now) → IfOk result (λ given. HandsOver workers first packets picks.old.items picks.new.items given) }
+    ensures loose { OnOk result (loose.new.items ≡ loose.old.items ++ loose_after (first + at) (aim_of macs.now (lent_record captured.now))) }
 {
     let mut headers = FrameRoom::new();
     match aim(workers, macs, first + at, captured, &mut headers) {

@@ -8,7 +8,8 @@ ghost use Rattle.vsw_promise.specs.Jobs.{aim_of, loose_after, loose_among};
 ghost use Rattle.vsw_actors.specs.Actors.{placed_of};
 ghost use Rattle.vsw_actors.specs.Handed.{with_more};
 ghost use Rattle.vsw_actors.specs.Picks.{AreDealt, ArePicks, AtMost, DealsPacket, DealsPick, IsPick, KeepsPicks, picked, picked_job, picked_jobs};
-ghost use Rattle.vsw_actors.specs.Private.Aims.{captured_of, packet_job};
+ghost use Rattle.vsw_actors.specs.Private.Aims.{packet_job};
+ghost use Rattle.vsw_pcap.specs.Batch.{lent_record};
 ghost use Rattle.vsw_actors.specs.Work.{IsWork, job_in};
 
 use crate::Placed;
@@ -83,11 +84,11 @@ fn pick_packet<'a>(
     requires ports { length macs.now ≤ 16 }
     requires workers { length picks.old.items ≡ workers }
     requires number { first + at < 2 ^ 32 }
-    ensures dealt { DealsPacket result workers macs.now first at (captured_of captured.now) picks.old.items picks.new.items }
-    ensures fit { KeepsPicks result (length macs.now) at (captured_of captured.now) picks.old.items picks.new.items }
+    ensures dealt { DealsPacket result workers macs.now first at (lent_record captured.now) picks.old.items picks.new.items }
+    ensures fit { KeepsPicks result (length macs.now) at (lent_record captured.now) picks.old.items picks.new.items }
     ensures few { (n : ℕ) → AtMost n picks.old.items → OnOk result (AtMost (n + 1) picks.new.items) }
     ensures workers { length picks.new.items ≡ length picks.old.items }
-    ensures loose { OnOk result (loose.new.items ≡ loose.old.items ++ loose_after (first + at) (aim_of macs.now (captured_of captured.now))) }
+    ensures loose { OnOk result (loose.new.items ≡ loose.old.items ++ loose_after (first + at) (aim_of macs.now (lent_record captured.now))) }
 {
     let number = first + at;
     match aim(workers, macs, number, captured, headers) {

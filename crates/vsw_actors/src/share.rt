@@ -10,7 +10,8 @@ ghost use Rattle.vsw_promise.specs.Jobs.{aim_of, loose_after, loose_among, place
 ghost use Rattle.vsw_many.specs.Dealing.{placed_lines};
 ghost use Rattle.vsw_promise.specs.Jobs as jobs;
 ghost use Rattle.vsw_actors.specs.Deal.{AreFew, AreWork, DealsMore, dealt, shared};
-ghost use Rattle.vsw_actors.specs.Private.Aims.{beside, captured_of, line_job, packet_job};
+ghost use Rattle.vsw_actors.specs.Private.Aims.{beside, line_job, packet_job};
+ghost use Rattle.vsw_pcap.specs.Batch.{lent_record};
 ghost use Rattle.vsw_actors.specs.Work.{IsWork, job_in};
 
 use crate::Placed;
@@ -180,10 +181,10 @@ fn deal_packet<'a>(
     requires few { workers ≤ 16 }
     requires ports { length macs.now ≤ 16 }
     requires callers { 16 ≤ length shares.old.items }
-    ensures dealt { (cs : List ℕ) → DealsMore result cs (placed_packet workers number captured.now.moment [] (aim_of macs.now (captured_of captured.now))) shares.old.items shares.new.items }
+    ensures dealt { (cs : List ℕ) → DealsMore result cs (placed_packet workers number captured.now.moment [] (aim_of macs.now (lent_record captured.now))) shares.old.items shares.new.items }
     ensures work { (cs : List ℕ) → AreWork (length macs.now) cs shares.old.items → OnOk result (AreWork (length macs.now) cs shares.new.items) }
     ensures callers { length shares.new.items ≡ length shares.old.items }
-    ensures loose { OnOk result (loose.new.items ≡ loose.old.items ++ loose_after number (aim_of macs.now (captured_of captured.now))) }
+    ensures loose { OnOk result (loose.new.items ≡ loose.old.items ++ loose_after number (aim_of macs.now (lent_record captured.now))) }
 {
     match aim(workers, macs, number, captured, headers) {
         Ok(packet) => give_packet(shares, &packet),

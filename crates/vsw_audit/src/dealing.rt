@@ -5,7 +5,7 @@ ghost use Rattle.std.specs.List.{slice_get};
 ghost use Rattle.vsw_pcap.specs.declared.capture.Record.{Record};
 ghost use Rattle.vsw_promise.specs.Jobs.{aim_of, loose_after, loose_among, packets_between};
 ghost use Rattle.vsw_audit.specs.Private.Rounds.{aim_by, aimed, aims_of};
-ghost use Rattle.vsw_audit.specs.Private.Tasks.{captured_of};
+ghost use Rattle.vsw_pcap.specs.Batch.{lent_record};
 
 use vsw_base::{Dir, Mac, NoMemory};
 use vsw_frame::{FrameRoom, read_frame};
@@ -31,7 +31,7 @@ fn find_aim(
 ) -> Result<Aim, LooseCause>
     requires some { 1 ≤ workers }
     requires few { length macs.now ≤ 16 }
-    ensures { result ≡ aim_by workers (aim_of macs.now (captured_of captured.now)) }
+    ensures { result ≡ aim_by workers (aim_of macs.now (lent_record captured.now)) }
 {
     if captured.bytes.len() < captured.original as usize {
         return Err(LooseCause::Snapped);
@@ -80,8 +80,8 @@ fn deal_one(
 ) -> Result<(), NoMemory>
     requires some { 1 ≤ workers }
     requires few { length macs.now ≤ 16 }
-    ensures aims { (r : Record) → r ≡ captured_of captured.now → OnOk result (aims.new.items ≡ aims.old.items ++ aimed (aim_by workers (aim_of macs.now r)) ∷ []) }
-    ensures loose { (r : Record) → r ≡ captured_of captured.now → OnOk result (loose.new.items ≡ loose.old.items ++ loose_after packet (aim_of macs.now r)) }
+    ensures aims { (r : Record) → r ≡ lent_record captured.now → OnOk result (aims.new.items ≡ aims.old.items ++ aimed (aim_by workers (aim_of macs.now r)) ∷ []) }
+    ensures loose { (r : Record) → r ≡ lent_record captured.now → OnOk result (loose.new.items ≡ loose.old.items ++ loose_after packet (aim_of macs.now r)) }
 {
     match find_aim(captured, workers, macs, headers) {
         Ok(aim) => push_aim(aims, Some(aim)),

@@ -9,7 +9,8 @@ ghost use Rattle.vsw_policy.specs.Layers as layers;
 ghost use Rattle.vsw_policy.specs.Sound as sound;
 ghost use Rattle.vsw_policy.specs.Sound.{Each};
 ghost use Rattle.vsw_port.specs.Calls.{Ask, Carried, Carry, Job};
-ghost use Rattle.vsw_audit.specs.Private.Tasks.{CanBeAsked, HasJobs, caller_in, captured_of, carried_in, job_in, site_of, work_in};
+ghost use Rattle.vsw_audit.specs.Private.Tasks.{CanBeAsked, HasJobs, caller_in, carried_in, job_in, site_of, work_in};
+ghost use Rattle.vsw_pcap.specs.Batch.{lent_record};
 ghost use Rattle.vsw_audit.specs.Private.Lines.{JudgesBy, JudgesLineBy, Steps, stage};
 ghost use Rattle.vsw_audit.specs.declared.task.Work.TheVariants as work;
 
@@ -132,7 +133,7 @@ fn carry_record(
 ) -> Result<bool, NoMemory>
     requires room { 1 ≤ ledger.old.room }
     requires few { length ledger.old.journal < 2 ^ 32 - 1 }
-    ensures judges { (x : Crossing) (p : Parts) → carried_in port caller packet dir (captured_of captured.now) ≡ Some (Carry x p) → JudgesBy ledger.old (Carried x p fate bytes.now) entry ledger.new result }
+    ensures judges { (x : Crossing) (p : Parts) → carried_in port caller packet dir (lent_record captured.now) ≡ Some (Carry x p) → JudgesBy ledger.old (Carried x p fate bytes.now) entry ledger.new result }
     ensures opening { ledger.new.opening ≡ ledger.old.opening }
 {
     let read = read_frame(captured.bytes, headers);

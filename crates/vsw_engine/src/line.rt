@@ -5,6 +5,7 @@ ghost use Rattle.vsw_base.specs.declared.flow.Crossing.{Crossing};
 ghost use Rattle.vsw_engine.specs.Private.Lines.{AddsAnswer, AddsLine, HasRoom, line_text};
 ghost use Rattle.vsw_frame.specs.Frame.{parts};
 ghost use Rattle.vsw_offload.specs.Answered.{Answered, IsPacketOf, bytes_given, bytes_told, fate_given, rows_at};
+ghost use Rattle.vsw_pcap.specs.Batch.{lent_record};
 ghost use Rattle.vsw_offload.specs.Rows.{macs_of, numbers_of};
 ghost use Rattle.vsw_promise.specs.Jobs.{aim_of};
 ghost use Rattle.vsw_run.specs.Engine.{AreEngineLines};
@@ -116,7 +117,7 @@ fn write_line(
     text: &mut Sheet,
 ) -> Result<(), NoMemory>
     requires room { length out.old.items ≡ 65700 }
-    ensures adds { OnOk result (AddsLine rows.now packet captured.now.moment (aim_of (macs_of rows.now) (record { moment = captured.now.moment; original = captured.now.original; bytes = captured.now.bytes.now })) text.old text.new) }
+    ensures adds { OnOk result (AddsLine rows.now packet captured.now.moment (aim_of (macs_of rows.now) (lent_record captured.now)) text.old text.new) }
     ensures room { length out.new.items ≡ 65700 }
 {
     if captured.bytes.len() < captured.original as usize {

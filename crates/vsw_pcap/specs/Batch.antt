@@ -4,11 +4,16 @@ use Rattle.vsw_pcap.specs.Capture.{IsCapture}
 use Rattle.vsw_pcap.specs.Decides.{Decides}
 use Rattle.vsw_pcap.specs.Progress.{Progress}
 use Rattle.vsw_pcap.specs.Reader.{Advances, Stands, Waits}
+use Rattle.vsw_pcap.specs.declared.batch.Captured.{Captured}
 use Rattle.vsw_pcap.specs.declared.batch.Found.{Found}
 use Rattle.vsw_pcap.specs.declared.batch.Found.TheVariants as found
 use Rattle.vsw_pcap.specs.declared.capture.Record.{Record}
 use Rattle.vsw_pcap.specs.declared.reader.Next.{Next}
 use Rattle.vsw_pcap.specs.declared.reader.Next.TheVariants as next
+
+-- the record that a batch lends
+abbrev pub lent_record : Captured → Record
+lent_record c = record { moment = c.moment; original = c.original; bytes = c.bytes.now }
 
 -- what is found, by what the reader answers, and what a batch then holds
 abbrev pub found_of : Next → Found

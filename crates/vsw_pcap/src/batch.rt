@@ -2,6 +2,7 @@
 
 ghost use Rattle.std.specs.Prelude.{◌≡◌, ◌<◌, ◌≤◌, ◌++◌, ◌∷◌, [], Some, OnOk, OnErr, length};
 ghost use Rattle.std.specs.List.{slice_get};
+ghost use Rattle.vsw_pcap.specs.Batch.{lent_record};
 ghost use Rattle.vsw_pcap.specs.Marks.{marked, IsWithin};
 
 use crate::fault::BadTrace;
@@ -86,7 +87,7 @@ fn append_mark(marks: &mut Vec<Mark>, mark: Mark) -> Result<(), NoMemory>
 /// The record of a mark among these bytes.
 fn lend<'a>(bytes: &'a [u8], mark: &Mark) -> Captured<'a>
     requires within { IsWithin (length bytes.now) mark.now }
-    ensures { marked bytes.now mark.now ≡ record { moment = result.moment; original = result.original; bytes = result.bytes.now } }
+    ensures { marked bytes.now mark.now ≡ lent_record result }
 {
     Captured {
         moment: mark.moment,
@@ -124,7 +125,7 @@ impl Batch {
     /// The record at a place.
     pub fn at(&self, place: usize) -> Captured<'_>
         requires { place < length self.now }
-        ensures { slice_get self.now place ≡ Some (record { moment = result.moment; original = result.original; bytes = result.bytes.now }) }
+        ensures { slice_get self.now place ≡ Some (lent_record result) }
     {
         lend(&self.bytes, &self.marks[place])
     }

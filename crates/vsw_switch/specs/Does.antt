@@ -10,7 +10,6 @@ use Rattle.vsw_port.specs.Next.{IsNext}
 use Rattle.vsw_port.specs.Order.{ascending}
 use Rattle.vsw_port.specs.declared.crossing.Outcome.{Outcome}
 use Rattle.vsw_report.specs.Line.{TextLine, text_of}
-use Rattle.vsw_pcap.specs.declared.batch.Captured.{Captured}
 use Rattle.vsw_pcap.specs.declared.capture.Record.{Record}
 use Rattle.vsw_policy.specs.Layers.{place_of}
 use Rattle.vsw_policy.specs.Obey.{is_memory}
@@ -165,10 +164,6 @@ placed_line numbers l = (place_of l.port numbers, Ask l)
 -- a command was asked of its port
 abbrev pub Asks : SwitchNow → Line → SwitchNow → Type 0
 Asks s l t = Works s (placed_line (numbers_in s) l ∷ []) t
-
--- the record that a batch lends
-abbrev pub captured_of : Captured → Record
-captured_of c = record { moment = c.moment; original = c.original; bytes = c.bytes.now }
 
 -- packet n went to its port, and on to another if it was handed on, or it is loose
 abbrev pub Forwards : SwitchNow → ℕ → Record → SwitchNow → Type 0

@@ -7,7 +7,8 @@ ghost use Rattle.vsw_policy.specs.Sound.{Each};
 ghost use Rattle.vsw_port.specs.Calls.{Carry};
 ghost use Rattle.vsw_promise.specs.Jobs.{crossing_by, worker_of};
 ghost use Rattle.vsw_report.specs.declared.told.What.TheVariants as what;
-ghost use Rattle.vsw_switch.specs.Does.{DoesAll, HandsOn, MakesAt, captured_of, fate_told, packet_call, second_jobs};
+ghost use Rattle.vsw_switch.specs.Does.{DoesAll, HandsOn, MakesAt, fate_told, packet_call, second_jobs};
+ghost use Rattle.vsw_pcap.specs.Batch.{lent_record};
 ghost use Rattle.vsw_switch.specs.Stay.{Arrives, standing};
 
 use crate::live::Live;
@@ -169,7 +170,7 @@ pub(crate) fn arrive<G: Watch>(
     requires macs { macs.now ≡ map (λ p. p.mac) ports.old.items }
     requires few { length macs.now ≤ 16 }
     requires locals { length locals.now ≤ length macs.now }
-    ensures arrives { IfOk result (λ loose. Arrives workers packet locals.now macs.now (captured_of captured.now) ports.old.items ports.new.items loose) }
+    ensures arrives { IfOk result (λ loose. Arrives workers packet locals.now macs.now (lent_record captured.now) ports.old.items ports.new.items loose) }
     ensures stays { map standing ports.new.items ≡ map standing ports.old.items }
 {
     if captured.bytes.len() < captured.original as usize {

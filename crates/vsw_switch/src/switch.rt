@@ -12,7 +12,8 @@ ghost use Rattle.vsw_promise.specs.Jobs.{Setting};
 ghost use Rattle.vsw_promise.specs.Ports.{port_seen, ports_of};
 ghost use Rattle.vsw_report.specs.Whole.{whole_text};
 ghost use Rattle.vsw_switch.specs.Close.{AreCounted, IsCounted, begun, entries_in, is_short_now, last_of, next_round, round_now, text_now};
-ghost use Rattle.vsw_switch.specs.Does.{Asks, DoesAll, Forwards, captured_of, numbers_in};
+ghost use Rattle.vsw_switch.specs.Does.{Asks, DoesAll, Forwards, numbers_in};
+ghost use Rattle.vsw_pcap.specs.Batch.{lent_record};
 ghost use Rattle.vsw_switch.specs.Export.{GivesAt, HasRowsAt};
 ghost use Rattle.vsw_switch.specs.Stay.{ArePorts, CanOpen, port_at_first, standing};
 ghost use Rattle.vsw_switch.specs.Switch.{AreServed, IsAt, IsOpened, IsServed, Serves, SwitchNow};
@@ -265,7 +266,7 @@ impl Switch {
         packet: u32,
         captured: &Captured<'_>,
     ) -> Result<(), NoMemory>
-        ensures forwards { OnOk result (Forwards self.old packet (captured_of captured.now) self.new) }
+        ensures forwards { OnOk result (Forwards self.old packet (lent_record captured.now) self.new) }
         ensures served { (lines : List Line) → AreServed self.old lines → AreServed self.new lines }
     {
         let macs = self.macs.as_slice();

@@ -6,7 +6,6 @@ use Rattle.vsw_base.specs.Frame.{Parts, frame_of}
 use Rattle.vsw_commandfile.specs.declared.line.Line.{Line}
 use Rattle.vsw_port.specs.Calls.{Ask}
 use Rattle.vsw_pcap.specs.declared.batch.Captured.{Captured}
-use Rattle.vsw_pcap.specs.declared.capture.Record.{Record}
 use Rattle.vsw_policy.specs.Layers.{place_of}
 use Rattle.vsw_promise.specs.Jobs.{Placed}
 use Rattle.vsw_report.specs.declared.round.Loose.{Loose}
@@ -17,10 +16,6 @@ use Rattle.vsw_actors.specs.declared.handed.Given.{Given}
 use Rattle.vsw_actors.specs.declared.work.Packet.{Packet}
 use Rattle.vsw_actors.specs.declared.work.Work.{Work}
 use Rattle.vsw_actors.specs.declared.work.Work.TheVariants as work
-
--- the record that a batch lends
-abbrev pub captured_of : Captured → Record
-captured_of c = record { moment = c.moment; original = c.original; bytes = c.bytes.now }
 
 -- the job that a packet is at its port, if it goes to one
 abbrev pub placed_in : Result Packet LooseCause → List Placed

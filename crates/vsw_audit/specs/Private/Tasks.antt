@@ -5,7 +5,6 @@ use Rattle.vsw_base.specs.declared.fault.NoMemory.{NoMemory}
 use Rattle.vsw_base.specs.declared.packet.Dir.{Dir}
 use Rattle.vsw_base.specs.Frame.{frame_of}
 use Rattle.vsw_commandfile.specs.declared.line.Line.{Line}
-use Rattle.vsw_pcap.specs.declared.batch.Captured.{Captured}
 use Rattle.vsw_pcap.specs.declared.capture.Record.{Record}
 use Rattle.vsw_policy.specs.Layers.{place_of}
 use Rattle.vsw_policy.specs.Obey.{rules_given}
@@ -34,10 +33,6 @@ site_at commands records place opening = record { commands = commands; records =
 -- the port at a place, whose ledger this is
 abbrev pub site_of : Files → ℕ → LedgerSeen → Site
 site_of f place l = site_at f.commands.now f.records.now place l.opening
-
--- the record that a batch lends
-abbrev pub captured_of : Captured → Record
-captured_of c = record { moment = c.moment; original = c.original; bytes = c.bytes.now }
 
 -- a record as this caller brings it to the port
 abbrev pub carried_in : ℕ → ℕ → ℕ → Dir → Record → Option Job

@@ -1,15 +1,17 @@
 -- A trace was answered from rows.
 use Rattle.std.proofs.Common.{◌≡◌, ◌≤◌, ◌⊎◌, ◌+◌, inl, inr, ℕ, List, [], ◌∷◌, Some, take, refl, sym, ◌∙◌, subst, arith}
 use Rattle.vsw_engine.specs.Runs as engine
-use Rattle.vsw_engine.specs.Runs.{AnswersTrace, Reads}
+use Rattle.vsw_run.specs.Steps.{EndsUnopened, OpensNothing, Reads}
+use Rattle.vsw_engine.specs.Runs.{AnswersTrace}
 use Rattle.vsw_files.specs.Answering.{HasAnswered, HasRows}
 use Rattle.vsw_files.proofs.Growing.{grows_as, rose_as, rose_from}
 use Rattle.vsw_host.specs.Outside.{Opened, Outside, Grows}
-use Rattle.vsw_host.specs.Told.{TellsSince}
+use Rattle.vsw_host.specs.Told.{TellsHeld, TellsSince}
 use Rattle.vsw_host.proofs.CallerLemmas.{TellsHeld-before, TellsSince-trans}
 use Rattle.vsw_offload.specs.Rows.{rows_bytes}
 use Rattle.vsw_offload.specs.declared.port_rows.PortRows.{PortRows}
-use Rattle.vsw_run.specs.ByRows.{AreGood, BreaksOff, Ends, EndsByTrace, Opens, ReadsTrace, RunsByRows}
+use Rattle.vsw_run.specs.ByRows.{AreGood, BreaksOff, Ends, EndsSo, IsEarly, Opens, RunsByRows, TraceEnds}
+use Rattle.vsw_run.specs.Files.{IsReadOf}
 use Rattle.vsw_run.specs.Complaint.{status_of}
 use Rattle.vsw_run.specs.IsRun.{IsCompleteByRows, IsRun, RunsBy}
 use Rattle.vsw_run.specs.Law.{HasNoFault}
@@ -33,7 +35,7 @@ two q old now ports h f = h.file ∷ f ∷ []
 opens_trace : (q : Query) (old now new : Outside) (ports : List PortRows) (h : HasRows q old now ports) (t : Trace) (r : Reads now new q.trace t) → Opens old new q (two q old now ports h r.file)
 opens_trace q old now new ports h t r = record {
   since = TellsSince-trans old.inputs now.inputs new.inputs (h.file ∷ []) (r.file ∷ []) h.opens.since r.since;
-  held = (h.opens.held.0, (TellsHeld-before old.inputs now.inputs (h.file ∷ []) r.file.name r.file.bytes h.opens.since r.held, tt));
+  held = (h.opens.held.0, (TellsHeld-before old.inputs now.inputs (h.file ∷ []) r.file.name r.file.bytes h.opens.since (subst (λ n. TellsHeld now.inputs n r.file.bytes) (sym r.named) r.held), tt));
   within = (h.opens.within.0, (r.within, tt));
   in_turn = (ports, h.is, r.named);
 }
@@ -41,30 +43,38 @@ opens_trace q old now new ports h t r = record {
 opens_none : (q : Query) (old now new : Outside) (ports : List PortRows) (h : HasRows q old now ports) → TellsSince now.inputs new.inputs [] → Opens old new q (h.file ∷ [])
 opens_none q old now new ports h none = record { since = TellsSince-trans old.inputs now.inputs new.inputs (h.file ∷ []) [] h.opens.since none; held = h.opens.held; within = h.opens.within; in_turn = h.opens.in_turn }
 
-reads_trace : (q : Query) (old now new : Outside) (ports : List PortRows) (h : HasRows q old now ports) (t : Trace) (r : Reads now new q.trace t) → ReadsTrace q old new (two q old now ports h r.file)
-reads_trace q old now new ports h t r = record {
-  rows = h.file;
-  file = r.file;
-  all = refl;
-  ports = ports;
-  are = h.is;
-  trace = t;
-  read = read_as now new old new r.file t (rose_from old.input_faults now.input_faults new.input_faults h.later) r.read;
-}
+read_since : (q : Query) (old now new : Outside) (ports : List PortRows) (h : HasRows q old now ports) (t : Trace) (r : Reads now new q.trace t) → IsReadOf old new r.file t
+read_since q old now new ports h t r = read_as now new old new r.file t (rose_from old.input_faults now.input_faults new.input_faults h.later) r.read
 
 puts_as : (q : Query) (old now new : Outside) (ports : List PortRows) (text : List ℕ) → HasRows q old now ports → Grows now.put new.put text → Grows old.put new.put text
 puts_as q old now new ports text h g = grows_as now.put new.put old.put new.put text (sym h.outputs.put) refl g
 
-by_trace : (q : Query) (old now new : Outside) (ports : List PortRows) (h : HasRows q old now ports) (end : Ending) (e : engine.EndsSo ports now new q.trace end) → EndsByTrace q old new (two q old now ports h e.reads.file) end
-unfolding reads_trace
-by_trace q old now new ports h end e = record { reads = reads_trace q old now new ports h e.trace e.reads; records = e.records; ends = e.ends; text = e.text; tells = e.tells; puts = puts_as q old now new ports e.text h e.puts }
+by_trace : (q : Query) (old now new : Outside) (ports : List PortRows) (h : HasRows q old now ports) (end : Ending) (e : EndsSo ports (Reads now new q.trace) now new end) → EndsSo ports (IsReadOf old new e.reads.file) old new end
+by_trace q old now new ports h end e = record { trace = e.trace; reads = read_since q old now new ports h e.trace e.reads; records = e.records; ends = e.ends; text = e.text; tells = e.tells; puts = puts_as q old now new ports e.text h e.puts }
 
-by_break : (q : Query) (old now new : Outside) (ports : List PortRows) (h : HasRows q old now ports) (e : engine.BreaksOff ports now new q.trace) → BreaksOff q old new (two q old now ports h e.reads.file)
-unfolding reads_trace
-by_break q old now new ports h e = record { reads = reads_trace q old now new ports h e.trace e.reads; records = e.records; first = e.first; text = e.text; tells = e.tells; count = e.count; puts = puts_as q old now new ports (take e.count e.text) h e.puts }
+by_break : (q : Query) (old now new : Outside) (ports : List PortRows) (h : HasRows q old now ports) (e : BreaksOff ports (Reads now new q.trace) now new) → BreaksOff ports (IsReadOf old new e.reads.file) old new
+by_break q old now new ports h e = record { trace = e.trace; reads = read_since q old now new ports h e.trace e.reads; records = e.records; first = e.first; text = e.text; tells = e.tells; puts = (e.puts.0, puts_as q old now new ports (take e.puts.0 e.text) h e.puts.1) }
+
+-- a run whose trace wasn't opened is early
+early_behind : (q : Query) (old now new : Outside) (ports : List PortRows) (h : HasRows q old now ports) (end : Ending) → EndsUnopened now new end → OpensNothing now new × IsEarly old new (h.file ∷ []) end
+early_behind q old now new ports h ending.ReadFault (rose, o) = (o, (rose_from old.input_faults now.input_faults new.input_faults h.later rose, short))
+  where
+    short : h.file.read ≤ 160000000 + 65536
+    short = omega (arith, h.is.whole, h.is.few)
+early_behind q old now new ports h ending.Memory o = (o, tt)
+early_behind q old now new ports h ending.Done o = absurd o
+early_behind q old now new ports h ending.WriteFault o = absurd o
+early_behind q old now new ports h (ending.Trace bad) o = absurd o
+early_behind q old now new ports h ending.Records o = absurd o
+early_behind q old now new ports h ending.Usage o = absurd o
+early_behind q old now new ports h (ending.Policy why) o = absurd o
+early_behind q old now new ports h (ending.Commands why) o = absurd o
+early_behind q old now new ports h (ending.Report why) o = absurd o
+early_behind q old now new ports h (ending.Rows why) o = absurd o
+early_behind q old now new ports h ending.Illegal o = absurd o
 
 pub answered : (q : Query) (old now new : Outside) (ports : List PortRows) (end : Ending) → HasRows q old now ports → AnswersTrace ports now new q.trace end → HasAnswered q old new end
-answered q old now new ports end h r = by end r.ends
+answered q old now new ports end h r = by r.ends
   where
     so : (end : Ending) (files : List Opened) → Opens old new q files → Ends q old new files end → HasAnswered q old new end
     so end files opens ends = record {
@@ -73,31 +83,29 @@ answered q old now new ports end h r = by end r.ends
       complain_faults = r.complain_faults ∙ h.outputs.complain_faults;
     }
 
-    traced : (end : Ending) (e : engine.EndsSo ports now new q.trace end) → Ends q old new (two q old now ports h e.reads.file) end → HasAnswered q old new end
-    traced end e ends = so end (two q old now ports h e.reads.file) (opens_trace q old now new ports h e.trace e.reads) ends
+    traced : (end : Ending) (t : Trace) (f : Reads now new q.trace t) → TraceEnds ports (IsReadOf old new f.file) old new end → HasAnswered q old new end
+    traced end t f ends = so end (two q old now ports h f.file) (opens_trace q old now new ports h t f) (inr (record { rows = h.file; file = f.file; all = refl; ports = ports; are = h.is; ends = ends }))
 
-    by : (end : Ending) → engine.Ends ports now new q.trace end → HasAnswered q old new end
-    by ending.Done e = traced ending.Done e (by_trace q old now new ports h ending.Done e)
-    by (ending.Trace bad) e = traced (ending.Trace bad) e (by_trace q old now new ports h (ending.Trace bad) e)
-    by ending.Records e = traced ending.Records e (by_trace q old now new ports h ending.Records e)
-    by ending.ReadFault (rose, inl (none, nothing)) = so ending.ReadFault (h.file ∷ []) (opens_none q old now new ports h none) (rose_from old.input_faults now.input_faults new.input_faults h.later rose, inl (short, puts_as q old now new ports [] h nothing))
-      where
-        short : h.file.read ≤ 160000000 + 65536
-        short = omega (arith, h.is.whole, h.is.few)
-    by ending.ReadFault (rose, inr e) = traced ending.ReadFault e (rose_from old.input_faults now.input_faults new.input_faults h.later rose, inr (by_trace q old now new ports h ending.ReadFault e))
-    by ending.WriteFault (rose, e) = so ending.WriteFault (two q old now ports h e.reads.file) (opens_trace q old now new ports h e.trace e.reads) (rose_as now.put_faults new.put_faults old.put_faults new.put_faults (sym h.outputs.put_faults) refl rose, by_break q old now new ports h e)
-    by ending.Memory (inl n) = unput n.opens (puts_as q old now new ports [] h n.nothing)
-      where
-        unput : engine.OpensNothing now new ⊎ ((t : Trace) × Reads now new q.trace t) → Grows old.put new.put [] → HasAnswered q old new ending.Memory
-        unput (inl none) nothing = so ending.Memory (h.file ∷ []) (opens_none q old now new ports h none) (inl nothing)
-        unput (inr (t, reads)) nothing = so ending.Memory (two q old now ports h reads.file) (opens_trace q old now new ports h t reads) (inl nothing)
-    by ending.Memory (inr e) = so ending.Memory (two q old now ports h e.reads.file) (opens_trace q old now new ports h e.trace e.reads) (inr (by_break q old now new ports h e))
-    by ending.Usage e = absurd e
-    by (ending.Policy why) e = absurd e
-    by (ending.Commands why) e = absurd e
-    by (ending.Report why) e = absurd e
-    by (ending.Rows why) e = absurd e
-    by ending.Illegal e = absurd e
+    ends : (end : Ending) → TraceEnds ports (Reads now new q.trace) now new end → HasAnswered q old new end
+    ends ending.Done e = traced ending.Done e.trace e.reads (by_trace q old now new ports h ending.Done e)
+    ends (ending.Trace bad) e = traced (ending.Trace bad) e.trace e.reads (by_trace q old now new ports h (ending.Trace bad) e)
+    ends ending.Records e = traced ending.Records e.trace e.reads (by_trace q old now new ports h ending.Records e)
+    ends ending.ReadFault (rose, e) = traced ending.ReadFault e.trace e.reads (rose_from old.input_faults now.input_faults new.input_faults h.later rose, by_trace q old now new ports h ending.ReadFault e)
+    ends ending.WriteFault (rose, e) = traced ending.WriteFault e.trace e.reads (rose_as now.put_faults new.put_faults old.put_faults new.put_faults (sym h.outputs.put_faults) refl rose, by_break q old now new ports h e)
+    ends ending.Memory (inl e) = traced ending.Memory e.trace e.reads (inl (record { trace = e.trace; reads = read_since q old now new ports h e.trace e.reads; nothing = puts_as q old now new ports [] h e.nothing }))
+    ends ending.Memory (inr e) = traced ending.Memory e.trace e.reads (inr (by_break q old now new ports h e))
+    ends ending.Usage e = absurd e
+    ends (ending.Policy why) e = absurd e
+    ends (ending.Commands why) e = absurd e
+    ends (ending.Report why) e = absurd e
+    ends (ending.Rows why) e = absurd e
+    ends ending.Illegal e = absurd e
+
+    by : engine.Ends ports now new q.trace end → HasAnswered q old new end
+    by (inl o) =
+        let early = early_behind q old now new ports h end o in
+        so end (h.file ∷ []) (opens_none q old now new ports h early.0.since) (inl (early.1, puts_as q old now new ports [] h early.0.nothing))
+    by (inr e) = ends end e
 
 -- ---- good files are answered
 
@@ -116,13 +124,13 @@ ends_well q old new end g clean r = by end r
     by : (end : Ending) → RunsByRows q old new end → (status_of end ≡ status.Done) ⊎ (status_of end ≡ status.Memory)
     by ending.Done r = inl refl
     by ending.Memory r = inr refl
-    by ending.ReadFault r = absurd (clean.read r.ends.0)
-    by ending.WriteFault r = absurd (clean.put r.ends.0)
-    by ending.Usage r = absurd r.ends
-    by (ending.Policy why) r = absurd r.ends
-    by (ending.Commands why) r = absurd r.ends
-    by (ending.Report why) r = absurd r.ends
-    by ending.Illegal r = absurd r.ends
+    by ending.ReadFault r = absurd (let e = never ending.ReadFault (λ e. cc e) r in cc e)
+    by ending.WriteFault r = absurd (let e = never ending.WriteFault (λ e. cc e) r in cc e)
+    by ending.Usage r = absurd (let e = never ending.Usage (λ e. cc e) r in cc e)
+    by (ending.Policy why) r = absurd (let e = never (ending.Policy why) (λ e. cc e) r in cc e)
+    by (ending.Commands why) r = absurd (let e = never (ending.Commands why) (λ e. cc e) r in cc e)
+    by (ending.Report why) r = absurd (let e = never (ending.Report why) (λ e. cc e) r in cc e)
+    by ending.Illegal r = absurd (let e = never ending.Illegal (λ e. cc e) r in cc e)
     by (ending.Trace bad) r = absurd (let e = never (ending.Trace bad) (λ e. cc e) r in cc e)
     by ending.Records r = absurd (let e = never ending.Records (λ e. cc e) r in cc e)
     by (ending.Rows why) r = absurd (let e = never (ending.Rows why) (λ e. cc e) r in cc e)

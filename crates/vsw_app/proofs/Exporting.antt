@@ -11,7 +11,7 @@ use Rattle.vsw_host.proofs.CallerLemmas.{TellsSince-refl}
 use Rattle.vsw_promise.specs.Jobs.{Setting}
 use Rattle.vsw_replay.specs.Endings.{ending_of}
 use Rattle.vsw_replay.specs.Exports.{ExportEnds, ExportsTrace}
-use Rattle.vsw_replay.specs.Runs.{Reads}
+use Rattle.vsw_run.specs.Steps.{Reads}
 use Rattle.vsw_replay.specs.declared.ending.TraceEnd.{TraceEnd}
 use Rattle.vsw_replay.specs.declared.ending.TraceEnd.TheVariants as end
 use Rattle.vsw_run.specs.declared.ending.Ending.{Ending}

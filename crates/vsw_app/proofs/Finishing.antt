@@ -11,6 +11,7 @@ use Rattle.vsw_run.specs.Checks.{answer_text}
 use Rattle.vsw_run.specs.Checks as checks
 use Rattle.vsw_run.specs.ByRows as rows
 use Rattle.vsw_offload.specs.declared.fault.BadRows.TheVariants as bad
+use Rattle.vsw_offload.specs.declared.port_rows.PortRows.{PortRows}
 use Rattle.vsw_run.specs.declared.ending.RowsFault.{RowsFault}
 use Rattle.vsw_run.specs.declared.ending.RowsFault.TheVariants as fault
 use Rattle.vsw_run.specs.Complaint.{policy_status, commands_status, report_status, rows_status, status_of, complaint, Complains}
@@ -143,32 +144,44 @@ check_opens_later : (k : Claim) (old b c : Outside) (files : List Opened) → Is
 check_opens_later k old b c files l o = record { since = subst (λ i. TellsSince old.inputs i files) (sym l.inputs.inputs) o.since; held = o.held; within = o.within; in_turn = o.in_turn }
 
 -- the same of a run that answers from rows
-rows_read_later : (q : Query) (old b c : Outside) (files : List Opened) → IsLater b c → rows.ReadsTrace q old b files → rows.ReadsTrace q old c files
-rows_read_later q old b c files l r = record { rows = r.rows; file = r.file; all = r.all; ports = r.ports; are = r.are; trace = r.trace; read = read_as old b old c r.file r.trace (rose_as old.input_faults b.input_faults old.input_faults c.input_faults refl l.inputs.input_faults) r.read }
+rows_early_later : (old b c : Outside) (files : List Opened) (end : Ending) → IsLater b c → rows.IsEarly old b files end → rows.IsEarly old c files end
+rows_early_later old b c files (ending.Rows why) l e = e
+rows_early_later old b c files ending.ReadFault l e = (read_rose old b c l e.0, e.1)
+rows_early_later old b c files ending.Memory l e = tt
+rows_early_later old b c files ending.Done l e = absurd e
+rows_early_later old b c files ending.WriteFault l e = absurd e
+rows_early_later old b c files (ending.Trace bad) l e = absurd e
+rows_early_later old b c files ending.Records l e = absurd e
+rows_early_later old b c files ending.Usage l e = absurd e
+rows_early_later old b c files (ending.Policy why) l e = absurd e
+rows_early_later old b c files (ending.Commands why) l e = absurd e
+rows_early_later old b c files (ending.Report why) l e = absurd e
+rows_early_later old b c files ending.Illegal l e = absurd e
 
-rows_trace_later : (q : Query) (old b c : Outside) (files : List Opened) (end : Ending) → IsLater b c → rows.EndsByTrace q old b files end → rows.EndsByTrace q old c files end
-unfolding rows_read_later
-rows_trace_later q old b c files end l e = record { reads = rows_read_later q old b c files l e.reads; records = e.records; ends = e.ends; text = e.text; tells = e.tells; puts = grows_later old b c e.text l e.puts }
+rows_so_later : (ports : List PortRows) (f : Opened) (old b c : Outside) (end : Ending) → IsLater b c → rows.EndsSo ports (IsReadOf old b f) old b end → rows.EndsSo ports (IsReadOf old c f) old c end
+rows_so_later ports f old b c end l e = record { trace = e.trace; reads = read_later old b c f e.trace l e.reads; records = e.records; ends = e.ends; text = e.text; tells = e.tells; puts = grows_later old b c e.text l e.puts }
 
-rows_break_later : (q : Query) (old b c : Outside) (files : List Opened) → IsLater b c → rows.BreaksOff q old b files → rows.BreaksOff q old c files
-unfolding rows_read_later
-rows_break_later q old b c files l e = record { reads = rows_read_later q old b c files l e.reads; records = e.records; first = e.first; text = e.text; tells = e.tells; count = e.count; puts = grows_later old b c (take e.count e.text) l e.puts }
+rows_break_later : (ports : List PortRows) (f : Opened) (old b c : Outside) → IsLater b c → rows.BreaksOff ports (IsReadOf old b f) old b → rows.BreaksOff ports (IsReadOf old c f) old c
+rows_break_later ports f old b c l e = record { trace = e.trace; reads = read_later old b c f e.trace l e.reads; records = e.records; first = e.first; text = e.text; tells = e.tells; puts = (e.puts.0, grows_later old b c (take e.puts.0 e.text) l e.puts.1) }
+
+rows_trace_later : (ports : List PortRows) (f : Opened) (old b c : Outside) (end : Ending) → IsLater b c → rows.TraceEnds ports (IsReadOf old b f) old b end → rows.TraceEnds ports (IsReadOf old c f) old c end
+rows_trace_later ports f old b c ending.Done l e = rows_so_later ports f old b c ending.Done l e
+rows_trace_later ports f old b c (ending.Trace bad) l e = rows_so_later ports f old b c (ending.Trace bad) l e
+rows_trace_later ports f old b c ending.Records l e = rows_so_later ports f old b c ending.Records l e
+rows_trace_later ports f old b c ending.ReadFault l (rose, e) = (read_rose old b c l rose, rows_so_later ports f old b c ending.ReadFault l e)
+rows_trace_later ports f old b c ending.WriteFault l (rose, e) = (put_rose old b c l rose, rows_break_later ports f old b c l e)
+rows_trace_later ports f old b c ending.Memory l (inl e) = inl (record { trace = e.trace; reads = read_later old b c f e.trace l e.reads; nothing = grows_later old b c [] l e.nothing })
+rows_trace_later ports f old b c ending.Memory l (inr e) = inr (rows_break_later ports f old b c l e)
+rows_trace_later ports f old b c (ending.Rows why) l e = absurd e
+rows_trace_later ports f old b c ending.Usage l e = absurd e
+rows_trace_later ports f old b c (ending.Policy why) l e = absurd e
+rows_trace_later ports f old b c (ending.Commands why) l e = absurd e
+rows_trace_later ports f old b c (ending.Report why) l e = absurd e
+rows_trace_later ports f old b c ending.Illegal l e = absurd e
 
 rows_later : (q : Query) (old b c : Outside) (files : List Opened) (end : Ending) → IsLater b c → rows.Ends q old b files end → rows.Ends q old c files end
-rows_later q old b c files ending.Done l e = rows_trace_later q old b c files ending.Done l e
-rows_later q old b c files (ending.Trace bad) l e = rows_trace_later q old b c files (ending.Trace bad) l e
-rows_later q old b c files ending.Records l e = rows_trace_later q old b c files ending.Records l e
-rows_later q old b c files (ending.Rows why) l e = (e.0, grows_later old b c [] l e.1)
-rows_later q old b c files ending.ReadFault l (rose, inl e) = (rose_as old.input_faults b.input_faults old.input_faults c.input_faults refl l.inputs.input_faults rose, inl (e.0, grows_later old b c [] l e.1))
-rows_later q old b c files ending.ReadFault l (rose, inr e) = (rose_as old.input_faults b.input_faults old.input_faults c.input_faults refl l.inputs.input_faults rose, inr (rows_trace_later q old b c files ending.ReadFault l e))
-rows_later q old b c files ending.WriteFault l (rose, e) = (rose_as old.put_faults b.put_faults old.put_faults c.put_faults refl l.put.put_faults rose, rows_break_later q old b c files l e)
-rows_later q old b c files ending.Memory l (inl e) = inl (grows_later old b c [] l e)
-rows_later q old b c files ending.Memory l (inr e) = inr (rows_break_later q old b c files l e)
-rows_later q old b c files ending.Usage l e = absurd e
-rows_later q old b c files (ending.Policy why) l e = absurd e
-rows_later q old b c files (ending.Commands why) l e = absurd e
-rows_later q old b c files (ending.Report why) l e = absurd e
-rows_later q old b c files ending.Illegal l e = absurd e
+rows_later q old b c files end l (inl e) = inl (rows_early_later old b c files end l e.0, grows_later old b c [] l e.1)
+rows_later q old b c files end l (inr e) = inr (record { rows = e.rows; file = e.file; all = e.all; ports = e.ports; are = e.are; ends = rows_trace_later e.ports e.file old b c end l e.ends })
 
 rows_opens_later : (q : Query) (old b c : Outside) (files : List Opened) → IsLater b c → rows.Opens old b q files → rows.Opens old c q files
 rows_opens_later q old b c files l o = record { since = subst (λ i. TellsSince old.inputs i files) (sym l.inputs.inputs) o.since; held = o.held; within = o.within; in_turn = o.in_turn }
@@ -320,6 +333,10 @@ no_export_usage : {A : Type 0} (q : Request) (old new : Outside) (files : List O
 no_export_usage q old new files (inl e) = absurd e.0
 no_export_usage q old new files (inr e) = absurd e.ends
 
+no_rows_usage : {A : Type 0} (q : Query) (old new : Outside) (files : List Opened) → rows.Ends q old new files ending.Usage → A
+no_rows_usage q old new files (inl e) = absurd e.0
+no_rows_usage q old new files (inr e) = absurd e.ends
+
 -- words outside the grammar have no other status
 usage_by : (o : Option Asked) (old new : Outside) (end : Ending) → RunsBy o old new end → (end ≡ ending.Usage) ↔ (o ≡ None)
 usage_by None old new end r = ((λ e. refl), (λ e. r.usage))
@@ -328,7 +345,7 @@ usage_by (Some (Deliver q)) old new end r = ((λ e. no_usage true q old new r.fi
 usage_by (Some (Stream q)) old new end r = ((λ e. no_usage false q old new r.files (subst (Ends false q old new r.files) e r.ends)), (λ e. absurd (cc e)))
 usage_by (Some (Offload q)) old new end r = ((λ e. no_export_usage q old new r.files (subst (exports.Ends q old new r.files) e r.ends)), (λ e. absurd (cc e)))
 usage_by (Some (Check k)) old new end r = ((λ e. absurd (subst (checks.Ends k old new r.files) e r.ends)), (λ e. absurd (cc e)))
-usage_by (Some (Engine q)) old new end r = ((λ e. absurd (subst (rows.Ends q old new r.files) e r.ends)), (λ e. absurd (cc e)))
+usage_by (Some (Engine q)) old new end r = ((λ e. no_rows_usage q old new r.files (subst (rows.Ends q old new r.files) e r.ends)), (λ e. absurd (cc e)))
 usage_by (Some (Generate start packets)) old new end r = ((λ e. absurd (subst (EndsGenerated start packets old new) e r.ends)), (λ e. absurd (cc e)))
 
 pub usage_is : (words : List (List ℕ)) (old new : Outside) (s : Status) → IsRun words old new s → (s ≡ status.Usage) ↔ (asked_in words ≡ None)
@@ -352,6 +369,14 @@ export_write_rises : (q : Request) (old new : Outside) (files : List Opened) →
 export_write_rises q old new files (inl e) = absurd e.0
 export_write_rises q old new files (inr e) = e.ends.0
 
+rows_read_rises : (q : Query) (old new : Outside) (files : List Opened) → rows.Ends q old new files ending.ReadFault → Rose old.input_faults new.input_faults
+rows_read_rises q old new files (inl e) = e.0.0
+rows_read_rises q old new files (inr e) = e.ends.0
+
+rows_write_rises : (q : Query) (old new : Outside) (files : List Opened) → rows.Ends q old new files ending.WriteFault → Rose old.put_faults new.put_faults
+rows_write_rises q old new files (inl e) = absurd e.0
+rows_write_rises q old new files (inr e) = e.ends.0
+
 -- a fault has its cause
 read_by : (o : Option Asked) (old new : Outside) (end : Ending) → RunsBy o old new end → end ≡ ending.ReadFault → Rose old.input_faults new.input_faults
 read_by None old new end r e = absurd (let u = r.usage in cc (u, e))
@@ -360,7 +385,7 @@ read_by (Some (Deliver q)) old new end r e = read_rises true q old new r.files (
 read_by (Some (Stream q)) old new end r e = read_rises false q old new r.files (subst (Ends false q old new r.files) e r.ends)
 read_by (Some (Offload q)) old new end r e = export_read_rises q old new r.files (subst (exports.Ends q old new r.files) e r.ends)
 read_by (Some (Check k)) old new end r e = (subst (checks.Ends k old new r.files) e r.ends).0
-read_by (Some (Engine q)) old new end r e = (subst (rows.Ends q old new r.files) e r.ends).0
+read_by (Some (Engine q)) old new end r e = rows_read_rises q old new r.files (subst (rows.Ends q old new r.files) e r.ends)
 read_by (Some (Generate start packets)) old new end r e = absurd (subst (EndsGenerated start packets old new) e r.ends)
 
 pub read_fault_is : (words : List (List ℕ)) (old new : Outside) (s : Status) → IsRun words old new s → s ≡ status.ReadFault → Rose old.input_faults new.input_faults
@@ -373,7 +398,7 @@ write_by (Some (Deliver q)) old new end r e = write_rises true q old new r.files
 write_by (Some (Stream q)) old new end r e = write_rises false q old new r.files (subst (Ends false q old new r.files) e r.ends)
 write_by (Some (Offload q)) old new end r e = export_write_rises q old new r.files (subst (exports.Ends q old new r.files) e r.ends)
 write_by (Some (Check k)) old new end r e = (subst (checks.Ends k old new r.files) e r.ends).0
-write_by (Some (Engine q)) old new end r e = (subst (rows.Ends q old new r.files) e r.ends).0
+write_by (Some (Engine q)) old new end r e = rows_write_rises q old new r.files (subst (rows.Ends q old new r.files) e r.ends)
 write_by (Some (Generate start packets)) old new end r e = (subst (EndsGenerated start packets old new) e r.ends).0
 
 pub write_fault_is : (words : List (List ℕ)) (old new : Outside) (s : Status) → IsRun words old new s → s ≡ status.WriteFault → Rose old.put_faults new.put_faults

@@ -14,7 +14,8 @@ use Rattle.vsw_run.specs.Trace.{Reach, All as Whole, Fault, Stopped, Trace}
 use Rattle.vsw_run.specs.declared.ending.Ending.{Ending}
 use Rattle.vsw_run.specs.declared.ending.Ending.TheVariants as ending
 use Rattle.vsw_replay.specs.Endings.{ending_of}
-use Rattle.vsw_replay.specs.Runs.{EndsUnopened, Reads, OpensNothing, RunsTrace}
+use Rattle.vsw_run.specs.Steps.{EndsUnopened, OpensNothing, Reads}
+use Rattle.vsw_replay.specs.Runs.{RunsTrace}
 use Rattle.vsw_replay.specs.Runs as runs
 use Rattle.vsw_replay.specs.declared.ending.TraceEnd.{TraceEnd}
 use Rattle.vsw_replay.specs.declared.ending.TraceEnd.TheVariants as end
@@ -109,8 +110,8 @@ pub nothing_put : (q : Request) (old now new : Outside) (p : PolicyFile) (lines 
 nothing_put q old now new p lines h o = grows_as now.put new.put old.put new.put [] (sym h.read.outputs.put) refl o.nothing
 
 -- a run whose trace wasn't opened is early
-pub early_behind : (q : Request) (old now new : Outside) (p : PolicyFile) (lines : List Line) (h : HasCommands q old now p lines) (e : TraceEnd) → EndsUnopened now new e → OpensNothing now new × IsEarly old new (h.policy_file ∷ h.file ∷ []) (ending_of e)
-early_behind q old now new p lines h end.ReadFault (rose, o) = (o, rose_from old.input_faults now.input_faults new.input_faults h.read.later rose, record { few = omega arith; cut_short = h.read.short })
+pub early_behind : (q : Request) (old now new : Outside) (p : PolicyFile) (lines : List Line) (h : HasCommands q old now p lines) (e : TraceEnd) → EndsUnopened now new (ending_of e) → OpensNothing now new × IsEarly old new (h.policy_file ∷ h.file ∷ []) (ending_of e)
+early_behind q old now new p lines h end.ReadFault (rose, o) = (o, (rose_from old.input_faults now.input_faults new.input_faults h.read.later rose, record { few = omega arith; cut_short = h.read.short }))
 early_behind q old now new p lines h end.Memory o = (o, tt)
 early_behind q old now new p lines h end.Done o = absurd o
 early_behind q old now new p lines h end.WriteFault o = absurd o

@@ -24,13 +24,15 @@ use Rattle.vsw_reading.proofs.Passing.{header_more, passed_first, passed_more, p
 use Rattle.vsw_reading.proofs.Splitting.{Passed, splits_shorter, stands_passed, stops_at}
 use Rattle.vsw_reading.proofs.Staying.{reading_put}
 use Rattle.vsw_engine.specs.Private.Going.{CanRead, IsBetween, IsFilled, IsNear, IsPut, IsTold, ShowsStop}
-use Rattle.vsw_engine.specs.Runs.{AnswersTrace, EndsSo, Reads}
+use Rattle.vsw_run.specs.Steps.{Reads}
+use Rattle.vsw_engine.specs.Runs.{AnswersTrace}
 use Rattle.vsw_engine.proofs.Lines.{lines_join}
-use Rattle.vsw_engine.proofs.Sources.{answers_so, near_put, read_to, reads_fault, reads_stopped, reads_whole, shows_put, since_put, told_read}
-use Rattle.vsw_run.specs.ByRows.{EndsBehind, HasFirst, Pauses}
+use Rattle.vsw_engine.proofs.Sources.{answers_so, near_put, shows_put, since_put, told_read}
+use Rattle.vsw_run.specs.ByRows.{EndsBehind, EndsSo, HasFirst, Pauses}
 use Rattle.vsw_run.specs.Engine.{AreEngineLines, engine_head}
 use Rattle.vsw_run.specs.Trace.{All, Fault, Stopped, Trace, most_records}
 use Rattle.vsw_run.specs.declared.ending.Ending.{Ending}
+use Rattle.vsw_run.proofs.ReadTo.{read_to, reads_fault, reads_stopped, reads_whole}
 use Rattle.vsw_run.specs.declared.ending.Ending.TheVariants as ending
 
 -- ---- why the reading stopped
@@ -51,29 +53,28 @@ pub has_first : (bytes : List ℕ) (rs : List Record) → IsPassed bytes rs → 
 has_first bytes rs p = record { form = p.form; rest = p.rest; header = p.header; splits = p.splits }
 
 -- the lines of these records were put, and the run ends so
-ends_told : (ports : List PortRows) (start now : Outside) (name : List ℕ) (e : Ending) (t : Trace) (records : List Record) → Reads start now name t → EndsBehind t e (Some records) → IsTold ports start now records → EndsSo ports start now name e
+ends_told : (ports : List PortRows) (start now : Outside) (name : List ℕ) (e : Ending) (t : Trace) (records : List Record) → Reads start now name t → EndsBehind t e (Some records) → IsTold ports start now records → EndsSo ports (Reads start now name) start now e
 ends_told ports start now name e t records reads ends told = record { trace = t; reads = reads; records = Some records; ends = ends; text = engine_head ++ told.lines; tells = (told.lines, told.are, refl); puts = told.puts }
 
 -- want of memory ended it behind the lines of these records
 pub memory_ends : (ports : List PortRows) (start now : Outside) (name : List ℕ) (file : ℕ) (bytes : List ℕ) (records : List Record) → IsReading start now name file bytes → IsPassed bytes records → IsTold ports start now records → AnswersTrace ports start now name ending.Memory
 memory_ends ports start now name file bytes records reading passed told =
     let text : List ℕ = engine_head ++ told.lines in
-    answers_so ports start now name ending.Memory told.since reading.later (inr (record {
+    answers_so ports start now name ending.Memory told.since reading.later (inr (inr (record {
       trace = read_to Stopped bytes;
       reads = reads_stopped start now name file bytes reading;
       records = records;
       first = has_first bytes records passed;
       text = text;
       tells = (told.lines, told.are, refl);
-      count = length text;
-      puts = grows_is start.put now.put text (take (length text) text) (sym (take_all (length text) text (omega arith))) told.puts;
-    }))
+      puts = (length text, grows_is start.put now.put text (take (length text) text) (sym (take_all (length text) text (omega arith))) told.puts);
+    })))
 
 header_bad : (bytes : List ℕ) (all : List Record) (bad : BadTrace) → IsPassed bytes all → header_of bytes ≡ Err bad → ⊥
 header_bad bytes all bad p e = let h = p.header in cc (e, h)
 
 bad_ends : (ports : List PortRows) (start now : Outside) (name : List ℕ) (file : ℕ) (bytes : List ℕ) (all : List Record) (bad : BadTrace) → IsReading start now name file bytes → IsPassed bytes all → ((at : ℕ) → bad ≡ Cut at → Reads start now name (read_to All bytes)) → IsCapture bytes all (Some bad) → length all < most_records → IsTold ports start now all
-    → EndsSo ports start now name (ending.Trace bad)
+    → EndsSo ports (Reads start now name) start now (ending.Trace bad)
 bad_ends ports start now name file bytes all NotPcap r p whole c few told = absurd (header_bad bytes all NotPcap p c.0)
 bad_ends ports start now name file bytes all Version r p whole c few told = absurd (header_bad bytes all Version p c.0)
 bad_ends ports start now name file bytes all LinkType r p whole c few told = absurd (header_bad bytes all LinkType p c.0)
@@ -90,18 +91,18 @@ put_full ports start now name r first p =
 pub put_end : (ports : List PortRows) (start now : Outside) (name : List ℕ) (r : Reading) (first : ℕ) → IsPut ports start now name r first stop.End → AnswersTrace ports start now name ending.Done
 put_end ports start now name r first p =
     let s = p.at.shows in
-    answers_so ports start now name ending.Done p.at.puts.since p.at.reading.later (ends_told ports start now name ending.Done (read_to All p.at.bytes) p.all (reads_whole start now name p.at.bytes s.0) (refl, s.1, s.2) p.at.puts)
+    answers_so ports start now name ending.Done p.at.puts.since p.at.reading.later (inr (ends_told ports start now name ending.Done (read_to All p.at.bytes) p.all (reads_whole start now name p.at.bytes s.0) (refl, s.1, s.2) p.at.puts))
 
 pub put_fault : (ports : List PortRows) (start now : Outside) (name : List ℕ) (r : Reading) (first : ℕ) → IsPut ports start now name r first stop.Fault → AnswersTrace ports start now name ending.ReadFault
 put_fault ports start now name r first p =
     let s = p.at.shows in
-    answers_so ports start now name ending.ReadFault p.at.puts.since p.at.reading.later (s.0, inr (ends_told ports start now name ending.ReadFault (read_to Fault p.at.bytes) p.all (reads_fault start now name r.source.file p.at.bytes s.0 p.at.reading) (refl, s.1) p.at.puts))
+    answers_so ports start now name ending.ReadFault p.at.puts.since p.at.reading.later (inr (s.0, ends_told ports start now name ending.ReadFault (read_to Fault p.at.bytes) p.all (reads_fault start now name r.source.file p.at.bytes s.0 p.at.reading) (refl, s.1) p.at.puts))
 
 pub put_bad : (ports : List PortRows) (start now : Outside) (name : List ℕ) (r : Reading) (first : ℕ) (bad : BadTrace) → IsPut ports start now name r first (stop.Bad bad) → AnswersTrace ports start now name (ending.Trace bad)
 put_bad ports start now name r first bad p =
     let s = p.at.shows in
     answers_so ports start now name (ending.Trace bad) p.at.puts.since p.at.reading.later
-    (bad_ends ports start now name r.source.file p.at.bytes p.all bad p.at.reading p.at.passed (λ at e. reads_whole start now name p.at.bytes (s.0 at e)) s.1 s.2 p.at.puts)
+    (inr (bad_ends ports start now name r.source.file p.at.bytes p.all bad p.at.reading p.at.passed (λ at e. reads_whole start now name p.at.bytes (s.0 at e)) s.1 s.2 p.at.puts))
 
 -- ---- the lines of a batch
 
@@ -135,7 +136,7 @@ batch_unput ports start old now name r first st text e lines d f =
     let whole : engine_head ++ t.lines ++ text ≡ engine_head ++ (t.lines ++ text) = append_assoc engine_head t.lines text in
     let n : ℕ = length (engine_head ++ t.lines) + d.told.0 in
     let reading = reading_put start old now name r.source.file f.at.bytes d.inputs f.at.reading in
-    answers_so ports start now name ending.WriteFault (since_put start old now text (Err e) t.since d) reading.later (
+    answers_so ports start now name ending.WriteFault (since_put start old now text (Err e) t.since d) reading.later (inr (
       omega (arith, t.since.puts_later, d.cause.failed),
       record {
         trace = read_to Stopped f.at.bytes;
@@ -144,10 +145,9 @@ batch_unput ports start old now name r first st text e lines d f =
         first = has_first f.at.bytes all f.at.passed;
         text = engine_head ++ (t.lines ++ text);
         tells = (t.lines ++ text, lines_join ports 0 f.given r.batch t.lines text t.are (subst (λ k. AreEngineLines ports k r.batch text) from lines), refl);
-        count = n;
-        puts = grows_is start.put now.put (take n (engine_head ++ t.lines ++ text)) (take n (engine_head ++ (t.lines ++ text))) (ap (take n) whole) (front_then start.put old.put now.put (engine_head ++ t.lines) text d.told.0 t.puts d.told.1);
+        puts = (n, grows_is start.put now.put (take n (engine_head ++ t.lines ++ text)) (take n (engine_head ++ (t.lines ++ text))) (ap (take n) whole) (front_then start.put old.put now.put (engine_head ++ t.lines) text d.told.0 t.puts d.told.1));
       },
-    )
+    ))
 
 pub batch_unwritten : (ports : List PortRows) (start now : Outside) (name : List ℕ) (r : Reading) (first : ℕ) (st : Stop) → IsFilled ports start now name r first st → AnswersTrace ports start now name ending.Memory
 batch_unwritten ports start now name r first st f = memory_ends ports start now name r.source.file f.at.bytes f.given f.at.reading (passed_first f.at.bytes f.given r.batch f.at.passed) f.at.puts
@@ -200,13 +200,13 @@ next_more ports start old now name first q r full same outputs peeks b =
     let splits = splits_more b.bytes p.0 t.form b.given q.reader.left t.header t.splits in
     let some : 0 < length rest = subst (λ (l : List ℕ). 0 < length (l ++ p.0)) (ap (λ w. w.left) same) p.2 in
     let told = told_read ports start old now b.given outputs b.puts in
-    answers_so ports start now name ending.Records told.since p.1.later (ends_told ports start now name ending.Records (read_to Stopped bytes) b.given (reads_stopped start now name r.source.file bytes p.1) (record {
+    answers_so ports start now name ending.Records told.since p.1.later (inr (ends_told ports start now name ending.Records (read_to Stopped bytes) b.given (reads_stopped start now name r.source.file bytes p.1) (record {
       at = length bytes - length rest;
       front = front_of t.form rest;
       stops = stops_at bytes t.form b.given rest (front_of t.form rest) header splits refl;
       more = omega (arith, some, splits_shorter t.form (drop 24 bytes) b.given rest splits, length-drop 24 bytes);
       full = b.count ∙ full;
-    }) told)
+    }) told))
 
 -- none does
 pub next_none : (ports : List PortRows) (start old now : Outside) (name : List ℕ) (first : ℕ) (st : Stop) (q r : Reading) → first ≡ 1048576 → r.reader ≡ q.reader → r.batch ≡ [] → (st ≡ stop.Full → ⊥) → SameOutputs old now → PeeksSo old now (cleared q) r st → IsBetween ports start old name q first → IsFilled ports start now name r first st

@@ -26,13 +26,15 @@ use Rattle.vsw_reading.proofs.Open.{FillsSo}
 use Rattle.vsw_reading.proofs.Passing.{passed_read, waits_passed}
 use Rattle.vsw_reading.proofs.Staying.{reading_put}
 use Rattle.vsw_engine.specs.Private.Going.{IsFilled, IsFirst, IsOpened, Since, unheaded_of}
-use Rattle.vsw_engine.specs.Runs.{AnswersTrace, EndsSo, Reads}
+use Rattle.vsw_run.specs.Steps.{Reads}
+use Rattle.vsw_engine.specs.Runs.{AnswersTrace}
 use Rattle.vsw_engine.proofs.Batches.{shows_of}
-use Rattle.vsw_engine.proofs.Sources.{answers_so, grows_read, read_to, reads_fault, reads_stopped, reads_whole, shows_put, since_put, since_read}
-use Rattle.vsw_run.specs.ByRows.{EndsBehind}
+use Rattle.vsw_engine.proofs.Sources.{answers_so, grows_read, shows_put, since_put, since_read}
+use Rattle.vsw_run.specs.ByRows.{EndsBehind, EndsSo}
 use Rattle.vsw_run.specs.Engine.{engine_head}
 use Rattle.vsw_run.specs.Trace.{All, Fault, Stopped, Trace}
 use Rattle.vsw_run.specs.declared.ending.Ending.{Ending}
+use Rattle.vsw_run.proofs.ReadTo.{read_to, reads_fault, reads_stopped, reads_whole}
 use Rattle.vsw_run.specs.declared.ending.Ending.TheVariants as ending
 
 -- ---- a header was accepted
@@ -86,7 +88,7 @@ head_unput ports start old now name r st x e d f =
     let p = f.stops in
     let passed = headed start old name r p.bytes st p.read p.says e in
     let reading = reading_put start old now name r.source.file p.bytes d.inputs p.read.reading in
-    answers_so ports start now name ending.WriteFault (since_put start old now engine_head (Err x) f.since d) reading.later (
+    answers_so ports start now name ending.WriteFault (since_put start old now engine_head (Err x) f.since d) reading.later (inr (
       omega (arith, f.since.puts_later, d.cause.failed),
       record {
         trace = read_to Stopped p.bytes;
@@ -95,14 +97,13 @@ head_unput ports start old now name r st x e d f =
         first = record { form = passed.form; rest = _; header = passed.header; splits = refl };
         text = engine_head ++ [];
         tells = ([], refl, refl);
-        count = d.told.0;
-        puts = grows_is start.put now.put (take d.told.0 engine_head) (take d.told.0 (engine_head ++ [])) (ap (take d.told.0) (sym (append-nil engine_head))) (grows_then start.put old.put now.put [] (take d.told.0 engine_head) f.puts d.told.1);
+        puts = (d.told.0, grows_is start.put now.put (take d.told.0 engine_head) (take d.told.0 (engine_head ++ [])) (ap (take d.told.0) (sym (append-nil engine_head))) (grows_then start.put old.put now.put [] (take d.told.0 engine_head) f.puts d.told.1));
       },
-    )
+    ))
 
 -- ---- no header was accepted
 
-nothing_told : (ports : List PortRows) (start now : Outside) (name : List ℕ) (e : Ending) (t : Trace) → Reads start now name t → EndsBehind t e None → Grows start.put now.put [] → EndsSo ports start now name e
+nothing_told : (ports : List PortRows) (start now : Outside) (name : List ℕ) (e : Ending) (t : Trace) → Reads start now name t → EndsBehind t e None → Grows start.put now.put [] → EndsSo ports (Reads start now name) start now e
 nothing_told ports start now name e t reads ends puts = record { trace = t; reads = reads; records = None; ends = ends; text = []; tells = refl; puts = puts }
 
 fault_ends : (ports : List PortRows) (start now : Outside) (name : List ℕ) (file : ℕ) (bytes : List ℕ) (seen : ℕ) (e : Ending) → Since start now → IsReading start now name file bytes → Grows start.put now.put [] → Rose start.input_faults now.input_faults → seen ≡ min 24 (length bytes) → (b : Bool) → nat_lt seen 24 ≡ b → (if b then Some ending.ReadFault else None) ≡ Some e
@@ -110,7 +111,7 @@ fault_ends : (ports : List PortRows) (start now : Outside) (name : List ℕ) (fi
 fault_ends ports start now name file bytes seen e since r g rose is true t h =
     let few : length bytes < 24 = grind (arith, common_steps) in
     let same : ending.ReadFault ≡ e = cc h in
-    subst (AnswersTrace ports start now name) same (answers_so ports start now name ending.ReadFault since r.later (rose, inr (nothing_told ports start now name ending.ReadFault (read_to Fault bytes) (reads_fault start now name file bytes rose r) (refl, few) g)))
+    subst (AnswersTrace ports start now name) same (answers_so ports start now name ending.ReadFault since r.later (inr (rose, nothing_told ports start now name ending.ReadFault (read_to Fault bytes) (reads_fault start now name file bytes rose r) (refl, few) g)))
 fault_ends ports start now name file bytes seen e since r g rose is false t h = absurd (cc h)
 
 -- a trace with a bad header is refused by its 24 bytes, or by its end
@@ -123,15 +124,15 @@ bad_ends : (ports : List PortRows) (start now : Outside) (name : List ℕ) (r : 
 bad_ends ports start now name r bytes all NotPcap e since h g c d i =
     let t = shown_bad start now name r bytes all h d in
     let same : ending.Trace NotPcap ≡ e = cc i in
-    subst (AnswersTrace ports start now name) same (answers_so ports start now name (ending.Trace NotPcap) since h.reading.later (nothing_told ports start now name (ending.Trace NotPcap) t.0 t.1 ((ap header_of t.2 ∙ c.0, refl), t.3) g))
+    subst (AnswersTrace ports start now name) same (answers_so ports start now name (ending.Trace NotPcap) since h.reading.later (inr (nothing_told ports start now name (ending.Trace NotPcap) t.0 t.1 ((ap header_of t.2 ∙ c.0, refl), t.3) g)))
 bad_ends ports start now name r bytes all Version e since h g c d i =
     let t = shown_bad start now name r bytes all h (inr d) in
     let same : ending.Trace Version ≡ e = cc i in
-    subst (AnswersTrace ports start now name) same (answers_so ports start now name (ending.Trace Version) since h.reading.later (nothing_told ports start now name (ending.Trace Version) t.0 t.1 ((ap header_of t.2 ∙ c.0, refl), t.3) g))
+    subst (AnswersTrace ports start now name) same (answers_so ports start now name (ending.Trace Version) since h.reading.later (inr (nothing_told ports start now name (ending.Trace Version) t.0 t.1 ((ap header_of t.2 ∙ c.0, refl), t.3) g)))
 bad_ends ports start now name r bytes all LinkType e since h g c d i =
     let t = shown_bad start now name r bytes all h (inr d) in
     let same : ending.Trace LinkType ≡ e = cc i in
-    subst (AnswersTrace ports start now name) same (answers_so ports start now name (ending.Trace LinkType) since h.reading.later (nothing_told ports start now name (ending.Trace LinkType) t.0 t.1 ((ap header_of t.2 ∙ c.0, refl), t.3) g))
+    subst (AnswersTrace ports start now name) same (answers_so ports start now name (ending.Trace LinkType) since h.reading.later (inr (nothing_told ports start now name (ending.Trace LinkType) t.0 t.1 ((ap header_of t.2 ∙ c.0, refl), t.3) g)))
 bad_ends ports start now name r bytes all (Cut at) e since h g c d i = absurd (cc i)
 bad_ends ports start now name r bytes all (Huge at) e since h g c d i = absurd (cc i)
 
@@ -160,7 +161,7 @@ pub first_unfilled : (ports : List PortRows) (start old now : Outside) (name : L
 first_unfilled ports start old now name q r e outputs fills o =
     let f = fills start name [] (opened_holds start old name q o) in
     let bytes : List ℕ = f.bytes ++ f.more in
-    answers_so ports start now name ending.Memory (since_read start old now o.since outputs) f.reading.later (inl (record { nothing = grows_read start old now [] outputs o.puts; opens = inr (read_to Stopped bytes, reads_stopped start now name r.source.file bytes f.reading) }))
+    answers_so ports start now name ending.Memory (since_read start old now o.since outputs) f.reading.later (inr (inl (record { trace = read_to Stopped bytes; reads = reads_stopped start now name r.source.file bytes f.reading; nothing = grows_read start old now [] outputs o.puts })))
 
 -- ---- the trace wasn't opened
 
@@ -169,18 +170,18 @@ since_nothing now = record { complained = refl; complain_faults = refl; puts_lat
 
 -- a desk couldn't be made
 pub unmade : (ports : List PortRows) (now : Outside) (name : List ℕ) → AnswersTrace ports now now name ending.Memory
-unmade ports now name = answers_so ports now now name ending.Memory (since_nothing now) (omega arith) (inl (record { nothing = grows_none now.put; opens = inl (TellsSince-refl now.inputs) }))
+unmade ports now name = answers_so ports now now name ending.Memory (since_nothing now) (omega arith) (inl (record { since = TellsSince-refl now.inputs; nothing = grows_none now.put }))
 
 pub unopened_fault : (ports : List PortRows) (start now : Outside) (name : List ℕ) (why : Unopened) → why ≡ unopened.Fault → OpensSource start now name (Err why) → AnswersTrace ports start now name ending.ReadFault
 unopened_fault ports start now name why e opens =
     let o = subst (λ w. OpensSource start now name (Err w)) e opens in
-    answers_so ports start now name ending.ReadFault (since_read start start now (since_nothing start) o.0) o.1 (o.2, inl (o.3.since, grows_same start.put now.put o.0.put))
+    answers_so ports start now name ending.ReadFault (since_read start start now (since_nothing start) o.0) o.1 (inl (o.2, record { since = o.3.since; nothing = grows_same start.put now.put o.0.put }))
 
 pub unopened_memory : (ports : List PortRows) (start now : Outside) (name : List ℕ) (why : Unopened) → why ≡ unopened.Memory → OpensSource start now name (Err why) → AnswersTrace ports start now name ending.Memory
 unopened_memory ports start now name why e opens =
     let o = subst (λ w. OpensSource start now name (Err w)) e opens in
     answers_so ports start now name ending.Memory (since_read start start now (since_nothing start) o.0) (omega (arith, o.1.input_faults))
-    (inl (record { nothing = grows_same start.put now.put o.0.put; opens = inl (subst (λ i. TellsSince start.inputs i []) (sym o.1.inputs) (TellsSince-refl start.inputs)) }))
+    (inl (record { since = subst (λ i. TellsSince start.inputs i []) (sym o.1.inputs) (TellsSince-refl start.inputs); nothing = grows_same start.put now.put o.0.put }))
 
 -- nothing was read of it yet
 pub opened : (start now : Outside) (name : List ℕ) (r : Reading) → SameOutputs start now → r.batch ≡ [] → IsRead start now name r [] [] → IsOpened start now name r

@@ -1,8 +1,6 @@
 -- What was read and put, as the run goes on.
-use Rattle.std.proofs.Common.{◌≡◌, ◌≤◌, ℕ, Result, List, ◌++◌, length, take, take_all, refl, sym, ◌∙◌, ap, subst, arith, length-take}
-use Rattle.vsw_host.specs.Outside.{Outside, Grows, Rose, SameInputs, SameOutputs, DoesPut}
-use Rattle.vsw_host.specs.Source.{IsReading}
-use Rattle.vsw_host.specs.Told.{ReadsAll}
+use Rattle.std.proofs.Common.{◌≤◌, ℕ, Result, List, ◌++◌, sym, ◌∙◌, subst, arith}
+use Rattle.vsw_host.specs.Outside.{Outside, Grows, SameInputs, SameOutputs, DoesPut}
 use Rattle.vsw_pcap.specs.declared.capture.Record.{Record}
 use Rattle.vsw_offload.specs.declared.port_rows.PortRows.{PortRows}
 use Rattle.vsw_reading.specs.declared.reading.Reading.{Reading}
@@ -10,48 +8,10 @@ use Rattle.vsw_reading.specs.declared.reading.Stop.{Stop}
 use Rattle.vsw_reading.specs.declared.reading.Stop.TheVariants as stop
 use Rattle.vsw_reading.proofs.Staying.{open_put, read_put, rose_put, whole_put}
 use Rattle.vsw_engine.specs.Private.Going.{IsNear, IsTold, ShowsStop, Since}
-use Rattle.vsw_engine.specs.Runs.{AnswersTrace, Ends, Reads}
+use Rattle.vsw_engine.specs.Runs.{AnswersTrace, Ends}
 use Rattle.vsw_run.specs.Engine.{engine_head}
-use Rattle.vsw_run.specs.Trace.{All, Fault, Reach, Stopped, Trace}
+use Rattle.vsw_run.specs.Trace.{Fault}
 use Rattle.vsw_run.specs.declared.ending.Ending.{Ending}
-
--- ---- what was read of the file
-
-abbrev pub read_to : Reach → List ℕ → Trace
-read_to reach bytes = record { bytes = bytes; reach = reach }
-
-pub reads_whole : (start now : Outside) (name bytes : List ℕ) → ReadsAll start.inputs now.inputs name bytes → Reads start now name (read_to All bytes)
-reads_whole start now name bytes r = record {
-  file = record { name = name; bytes = bytes; read = length bytes };
-  named = refl;
-  since = r.since;
-  held = r.held;
-  within = omega arith;
-  read = record { bytes = sym (take_all (length bytes) bytes (omega arith)); reaches = refl };
-}
-
-front_within : (got bytes : List ℕ) → got ≡ take (length got) bytes → length got ≤ length bytes
-front_within got bytes e = omega (arith, ap length e, length-take (length got) bytes)
-
-pub reads_stopped : (start now : Outside) (name : List ℕ) (file : ℕ) (bytes : List ℕ) → IsReading start now name file bytes → Reads start now name (read_to Stopped bytes)
-reads_stopped start now name file bytes r = record {
-  file = record { name = name; bytes = r.front.bytes; read = length bytes };
-  named = refl;
-  since = r.front.since;
-  held = r.front.held;
-  within = front_within bytes r.front.bytes r.front.front;
-  read = record { bytes = r.front.front; reaches = tt };
-}
-
-pub reads_fault : (start now : Outside) (name : List ℕ) (file : ℕ) (bytes : List ℕ) → Rose start.input_faults now.input_faults → IsReading start now name file bytes → Reads start now name (read_to Fault bytes)
-reads_fault start now name file bytes rose r = record {
-  file = record { name = name; bytes = r.front.bytes; read = length bytes };
-  named = refl;
-  since = r.front.since;
-  held = r.front.held;
-  within = front_within bytes r.front.bytes r.front.front;
-  read = record { bytes = r.front.front; reaches = rose };
-}
 
 -- ---- what a put changes, and what a read does
 

@@ -45,9 +45,9 @@ rows_read q old new name got bytes r named reads same j = by r (subst (λ (t : L
 
     by : (r : Result (List PortRows) Ending) → JudgesRows got r → ReadsRows q old new r
     by (Ok ports) j = record { file = file; opens = opens; is = record { named = sym named; whole = refl; few = reads.sized; are = j.0; is = j.1 }; outputs = reads.outputs; later = reads.later }
-    by (Err (ending.Rows (fault.Bad why))) j = so (ending.Rows (fault.Bad why)) (record { rows = file; only = refl; shown = (refl, reads.sized, j.0, j.1) }, none)
+    by (Err (ending.Rows (fault.Bad why))) j = so (ending.Rows (fault.Bad why)) (inl (record { rows = file; only = refl; shown = (refl, reads.sized, j.0, j.1) }, none))
     by (Err (ending.Rows fault.RowsLimit)) j = absurd j
-    by (Err ending.Memory) j = so ending.Memory (inl none)
+    by (Err ending.Memory) j = so ending.Memory (inl (tt, none))
     by (Err ending.Done) j = absurd j
     by (Err ending.Usage) j = absurd j
     by (Err ending.ReadFault) j = absurd j
@@ -66,13 +66,13 @@ rows_fault q old new name got named reads = by (fault_read 160000000 old new nam
     none = none_put old new reads.outputs
 
     by : OpensFew old.inputs new.inputs name (λ f. f.read ≤ 160000000) → HasAnswered q old new ending.ReadFault
-    by (inl since) = ends_so q old new ending.ReadFault [] reads.outputs (opens_none q old new since) (reads.fault refl, inl (tt, none))
-    by (inr (f, one, few)) = ends_so q old new ending.ReadFault (f ∷ []) reads.outputs (opens_one q old new name f named one) (reads.fault refl, inl (omega (arith, few), none))
+    by (inl since) = ends_so q old new ending.ReadFault [] reads.outputs (opens_none q old new since) (inl ((reads.fault refl, tt), none))
+    by (inr (f, one, few)) = ends_so q old new ending.ReadFault (f ∷ []) reads.outputs (opens_one q old new name f named one) (inl ((reads.fault refl, omega (arith, few)), none))
 
 pub rows_long : (q : Query) (old new : Outside) (name got : List ℕ) → q.rows ≡ name → ReadsFile 160000000 old new name got Long → HasAnswered q old new (ending.Rows fault.RowsLimit)
 rows_long q old new name got named reads =
     let l : IsLong 160000000 old.inputs new.inputs name = long_read 160000000 old new name got reads in
-    ends_so q old new (ending.Rows fault.RowsLimit) (l.file ∷ []) reads.outputs (opens_one q old new name l.file named l.opens) (record { rows = l.file; only = refl; shown = (l.over, l.short) }, none_put old new reads.outputs)
+    ends_so q old new (ending.Rows fault.RowsLimit) (l.file ∷ []) reads.outputs (opens_one q old new name l.file named l.opens) (inl (record { rows = l.file; only = refl; shown = (l.over, l.short) }, none_put old new reads.outputs))
 
 pub rows_memory : (q : Query) (old new : Outside) (name got : List ℕ) → q.rows ≡ name → ReadsFile 160000000 old new name got Memory → HasAnswered q old new ending.Memory
 rows_memory q old new name got named reads = by (memory_read 160000000 old new name got reads)
@@ -81,5 +81,5 @@ rows_memory q old new name got named reads = by (memory_read 160000000 old new n
     none = none_put old new reads.outputs
 
     by : OpensFew old.inputs new.inputs name (λ f. Unit {0}) → HasAnswered q old new ending.Memory
-    by (inl since) = ends_so q old new ending.Memory [] reads.outputs (opens_none q old new since) (inl none)
-    by (inr (f, one, u)) = ends_so q old new ending.Memory (f ∷ []) reads.outputs (opens_one q old new name f named one) (inl none)
+    by (inl since) = ends_so q old new ending.Memory [] reads.outputs (opens_none q old new since) (inl (tt, none))
+    by (inr (f, one, u)) = ends_so q old new ending.Memory (f ∷ []) reads.outputs (opens_one q old new name f named one) (inl (tt, none))

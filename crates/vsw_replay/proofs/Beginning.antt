@@ -31,16 +31,18 @@ use Rattle.vsw_replay.specs.Private.Cut.{IsNextCut}
 use Rattle.vsw_replay.specs.Private.Going.{Since, IsFilled, IsOpened, IsFirst, unheaded_of}
 use Rattle.vsw_reading.specs.Passed.{IsPassed}
 use Rattle.vsw_reading.specs.Reads.{IsRead, Holds, Says}
-use Rattle.vsw_replay.specs.Runs.{Reads, RunsTrace}
+use Rattle.vsw_run.specs.Steps.{Reads}
+use Rattle.vsw_replay.specs.Runs.{RunsTrace}
 use Rattle.vsw_replay.specs.Private.SoFar.{AreSoFar}
 use Rattle.vsw_replay.proofs.Carried.{none_so_far}
-use Rattle.vsw_replay.proofs.Completing.{read_to, header_follows, some_tells}
+use Rattle.vsw_replay.proofs.Completing.{header_follows, some_tells}
 use Rattle.vsw_replay.proofs.Cuts.{within_none}
 use Rattle.vsw_replay.proofs.Filling.{shows_of, reading_on}
 use Rattle.vsw_reading.proofs.Open.{FillsSo}
 use Rattle.vsw_reading.proofs.Passing.{passed_read, waits_passed}
 use Rattle.vsw_replay.proofs.Growing.{grows_none, grows_then, grows_is}
-use Rattle.vsw_replay.proofs.Sources.{reads_whole, reads_stopped, reads_fault, since_put, since_read, grows_read, shows_put, runs_so, ends_so, breaks_off}
+use Rattle.vsw_replay.proofs.Sources.{since_put, since_read, grows_read, shows_put, runs_so, ends_so, breaks_off}
+use Rattle.vsw_run.proofs.ReadTo.{read_to, reads_fault, reads_stopped, reads_whole}
 use Rattle.vsw_reading.proofs.Staying.{reading_put}
 
 -- ---- a header was accepted

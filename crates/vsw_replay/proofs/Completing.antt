@@ -13,7 +13,7 @@ use Rattle.vsw_pcap.specs.declared.fault.BadTrace.TheVariants.{NotPcap, Version,
 use Rattle.vsw_pcap.proofs.Format.{not_cut, not_huge}
 use Rattle.vsw_promise.specs.Ports.{ports_of}
 use Rattle.vsw_promise.specs.Jobs.{Setting, cuts, cuts_within}
-use Rattle.vsw_run.specs.Trace.{most_records, Trace, Reach, All, Stopped, TellsAll, TellsWithin, MayTell}
+use Rattle.vsw_run.specs.Trace.{most_records, Trace, All, Stopped, TellsAll, TellsWithin, MayTell}
 use Rattle.vsw_run.specs.declared.ending.Ending.TheVariants as ending
 use Rattle.vsw_report.specs.Print.{head_line, round_text, report_text}
 use Rattle.vsw_report.specs.Short.{are_short}
@@ -24,11 +24,8 @@ use Rattle.vsw_replay.specs.Private.SoFar.{AreSoFar}
 use Rattle.vsw_replay.proofs.Ordered.{Has}
 use Rattle.vsw_replay.proofs.Cuts.{until_below, within_below, within_more, within_none, until_ascends, until_more}
 use Rattle.vsw_replay.proofs.Carried.{AreLow, low_of, none_so_far, rounds_follow, rounds_of}
+use Rattle.vsw_run.proofs.ReadTo.{read_to}
 use Rattle.vsw_reading.proofs.Splitting.{splits_append, splits_shorter, NotWhole, ends_within, stops_at}
-
--- a trace of which these bytes were read
-abbrev pub read_to : Reach → List ℕ → Trace
-read_to reach bytes = record { bytes = bytes; reach = reach }
 
 -- ---- texts
 

@@ -1,5 +1,5 @@
 -- The rows file behind a run, and how an export ends.
-use Rattle.std.proofs.Common.{◌≡◌, ◌≤◌, ◌⊎◌, ◌+◌, inl, inr, ℕ, zero, suc, Bool, true, false, if◌then◌else◌, Result, Ok, Err, OnOk, List, [], ◌∷◌, ◌++◌, length, take, take_all, refl, sym, ◌∙◌, ap, subst, arith, append_assoc, append-nil}
+use Rattle.std.proofs.Common.{◌≡◌, ◌≤◌, ◌+◌, inl, inr, ℕ, zero, suc, Bool, true, false, if◌then◌else◌, Result, Ok, Err, OnOk, List, [], ◌∷◌, ◌++◌, length, take, take_all, refl, sym, ◌∙◌, ap, subst, arith, append_assoc, append-nil}
 use Rattle.std.specs.Bool.{⊤}
 use Rattle.std.specs.List.{flat_map}
 use Rattle.byteorder.specs.Endian.{little_bytes}
@@ -27,12 +27,12 @@ use Rattle.vsw_run.specs.ByTrace.{EndsSo}
 use Rattle.vsw_run.specs.Exporting.{EndsUnput}
 use Rattle.vsw_replay.specs.Exports.{ExportEnds, ExportsTrace}
 use Rattle.vsw_replay.specs.Private.Exporting.{IsFile, IsThrough, IsWritten, Leaves, unput}
-use Rattle.vsw_replay.specs.Runs.{Ends, OpensNothing, Reads, RunsTrace}
+use Rattle.vsw_run.specs.Steps.{OpensNothing, Reads}
+use Rattle.vsw_replay.specs.Runs.{Ends, RunsTrace}
 use Rattle.vsw_replay.specs.declared.ending.TraceEnd.{TraceEnd}
 use Rattle.vsw_replay.specs.declared.ending.TraceEnd.TheVariants as end
-use Rattle.vsw_replay.proofs.Completing.{read_to}
+use Rattle.vsw_run.proofs.ReadTo.{read_to, reads_whole}
 use Rattle.vsw_replay.proofs.Growing.{grows_none}
-use Rattle.vsw_replay.proofs.Sources.{reads_whole}
 
 -- ---- rows in the order of their keys
 

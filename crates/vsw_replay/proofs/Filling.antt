@@ -28,10 +28,11 @@ use Rattle.vsw_reading.specs.Passed.{IsPassed}
 use Rattle.vsw_reading.specs.Reads.{IsRead, IsOpen, Says, StopsSo, Peeks}
 use Rattle.vsw_replay.specs.Runs.{RunsTrace}
 use Rattle.vsw_replay.specs.Private.SoFar.{AreSoFar}
-use Rattle.vsw_replay.proofs.Completing.{read_to, tells_within, front_follows}
+use Rattle.vsw_replay.proofs.Completing.{tells_within, front_follows}
 use Rattle.vsw_reading.proofs.Passing.{passed_first, passed_more, header_more, splits_more, passed_read}
-use Rattle.vsw_replay.proofs.Sources.{reads_stopped, since_read, grows_read, runs_so, ends_so, breaks_after}
+use Rattle.vsw_replay.proofs.Sources.{since_read, grows_read, runs_so, ends_so, breaks_after}
 use Rattle.vsw_reading.proofs.Splitting.{Passed, splits_shorter, stops_at, stands_passed}
+use Rattle.vsw_run.proofs.ReadTo.{read_to, reads_stopped}
 use Rattle.vsw_reading.proofs.Open.{cleared, holds_cleared, FillsSo, PeeksSo}
 
 -- ---- why the reading stopped

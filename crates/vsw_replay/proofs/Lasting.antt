@@ -12,9 +12,10 @@ use Rattle.vsw_replay.specs.declared.ending.TraceEnd.TheVariants as end
 use Rattle.vsw_replay.specs.Private.Going.{IsPast, clean_of}
 use Rattle.vsw_replay.specs.Runs.{RunsTrace}
 use Rattle.vsw_replay.specs.Private.SoFar.{AreSoFar}
-use Rattle.vsw_replay.proofs.Completing.{read_to, all_tells}
+use Rattle.vsw_replay.proofs.Completing.{all_tells}
 use Rattle.vsw_replay.proofs.Cuts.{until_last, next_some}
-use Rattle.vsw_replay.proofs.Sources.{reads_whole, runs_so, ends_so}
+use Rattle.vsw_run.proofs.ReadTo.{read_to, reads_whole}
+use Rattle.vsw_replay.proofs.Sources.{runs_so, ends_so}
 
 past_clean : (s : Setting) (start now : Outside) (name : List ℕ) (short : Bool) (switch : SwitchNow) (first : ℕ) → next_at (first + 1) s.commands ≡ None → IsPast s start now name short switch first → RunsTrace s start now name (clean_of short)
 past_clean s start now name true switch first e f =

@@ -32,10 +32,11 @@ use Rattle.vsw_replay.specs.Private.SoFar.{AreSoFar}
 use Rattle.vsw_replay.specs.Runs.{RunsTrace}
 use Rattle.vsw_reading.proofs.Passing.{passed_first}
 use Rattle.vsw_reading.proofs.Staying.{reading_put}
-use Rattle.vsw_replay.proofs.Completing.{read_to, report_append, front_follows}
+use Rattle.vsw_replay.proofs.Completing.{report_append, front_follows}
 use Rattle.vsw_replay.proofs.Growing.{grows_is}
 use Rattle.vsw_replay.proofs.Putting.{Continues, shows_few, fault_ends, put_by}
-use Rattle.vsw_replay.proofs.Sources.{reads_stopped, since_read, grows_read, shows_put, runs_so, breaks_off, breaks_after}
+use Rattle.vsw_replay.proofs.Sources.{since_read, grows_read, shows_put, runs_so, breaks_off, breaks_after}
+use Rattle.vsw_run.proofs.ReadTo.{read_to, reads_stopped}
 use Rattle.vsw_replay.proofs.Turning.{rounds_run}
 
 -- ---- nothing is owed

@@ -29,14 +29,16 @@ use Rattle.vsw_replay.specs.Private.Cut.{IsCut, IsNextCut, cuts_until, AreBehind
 use Rattle.vsw_replay.specs.Private.Going.{Since, ShowsStop, IsAsLong, IsFilled, IsPast, IsTurn, AfterPut, PutsStretch, PutsRound, is_run_of}
 use Rattle.vsw_replay.specs.Private.Pauses.{Pauses}
 use Rattle.vsw_reading.specs.Passed.{IsPassed}
-use Rattle.vsw_replay.specs.Runs.{Reads, RunsTrace}
+use Rattle.vsw_run.specs.Steps.{Reads}
+use Rattle.vsw_replay.specs.Runs.{RunsTrace}
 use Rattle.vsw_replay.specs.Private.SoFar.{AreSoFar}
 use Rattle.vsw_replay.proofs.Cuts.{next_some}
-use Rattle.vsw_replay.proofs.Completing.{read_to, Follows, follows_none, tells_within, front_follows, past_follows}
+use Rattle.vsw_replay.proofs.Completing.{Follows, follows_none, tells_within, front_follows, past_follows}
 use Rattle.vsw_reading.proofs.Passing.{passed_first}
 use Rattle.vsw_replay.proofs.Growing.{grows_then, grows_is, front_then}
-use Rattle.vsw_replay.proofs.Sources.{reads_whole, reads_stopped, reads_fault, since_put, shows_put, runs_so, ends_so, breaks_off, breaks_after}
+use Rattle.vsw_replay.proofs.Sources.{since_put, shows_put, runs_so, ends_so, breaks_off, breaks_after}
 use Rattle.vsw_reading.proofs.Staying.{whole_put, reading_put}
+use Rattle.vsw_run.proofs.ReadTo.{read_to, reads_fault, reads_stopped, reads_whole}
 use Rattle.vsw_replay.proofs.Turning.{RoundsFor, rounds_run, rounds_unrun, rounds_past, report_push, short_push}
 
 -- ---- a text follows, whatever stopped the reading

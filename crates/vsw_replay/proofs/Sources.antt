@@ -1,11 +1,9 @@
 -- What was read and put, as the run goes on.
-use Rattle.std.proofs.Common.{◌≡◌, ◌≤◌, ℕ, Result, List, ◌++◌, length, take, take_all, min, refl, sym, ◌∙◌, ap, subst, arith, length-take}
-use Rattle.vsw_host.specs.Outside.{Outside, Grows, Rose, SameInputs, SameOutputs, DoesPut}
-use Rattle.vsw_host.specs.Source.{IsReading}
-use Rattle.vsw_host.specs.Told.{ReadsAll}
+use Rattle.std.proofs.Common.{◌≤◌, ℕ, Result, List, ◌++◌, length, take, take_all, min, sym, ◌∙◌, subst, arith}
+use Rattle.vsw_host.specs.Outside.{Outside, Grows, SameInputs, SameOutputs, DoesPut}
 use Rattle.vsw_pcap.specs.declared.capture.Record.{Record}
 use Rattle.vsw_promise.specs.Jobs.{Setting}
-use Rattle.vsw_run.specs.Trace.{Trace, All, Fault, Stopped, Tells}
+use Rattle.vsw_run.specs.Trace.{Trace, Fault, Tells}
 use Rattle.vsw_run.specs.declared.ending.Ending.{Ending}
 use Rattle.vsw_replay.specs.declared.ending.TraceEnd.{TraceEnd}
 use Rattle.vsw_reading.specs.declared.reading.Reading.{Reading}
@@ -13,45 +11,11 @@ use Rattle.vsw_reading.specs.declared.reading.Stop.{Stop}
 use Rattle.vsw_reading.specs.declared.reading.Stop.TheVariants as stop
 use Rattle.vsw_replay.specs.Private.Going.{Since, ShowsStop}
 use Rattle.vsw_run.specs.ByTrace.{BreaksOff, EndsSo}
-use Rattle.vsw_replay.specs.Runs.{Reads, Ends, RunsTrace}
-use Rattle.vsw_replay.proofs.Completing.{read_to, Follows}
+use Rattle.vsw_run.specs.Steps.{Reads}
+use Rattle.vsw_replay.specs.Runs.{Ends, RunsTrace}
+use Rattle.vsw_replay.proofs.Completing.{Follows}
 use Rattle.vsw_replay.proofs.Growing.{grows_is, front_more}
 use Rattle.vsw_reading.proofs.Staying.{whole_put, read_put, rose_put}
-
--- ---- what was read of the file
-
-pub reads_whole : (start now : Outside) (name bytes : List ℕ) → ReadsAll start.inputs now.inputs name bytes → Reads start now name (read_to All bytes)
-reads_whole start now name bytes r = record {
-  file = record { name = name; bytes = bytes; read = length bytes };
-  named = refl;
-  since = r.since;
-  held = r.held;
-  within = omega arith;
-  read = record { bytes = sym (take_all (length bytes) bytes (omega arith)); reaches = refl };
-}
-
-front_within : (got bytes : List ℕ) → got ≡ take (length got) bytes → length got ≤ length bytes
-front_within got bytes e = omega (arith, ap length e, length-take (length got) bytes)
-
-pub reads_stopped : (start now : Outside) (name : List ℕ) (file : ℕ) (bytes : List ℕ) → IsReading start now name file bytes → Reads start now name (read_to Stopped bytes)
-reads_stopped start now name file bytes r = record {
-  file = record { name = name; bytes = r.front.bytes; read = length bytes };
-  named = refl;
-  since = r.front.since;
-  held = r.front.held;
-  within = front_within bytes r.front.bytes r.front.front;
-  read = record { bytes = r.front.front; reaches = tt };
-}
-
-pub reads_fault : (start now : Outside) (name : List ℕ) (file : ℕ) (bytes : List ℕ) → Rose start.input_faults now.input_faults → IsReading start now name file bytes → Reads start now name (read_to Fault bytes)
-reads_fault start now name file bytes rose r = record {
-  file = record { name = name; bytes = r.front.bytes; read = length bytes };
-  named = refl;
-  since = r.front.since;
-  held = r.front.held;
-  within = front_within bytes r.front.bytes r.front.front;
-  read = record { bytes = r.front.front; reaches = rose };
-}
 
 -- ---- what a put changes
 

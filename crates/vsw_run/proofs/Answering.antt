@@ -1,5 +1,5 @@
 -- Two runs that answer the same trace from the same rows put the same.
-use Rattle.std.proofs.Common.{◌≡◌, ◌≢◌, ◌<◌, ◌≤◌, ℕ, zero, suc, List, [], ◌∷◌, ◌++◌, length, take, drop, get_or, Option, Some, None, Result, Ok, Err, refl, ap, sym, ◌∙◌, subst, arith, length-append}
+use Rattle.std.proofs.Common.{◌≡◌, ◌≢◌, ◌<◌, ◌≤◌, ℕ, zero, suc, List, [], ◌∷◌, ◌++◌, length, take, drop, get_or, Option, Some, None, Result, Ok, Err, inl, inr, refl, ap, sym, ◌∙◌, subst, arith, length-append}
 use Rattle.std.specs.Prelude.{IsSome, codes, decimal}
 use Rattle.vsw_base.specs.declared.fate.Fate.{Fate}
 use Rattle.vsw_base.specs.declared.flow.Place.{Place}
@@ -24,7 +24,8 @@ use Rattle.vsw_policy.specs.Sound.{Each}
 use Rattle.vsw_promise.proofs.PortRounds.{take_whole}
 use Rattle.vsw_promise.specs.Jobs.{aim_of, crossing_by}
 use Rattle.vsw_report.specs.declared.round.LooseCause.{LooseCause}
-use Rattle.vsw_run.specs.ByRows.{EndsByTrace, EndsBehind, HasBadRows, HasMore, InTurn, ReadsTrace, RunsByRows, ShowsRows, TellsLines, most_rows}
+use Rattle.vsw_run.specs.ByRows as rows_of
+use Rattle.vsw_run.specs.ByRows.{Ends, EndsByTrace, EndsBehind, EndsSo, HasBadRows, HasMore, InTurn, IsEarly, RunsByRows, ShowsRows, TellsLines, TraceEnds, most_rows}
 use Rattle.vsw_run.specs.Complaint.{rows_status, status_of}
 use Rattle.vsw_run.specs.declared.ending.Ending.{Ending}
 use Rattle.vsw_run.specs.declared.ending.Ending.TheVariants as ending
@@ -32,7 +33,7 @@ use Rattle.vsw_run.specs.declared.ending.RowsFault.{RowsFault}
 use Rattle.vsw_run.specs.declared.ending.RowsFault.TheVariants as rows
 use Rattle.vsw_run.specs.declared.ending.Status.TheVariants as status
 use Rattle.vsw_run.specs.Engine.{AreEngineLines, IsAnswerLine, IsEngineLine, answer_text, engine_head}
-use Rattle.vsw_run.specs.Files.{Reaches}
+use Rattle.vsw_run.specs.Files.{IsReadOf, Reaches}
 use Rattle.vsw_run.specs.Law.{HasNoFault}
 use Rattle.vsw_run.specs.Trace.{All, Trace}
 use Rattle.vsw_run.specs.Words.{Query}
@@ -161,8 +162,8 @@ each_held : (a : Inputs) (inputs : Option Inputs) (files : List Opened) → inpu
 each_held a inputs [] e h = tt
 each_held a inputs (f ∷ fs) e h = (held_as a inputs f.name f.bytes e h.0, each_held a inputs fs e h.1)
 
-opens_of : (q : Query) (old new : Outside) (e : Ending) (a : Inputs) (files : List Opened) (r : RunsByRows q old new e) → old.inputs ≡ Some a → r.files ≡ files → Opens a q files
-opens_of q old new e a files r told is = subst (Opens a q) is (record { turn = r.opens.in_turn; held = each_held a old.inputs r.files told r.opens.held; within = r.opens.within })
+opens_of : (q : Query) (old new : Outside) (a : Inputs) (opened files : List Opened) → rows_of.Opens old new q opened → old.inputs ≡ Some a → opened ≡ files → Opens a q files
+opens_of q old new a opened files r told is = subst (Opens a q) is (record { turn = r.in_turn; held = each_held a old.inputs opened told r.held; within = r.within })
 
 named : (a : Inputs) (f : Opened) (name : List ℕ) → f.name ≡ name → a.files f.name ≡ Some f.bytes → a.files name ≡ Some f.bytes
 named a f name e h = subst (λ n. a.files n ≡ Some f.bytes) e h
@@ -172,15 +173,15 @@ take_drop zero xs = refl
 take_drop (suc n) [] = refl
 take_drop (suc n) (x ∷ xs) = ap (λ w. x ∷ w) (take_drop n xs)
 
-of_file : (q : Query) (old new : Outside) (files : List Opened) (r : ReadsTrace q old new files) → IsOfFile r.file.bytes r.trace
-of_file q old new files r = record {
-  more = drop r.file.read r.file.bytes;
-  is = take_drop r.file.read r.file.bytes ∙ ap (λ w. w ++ drop r.file.read r.file.bytes) (sym r.read.bytes);
-  all = λ e. sym (r.read.bytes ∙ (ap (λ n. take n r.file.bytes) (whole e) ∙ take_whole r.file.bytes));
+of_file : (old new : Outside) (f : Opened) (t : Trace) → IsReadOf old new f t → IsOfFile f.bytes t
+of_file old new f t r = record {
+  more = drop f.read f.bytes;
+  is = take_drop f.read f.bytes ∙ ap (λ w. w ++ drop f.read f.bytes) (sym r.bytes);
+  all = λ e. sym (r.bytes ∙ (ap (λ n. take n f.bytes) (whole e) ∙ take_whole f.bytes));
 }
   where
-    whole : r.trace.reach ≡ All → r.file.read ≡ length r.file.bytes
-    whole e = subst (Reaches old new r.file) e r.read.reaches
+    whole : t.reach ≡ All → f.read ≡ length f.bytes
+    whole e = subst (Reaches old new f) e r.reaches
 
 record Shown (ports : List PortRows) (file : List ℕ) (e : Ending) (text : List ℕ) : Type 0 where
   records : List Record
@@ -231,11 +232,10 @@ shown_by ports file t (ending.Report why) rs text b i r w = absurd b
 shown_by ports file t (ending.Rows why) rs text b i r w = absurd b
 shown_by ports file t ending.Illegal rs text b i r w = absurd b
 
-found_trace : (q : Query) (old new : Outside) (a : Inputs) (e : Ending) (r : RunsByRows q old new e) → old.inputs ≡ Some a → IsByTrace e → EndsByTrace q old new r.files e → FoundRows a.files q old.put new.put e
-found_trace q old new a e r told b ends =
-    let reads = ends.reads in
-    let o : Opens a q (reads.rows ∷ reads.file ∷ []) = opens_of q old new e a (reads.rows ∷ reads.file ∷ []) r told reads.all in
-    let shown = shown_by reads.ports reads.file.bytes reads.trace e ends.records ends.text b (of_file q old new r.files reads) ends.ends ends.tells in
+found_trace : (q : Query) (old new : Outside) (a : Inputs) (e f : Ending) (files : List Opened) → rows_of.Opens old new q files → old.inputs ≡ Some a → IsByTrace e → (r : EndsByTrace q old new files f) → EndsSo r.ports (IsReadOf old new r.file) old new e → FoundRows a.files q old.put new.put e
+found_trace q old new a e f files opens told b reads ends =
+    let o : Opens a q (reads.rows ∷ reads.file ∷ []) = opens_of q old new a files (reads.rows ∷ reads.file ∷ []) opens told reads.all in
+    let shown = shown_by reads.ports reads.file.bytes ends.trace e ends.records ends.text b (of_file old new reads.file ends.trace ends.reads) ends.ends ends.tells in
     let held : a.files q.rows ≡ Some (rows_bytes reads.ports) = named a reads.rows q.rows reads.are.named o.held.0 ∙ ap (λ (bytes : List ℕ). Some bytes) reads.are.is in record {
       text = ends.text;
       found = GoodRows reads.ports reads.file.bytes shown.records held reads.are.are (subst (λ (bytes : List ℕ). length bytes ≤ most_rows) reads.are.is reads.are.few) (named a reads.file q.trace o.turn.2 o.held.1.0) shown.says shown.texts;
@@ -246,22 +246,43 @@ wrong_of : (why : RowsFault) (f : Opened) → f.read ≤ length f.bytes → Show
 wrong_of rows.RowsLimit f within s = omega (arith, s.0, within)
 wrong_of (rows.Bad why) f within s = (s.1, s.2, s.3)
 
-found_bad : (q : Query) (old new : Outside) (a : Inputs) (why : RowsFault) (r : RunsByRows q old new (ending.Rows why)) → old.inputs ≡ Some a → HasBadRows r.files why → Grows old.put new.put [] → FoundRows a.files q old.put new.put (ending.Rows why)
-found_bad q old new a why r told b puts =
-    let o : Opens a q (b.rows ∷ []) = opens_of q old new (ending.Rows why) a (b.rows ∷ []) r told b.only in
+found_bad : (q : Query) (old new : Outside) (a : Inputs) (why : RowsFault) (files : List Opened) → rows_of.Opens old new q files → old.inputs ≡ Some a → HasBadRows files why → Grows old.put new.put [] → FoundRows a.files q old.put new.put (ending.Rows why)
+found_bad q old new a why files opens told b puts =
+    let o : Opens a q (b.rows ∷ []) = opens_of q old new a files (b.rows ∷ []) opens told b.only in
     record { text = []; found = WrongRows b.rows.bytes why (named a b.rows q.rows o.turn o.held.0) refl (wrong_of why b.rows o.within.0 b.shown) refl; puts = puts }
 
 -- a run that wasn't ended by a fault or want of memory ended by what it found
 pub found_rows : (q : Query) (old new : Outside) (a : Inputs) (e : Ending) → old.inputs ≡ Some a → HasNoFault old new → (e ≡ ending.Memory → ⊥) → RunsByRows q old new e → FoundRows a.files q old.put new.put e
-found_rows q old new a ending.Done told clean n r = found_trace q old new a ending.Done r told tt r.ends
-found_rows q old new a (ending.Trace bad) told clean n r = found_trace q old new a (ending.Trace bad) r told tt r.ends
-found_rows q old new a ending.Records told clean n r = found_trace q old new a ending.Records r told tt r.ends
-found_rows q old new a (ending.Rows why) told clean n r = found_bad q old new a why r told r.ends.0 r.ends.1
-found_rows q old new a ending.ReadFault told clean n r = absurd (clean.read r.ends.0)
-found_rows q old new a ending.WriteFault told clean n r = absurd (clean.put r.ends.0)
-found_rows q old new a ending.Memory told clean n r = absurd (n refl)
-found_rows q old new a ending.Usage told clean n r = absurd r.ends
-found_rows q old new a (ending.Policy why) told clean n r = absurd r.ends
-found_rows q old new a (ending.Commands why) told clean n r = absurd r.ends
-found_rows q old new a (ending.Report why) told clean n r = absurd r.ends
-found_rows q old new a ending.Illegal told clean n r = absurd r.ends
+found_rows q old new a e told clean n r = by r.ends
+  where
+    early : (e : Ending) → (e ≡ ending.Memory → ⊥) → Grows old.put new.put [] → IsEarly old new r.files e → FoundRows a.files q old.put new.put e
+    early (ending.Rows why) n g b = found_bad q old new a why r.files r.opens told b g
+    early ending.ReadFault n g b = absurd (clean.read b.0)
+    early ending.Memory n g b = absurd (n refl)
+    early ending.Done n g b = absurd b
+    early ending.WriteFault n g b = absurd b
+    early (ending.Trace bad) n g b = absurd b
+    early ending.Records n g b = absurd b
+    early ending.Usage n g b = absurd b
+    early (ending.Policy why) n g b = absurd b
+    early (ending.Commands why) n g b = absurd b
+    early (ending.Report why) n g b = absurd b
+    early ending.Illegal n g b = absurd b
+
+    traced : (f e : Ending) (x : EndsByTrace q old new r.files f) → (e ≡ ending.Memory → ⊥) → TraceEnds x.ports (IsReadOf old new x.file) old new e → FoundRows a.files q old.put new.put e
+    traced f ending.Done x n d = found_trace q old new a ending.Done f r.files r.opens told tt x d
+    traced f (ending.Trace bad) x n d = found_trace q old new a (ending.Trace bad) f r.files r.opens told tt x d
+    traced f ending.Records x n d = found_trace q old new a ending.Records f r.files r.opens told tt x d
+    traced f ending.ReadFault x n d = absurd (clean.read d.0)
+    traced f ending.WriteFault x n d = absurd (clean.put d.0)
+    traced f ending.Memory x n d = absurd (n refl)
+    traced f (ending.Rows why) x n d = absurd d
+    traced f ending.Usage x n d = absurd d
+    traced f (ending.Policy why) x n d = absurd d
+    traced f (ending.Commands why) x n d = absurd d
+    traced f (ending.Report why) x n d = absurd d
+    traced f ending.Illegal x n d = absurd d
+
+    by : Ends q old new r.files e → FoundRows a.files q old.put new.put e
+    by (inl x) = early e n x.1 x.0
+    by (inr x) = traced e e x n x.ends

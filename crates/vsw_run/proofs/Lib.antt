@@ -13,3 +13,4 @@ pub mod Runs
 pub mod Wholes
 pub mod Well
 pub mod Ordered
+pub mod ReadTo

@@ -1,6 +1,6 @@
 -- A run that answers a trace from a rows file alone: what it opens and reads, and what it puts.
-use Rattle.std.specs.Prelude.{◌≡◌, ◌≢◌, ◌⊎◌, ◌<◌, ◌≤◌, ◌+◌, ℕ, List, [], ◌∷◌, ◌++◌, length, take, drop, Option, Some, None, Ok}
-use Rattle.vsw_host.specs.Outside.{Inputs, Opened, Outside, Grows, Rose}
+use Rattle.std.specs.Prelude.{◌≡◌, ◌≢◌, ◌⊎◌, ◌<◌, ◌≤◌, ◌+◌, ℕ, List, [], ◌∷◌, ◌++◌, length, drop, Option, Some, None, Ok}
+use Rattle.vsw_host.specs.Outside.{Inputs, Opened, Outside, Rose}
 use Rattle.vsw_host.specs.Reading.{piece}
 use Rattle.vsw_host.specs.Told.{TellsHeld, TellsSince}
 use Rattle.vsw_offload.specs.Bad.{IsBadRows}
@@ -19,7 +19,7 @@ use Rattle.vsw_run.specs.declared.ending.Ending.{Ending}
 use Rattle.vsw_run.specs.declared.ending.Ending.TheVariants as ending
 use Rattle.vsw_run.specs.declared.ending.RowsFault.{RowsFault}
 use Rattle.vsw_run.specs.declared.ending.RowsFault.TheVariants as rows
-use Rattle.vsw_run.specs.ByTrace.{PutsNothing}
+use Rattle.vsw_run.specs.ByTrace.{Puts, PutsFront, PutsNothing, StopsUnput}
 use Rattle.vsw_run.specs.Engine.{AreEngineLines, engine_head}
 use Rattle.vsw_run.specs.Files.{IsReadOf, IsWhole}
 use Rattle.vsw_run.specs.Trace.{All, Fault, Trace, most_records}
@@ -118,45 +118,55 @@ abbrev pub TellsLines : List PortRows → Option (List Record) → List ℕ → 
 TellsLines ports None text = text ≡ []
 TellsLines ports (Some records) text = (lines : List ℕ) × AreEngineLines ports 0 records lines × (text ≡ engine_head ++ lines)
 
--- the rows are those of these ports, and this was read of the trace
-pub record ReadsTrace (q : Query) (old new : Outside) (files : List Opened) : Type 0 where
+-- what was read of the trace gives this ending, and its lines were put. `Reads t` says that t was read of the trace
+pub record EndsSo (ports : List PortRows) (Reads : Trace → Type 0) (old new : Outside) (end : Ending) : Type 0 where
+  pub trace : Trace
+  pub reads : Reads trace
+  pub records : Option (List Record)
+  pub ends : EndsBehind trace end records
+  pub text : List ℕ
+  pub tells : TellsLines ports records text
+  pub puts : Puts old new text
+
+-- the run broke off, and put a front of the lines of the first of the trace's records
+pub record BreaksOff (ports : List PortRows) (Reads : Trace → Type 0) (old new : Outside) : Type 0 where
+  pub trace : Trace
+  pub reads : Reads trace
+  pub records : List Record
+  pub first : HasFirst trace.bytes records
+  pub text : List ℕ
+  pub tells : TellsLines ports (Some records) text
+  pub puts : PutsFront old new text
+
+-- what is put of a trace, by how the run ended. It ends by a read fault or a write fault only if the host counted one
+abbrev pub TraceEnds : List PortRows → (Trace → Type 0) → Outside → Outside → Ending → Type 0
+TraceEnds ports Reads old new ending.Done = EndsSo ports Reads old new ending.Done
+TraceEnds ports Reads old new (ending.Trace bad) = EndsSo ports Reads old new (ending.Trace bad)
+TraceEnds ports Reads old new ending.Records = EndsSo ports Reads old new ending.Records
+TraceEnds ports Reads old new ending.ReadFault = Rose old.input_faults new.input_faults × EndsSo ports Reads old new ending.ReadFault
+TraceEnds ports Reads old new ending.WriteFault = Rose old.put_faults new.put_faults × BreaksOff ports Reads old new
+TraceEnds ports Reads old new ending.Memory = StopsUnput Reads old new ⊎ BreaksOff ports Reads old new
+TraceEnds ports Reads old new _ = ⊥
+
+-- why a run ends before it opened its trace. Want of memory needs no sign, and may come later
+abbrev pub IsEarly : Outside → Outside → List Opened → Ending → Type 0
+IsEarly old new files (ending.Rows why) = HasBadRows files why
+IsEarly old new files ending.ReadFault = Rose old.input_faults new.input_faults × LacksTrace files
+IsEarly old new files ending.Memory = Unit {0}
+IsEarly old new files _ = ⊥
+
+-- the trace was opened behind the rows of these ports, and what was read of it gives this ending
+pub record EndsByTrace (q : Query) (old new : Outside) (files : List Opened) (end : Ending) : Type 0 where
   pub rows : Opened
   pub file : Opened
   pub all : files ≡ rows ∷ file ∷ []
   pub ports : List PortRows
   pub are : IsRowsFile q.rows rows ports
-  pub trace : Trace
-  pub read : IsReadOf old new file trace
+  pub ends : TraceEnds ports (IsReadOf old new file) old new end
 
--- it gives this ending, and its lines were put
-pub record EndsByTrace (q : Query) (old new : Outside) (files : List Opened) (end : Ending) : Type 0 where
-  pub reads : ReadsTrace q old new files
-  pub records : Option (List Record)
-  pub ends : EndsBehind reads.trace end records
-  pub text : List ℕ
-  pub tells : TellsLines reads.ports records text
-  pub puts : Grows old.put new.put text
-
--- the run broke off, and put a front of the lines of the first of the trace's records
-pub record BreaksOff (q : Query) (old new : Outside) (files : List Opened) : Type 0 where
-  pub reads : ReadsTrace q old new files
-  pub records : List Record
-  pub first : HasFirst reads.trace.bytes records
-  pub text : List ℕ
-  pub tells : TellsLines reads.ports (Some records) text
-  pub count : ℕ
-  pub puts : Grows old.put new.put (take count text)
-
--- what a run put, by how it ended. It ends by a read fault or a write fault only if the host counted one
+-- what a run put: nothing before it opened its trace, or what is put of the trace
 abbrev pub Ends : Query → Outside → Outside → List Opened → Ending → Type 0
-Ends q old new files ending.Done = EndsByTrace q old new files ending.Done
-Ends q old new files (ending.Trace bad) = EndsByTrace q old new files (ending.Trace bad)
-Ends q old new files ending.Records = EndsByTrace q old new files ending.Records
-Ends q old new files (ending.Rows why) = HasBadRows files why × PutsNothing old new
-Ends q old new files ending.ReadFault = Rose old.input_faults new.input_faults × ((LacksTrace files × PutsNothing old new) ⊎ EndsByTrace q old new files ending.ReadFault)
-Ends q old new files ending.WriteFault = Rose old.put_faults new.put_faults × BreaksOff q old new files
-Ends q old new files ending.Memory = PutsNothing old new ⊎ BreaksOff q old new files
-Ends q old new files _ = ⊥
+Ends q old new files end = (IsEarly old new files end × PutsNothing old new) ⊎ EndsByTrace q old new files end
 
 -- the words ask for a run that answers a trace from rows
 pub record RunsByRows (q : Query) (old new : Outside) (end : Ending) : Type 0 where

@@ -43,3 +43,9 @@ Ends s Reads old new ending.ReadFault = Rose old.input_faults new.input_faults �
 Ends s Reads old new ending.WriteFault = Rose old.put_faults new.put_faults × BreaksOff s Reads old new
 Ends s Reads old new ending.Memory = EndsSo s Reads old new ending.Memory ⊎ BreaksOff s Reads old new
 Ends s Reads old new _ = ⊥
+
+-- of runs that put something else: something was read of the trace, and nothing put
+pub record StopsUnput (Reads : Trace → Type 0) (old new : Outside) : Type 0 where
+  pub trace : Trace
+  pub reads : Reads trace
+  pub nothing : PutsNothing old new

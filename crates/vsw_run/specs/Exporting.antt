@@ -6,7 +6,7 @@ use Rattle.vsw_pcap.specs.declared.capture.Record.{Record}
 use Rattle.vsw_promise.specs.Jobs.{Setting}
 use Rattle.vsw_run.specs.declared.ending.Ending.{Ending}
 use Rattle.vsw_run.specs.declared.ending.Ending.TheVariants as ending
-use Rattle.vsw_run.specs.ByTrace.{Puts, PutsFront, PutsNothing}
+use Rattle.vsw_run.specs.ByTrace.{Puts, PutsFront, PutsNothing, StopsUnput}
 use Rattle.vsw_run.specs.Export.{IsExport}
 use Rattle.vsw_run.specs.Files.{HasTrace, IsEarly, IsReadOf, Opens}
 use Rattle.vsw_run.specs.Trace.{All, Tells, Trace, most_records}
@@ -40,12 +40,6 @@ pub record EndsUnput (s : Setting) (Reads : Trace → Type 0) (old new : Outside
   pub reads : Reads trace
   pub text : List ℕ
   pub tells : Tells s trace end text
-  pub nothing : PutsNothing old new
-
--- something was read of the trace, and nothing put
-pub record StopsUnput (Reads : Trace → Type 0) (old new : Outside) : Type 0 where
-  pub trace : Trace
-  pub reads : Reads trace
   pub nothing : PutsNothing old new
 
 -- what is put of a trace, by how the run ended. It ends by a read fault or a write fault only if the host counted one

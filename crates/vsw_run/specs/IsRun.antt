@@ -1,5 +1,5 @@
 -- A run of the program: what it opens and reads, what it puts, what it complains, and its status.
-use Rattle.std.specs.Prelude.{◌≡◌, ◌⊎◌, ◌≤◌, ℕ, List, length, Bool, true, false, Option, Some, None, Ok}
+use Rattle.std.specs.Prelude.{◌≡◌, ◌⊎◌, ◌≤◌, ℕ, List, [], length, Bool, true, false, Option, Some, None, Ok}
 use Rattle.vsw_host.specs.Outside.{Inputs, Opened, Outside, Rose}
 use Rattle.vsw_host.specs.Told.{TellsSince}
 use Rattle.vsw_commandfile.specs.Commands.{commands_file_of}

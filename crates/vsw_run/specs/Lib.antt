@@ -18,3 +18,4 @@ pub mod Law
 pub mod Well
 pub mod Order
 pub mod Statuses
+pub mod Steps

@@ -12,7 +12,7 @@ use Rattle.vsw_policy.specs.Sound.{Each}
 use Rattle.vsw_actors.specs.declared.lane.Lane.{Lane}
 use Rattle.vsw_actors.specs.Actors.{handed}
 use Rattle.vsw_actors.proofs.Hops.{hops_own}
-use Rattle.vsw_actors.specs.Lanes.{start_of, front_of, fronts_of, CrossesOn, CrossesTold, IsTold, AreTold, IsFit, AreFit, AreFitBut, IsHop, Leads, MovesOn}
+use Rattle.vsw_actors.specs.Lanes.{start_of, front_of, fronts_of, CrossesOn, CrossesTold, IsTold, AreTold, IsFit, AreFit, AreFitBut, IsHop, Leads, MovesOn, SpendsAt, SpendsNext}
 
 start_stays : (o : Opening) (base : ℕ) (p q : PassNow) (j : Job) (c : Call) → Crosses o p q j c → base ≤ length p.front → start_of o.controllers base q ≡ start_of o.controllers base p
 start_stays o base p q j c x le =
@@ -125,42 +125,34 @@ done_nowhere port_in pass_in tells on i at (q ∷ qs) ks e ts a = absurd (omega 
 
 -- ---- permits
 
--- the lane at a place keeps room for one entry less
-abbrev pub Spend : {P S : Type 0} → (S → PassNow) → (P → S → Type 0) → (S → ℕ) → ℕ → ℕ → List P → List (Lane S) → List (Lane S) → Type 0
-Spend pass_in is_of permits i at ps ls ms = (k more : ℕ) → AreFit pass_in is_of permits k (more + 1) ps ls → AreFitBut pass_in is_of permits k more i at ps ms
-
 pub spend_here : {P S : Type 0} (pass_in : S → PassNow) (is_of : P → S → Type 0) (permits : S → ℕ) (i at : ℕ) (p : P) (ps qs : List P) (l m : Lane S) (ls ks : List (Lane S)) → qs ≡ p ∷ ps → ks ≡ l ∷ ls → i ≡ at
-    → ((k more : ℕ) → IsFit pass_in is_of permits k (more + 1) p l → IsFit pass_in is_of permits k more p m) → Spend pass_in is_of permits i at qs ks (m ∷ ls)
+    → ((k more : ℕ) → IsFit pass_in is_of permits k (more + 1) p l → IsFit pass_in is_of permits k more p m) → SpendsAt pass_in is_of permits i at qs ks (m ∷ ls)
 spend_here pass_in is_of permits i at p ps qs l m ls ks e f same one =
-    subst (λ qs. Spend pass_in is_of permits i at qs ks (m ∷ ls)) (sym e)
-    (subst (λ ks. Spend pass_in is_of permits i at (p ∷ ps) ks (m ∷ ls)) (sym f) (λ k more a. (one k more a.0, (λ ne. absurd (ne same)), lanes_but pass_in is_of permits k more (suc i) at ps ls a.1)))
+    subst (λ qs. SpendsAt pass_in is_of permits i at qs ks (m ∷ ls)) (sym e)
+    (subst (λ ks. SpendsAt pass_in is_of permits i at (p ∷ ps) ks (m ∷ ls)) (sym f) (λ k more a. (one k more a.0, (λ ne. absurd (ne same)), lanes_but pass_in is_of permits k more (suc i) at ps ls a.1)))
 
-pub spend_there : {P S : Type 0} (pass_in : S → PassNow) (is_of : P → S → Type 0) (permits : S → ℕ) (i at : ℕ) (p : P) (ps qs : List P) (l : Lane S) (ls ms ks : List (Lane S)) → qs ≡ p ∷ ps → ks ≡ l ∷ ls → Spend pass_in is_of permits (i + 1) at ps ls ms → Spend pass_in is_of permits i at qs ks (l ∷ ms)
+pub spend_there : {P S : Type 0} (pass_in : S → PassNow) (is_of : P → S → Type 0) (permits : S → ℕ) (i at : ℕ) (p : P) (ps qs : List P) (l : Lane S) (ls ms ks : List (Lane S)) → qs ≡ p ∷ ps → ks ≡ l ∷ ls → SpendsAt pass_in is_of permits (i + 1) at ps ls ms → SpendsAt pass_in is_of permits i at qs ks (l ∷ ms)
 spend_there pass_in is_of permits i at p ps qs l ls ms ks e f rest =
     let next : i + 1 ≡ suc i = omega arith in
-    let later = subst (λ n. Spend pass_in is_of permits n at ps ls ms) next rest in
-    subst (λ qs. Spend pass_in is_of permits i at qs ks (l ∷ ms)) (sym e) (subst (λ ks. Spend pass_in is_of permits i at (p ∷ ps) ks (l ∷ ms)) (sym f) (λ k more a. (lane_spares pass_in is_of permits k more p l a.0, (λ ne. a.0), later k more a.1)))
+    let later = subst (λ n. SpendsAt pass_in is_of permits n at ps ls ms) next rest in
+    subst (λ qs. SpendsAt pass_in is_of permits i at qs ks (l ∷ ms)) (sym e) (subst (λ ks. SpendsAt pass_in is_of permits i at (p ∷ ps) ks (l ∷ ms)) (sym f) (λ k more a. (lane_spares pass_in is_of permits k more p l a.0, (λ ne. a.0), later k more a.1)))
 
-pub spend_nowhere : {P S : Type 0} (pass_in : S → PassNow) (is_of : P → S → Type 0) (permits : S → ℕ) (i at : ℕ) (qs : List P) (ks : List (Lane S)) → Spend pass_in is_of permits i at qs ks ks
+pub spend_nowhere : {P S : Type 0} (pass_in : S → PassNow) (is_of : P → S → Type 0) (permits : S → ℕ) (i at : ℕ) (qs : List P) (ks : List (Lane S)) → SpendsAt pass_in is_of permits i at qs ks ks
 spend_nowhere pass_in is_of permits i at qs ks k more a = lanes_but pass_in is_of permits k more i at qs ks a
 
--- a lane that had room for one entry more, since it is at another place than the one where the first job was done
-abbrev pub Spends : {P S : Type 0} → (S → PassNow) → (P → S → Type 0) → (S → ℕ) → ℕ → ℕ → List P → List (Lane S) → List (Lane S) → Type 0
-Spends pass_in is_of permits i at ps ls ms = (k more from : ℕ) → at ≢ from → AreFitBut pass_in is_of permits k more i from ps ls → AreFit pass_in is_of permits k more ps ms
-
 pub spends_here : {P S : Type 0} (pass_in : S → PassNow) (is_of : P → S → Type 0) (permits : S → ℕ) (i at : ℕ) (p : P) (ps qs : List P) (l m : Lane S) (ls ks : List (Lane S)) → qs ≡ p ∷ ps → ks ≡ l ∷ ls → i ≡ at
-    → ((k more : ℕ) → IsFit pass_in is_of permits k (more + 1) p l → IsFit pass_in is_of permits k more p m) → Spends pass_in is_of permits i at qs ks (m ∷ ls)
+    → ((k more : ℕ) → IsFit pass_in is_of permits k (more + 1) p l → IsFit pass_in is_of permits k more p m) → SpendsNext pass_in is_of permits i at qs ks (m ∷ ls)
 spends_here pass_in is_of permits i at p ps qs l m ls ks e f same one =
-    subst (λ qs. Spends pass_in is_of permits i at qs ks (m ∷ ls)) (sym e)
-    (subst (λ ks. Spends pass_in is_of permits i at (p ∷ ps) ks (m ∷ ls)) (sym f) (λ k more from ne a. (one k more (a.1 (λ g. ne (sym same ∙ g))), lanes_fit pass_in is_of permits k more (suc i) from ps ls a.2)))
+    subst (λ qs. SpendsNext pass_in is_of permits i at qs ks (m ∷ ls)) (sym e)
+    (subst (λ ks. SpendsNext pass_in is_of permits i at (p ∷ ps) ks (m ∷ ls)) (sym f) (λ k more from ne a. (one k more (a.1 (λ g. ne (sym same ∙ g))), lanes_fit pass_in is_of permits k more (suc i) from ps ls a.2)))
 
-pub spends_there : {P S : Type 0} (pass_in : S → PassNow) (is_of : P → S → Type 0) (permits : S → ℕ) (i at : ℕ) (p : P) (ps qs : List P) (l : Lane S) (ls ms ks : List (Lane S)) → qs ≡ p ∷ ps → ks ≡ l ∷ ls → Spends pass_in is_of permits (i + 1) at ps ls ms → Spends pass_in is_of permits i at qs ks (l ∷ ms)
+pub spends_there : {P S : Type 0} (pass_in : S → PassNow) (is_of : P → S → Type 0) (permits : S → ℕ) (i at : ℕ) (p : P) (ps qs : List P) (l : Lane S) (ls ms ks : List (Lane S)) → qs ≡ p ∷ ps → ks ≡ l ∷ ls → SpendsNext pass_in is_of permits (i + 1) at ps ls ms → SpendsNext pass_in is_of permits i at qs ks (l ∷ ms)
 spends_there pass_in is_of permits i at p ps qs l ls ms ks e f rest =
     let next : i + 1 ≡ suc i = omega arith in
-    let later = subst (λ n. Spends pass_in is_of permits n at ps ls ms) next rest in
-    subst (λ qs. Spends pass_in is_of permits i at qs ks (l ∷ ms)) (sym e) (subst (λ ks. Spends pass_in is_of permits i at (p ∷ ps) ks (l ∷ ms)) (sym f) (λ k more from ne a. (a.0, later k more from ne a.2)))
+    let later = subst (λ n. SpendsNext pass_in is_of permits n at ps ls ms) next rest in
+    subst (λ qs. SpendsNext pass_in is_of permits i at qs ks (l ∷ ms)) (sym e) (subst (λ ks. SpendsNext pass_in is_of permits i at (p ∷ ps) ks (l ∷ ms)) (sym f) (λ k more from ne a. (a.0, later k more from ne a.2)))
 
-pub spends_nowhere : {P S : Type 0} (pass_in : S → PassNow) (is_of : P → S → Type 0) (permits : S → ℕ) (i at : ℕ) (qs : List P) (ks : List (Lane S)) → Spends pass_in is_of permits i at qs ks ks
+pub spends_nowhere : {P S : Type 0} (pass_in : S → PassNow) (is_of : P → S → Type 0) (permits : S → ℕ) (i at : ℕ) (qs : List P) (ks : List (Lane S)) → SpendsNext pass_in is_of permits i at qs ks ks
 spends_nowhere pass_in is_of permits i at qs ks k more from ne a = lanes_fit pass_in is_of permits k more i from qs ks a
 
 pub fronts_here : {S : Type 0} (pass_in : S → PassNow) (l m : Lane S) (ls ks : List (Lane S)) → ks ≡ l ∷ ls → front_of pass_in m ≡ front_of pass_in l → fronts_of pass_in (m ∷ ls) ≡ fronts_of pass_in ks

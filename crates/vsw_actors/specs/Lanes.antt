@@ -74,6 +74,14 @@ DoesAt port_in at place j = Leads (λ p. Moves (opening_of (port_in p)) j) at pl
 abbrev pub DoesOn : {P : Type 0} → (P → PortSeen) → (P → List ℕ) → ℕ → ℕ → Job → List Placed → List P → List Track → List Track → Type 0
 DoesOn port_in locals at place j hops = Leads (λ p. MovesOn (opening_of (port_in p)) (locals p) place j hops) at place
 
+-- a lane at a port, which has this place, does a job, whose call hands this on
+abbrev pub Works : {P S : Type 0} → (P → PortSeen) → (P → List ℕ) → (S → PassNow) → (S → List Call → Type 0) → P → ℕ → Job → List Placed → Lane S → Lane S → Type 0
+Works port_in locals pass_in tells p place j hops l m = IsLedOn port_in pass_in tells p (MovesOn (opening_of (port_in p)) (locals p) place j hops) l m
+
+-- the same of lanes, of which the one at the port at this place does it, where the first has the place `at`
+abbrev pub WorksAt : {P S : Type 0} → (P → PortSeen) → (P → List ℕ) → (S → PassNow) → (S → List Call → Type 0) → List P → (at place : ℕ) → Job → List Placed → List (Lane S) → List (Lane S) → Type 0
+WorksAt port_in locals pass_in tells ps at place j hops ls ms = AreLedOn port_in pass_in tells ps (DoesOn port_in locals at place j hops ps) ls ms
+
 -- what a job at this place handed on: the job of the same caller at another place
 pub record IsHop (place : ℕ) (j : Job) (h : Placed) : Type 0 where
   pub other : h.0 ≢ place
@@ -99,6 +107,19 @@ AreFitBut pass_in is_of permits k more at place [] [] = Unit {0}
 AreFitBut pass_in is_of permits k more at place (p ∷ ps) (l ∷ ls) =
     IsFit pass_in is_of permits k more p l × ((at ≢ place) → IsFit pass_in is_of permits k (more + 1) p l) × AreFitBut pass_in is_of permits k more (suc at) place ps ls
 AreFitBut pass_in is_of permits k more at place _ _ = ⊥
+
+-- whoever's the lanes are, they keep room for one entry less
+abbrev pub Spends : {P S : Type 0} → (S → PassNow) → (P → S → Type 0) → (S → ℕ) → List P → List (Lane S) → List (Lane S) → Type 0
+Spends pass_in is_of permits ps ls ms = (k more : ℕ) → AreFit pass_in is_of permits k (more + 1) ps ls → AreFit pass_in is_of permits k more ps ms
+
+-- the lane at a place alone keeps room for one entry less
+abbrev pub SpendsAt : {P S : Type 0} → (S → PassNow) → (P → S → Type 0) → (S → ℕ) → (at place : ℕ) → List P → List (Lane S) → List (Lane S) → Type 0
+SpendsAt pass_in is_of permits at place ps ls ms = (k more : ℕ) → AreFit pass_in is_of permits k (more + 1) ps ls → AreFitBut pass_in is_of permits k more at place ps ms
+
+-- and so does then the lane at this place, which had room for one more yet, since the first job was done at another
+abbrev pub SpendsNext : {P S : Type 0} → (S → PassNow) → (P → S → Type 0) → (S → ℕ) → (at place : ℕ) → List P → List (Lane S) → List (Lane S) → Type 0
+SpendsNext pass_in is_of permits at place ps ls ms =
+    (k more from : ℕ) → place ≢ from → AreFitBut pass_in is_of permits k more at from ps ls → AreFit pass_in is_of permits k more ps ms
 
 -- a lane that may do this job at a port
 pub record IsUsable {P S : Type 0} (port_in : P → PortSeen) (pass_in : S → PassNow) (is_of : P → S → Type 0) (permits : S → ℕ) (j : Job) (p : P) (l : Lane S) : Type 0 where

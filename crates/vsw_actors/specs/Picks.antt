@@ -68,6 +68,10 @@ abbrev pub DealsPacket : {T E G : Type 0} → Result T E → ℕ → List ℕ �
 DealsPacket r workers macs first at x olds news =
     (packets : List Record) (cs : List ℕ) (js : List jobs.Placed) → slice_get packets at ≡ Some x → picked 0 first packets olds ≡ dealt_to workers cs js → OnOk r (picked 0 first packets news ≡ dealt_to workers cs (js ++ placed_packet workers (first + at) x.moment [] (aim_of macs x)))
 
+-- of whichever batch these are picks, and this one more, those are too
+abbrev pub TakesPick : {T E G : Type 0} → Result T E → Pick → List (Vec Pick G) → List (Vec Pick G) → Type 0
+TakesPick r pick olds news = (ports : ℕ) (packets : List Record) → IsPick ports packets pick → ArePicks ports packets olds → OnOk r (ArePicks ports packets news)
+
 -- of whichever batch these are picks, with this record at this place, those are too
 abbrev pub KeepsPicks : {T E G : Type 0} → Result T E → ℕ → ℕ → Record → List (Vec Pick G) → List (Vec Pick G) → Type 0
 KeepsPicks r ports at x olds news = (packets : List Record) → slice_get packets at ≡ Some x → ArePicks ports packets olds → OnOk r (ArePicks ports packets news)

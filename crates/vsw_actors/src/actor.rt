@@ -1,7 +1,7 @@
 //! An actor of a round: what it has to do, over all ports, and how far it is.
 
 ghost use Rattle.std.specs.Prelude.{◌≡◌, ◌<◌, ◌≤◌, ◌+◌, ◌-◌, ◌++◌, ℕ, List, [], drop, length, take};
-ghost use Rattle.vsw_actors.specs.Lanes.{AreFit, AreLedOn, IsOwn, IsTaken, fronts_of};
+ghost use Rattle.vsw_actors.specs.Lanes.{AreFit, AreLedOn, IsOwn, IsTaken, Spends, fronts_of};
 ghost use Rattle.vsw_actors.specs.Actors.{AreAlike, AreMine, Begins, DoesAll, HasDone, IsRoomy};
 
 use crate::hop::receive_at;
@@ -184,7 +184,7 @@ fn step_all<J, P: Port<J>, R: Wait>(
     requires within { place < length ports.now }
     requires roomy { IsRoomy P.fits ports.now parcel.old }
     ensures does { AreLedOn P.port_in P.pass_in P.tells ports.now (DoesAll P.port_in P.locals place (P.job_in job.now) ports.now) lanes.old lanes.new }
-    ensures fit { (k : ℕ) (more : ℕ) → AreFit P.pass_in P.is_of P.permits k (more + 1) ports.now lanes.old → AreFit P.pass_in P.is_of P.permits k more ports.now lanes.new }
+    ensures fit { Spends P.pass_in P.is_of P.permits ports.now lanes.old lanes.new }
     ensures fronts { fronts_of P.pass_in lanes.new ≡ fronts_of P.pass_in lanes.old }
     ensures roomy { IsRoomy P.fits ports.now parcel.new }
 {
@@ -212,7 +212,7 @@ pub fn step_in<J, P: Port<J>, R: Wait>(
     requires roomy { IsRoomy P.fits ports.now parcel.old }
     ensures same { length lanes.new.items ≡ length lanes.old.items }
     ensures does { AreLedOn P.port_in P.pass_in P.tells ports.now (DoesAll P.port_in P.locals place (P.job_in job.now) ports.now) lanes.old.items lanes.new.items }
-    ensures fit { (k : ℕ) (more : ℕ) → AreFit P.pass_in P.is_of P.permits k (more + 1) ports.now lanes.old.items → AreFit P.pass_in P.is_of P.permits k more ports.now lanes.new.items }
+    ensures fit { Spends P.pass_in P.is_of P.permits ports.now lanes.old.items lanes.new.items }
     ensures fronts { fronts_of P.pass_in lanes.new.items ≡ fronts_of P.pass_in lanes.old.items }
     ensures roomy { IsRoomy P.fits ports.now parcel.new }
 {

@@ -1,11 +1,9 @@
 //! Packets that are handed over to their workers with bytes of their own, while further ones are read.
 
-ghost use Rattle.std.specs.Prelude.{◌≡◌, ◌≤◌, ◌<◌, ◌+◌, ◌^◌, ◌++◌, ℕ, List, IfOk, OnOk, Some, None, length};
-ghost use Rattle.std.specs.List.{slice_get};
-ghost use Rattle.vsw_pcap.specs.declared.capture.Record.{Record};
+ghost use Rattle.std.specs.Prelude.{◌≡◌, ◌≤◌, ◌<◌, ◌+◌, ◌^◌, ◌++◌, ℕ, List, IfOk, OnOk, length};
 ghost use Rattle.vsw_promise.specs.Jobs.{aim_of, loose_after};
 ghost use Rattle.vsw_actors.specs.Actors.{placed_of};
-ghost use Rattle.vsw_actors.specs.Handed.{HandsOver, HasFrame, handed_job};
+ghost use Rattle.vsw_actors.specs.Handed.{HandsPacket, HasFrame, handed_job};
 ghost use Rattle.vsw_actors.specs.Picks.{DealsPacket, KeepsPicks};
 ghost use Rattle.vsw_actors.specs.Private.Aims.{IsGivenOf, packet_job};
 ghost use Rattle.vsw_pcap.specs.Batch.{lent_record};
@@ -106,7 +104,7 @@ pub fn hand_over<'a>(
     ensures dealt { DealsPacket result workers macs.now first at (lent_record captured.now) picks.old.items picks.new.items }
     ensures fit { KeepsPicks result (length macs.now) at (lent_record captured.now) picks.old.items picks.new.items }
     ensures workers { length picks.new.items ≡ length picks.old.items }
-    ensures handed { (packets : List Record) → slice_get packets at ≡ Some (lent_record captured.now) → IfOk result (λ given. HandsOver workers first packets picks.old.items picks.new.items given) }
+    ensures handed { HandsPacket result workers first at (lent_record captured.now) picks.old.items picks.new.items }
     ensures loose { OnOk result (loose.new.items ≡ loose.old.items ++ loose_after (first + at) (aim_of macs.now (lent_record captured.now))) }
 {
     let mut headers = FrameRoom::new();

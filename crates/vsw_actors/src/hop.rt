@@ -1,9 +1,9 @@
 //! A packet that was handed on, at the port to which it goes.
 
-ghost use Rattle.std.specs.Prelude.{◌≡◌, ◌≢◌, ◌<◌, ◌+◌, ℕ, length};
+ghost use Rattle.std.specs.Prelude.{◌≡◌, ◌<◌, ◌+◌, ℕ, length};
 ghost use Rattle.vsw_many.specs.Actors.{Moves};
 ghost use Rattle.vsw_promise.specs.Rounds.{opening_of};
-ghost use Rattle.vsw_actors.specs.Lanes.{AreFit, AreFitBut, AreLedOn, DoesAt, IsFit, IsLedOn, IsReady, IsUsable, front_of, fronts_of};
+ghost use Rattle.vsw_actors.specs.Lanes.{AreLedOn, DoesAt, IsFit, IsLedOn, IsReady, IsUsable, SpendsNext, front_of, fronts_of};
 
 use crate::lane::Lane;
 use crate::port::Port;
@@ -42,7 +42,7 @@ pub(crate) fn receive_at<J, P: Port<J>, R: Wait>(
     requires ready { IsReady P.port_in P.pass_in P.is_of P.permits at place (P.parcel_in parcel.now).1 ports.now lanes.old }
     requires holds { P.holds parcel.now }
     ensures does { AreLedOn P.port_in P.pass_in P.tells ports.now (DoesAt P.port_in at place (P.parcel_in parcel.now).1 ports.now) lanes.old lanes.new }
-    ensures fit { (k : ℕ) (more : ℕ) (from : ℕ) → place ≢ from → AreFitBut P.pass_in P.is_of P.permits k more at from ports.now lanes.old → AreFit P.pass_in P.is_of P.permits k more ports.now lanes.new }
+    ensures fit { SpendsNext P.pass_in P.is_of P.permits at place ports.now lanes.old lanes.new }
     ensures fronts { fronts_of P.pass_in lanes.new ≡ fronts_of P.pass_in lanes.old }
 {
     if let Some((port, others)) = ports.split_first() {

@@ -2,9 +2,8 @@
 
 ghost use Rattle.std.specs.Prelude.{◌≡◌, ◌<◌, ◌+◌, ℕ, length, true};
 ghost use Rattle.vsw_policy.specs.Sound.{Each};
-ghost use Rattle.vsw_promise.specs.Rounds.{opening_of};
 ghost use Rattle.vsw_actors.specs.Actors.{handed};
-ghost use Rattle.vsw_actors.specs.Lanes.{AreFit, AreFitBut, AreLedOn, DoesOn, IsFit, IsHop, IsLedOn, IsReady, IsTaken, IsUsable, MovesOn, front_of, fronts_of};
+ghost use Rattle.vsw_actors.specs.Lanes.{IsFit, IsHop, IsReady, IsTaken, IsUsable, SpendsAt, Works, WorksAt, front_of, fronts_of};
 
 use crate::port::Port;
 use std::alloc::Global;
@@ -30,7 +29,7 @@ pub fn step<J, P: Port<J>, R: Wait>(
     requires usable { IsUsable P.port_in P.pass_in P.is_of P.permits (P.job_in job.now) port.now lane.old }
     requires taken { P.takes port.now place job.now }
     requires fits { P.fits port.now job.now parcel.old }
-    ensures moves { IsLedOn P.port_in P.pass_in P.tells port.now (MovesOn (opening_of (P.port_in port.now)) (P.locals port.now) place (P.job_in job.now) (handed result (P.parcel_in parcel.new))) lane.old lane.new }
+    ensures moves { Works P.port_in P.locals P.pass_in P.tells port.now place (P.job_in job.now) (handed result (P.parcel_in parcel.new)) lane.old lane.new }
     ensures fit { (k : ℕ) (more : ℕ) → IsFit P.pass_in P.is_of P.permits k (more + 1) port.now lane.old → IsFit P.pass_in P.is_of P.permits k more port.now lane.new }
     ensures front { front_of P.pass_in lane.new ≡ front_of P.pass_in lane.old }
     ensures holds { result ≡ true → P.holds parcel.new × IsHop place (P.job_in job.now) (P.parcel_in parcel.new) }
@@ -55,8 +54,8 @@ pub fn step_at<J, P: Port<J>, R: Wait>(
     requires ready { IsReady P.port_in P.pass_in P.is_of P.permits at place (P.job_in job.now) ports.now lanes.old }
     requires taken { IsTaken P.takes at place job.now ports.now }
     requires fits { Each (λ p. P.fits p job.now parcel.old) ports.now }
-    ensures does { AreLedOn P.port_in P.pass_in P.tells ports.now (DoesOn P.port_in P.locals at place (P.job_in job.now) (handed result (P.parcel_in parcel.new)) ports.now) lanes.old lanes.new }
-    ensures fit { (k : ℕ) (more : ℕ) → AreFit P.pass_in P.is_of P.permits k (more + 1) ports.now lanes.old → AreFitBut P.pass_in P.is_of P.permits k more at place ports.now lanes.new }
+    ensures does { WorksAt P.port_in P.locals P.pass_in P.tells ports.now at place (P.job_in job.now) (handed result (P.parcel_in parcel.new)) lanes.old lanes.new }
+    ensures fit { SpendsAt P.pass_in P.is_of P.permits at place ports.now lanes.old lanes.new }
     ensures fronts { fronts_of P.pass_in lanes.new ≡ fronts_of P.pass_in lanes.old }
     ensures holds { result ≡ true → P.holds parcel.new × IsHop place (P.job_in job.now) (P.parcel_in parcel.new) }
     ensures fits { (p : P) (j : J) → P.fits p j parcel.old → P.fits p j parcel.new }

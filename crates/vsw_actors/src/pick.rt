@@ -1,13 +1,12 @@
 //! The packets of a round's workers as picks: small, and lending nothing, so that they can go to another thread with an `Arc<Batch>`.
 
 ghost use Rattle.std.specs.Prelude.{◌≡◌, ◌≤◌, ◌<◌, ◌+◌, ◌^◌, ◌++◌, ◌∷◌, [], ℕ, List, IfOk, OnOk, length, map, replicate};
-ghost use Rattle.vsw_pcap.specs.declared.capture.Record.{Record};
 ghost use Rattle.vsw_policy.specs.Sound.{Each};
 ghost use Rattle.vsw_port.specs.Order.{numbered};
 ghost use Rattle.vsw_promise.specs.Jobs.{aim_of, loose_after, loose_among};
 ghost use Rattle.vsw_actors.specs.Actors.{placed_of};
-ghost use Rattle.vsw_actors.specs.Handed.{with_more};
-ghost use Rattle.vsw_actors.specs.Picks.{AreDealt, ArePicks, AtMost, DealsPacket, DealsPick, IsPick, KeepsPicks, picked, picked_job, picked_jobs};
+ghost use Rattle.vsw_actors.specs.Handed.{GivesPick};
+ghost use Rattle.vsw_actors.specs.Picks.{AreDealt, ArePicks, AtMost, DealsPacket, DealsPick, IsPick, KeepsPicks, TakesPick, picked_job, picked_jobs};
 ghost use Rattle.vsw_actors.specs.Private.Aims.{packet_job};
 ghost use Rattle.vsw_pcap.specs.Batch.{lent_record};
 ghost use Rattle.vsw_actors.specs.Work.{IsWork, job_in};
@@ -59,8 +58,8 @@ fn put_pick(share: &mut Vec<Pick>, pick: Pick) -> Result<(), NoMemory>
 pub(crate) fn give_pick(picks: &mut Vec<Vec<Pick>>, worker: u32, pick: Pick) -> Result<(), NoMemory>
     requires worker { worker < length picks.old.items }
     ensures dealt { DealsPick result worker pick picks.old.items picks.new.items }
-    ensures put { (first : ℕ) (packets : List Record) → OnOk result (picked 0 first packets picks.new.items ≡ with_more worker (picked_job worker first packets pick) (picked 0 first packets picks.old.items)) }
-    ensures fit { (ports : ℕ) (packets : List Record) → IsPick ports packets pick → ArePicks ports packets picks.old.items → OnOk result (ArePicks ports packets picks.new.items) }
+    ensures put { GivesPick result worker pick picks.old.items picks.new.items }
+    ensures fit { TakesPick result pick picks.old.items picks.new.items }
     ensures few { (n : ℕ) → AtMost n picks.old.items → OnOk result (AtMost (n + 1) picks.new.items) }
     ensures workers { length picks.new.items ≡ length picks.old.items }
 {

@@ -2,17 +2,15 @@
 
 ghost use Rattle.std.specs.Prelude.{◌≡◌, ◌≤◌, ◌<◌, ◌+◌, ◌^◌, ◌++◌, ◌∷◌, [], ℕ, List, IfOk, OnOk, false, length, replicate, true};
 ghost use Rattle.vsw_actors.specs.Actors.{placed_of};
-ghost use Rattle.vsw_port.specs.Calls.{controller_at};
 ghost use Rattle.vsw_port.specs.Order.{numbered};
 ghost use Rattle.vsw_policy.specs.Obey.{rules_given};
 ghost use Rattle.vsw_policy.specs.Sound.{Each, IsGoodRule, is_listed};
 ghost use Rattle.vsw_promise.specs.Jobs.{aim_of, loose_after, loose_among, placed_packet, placed_packets};
 ghost use Rattle.vsw_many.specs.Dealing.{placed_lines};
-ghost use Rattle.vsw_promise.specs.Jobs as jobs;
-ghost use Rattle.vsw_actors.specs.Deal.{AreFew, AreWork, DealsMore, dealt, shared};
+ghost use Rattle.vsw_actors.specs.Deal.{AreFew, AreWork, DealsBeside, DealsMore, DealsTo, TakesWork, dealt, shared};
 ghost use Rattle.vsw_actors.specs.Private.Aims.{beside, line_job, packet_job};
 ghost use Rattle.vsw_pcap.specs.Batch.{lent_record};
-ghost use Rattle.vsw_actors.specs.Work.{IsWork, job_in};
+ghost use Rattle.vsw_actors.specs.Work.{job_in};
 
 use crate::Placed;
 use crate::aim::aim;
@@ -86,8 +84,8 @@ fn give_packet<'a>(
     packet: &Packet<'a>,
 ) -> Result<(), NoMemory>
     requires caller { packet.now.worker < length shares.old.items }
-    ensures dealt { (cs : List ℕ) → DealsMore result cs (placed_of job_in (packet_job packet.now) ∷ []) shares.old.items shares.new.items }
-    ensures work { (ports : ℕ) (cs : List ℕ) → IsWork ports cs (packet_job packet.now) → AreWork ports cs shares.old.items → OnOk result (AreWork ports cs shares.new.items) }
+    ensures dealt { DealsBeside result (placed_of job_in (packet_job packet.now) ∷ []) shares.old.items shares.new.items }
+    ensures work { TakesWork result (packet_job packet.now) shares.old.items shares.new.items }
     ensures callers { length shares.new.items ≡ length shares.old.items }
 {
     let share = &mut shares[packet.worker as usize];
@@ -102,8 +100,8 @@ fn give_line<'a>(
     line: &'a Line,
 ) -> Result<(), NoMemory>
     requires caller { caller < length shares.old.items }
-    ensures dealt { (cs : List ℕ) (js : List jobs.Placed) → shared shares.old.items ≡ dealt cs js → controller_at cs line.now.controller ≡ caller → OnOk result (shared shares.new.items ≡ dealt cs (js ++ placed_of job_in (line_job place line.entry) ∷ [])) }
-    ensures work { (ports : ℕ) (cs : List ℕ) → IsWork ports cs (line_job place line.entry) → AreWork ports cs shares.old.items → OnOk result (AreWork ports cs shares.new.items) }
+    ensures dealt { DealsTo result line.now.controller caller (line_job place line.entry) shares.old.items shares.new.items }
+    ensures work { TakesWork result (line_job place line.entry) shares.old.items shares.new.items }
     ensures callers { length shares.new.items ≡ length shares.old.items }
 {
     let share = &mut shares[caller];
@@ -181,7 +179,7 @@ fn deal_packet<'a>(
     requires few { workers ≤ 16 }
     requires ports { length macs.now ≤ 16 }
     requires callers { 16 ≤ length shares.old.items }
-    ensures dealt { (cs : List ℕ) → DealsMore result cs (placed_packet workers number captured.now.moment [] (aim_of macs.now (lent_record captured.now))) shares.old.items shares.new.items }
+    ensures dealt { DealsBeside result (placed_packet workers number captured.now.moment [] (aim_of macs.now (lent_record captured.now))) shares.old.items shares.new.items }
     ensures work { (cs : List ℕ) → AreWork (length macs.now) cs shares.old.items → OnOk result (AreWork (length macs.now) cs shares.new.items) }
     ensures callers { length shares.new.items ≡ length shares.old.items }
     ensures loose { OnOk result (loose.new.items ≡ loose.old.items ++ loose_after number (aim_of macs.now (lent_record captured.now))) }
@@ -212,7 +210,7 @@ fn deal_packets<'a>(
     requires ports { length macs.now ≤ 16 }
     requires callers { 16 ≤ length shares.old.items }
     requires numbers { first + length packets.now < 2 ^ 32 }
-    ensures dealt { (cs : List ℕ) → DealsMore result cs (placed_packets workers false macs.now [] (numbered first packets.now)) shares.old.items shares.new.items }
+    ensures dealt { DealsBeside result (placed_packets workers false macs.now [] (numbered first packets.now)) shares.old.items shares.new.items }
     ensures work { (cs : List ℕ) → AreWork (length macs.now) cs shares.old.items → OnOk result (AreWork (length macs.now) cs shares.new.items) }
     ensures loose { OnOk result (loose.new.items ≡ loose.old.items ++ loose_among macs.now (numbered first packets.now)) }
 {

@@ -7,6 +7,7 @@ use Rattle.vsw_base.specs.declared.flow.Crossing.{Crossing}
 use Rattle.vsw_base.specs.declared.packet.Control.TheVariants as control
 use Rattle.vsw_commandfile.specs.declared.line.Line.{Line}
 use Rattle.vsw_flows.specs.Flows.{Looking, Writing}
+use Rattle.vsw_policy.specs.declared.command.Command.{Command}
 use Rattle.vsw_port.specs.declared.event.Event.{Event}
 use Rattle.vsw_port.specs.Calls.{Asked, Call, Carried, HasBytes, IsCall, IsRead, entries_of, next_count}
 use Rattle.vsw_port.specs.History.{Opening}
@@ -46,6 +47,10 @@ pub record Crosses (o : Opening) (p q : Writing) (c : Call) : Type 0 where
   pub last : next_count c ≡ length q.view.front
   pub receipts : q.view.receipts ≡ p.view.receipts ++ entries_of (c ∷ [])
   pub permits : p.view.permits ≡ q.view.permits + one_if c.entry
+
+-- a pass made the call of the line with this number, in which this controller asks this command, and which was told so
+abbrev pub CrossesAsked : Opening → (line controller : ℕ) → Command → Told → Writing → Writing → Type 0
+CrossesAsked o line controller command told p q = (l : Line) → l.number ≡ line → l.controller ≡ controller → l.command ≡ command → Crosses o p q (asked l told)
 
 -- a pass has looked, and has seen no less
 pub record Looks (p q : Writing) : Type 0 where

@@ -2,12 +2,11 @@
 
 ghost use Rattle.std.specs.Prelude.{◌≡◌, ◌<◌, ◌≤◌, ◌+◌, ℕ, List, length, Some, true, IfOk, OnErr, OnOk};
 ghost use mathlib.Core.List.{IsPrefix};
-ghost use Rattle.vsw_commandfile.specs.declared.line.Line.{Line};
 ghost use Rattle.vsw_core.specs.Exporting.{AreGoodAt};
 ghost use Rattle.vsw_flows.specs.Flows.{IsOf};
 ghost use Rattle.vsw_port.specs.declared.event.Event.{Event};
 ghost use Rattle.vsw_port.specs.Calls.{controller_at};
-ghost use Rattle.vsw_live.specs.Calls.{Crosses, DoneFits, FitsRoom, IsFast, KeepsLook, Looks, TellsWhy, asked, call_of};
+ghost use Rattle.vsw_live.specs.Calls.{Crosses, CrossesAsked, DoneFits, FitsRoom, IsFast, KeepsLook, Looks, TellsWhy, call_of};
 ghost use Rattle.vsw_live.specs.Meeting.{AllMeet, AreOf, IsRightAt, Meets};
 ghost use Rattle.vsw_live.specs.Ports.{StandsAt};
 ghost use Rattle.vsw_live.specs.Private.Locked.{CrossesSo, IsFateAt, layers_met};
@@ -217,7 +216,7 @@ impl<J: Naming> LivePort<J> {
         requires permit { 0 < pass.old.view.permits }
         requires listed { is_listed self.now.looking.1.controllers controller ≡ true }
         requires good { Each IsGoodRule (rules_given command.now) }
-        ensures crosses { (l : Line) → l.number ≡ line → l.controller ≡ controller → l.command ≡ command.now → Crosses (opening_of self.now.looking.1) pass.old pass.new (asked l result) }
+        ensures crosses { CrossesAsked (opening_of self.now.looking.1) line controller command.now result pass.old pass.new }
     {
         let mut core = self.lock(rt);
         let told = core.command(&self.lookup, pass, line, controller, command);

@@ -2,15 +2,12 @@
 
 ghost use Rattle.std.specs.Prelude.{◌≡◌, ◌<◌, ◌≤◌, ◌+◌, ℕ, List, length, not, true, IfOk, IsOk, OnErr, OnOk};
 ghost use mathlib.Core.List.{IsPrefix};
-ghost use Rattle.vsw_commandfile.specs.declared.line.Line.{Line};
 ghost use Rattle.vsw_core.specs.Exporting.{AreGoodAt, current_rows};
 ghost use Rattle.vsw_flows.specs.Flows.{IsOf};
 ghost use Rattle.vsw_port.specs.Calls.{controller_at};
 ghost use Rattle.vsw_port.specs.History.{AllRight};
-ghost use Rattle.vsw_live.specs.Calls.{Crosses, KeepsLook, asked};
-ghost use Rattle.vsw_live.specs.Meeting.{Meets};
-ghost use Rattle.vsw_live.specs.Ports.{StandsAt};
-ghost use Rattle.vsw_live.specs.Private.Locked.{CrossesSo, HasLookup, IsFateAt, IsLocked, Rewrites, Stays, layers_met};
+ghost use Rattle.vsw_live.specs.Calls.{CrossesAsked, KeepsLook};
+ghost use Rattle.vsw_live.specs.Private.Locked.{CrossesSo, HasLookup, IsFateAt, IsLocked, MeetsAt, Rewrites, Stays, layers_met};
 ghost use Rattle.vsw_table.specs.Rules.{counted_record};
 ghost use Rattle.vsw_policy.specs.Obey.{is_memory, rules_given};
 ghost use Rattle.vsw_policy.specs.Refusals.{reply_of};
@@ -96,7 +93,7 @@ impl<J: Naming> Locked<J> {
         requires few { length pass.old.view.receipts + pass.old.view.permits + more ≤ 134217728 }
         ensures place { self.new.0 ≡ self.old.0 }
         ensures history { self.new.1.writer.view.history ≡ self.old.1.writer.view.history }
-        ensures meets { OnOk result ((n : ℕ) → StandsAt J.ports self.old.0 (record { looking = lookup.now; passes = n }) → Meets (record { port = record { looking = lookup.now; passes = n }; history = self.old.1.writer.view.history }) more pass.old pass.new) }
+        ensures meets { OnOk result (MeetsAt J.ports self.old.0 lookup.now self.old.1.writer.view.history more pass.old pass.new) }
         ensures look { OnOk result (KeepsLook pass.old.view pass.new.view) }
         ensures short { OnOk result (length self.old.1.writer.view.history < 4294967295) }
         ensures nothing { more ≡ 0 → IsOk result }
@@ -143,7 +140,7 @@ impl<J: Naming> Locked<J> {
         requires listed { is_listed lookup.now.1.controllers controller ≡ true }
         requires good { Each IsGoodRule (rules_given command.now) }
         ensures place { self.new.0 ≡ self.old.0 }
-        ensures crosses { (l : Line) → l.number ≡ line → l.controller ≡ controller → l.command ≡ command.now → Crosses (opening_of lookup.now.1) pass.old pass.new (asked l result) }
+        ensures crosses { CrossesAsked (opening_of lookup.now.1) line controller command.now result pass.old pass.new }
     {
         let told = ask(&mut self.core, lookup, pass, line, controller, command);
         self.stale = stale_after(self.stale, told.reply, lookup.rows());
@@ -291,7 +288,7 @@ fn ask(
     requires good { Each IsGoodRule (rules_given command.now) }
     ensures stays { Stays core.old.writer core.new.writer }
     ensures right { AllRight (opening_of lookup.now.1) core.new.writer.view.history }
-    ensures crosses { (l : Line) → l.number ≡ line → l.controller ≡ controller → l.command ≡ command.now → Crosses (opening_of lookup.now.1) pass.old pass.new (asked l result) }
+    ensures crosses { CrossesAsked (opening_of lookup.now.1) line controller command.now result pass.old pass.new }
 {
     let count = count(core, lookup, pass);
     let answer = core.command(lookup, pass, line, controller, command);

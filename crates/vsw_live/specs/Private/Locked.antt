@@ -10,11 +10,13 @@ use Rattle.vsw_base.specs.declared.header.Header.{Header}
 use Rattle.vsw_base.specs.Frame.{Parts}
 use Rattle.vsw_port.specs.Fate.{fate_at}
 use Rattle.vsw_flows.specs.Flows.{IsOf, Looking, Writing}
+use Rattle.vsw_port.specs.declared.event.Event.{Event}
 use Rattle.vsw_port.specs.Calls.{Call, Carried, HasBytes, Shows}
 use Rattle.vsw_port.specs.Crossed.{EditsPass}
 use Rattle.vsw_port.specs.History.{AllRight, Opening, replay}
 use Rattle.vsw_policy.specs.Layer.{LayerSeen}
 use Rattle.vsw_live.specs.Calls.{Crosses}
+use Rattle.vsw_live.specs.Meeting.{Meets}
 use Rattle.vsw_live.specs.Ports.{PortSeen, StandsAt}
 use Rattle.vsw_live.specs.Seen.{UnitSeen}
 use Rattle.vsw_port.specs.declared.crossing.Outcome.{Outcome}
@@ -41,6 +43,11 @@ Rewrites v w = w ≡ record v { view = record v.view { given = w.view.given; sta
 -- the port at this place has this lookup
 abbrev pub HasLookup : List PortSeen → ℕ → Looking → Type 0
 HasLookup ports place l = (n : ℕ) × StandsAt ports place (record { looking = l; passes = n })
+
+-- however many passes the port at this place has, which has this lookup and this history, a pass met it, and may make so many entries more
+abbrev pub MeetsAt : List PortSeen → ℕ → Looking → List Event → ℕ → Writing → Writing → Type 0
+MeetsAt ports place l history more p q =
+    (n : ℕ) → StandsAt ports place (record { looking = l; passes = n }) → Meets (record { port = record { looking = l; passes = n }; history = history }) more p q
 
 -- a packet has the fate of its crossing at these layers, or memory was wanting
 abbrev pub IsFateAt : List LayerSeen → Crossing → Fate → Type 0

@@ -1,13 +1,13 @@
 -- Ports of a policy, opened and docked.
 use Rattle.std.proofs.Common.{◌≡◌, ◌+◌, ◌∷◌, [], ◌++◌, ℕ, zero, suc, List, length, map, refl, ap, subst, arith}
 use Rattle.vsw_flows.specs.Flows.{Looking, Writing}
-use Rattle.vsw_live.specs.Ports.{AreNewPasses, OpenSeen, passes_of, ports_of}
+use Rattle.vsw_live.specs.Ports.{AreNewPasses, OpenSeen, passes_of}
 use Rattle.vsw_policy.specs.Sound.{Each}
 use Rattle.vsw_promise.specs.declared.port.Port.{Port}
 use Rattle.vsw_promise.specs.Ports.{port_seen}
 use Rattle.vsw_dock.specs.Docks.{port_in}
 use Rattle.vsw_dock.specs.Laws.{AreDocked}
-use Rattle.vsw_dock.specs.Opening.{AreIdle, AreNewRows, AreOpened, IsIdle, IsNewRow, IsOpened, docks_of, first_lanes, later_passes, rows_from}
+use Rattle.vsw_dock.specs.Opening.{AreIdle, AreNewRows, AreOpened, IsIdle, IsNewRow, IsOpened, docks_for, first_lanes, later_passes, rows_from}
 use Rattle.vsw_dock.specs.Seen.{DockSeen}
 
 -- each of these docks has n passes left, all new, from number k on
@@ -15,9 +15,6 @@ abbrev Given : ℕ → ℕ → List DockSeen → List (List Writing) → Type 0
 Given n k [] [] = Unit {0}
 Given n k (d ∷ ds) (ps ∷ pss) = (length ps ≡ n) × AreNewPasses d.live.looking k ps × Given n k ds pss
 Given n k _ _ = ⊥
-
-abbrev docks_for : List ℕ → List Port → List OpenSeen → List DockSeen
-docks_for locals made os = docks_of locals (map (λ p. p.number) made) (map (λ p. p.mac) made) (ports_of os)
 
 first_new : (n k : ℕ) (ds : List DockSeen) (pss : List (List Writing)) → Given (suc n) k ds pss → IsNewRow k ds (first_lanes pss)
 first_new n k [] [] g = tt

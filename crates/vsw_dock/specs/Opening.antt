@@ -32,6 +32,10 @@ abbrev pub docks_of : List ℕ → List ℕ → List ℕ → List live.PortSeen 
 docks_of locals (n ∷ ns) (m ∷ ms) (p ∷ ps) = record { number = n; mac = m; locals = locals; live = p } ∷ docks_of locals ns ms ps
 docks_of locals _ _ _ = []
 
+-- those of the policy's ports, as they were opened
+abbrev pub docks_for : List ℕ → List Port → List OpenSeen → List DockSeen
+docks_for locals made os = docks_of locals (map (λ p. p.number) made) (map (λ p. p.mac) made) (live.ports_of os)
+
 -- a lane whose station has only its pass, which has seen nothing
 abbrev pub new_lane : Writing → Lane StationSeen
 new_lane p = record { station = record { pass = p; lines = []; whole = true }; base = 0 }

@@ -11,7 +11,7 @@ ghost use Rattle.vsw_actors.specs.declared.work.Work.{Work};
 ghost use Rattle.vsw_dock.specs.Docks.{HasRoom, fits, holds, is_of, parcel_in, pass_in, permits, port_in, tells};
 ghost use Rattle.vsw_port.specs.Calls.{job_doer};
 ghost use Rattle.vsw_promise.specs.Rounds as promise;
-ghost use Rattle.vsw_dock.specs.Private.Does.{HandsOn};
+ghost use Rattle.vsw_dock.specs.Private.Does.{HandsPacket};
 ghost use Rattle.vsw_policy.specs.Sound.{Each};
 ghost use Rattle.vsw_rows.specs.GoodRows.{opening_of};
 
@@ -106,7 +106,7 @@ impl<'g, J: Naming, G: Watch> Dock<'g, J, G> {
         requires frame { (parts : Parts) × (frame_of packet.now.bytes.now ≡ Ok parts) }
         requires few { length locals.now ≤ 16 }
         requires room { HasRoom locals.now parcel.old }
-        ensures does { HandsOn (opening_of self.now.live.looking.1) locals.now packet.now.place.port (job_in (work.Packet packet.now)) (handed result (parcel_in parcel.new)) station.old station.new }
+        ensures does { HandsPacket (opening_of self.now.live.looking.1) locals.now packet.now (handed result (parcel_in parcel.new)) station.old station.new }
         ensures holds { result ≡ true → holds parcel.new }
         ensures room { parcel.old.room ≤ parcel.new.room }
     {

@@ -1,14 +1,12 @@
 //! What leaves a port for another.
 
-ghost use Rattle.std.specs.Prelude.{◌≡◌, ◌≤◌, length, map, true};
+ghost use Rattle.std.specs.Prelude.{◌≡◌, ◌≤◌, length, true};
 ghost use Rattle.vsw_actors.specs.Actors.{handed};
 ghost use Rattle.vsw_dock.specs.Docks.{HasRoom, holds, parcel_in};
-ghost use Rattle.vsw_dock.specs.Private.Does.{packet_deed};
+ghost use Rattle.vsw_dock.specs.Private.Does.{handed_as, packet_deed};
 ghost use Rattle.vsw_frame.specs.Frame.{parts};
 ghost use Rattle.vsw_hairpin.specs.Handing.{handed_by};
 ghost use Rattle.vsw_live.specs.Calls.{FitsRoom};
-ghost use Rattle.vsw_promise.specs.Jobs.{handed_on, second_job};
-ghost use Rattle.vsw_report.specs.declared.told.What.TheVariants as what;
 
 use crate::parcel::Parcel;
 use vsw_actors::Packet;
@@ -27,7 +25,7 @@ fn hand_bytes(
 ) -> bool
     requires few { length locals.now ≤ 16 }
     requires room { 65600 ≤ parcel.old.room }
-    ensures hands { map (second_job packet.now.worker packet.now.number packet.now.micros) (handed_on locals.now packet.now.place (what.Fate fate bytes.now)) ≡ handed result (parcel_in parcel.new) }
+    ensures hands { handed_as locals.now packet.now fate bytes.now ≡ handed result (parcel_in parcel.new) }
     ensures holds { result ≡ true → holds parcel.new }
     ensures room { parcel.old.room ≤ parcel.new.room }
 {

@@ -2,6 +2,7 @@
 
 ghost use Rattle.std.specs.Prelude.{◌≡◌, ◌≤◌, [], IfOk, length, vec_capacity};
 ghost use Rattle.vsw_base.specs.declared.packet.Dir.TheVariants as dir;
+ghost use Rattle.vsw_dock.specs.Private.Does.{parcel_of};
 
 use std::alloc::Global;
 use std::marker::Model;
@@ -77,7 +78,7 @@ impl Parcel {
     /// Puts a packet in that left its port with these bytes for the port at another place.
     pub(crate) fn put(&mut self, packet: &Packet<'_>, port: u32, bytes: &[u8])
         requires { length bytes.now ≤ self.old.room }
-        ensures holds { self.new ≡ record { worker = packet.now.worker; number = packet.now.number; port = port; micros = packet.now.micros; bytes = bytes.now; room = self.new.room } }
+        ensures holds { self.new ≡ parcel_of packet.now port bytes.now self.new.room }
         ensures room { self.old.room ≤ self.new.room }
     {
         put(&mut self.frame, bytes);

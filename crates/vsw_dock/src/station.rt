@@ -5,10 +5,8 @@ ghost use Rattle.vsw_flows.specs.Flows.{IsOf};
 ghost use Rattle.vsw_base.specs.Frame.{Parts, frame_of};
 ghost use Rattle.vsw_dock.specs.Meeting.{StationMeets};
 ghost use Rattle.vsw_actors.specs.Actors.{handed};
-ghost use Rattle.vsw_actors.specs.Work.{job_in};
-ghost use Rattle.vsw_actors.specs.declared.work.Work.TheVariants as work;
 ghost use Rattle.vsw_dock.specs.Docks.{HasRoom, holds, parcel_in};
-ghost use Rattle.vsw_dock.specs.Private.Does.{Does, HandsOn, Tells, packet_line};
+ghost use Rattle.vsw_dock.specs.Private.Does.{Does, HandsPacket, Tells, packet_line, reply_line};
 ghost use Rattle.vsw_frame.specs.Frame.{parts};
 ghost use Rattle.vsw_port.specs.Calls.{Ask, controller_at};
 ghost use Rattle.vsw_live.specs.Calls.{Crosses, FitsRoom, call_of, one_if};
@@ -16,8 +14,6 @@ ghost use Rattle.vsw_report.specs.Line.{text_of};
 ghost use Rattle.vsw_policy.specs.Obey.{rules_given};
 ghost use Rattle.vsw_policy.specs.Sound.{Each, IsGoodRule, is_listed};
 ghost use Rattle.vsw_promise.specs.Jobs.{crossing_by};
-ghost use Rattle.vsw_report.specs.declared.told.By.TheVariants as by;
-ghost use Rattle.vsw_report.specs.declared.told.What.TheVariants as what;
 ghost use Rattle.vsw_rows.specs.GoodRows.{opening_of};
 ghost use Rattle.vsw_answer.specs.Transit.{IsOfFrame};
 
@@ -167,7 +163,7 @@ fn tell_packet(
 
 /// Tells the answer to a command.
 fn tell_reply(lines: &mut Caller, whole: &mut bool, line: &Line, answer: Told)
-    ensures told { Tells lines.old whole.old lines.new whole.new (text_of (record { by = by.Controller line.now.controller; item = line.now.number; entry = answer.entry; count = answer.count; what = what.Reply answer.reply })) }
+    ensures told { Tells lines.old whole.old lines.new whole.new (text_of (reply_line line.now answer)) }
 {
     let told = lines.tell_reply(
         line.controller,
@@ -246,7 +242,7 @@ impl Station {
         requires frame { (parts : Parts) × (frame_of packet.now.bytes.now ≡ Ok parts) }
         requires few { length locals.now ≤ 16 }
         requires room { HasRoom locals.now parcel.old }
-        ensures does { HandsOn (opening_of port.now.looking.1) locals.now packet.now.place.port (job_in (work.Packet packet.now)) (handed result.1 (parcel_in parcel.new)) self.old self.new }
+        ensures does { HandsPacket (opening_of port.now.looking.1) locals.now packet.now (handed result.1 (parcel_in parcel.new)) self.old self.new }
         ensures holds { result.1 ≡ true → holds parcel.new }
         ensures room { parcel.old.room ≤ parcel.new.room }
     {

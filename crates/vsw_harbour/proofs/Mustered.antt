@@ -4,7 +4,7 @@ use Rattle.std.proofs.lemmas.List.{length-map}
 use Rattle.vsw_harbour.specs.Lane.{Lane}
 use Rattle.vsw_harbour.proofs.Docked.{docked}
 use Rattle.vsw_harbour.specs.Docks.{port_in}
-use Rattle.vsw_harbour.specs.HarbourOpening.{AreIdle, AreOpened, docks_of, rows_from}
+use Rattle.vsw_harbour.specs.HarbourOpening.{AreIdle, AreOpened, docks_for, docks_of, rows_from}
 use Rattle.vsw_harbour.specs.Seen.{DockSeen, StationSeen}
 use Rattle.vsw_harbour.proofs.Likes.{macs_like, numbers_like}
 use Rattle.vsw_harbour.specs.Harbour.{AreLike, HarbourSeen, IsHarbour, locals_in}
@@ -21,9 +21,6 @@ use Rattle.vsw_harbour.proofs.Fits.{few_controllers, few_ports, good_apart}
 use Rattle.vsw_harbour.proofs.NewRows.{journals_none, rows_lanes, rows_stand, rows_whole}
 
 -- ---- docks of the ports that a file gives
-
-abbrev docks_for : List ℕ → List Port → List OpenSeen → List DockSeen
-docks_for locals made os = docks_of locals (map (λ p. p.number) made) (map (λ p. p.mac) made) (live.ports_of os)
 
 dock_passes : (count : ℕ) (locals : List ℕ) (made : List Port) (os : List OpenSeen) → AreOpened count made os → Each (λ d. d.live.passes ≡ count) (docks_for locals made os)
 dock_passes count locals [] [] a = tt

@@ -16,6 +16,7 @@ use Rattle.vsw_many.specs.Dealing.{numbers_of}
 use Rattle.vsw_many.specs.Turns.{PlacedTurns, append_each, placed_before}
 use Rattle.vsw_harbour.specs.Harbour.{HarbourSeen, IsOfRun, callers, locals_in, ports_in}
 use Rattle.vsw_harbour.specs.Standing.{RowsMay, RowsStand}
+use Rattle.vsw_harbour.specs.Working.{RowsWork}
 
 -- since all stood at these histories, of whose rounds these calls are told, each caller has done its own of these jobs, and after each of them what
 -- its call handed on; and all have met again
@@ -28,7 +29,15 @@ pub record Did (h : HarbourSeen) (hs : List (List Event)) (calls : List (List Ca
   pub journals : AreJournals (callers h) (ports_in h.docks) hs histories
   pub stand : RowsStand 0 h.docks histories (append_each calls (calls_by_port (ports_in h.docks) rows)) met
 
--- since then these jobs were done in turn at the ports of a run
+-- wherever all stood with the first of these rows, they did these jobs, and met, and their rows are the others
+abbrev pub DidAll : HarbourSeen → List Placed → List (List (Lane StationSeen)) → List (List (Lane StationSeen)) → Type 0
+DidAll h jobs rows met = (hs : List (List Event)) (calls : List (List Call)) → RowsStand 0 h.docks hs calls rows → Did h hs calls jobs met
+
+-- whatever jobs each has done its own of since all stood somewhere, they have met
+abbrev pub MetAgain : HarbourSeen → List (List (Lane StationSeen)) → List (List (Lane StationSeen)) → Type 0
+MetAgain h rows met = (hs : List (List Event)) (calls : List (List Call)) (jobs : List Placed) → RowsWork h.controllers 0 h.docks hs calls jobs rows → Did h hs calls jobs met
+
+-- since all stood at these histories these jobs were done in turn at the ports of a run
 pub record Turned (h : HarbourSeen) (s : Setting) (hs : List (List Event)) (calls : List (List Call)) (jobs : List Placed) (met : List (List (Lane StationSeen))) : Type 0 where
   pub histories : List (List Event)
   pub more : List (List Call)

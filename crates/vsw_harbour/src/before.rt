@@ -1,6 +1,6 @@
 //! The commands before the packets, one after the other.
 
-ghost use Rattle.std.specs.Prelude.{◌≡◌, ◌≤◌, ◌<◌, ◌+◌, ◌∷◌, [], ℕ, List, OnOk, length};
+ghost use Rattle.std.specs.Prelude.{◌≤◌, ◌<◌, ◌+◌, ◌∷◌, [], List, OnOk, length};
 ghost use Rattle.vsw_dock.specs.Lanes.{IsOwn, IsTaken};
 ghost use Rattle.vsw_commandfile.specs.declared.line.Line.{Line};
 ghost use Rattle.vsw_dock.specs.Work.{job_in};
@@ -9,11 +9,8 @@ ghost use Rattle.vsw_dock.specs.Docks.{locals, port_in, takes};
 ghost use Rattle.vsw_dock.specs.Opening.{rows_in};
 ghost use Rattle.vsw_harbour.specs.Able.{IsAble, IsLine};
 ghost use Rattle.vsw_harbour.specs.Harbour.{MayAsk, asks_of};
-ghost use Rattle.vsw_harbour.specs.Standing.{RowsStand};
-ghost use Rattle.vsw_harbour.specs.Steps.{AreAt, AsksTurned, Did, MayGo, PlacesTurned, RoundTurned, placed_ask};
-ghost use Rattle.vsw_harbour.specs.Working.{RowsWork};
-ghost use Rattle.vsw_port.specs.Calls.{Call, job_doer};
-ghost use Rattle.vsw_port.specs.declared.event.Event.{Event};
+ghost use Rattle.vsw_harbour.specs.Steps.{AreAt, AsksTurned, DidAll, MayGo, PlacesTurned, RoundTurned, placed_ask};
+ghost use Rattle.vsw_harbour.specs.Working.{AllDo, CallerDoes};
 ghost use Rattle.vsw_policy.specs.Sound.{Each};
 
 use crate::harbour::Harbour;
@@ -46,7 +43,7 @@ fn step_row<'w, 'g, J: Naming, G: Watch, R: Wait>(
     requires own { IsOwn port_in (job_in job.now) caller docks.now }
     requires taken { IsTaken takes 0 place job.now docks.now }
     requires able { IsAble at caller docks.now (rows_in rows.old) }
-    ensures works { (cs : List ℕ) (hs : List (List Event)) (calls : List (List Call)) → job_doer cs (job_in job.now) ≡ caller → RowsStand at docks.now hs calls (rows_in rows.old) → RowsWork cs at docks.now hs calls ((place, job_in job.now) ∷ []) (rows_in rows.new) }
+    ensures works { CallerDoes at caller docks.now place (job_in job.now) (rows_in rows.old) (rows_in rows.new) }
 {
     if let Some((row, others)) = rows.split_first_mut() {
         if at == caller {
@@ -66,7 +63,7 @@ fn do_ask<'g, J: Naming, G: Watch, R: Wait>(
 )
     requires may { MayGo harbour.now (asks_of harbour.now) (rows_in rows.old) }
     requires line { MayAsk harbour.now line.now }
-    ensures works { (hs : List (List Event)) (calls : List (List Call)) → RowsStand 0 harbour.now.docks hs calls (rows_in rows.old) → RowsWork harbour.now.controllers 0 harbour.now.docks hs calls (placed_ask harbour.now.docks line.now ∷ []) (rows_in rows.new) }
+    ensures works { AllDo harbour.now (placed_ask harbour.now.docks line.now ∷ []) (rows_in rows.old) (rows_in rows.new) }
 {
     let place = place_of(&harbour.numbers, line.port);
     let caller = 16 + place_of(&harbour.controllers, line.controller);
@@ -92,7 +89,7 @@ fn ask_one<'g, J: Naming, G: Watch, R: Wait>(
 ) -> Result<(), NoMemory>
     requires may { MayGo harbour.now (asks_of harbour.now) (rows_in rows.old) }
     requires line { MayAsk harbour.now line.now }
-    ensures did { OnOk result ((hs : List (List Event)) (calls : List (List Call)) → RowsStand 0 harbour.now.docks hs calls (rows_in rows.old) → Did harbour.now hs calls (placed_ask harbour.now.docks line.now ∷ []) (rows_in rows.new)) }
+    ensures did { OnOk result (DidAll harbour.now (placed_ask harbour.now.docks line.now ∷ []) (rows_in rows.old) (rows_in rows.new)) }
     ensures may { OnOk result (MayGo harbour.now (asks_of harbour.now) (rows_in rows.new)) }
 {
     do_ask(rt, harbour, rows, line);

@@ -1,17 +1,13 @@
 //! All callers meet the ports.
 
-ghost use Rattle.std.specs.Prelude.{◌≡◌, [], List, OnOk, length};
+ghost use Rattle.std.specs.Prelude.{◌≡◌, [], OnOk, length};
 ghost use Rattle.vsw_dock.specs.Meeting.{AreLanes, RowMeets};
 ghost use Rattle.vsw_dock.specs.Opening.{rows_in};
 ghost use Rattle.vsw_harbour.specs.Harbour.{callers};
 ghost use Rattle.vsw_harbour.specs.Meeting.{AllMeet, AreLanesAt, RowsMeet};
-ghost use Rattle.vsw_harbour.specs.Standing.{RowsMay, RowsStand};
-ghost use Rattle.vsw_harbour.specs.Steps.{Did};
-ghost use Rattle.vsw_harbour.specs.Working.{RowsWork};
-ghost use Rattle.vsw_port.specs.Calls.{Call};
-ghost use Rattle.vsw_port.specs.declared.event.Event.{Event};
+ghost use Rattle.vsw_harbour.specs.Standing.{RowsMay};
+ghost use Rattle.vsw_harbour.specs.Steps.{DidAll, MetAgain};
 ghost use Rattle.vsw_policy.specs.Sound.{Each};
-ghost use Rattle.vsw_promise.specs.Jobs.{Placed};
 
 use crate::harbour::Harbour;
 use std::alloc::Global;
@@ -79,8 +75,8 @@ pub fn meet_again<'g, J: Naming, G, R: Wait>(
     requires lanes { Each (AreLanesAt harbour.now.docks) (rows_in rows.old) }
     requires size { length rows.old ≡ callers harbour.now }
     requires needs { length needs.now ≡ callers harbour.now }
-    ensures did { OnOk result ((hs : List (List Event)) (calls : List (List Call)) (jobs : List Placed) → RowsWork harbour.now.controllers 0 harbour.now.docks hs calls jobs (rows_in rows.old) → Did harbour.now hs calls jobs (rows_in rows.new)) }
-    ensures idle { OnOk result ((hs : List (List Event)) (calls : List (List Call)) → RowsStand 0 harbour.now.docks hs calls (rows_in rows.old) → Did harbour.now hs calls [] (rows_in rows.new)) }
+    ensures did { OnOk result (MetAgain harbour.now (rows_in rows.old) (rows_in rows.new)) }
+    ensures idle { OnOk result (DidAll harbour.now [] (rows_in rows.old) (rows_in rows.new)) }
     ensures may { OnOk result (RowsMay needs.now (rows_in rows.new)) }
 {
     meet_all(rt, harbour.alloc, &harbour.docks, rows, needs)?;

@@ -1,15 +1,12 @@
 //! The lanes of a caller.
 
-ghost use Rattle.std.specs.Prelude.{◌≡◌, ◌≤◌, ◌<◌, ◌∷◌, [], List, length};
+ghost use Rattle.std.specs.Prelude.{◌≡◌, ◌≤◌, ◌<◌, length};
 ghost use Rattle.vsw_dock.specs.Lanes.{AreFit, IsOwn, IsTaken};
 ghost use Rattle.vsw_dock.specs.Work.{job_in};
 ghost use Rattle.vsw_dock.specs.ActorsDone.{AreAlike};
 ghost use Rattle.vsw_dock.specs.Docks.{is_of, locals, pass_in, permits, port_in, takes};
 ghost use Rattle.vsw_harbour.specs.Able.{IsLine};
-ghost use Rattle.vsw_harbour.specs.Standing.{RowStands};
-ghost use Rattle.vsw_harbour.specs.Working.{RowWorks};
-ghost use Rattle.vsw_port.specs.Calls.{Call};
-ghost use Rattle.vsw_port.specs.declared.event.Event.{Event};
+ghost use Rattle.vsw_harbour.specs.Working.{RowDoes};
 
 use std::alloc::Global;
 use std::sync::Wait;
@@ -32,7 +29,7 @@ fn step_lanes<'w, 'g, J: Naming, G: Watch, R: Wait>(
     requires own { IsOwn port_in (job_in job.now) caller docks.now }
     requires taken { IsTaken takes 0 place job.now docks.now }
     requires fit { AreFit pass_in is_of permits caller 1 docks.now lanes.old }
-    ensures works { (hs : List (List Event)) (calls : List (List Call)) → RowStands caller docks.now hs calls lanes.old → RowWorks caller docks.now hs calls lanes.new ((place, job_in job.now) ∷ []) }
+    ensures works { RowDoes caller docks.now (place, job_in job.now) lanes.old lanes.new }
 {
     let mut none = Parcel::none(alloc);
     step_at(rt, alloc, docks, lanes, 0, place, job, &mut none);
@@ -55,7 +52,7 @@ pub fn step<'w, 'g, J: Naming, G: Watch, R: Wait>(
     requires own { IsOwn port_in (job_in job.now) caller docks.now }
     requires taken { IsTaken takes 0 place job.now docks.now }
     requires fit { AreFit pass_in is_of permits caller 1 docks.now row.old.items }
-    ensures works { (hs : List (List Event)) (calls : List (List Call)) → RowStands caller docks.now hs calls row.old.items → RowWorks caller docks.now hs calls row.new.items ((place, job_in job.now) ∷ []) }
+    ensures works { RowDoes caller docks.now (place, job_in job.now) row.old.items row.new.items }
 {
     step_lanes(rt, alloc, docks, row.as_mut_slice(), caller, place, job);
 }

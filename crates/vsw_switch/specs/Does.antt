@@ -2,6 +2,7 @@
 use Rattle.std.specs.Prelude.{◌≡◌, ◌<◌, ℕ, zero, suc, List, [], ◌∷◌, ◌++◌, filter, length, map, not, true, ◌==◌, Result}
 use Rattle.vsw_answer.specs.Transit.{bytes_in}
 use Rattle.vsw_base.specs.declared.flow.Crossing.{Crossing}
+use Rattle.vsw_base.specs.declared.flow.Place.{Place}
 use Rattle.vsw_base.specs.Frame.{Parts}
 use Rattle.vsw_commandfile.specs.declared.line.Line.{Line}
 use Rattle.vsw_hairpin.specs.Handing.{HasHanded, with_hops}
@@ -16,7 +17,7 @@ use Rattle.vsw_policy.specs.Obey.{is_memory}
 use Rattle.vsw_policy.specs.Refusals.{reply_of}
 use Rattle.vsw_policy.specs.Sound.{is_listed}
 use Rattle.vsw_policy.specs.declared.refusal.Refusal.{Refusal}
-use Rattle.vsw_promise.specs.Jobs.{Placed, aim_of, handed_on, loose_after, placed_packet, second_job}
+use Rattle.vsw_promise.specs.Jobs.{Placed, aim_of, crossing_by, handed_on, loose_after, placed_packet, second_job, worker_of}
 use Rattle.vsw_promise.specs.Told.{by_of, line_of, what_of}
 use Rattle.vsw_report.specs.declared.round.Loose.{Loose}
 use Rattle.vsw_report.specs.declared.told.By.{By}
@@ -109,6 +110,10 @@ MakesAt zero c (p ∷ ps) (q ∷ qs) = Makes p c q × (qs ≡ ps)
 MakesAt (suc n) c (p ∷ ps) (q ∷ qs) = (q ≡ p) × MakesAt n c ps qs
 MakesAt n c _ _ = ⊥
 
+-- the port at a place carries a packet with this outcome, at whichever count
+abbrev pub CarriesAt : ℕ → Crossing → Parts → Outcome → List ℕ → List PortNow → List PortNow → Type 0
+CarriesAt n x p o out ps qs = (count : ℕ) × MakesAt n (packet_call x p o out count) ps qs
+
 -- calls, one after the other
 abbrev pub MakesAll : List CallAt → List PortNow → List PortNow → Type 0
 MakesAll [] ps qs = qs ≡ ps
@@ -131,6 +136,10 @@ pub record HandsOn (macs : List ℕ) (jobs : List Placed) (ps qs : List PortNow)
   pub hops : List (List Placed)
   pub does : DoesAll (with_hops jobs hops) ps qs
   pub handed : AreHanded macs does.calls jobs hops
+
+-- the job that packet n, with a frame of these parts, is at its place to the one of so many workers whose it is
+abbrev pub carried_job : ℕ → ℕ → Place → ℕ → Parts → Placed
+carried_job workers n place moment p = (place.port, Carry (crossing_by (worker_of workers p) n place moment p) p)
 
 -- the jobs of a packet, of which this is told at the port at a place, for what it is handed on as from there
 abbrev pub second_jobs : List ℕ → Crossing → ℕ → What → List Placed

@@ -1,5 +1,6 @@
 -- What a round leaves.
 use Rattle.std.specs.Prelude.{◌≡◌, ℕ, List, ◌++◌, length, map, Bool}
+use Rattle.vsw_commandfile.specs.declared.line.Line.{Line}
 use Rattle.vsw_port.specs.declared.event.Event.{Event}
 use Rattle.vsw_port.specs.Order.{numbered}
 use Rattle.vsw_pcap.specs.declared.capture.Record.{Record}
@@ -31,3 +32,7 @@ pub record TellsRound (s : Setting) (hs : List (List Event)) (first : ℕ) (pack
 pub record RunsRound (s : Setting) (hs : List (List Event)) (first : ℕ) (packets : List Record) (now : SwitchNow) (short : Bool) (old new : List ℕ) : Type 0 where
   pub tells : TellsRound s hs first packets now short old new
   pub tally : last_of now.ports ≡ tally_in tells.round
+
+-- in whichever run of these commands the switch stood between two rounds, the round was run of these packets, of which the first has this number
+abbrev pub RunsFrom : SwitchNow → List Line → ℕ → List Record → SwitchNow → Bool → (old new : List ℕ) → Type 0
+RunsFrom before lines first packets now short old new = (s : Setting) (hs : List (List Event)) → s.commands ≡ lines → IsAt s hs before → RunsRound s hs first packets now short old new

@@ -1,13 +1,12 @@
 //! A packet at its port, and at the one to which it is handed on.
 
-ghost use Rattle.std.specs.Prelude.{◌≡◌, ◌≤◌, ◌<◌, ◌∷◌, [], ℕ, IfOk, OnOk, length, map};
+ghost use Rattle.std.specs.Prelude.{◌≡◌, ◌≤◌, ◌<◌, ◌∷◌, [], IfOk, OnOk, length, map};
 ghost use Rattle.vsw_answer.specs.Transit.{len_of};
 ghost use Rattle.vsw_frame.specs.Frame.{parts};
 ghost use Rattle.vsw_policy.specs.Sound.{Each};
-ghost use Rattle.vsw_port.specs.Calls.{Carry};
-ghost use Rattle.vsw_promise.specs.Jobs.{crossing_by, worker_of};
+ghost use Rattle.vsw_promise.specs.Jobs.{crossing_by};
 ghost use Rattle.vsw_report.specs.declared.told.What.TheVariants as what;
-ghost use Rattle.vsw_switch.specs.Does.{DoesAll, HandsOn, MakesAt, fate_told, packet_call, second_jobs};
+ghost use Rattle.vsw_switch.specs.Does.{CarriesAt, DoesAll, HandsOn, carried_job, fate_told, second_jobs};
 ghost use Rattle.vsw_pcap.specs.Batch.{lent_record};
 ghost use Rattle.vsw_switch.specs.Stay.{Arrives, standing};
 
@@ -36,7 +35,7 @@ fn carry_at<G: Watch>(
 ) -> Result<Outcome, NoMemory>
     requires callers { Each (λ p. caller < length p.workers) ports.old.items }
     requires within { place.port < length ports.old.items }
-    ensures makes { IfOk result (λ o. (count : ℕ) × MakesAt place.port (packet_call rooms.new.crossing (parts frame.now) o rooms.new.room count) ports.old.items ports.new.items) }
+    ensures makes { IfOk result (λ o. CarriesAt place.port rooms.new.crossing (parts frame.now) o rooms.new.room ports.old.items ports.new.items) }
     ensures crossing { rooms.new.crossing ≡ crossing_by caller packet place moment (parts frame.now) }
     ensures len { IfOk result (λ o. len_of o.fate ≤ 65700) }
     ensures stays { map standing ports.new.items ≡ map standing ports.old.items }
@@ -136,7 +135,7 @@ fn carry_on<G: Watch>(
     requires within { place.port < length ports.old.items }
     requires few { length locals.now ≤ 16 }
     requires locals { length locals.now ≤ length ports.old.items }
-    ensures hands { OnOk result (HandsOn locals.now ((place.port, Carry (crossing_by (worker_of workers (parts frame.now)) packet place moment (parts frame.now)) (parts frame.now)) ∷ []) ports.old.items ports.new.items) }
+    ensures hands { OnOk result (HandsOn locals.now (carried_job workers packet place moment (parts frame.now) ∷ []) ports.old.items ports.new.items) }
     ensures stays { map standing ports.new.items ≡ map standing ports.old.items }
 {
     let caller = worker_for(workers, frame.stack());

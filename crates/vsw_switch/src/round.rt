@@ -1,16 +1,13 @@
 //! Running a round.
 
-ghost use Rattle.std.specs.Prelude.{◌≡◌, ◌≤◌, ◌<◌, ◌+◌, ◌^◌, ℕ, List, filter, length, map, IfOk, OnOk};
+ghost use Rattle.std.specs.Prelude.{◌≡◌, ◌<◌, ◌+◌, ◌^◌, List, length, IfOk, OnOk};
 ghost use Rattle.vsw_commandfile.specs.declared.line.Line.{Line};
-ghost use Rattle.vsw_port.specs.declared.event.Event.{Event};
 ghost use Rattle.vsw_port.specs.Order.{numbered};
 ghost use Rattle.vsw_policy.specs.Sound.{Each};
-ghost use Rattle.vsw_promise.specs.Jobs.{Setting};
 ghost use Rattle.vsw_report.specs.Whole.{whole_text};
-ghost use Rattle.vsw_switch.specs.Round.{RunsRound};
+ghost use Rattle.vsw_switch.specs.Round.{RunsFrom};
 ghost use Rattle.vsw_switch.specs.Steps as steps;
-ghost use Rattle.vsw_switch.specs.Does.{Works, numbers_in, placed_line};
-ghost use Rattle.vsw_switch.specs.Switch.{AreServed, IsAt};
+ghost use Rattle.vsw_switch.specs.Switch.{AreServed};
 
 use crate::Switch;
 use vsw_answer::Watch;
@@ -36,7 +33,7 @@ fn ask_all(
 ) -> Result<(), NoMemory>
     requires served { AreServed switch.old schedule.now }
     requires places { Each (λ place. place < length schedule.now) places.now }
-    ensures asked { OnOk result (Works switch.old (map (placed_line (numbers_in switch.old)) (filter (steps.is_when during) (steps.lines_at schedule.now places.now))) switch.new) }
+    ensures asked { OnOk result (steps.AsksAll switch.old during schedule.now places.now switch.new) }
     ensures served { (lines : List Line) → AreServed switch.old lines → AreServed switch.new lines }
 {
     for place in places {
@@ -80,7 +77,7 @@ pub fn run_round<G: Watch>(
 ) -> Result<bool, NoMemory>
     requires served { AreServed switch.old schedule.now }
     requires numbers { first + length packets.now < 2 ^ 32 }
-    ensures runs { IfOk result (λ short. (s : Setting) (hs : List (List Event)) → s.commands ≡ schedule.now → IsAt s hs switch.old → RunsRound s hs first packets.now switch.new short (whole_text out.old) (whole_text out.new)) }
+    ensures runs { IfOk result (λ short. RunsFrom switch.old schedule.now first packets.now switch.new short (whole_text out.old) (whole_text out.new)) }
     ensures served { (lines : List Line) → AreServed switch.old lines → AreServed switch.new lines }
 {
     switch.take_rooms(out);

@@ -15,7 +15,7 @@ ghost use Rattle.vsw_offload.specs.Answered.{AnswersFrame, bytes_given, bytes_to
 ghost use Rattle.vsw_offload.specs.Private.Heading.{AllMade, AnswersByHead, AreMade, PassesFrame};
 ghost use Rattle.vsw_offload.specs.Private.Making.{IsEdited, IsMadeOf};
 ghost use Rattle.vsw_offload.specs.Private.Noting.{AllNoted};
-ghost use Rattle.vsw_offload.specs.Private.Saying.{AreBytesBy, AreBytesOfPass, IsFateOfPass, SaysOf, SaysRow, bytes_with};
+ghost use Rattle.vsw_offload.specs.Private.Saying.{AreBytesBy, AreBytesOfPass, IsFateOfPass, OfActs, SaysOf, SaysRow, bytes_with};
 ghost use Rattle.vsw_offload.specs.Rows.{AreRows, IsRow, key_of};
 ghost use Rattle.vsw_policy.specs.Sound.{Each};
 ghost use Rattle.vsw_rows.specs.Good.{Row};
@@ -362,8 +362,8 @@ fn edit_bare(made: &Stack, frame: &Frame<'_>, out: &mut [u8]) -> Given
     requires bare { encaps (parts frame.now).stack ≡ 0 }
     requires edit { (by : List Act) × (is_form by ≡ true) × (fit.fits by (parts frame.now).stack ≡ true) × (made.now ≡ apply by (parts frame.now).stack) }
     requires room { length out.old ≡ 65700 }
-    ensures fate { (by : List Act) → is_form by ≡ true → fit.fits by (parts frame.now).stack ≡ true → made.now ≡ apply by (parts frame.now).stack → result.fate ≡ fate_by by (parts frame.now) verdict.Pass }
-    ensures bytes { (by : List Act) → is_form by ≡ true → fit.fits by (parts frame.now).stack ≡ true → made.now ≡ apply by (parts frame.now).stack → AreBytesBy by (parts frame.now) result out.new }
+    ensures fate { OfActs (parts frame.now) made.now (λ by. result.fate ≡ fate_by by (parts frame.now) verdict.Pass) }
+    ensures bytes { OfActs (parts frame.now) made.now (λ by. AreBytesBy by (parts frame.now) result out.new) }
     ensures own { result.own ≡ false }
 {
     // It tells the proof that the headers are those of a stack.

@@ -4,8 +4,7 @@ ghost use Rattle.std.specs.Prelude.{◌≡◌, ◌≢◌, ◌≤◌, IfOk, IfSom
 ghost use Rattle.vsw_base.specs.declared.fate.Verdict.{Verdict};
 ghost use Rattle.vsw_base.specs.declared.fate.Verdict.TheVariants.{Pass};
 ghost use Rattle.vsw_base.specs.declared.header.Header.{Header};
-ghost use Rattle.vsw_offload.specs.Private.Finding.{HasOne};
-ghost use Rattle.vsw_offload.specs.Private.Heading.{AreHeads, IsHead, IsHeadFor, PassesBy, TakesHead, bare_of, head_key, no_head};
+ghost use Rattle.vsw_offload.specs.Private.Heading.{AreHeads, IsHead, IsHeadFor, PassesBy, TakesHead, TakesRow, bare_of, head_key, no_head};
 ghost use Rattle.vsw_offload.specs.Private.Making.{ArePlaces, EditsNone, IsPlaceOf};
 ghost use Rattle.vsw_offload.specs.Rows.{IsRow};
 ghost use Rattle.vsw_policy.specs.Sound.{Each};
@@ -225,7 +224,7 @@ fn add(
 ) -> Result<(), NoMemory>
     requires slots { 8 ≤ slots }
     requires row { IsRow words.now }
-    ensures { OnOk result ((rows : List (List ℕ)) (stacks : List (List Header)) → HasOne rows words.now → IsPlaceOf words.now stacks place → AreHeads rows stacks heads.old.items → AreHeads rows stacks heads.new.items) }
+    ensures { OnOk result (TakesRow words.now place heads.old.items heads.new.items) }
 {
     let Some(key) = words.first_chunk::<16>() else {
         return Ok(());

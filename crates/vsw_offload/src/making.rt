@@ -7,7 +7,7 @@ ghost use Rattle.vsw_base.specs.declared.flow.Ufid.{Ufid};
 ghost use Rattle.vsw_base.specs.declared.header.Header.{Header};
 ghost use Rattle.vsw_offload.specs.Private.Heading as spec;
 ghost use Rattle.vsw_offload.specs.Private.Heading.{AllMade, AreMade};
-ghost use Rattle.vsw_offload.specs.Private.Making.{ArePlaces, EditsNone, IsPlaceOf, Stay};
+ghost use Rattle.vsw_offload.specs.Private.Making.{ArePlaces, EditsNone, IsEditedBy, IsPlaceOf, Stay};
 ghost use Rattle.vsw_offload.specs.Rows.{IsPortRows, IsRow};
 ghost use Rattle.vsw_policy.specs.Sound.{Each};
 ghost use Rattle.vsw_rows.specs.Good.{Row};
@@ -82,7 +82,7 @@ fn push_pass(
     stacks: &mut Items<Stack>,
 ) -> Result<(), NoMemory>
     requires { (r : Row) × IsId r.id × (key.now ≡ key_words r.id.dir r.id.stack) × AreOf body.now Pass r.acts r.until × (fit.fits r.acts r.id.stack ≡ true) }
-    ensures { OnOk result ((made : List Header) × (stacks.new ≡ stacks.old ++ made ∷ []) × ((id : Ufid) (by : List Act) (until : ℕ) → IsId id → key.now ≡ key_words id.dir id.stack → AreOf body.now Pass by until → made ≡ apply by id.stack)) }
+    ensures { OnOk result ((made : List Header) × (stacks.new ≡ stacks.old ++ made ∷ []) × IsEditedBy key.now body.now made) }
 {
     let mut made = Stack::room();
     make_pass(key, body, id, &mut made);

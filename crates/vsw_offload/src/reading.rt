@@ -1,8 +1,8 @@
 //! A rows file, read part by part. Each part is either whole and right, or the first that is at fault.
 
 ghost use Rattle.std.specs.Prelude.{◌≡◌, ◌≤◌, ◌<◌, ◌+◌, ◌*◌, ◌++◌, ◌∷◌, [], ℕ, List, IfOk, IfErr, OnOk, length, take, true, false};
-ghost use Rattle.vsw_offload.specs.Bad.{Address, Begins, Done, Entries, IsBadRows, Number, Ports, Reaches, next_size, ports_text};
-ghost use Rattle.vsw_offload.specs.Private.Reading.{HasRows, ReadsRow, RefusesRow, port_of};
+ghost use Rattle.vsw_offload.specs.Bad.{Address, Begins, Done, IsBadRows, Number, Ports, Reaches, next_size, ports_text};
+ghost use Rattle.vsw_offload.specs.Private.Reading.{ReadsCount, ReadsEntries, ReadsRow, ReadsRows, RefusesCount, RefusesRow, RefusesRows};
 ghost use Rattle.vsw_offload.specs.Rows.{AreRows, head, is_among, macs_of, numbers_of, rows_bytes};
 ghost use Rattle.vsw_offload.specs.declared.fault.BadRows.TheVariants.{Memory};
 ghost use Rattle.vsw_offload.specs.declared.port_rows.PortRows.{PortRows};
@@ -97,7 +97,7 @@ fn read_address(bytes: &[u8], at: usize, ports: &[PortRows]) -> Result<Mac, BadR
 fn read_entries(bytes: &[u8], at: usize) -> Result<u32, BadRows>
     requires within { at ≤ length bytes.now }
     ensures whole { OnOk result (at + 4 ≤ length bytes.now) }
-    ensures ok { (count port mac : ℕ) (ps : List PortRows) → Reaches bytes.now at (Address count ps port mac) → IfOk result (λ entries. Reaches bytes.now (at + 4) (Entries count ps port mac entries)) }
+    ensures ok { ReadsEntries bytes.now at result }
     ensures bad { (count port mac : ℕ) (ps : List PortRows) → Reaches bytes.now at (Address count ps port mac) → IfErr result (λ why. IsBadRows bytes.now why) }
 {
     whole(bytes, at, NUMBER_LEN)?;
@@ -108,8 +108,8 @@ fn read_entries(bytes: &[u8], at: usize) -> Result<u32, BadRows>
 fn read_row_count(bytes: &[u8], at: usize) -> Result<u32, BadRows>
     requires within { at ≤ length bytes.now }
     ensures whole { OnOk result (at + 4 ≤ length bytes.now) }
-    ensures ok { (count port mac entries : ℕ) (ps : List PortRows) → Reaches bytes.now at (Entries count ps port mac entries) → IfOk result (λ rows. HasRows bytes.now (at + 4) count ps (port_of port mac entries []) rows) }
-    ensures bad { (count port mac entries : ℕ) (ps : List PortRows) → Reaches bytes.now at (Entries count ps port mac entries) → IfErr result (λ why. IsBadRows bytes.now why) }
+    ensures ok { ReadsCount bytes.now at result }
+    ensures bad { RefusesCount bytes.now at result }
 {
     whole(bytes, at, NUMBER_LEN)?;
     let rows = number_at(bytes, at);
@@ -165,8 +165,8 @@ fn read_rows(
     requires none { rows.old ≡ [] }
     ensures all { OnOk result (length rows.new ≡ count) }
     ensures within { IfOk result (λ end. end ≤ length bytes.now) }
-    ensures ok { (ports : ℕ) (ps : List PortRows) (port mac entries : ℕ) → HasRows bytes.now first ports ps (port_of port mac entries []) count → IfOk result (λ end. HasRows bytes.now end ports ps (port_of port mac entries rows.new) count) }
-    ensures bad { (ports : ℕ) (ps : List PortRows) (port mac entries : ℕ) → HasRows bytes.now first ports ps (port_of port mac entries []) count → IfErr result (λ why. IsBadRows bytes.now why) }
+    ensures ok { ReadsRows bytes.now first count rows.new result }
+    ensures bad { RefusesRows bytes.now first count result }
 {
     let mut at = first;
     let mut rooms = Rooms::new();

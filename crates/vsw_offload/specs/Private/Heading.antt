@@ -62,6 +62,10 @@ AreHeads rows stacks hs = (n : ℕ) → IsHeadOf rows stacks (get_or hs n no_hea
 abbrev pub TakesHead : Head → (old new : List Head) → Type 0
 TakesHead h old new = (rows : List (List ℕ)) (stacks : List (List Header)) → IsHeadOf rows stacks h → AreHeads rows stacks old → AreHeads rows stacks new
 
+-- the same of the head of a row with these words, which has this place
+abbrev pub TakesRow : List ℕ → Option ℕ → (old new : List Head) → Type 0
+TakesRow words place old new = (rows : List (List ℕ)) (stacks : List (List Header)) → HasOne rows words → IsPlaceOf words stacks place → AreHeads rows stacks old → AreHeads rows stacks new
+
 -- a head is of what a key keeps, and good so late
 pub record IsHeadFor (h : Head) (key : List ℕ) (moment : ℕ) : Type 0 where
   pub is : h.first ≢ 0

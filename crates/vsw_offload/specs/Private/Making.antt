@@ -16,6 +16,10 @@ use Rattle.vsw_words.specs.Law.{IsId}
 abbrev pub IsEdited : List ℕ → List Header → Type 0
 IsEdited words made = (id : Ufid) (by : List Act) (until : ℕ) → IsId id → key_of words ≡ key_words id.dir id.stack → AreOf (drop 16 words) Pass by until → made ≡ apply by id.stack
 
+-- the same of a row's key and body
+abbrev pub IsEditedBy : (key body : List ℕ) → List Header → Type 0
+IsEditedBy key body made = (id : Ufid) (by : List Act) (until : ℕ) → IsId id → key ≡ key_words id.dir id.stack → AreOf body Pass by until → made ≡ apply by id.stack
+
 -- acts of a pass with this body edit nothing
 abbrev pub EditsNone : List ℕ → Type 0
 EditsNone body = (by : List Act) (until : ℕ) (hs : List Header) → AreOf body Pass by until → is_stack hs ≡ true → fit.fits by hs ≡ true → (apply by hs ≡ hs) × (fit.kept by ≡ encaps hs)

@@ -11,7 +11,9 @@ use Rattle.vsw_offload.specs.declared.answer.Given.{Given}
 use Rattle.vsw_rows.specs.Good.{Row}
 use Rattle.vsw_rows.specs.Rows.{Says}
 use Rattle.vsw_transpose.specs.declared.act.Act.{Act}
+use Rattle.vsw_transpose.specs.Apply.{apply}
 use Rattle.vsw_transpose.specs.Fits as fit
+use Rattle.vsw_transpose.specs.Form.{is_form}
 use Rattle.vsw_words.specs.Doing.{AreOf}
 
 -- the words are of this row's body, whose acts fit the frame where it passes
@@ -39,3 +41,7 @@ IsFateOfPass words p fate = (by : List Act) (until : ℕ) → AreOf words verdic
 
 abbrev pub AreBytesOfPass : List ℕ → Parts → Given → List ℕ → Type 0
 AreBytesOfPass words p g out = (by : List Act) (until : ℕ) → AreOf words verdict.Pass by until → fit.fits by p.stack ≡ true → AreBytesBy by p g out
+
+-- of whichever acts of a form these headers are what they make of a frame which they fit, this is so
+abbrev pub OfActs : Parts → List Header → (List Act → Type 0) → Type 0
+OfActs p made so = (by : List Act) → is_form by ≡ true → fit.fits by p.stack ≡ true → made ≡ apply by p.stack → so by

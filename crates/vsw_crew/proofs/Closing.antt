@@ -13,7 +13,7 @@ use Rattle.vsw_crew.specs.Private.Owing.{OwesSo}
 use Rattle.vsw_crew.specs.Shares.{ShareSeen}
 use Rattle.vsw_crew.specs.Shift.{IsOut, TellsOwed}
 use Rattle.vsw_crew.specs.StreamShares.{StreamSeen}
-use Rattle.vsw_crew.specs.Streams.{IsFeeding}
+use Rattle.vsw_crew.specs.Streams.{IsFeeding, MayClose}
 use Rattle.vsw_crew.specs.declared.feeding.Feeding.{Feeding}
 use Rattle.vsw_crew.specs.declared.owed.Owed.{Owed}
 use Rattle.vsw_crew.specs.declared.round.Worked.{Worked}
@@ -24,11 +24,7 @@ pub opened_out : (h : HarbourSeen) (gs : List (List Event)) (crew : CrewSeen) (r
 opened_out h gs crew rows lines first (Err e) out view ready f = tt
 opened_out h gs crew rows lines first (Ok x) out view ready f = subst (λ (w : CrewSeen). IsFeeding w lines first [] x out) view (f gs ready)
 
--- some crew began the round and these packets were handed over
-abbrev pub Feeds : CrewSeen → Feeding → List StreamSeen → Type 0
-Feeds crew f out = (c : CrewSeen) × (lines : List Line) × (first : ℕ) × (packets : List Record) × (c.harbour ≡ crew.harbour) × IsFeeding c lines first packets f out
-
-pub may_close : (h : HarbourSeen) (crew : CrewSeen) (gs : List (List Event)) (f : Feeding) (out : List StreamSeen) → at_start h gs ≡ crew → Feeds crew f out → (hs : List (List Event)) × (lines : List Line) × (first : ℕ) × (packets : List Record) × IsFeeding (at_start h hs) lines first packets f out
+pub may_close : (h : HarbourSeen) (crew : CrewSeen) (gs : List (List Event)) (f : Feeding) (out : List StreamSeen) → at_start h gs ≡ crew → MayClose crew.harbour f out → (hs : List (List Event)) × (lines : List Line) × (first : ℕ) × (packets : List Record) × IsFeeding (at_start h hs) lines first packets f out
 may_close h crew gs f out view x =
     let e : x.0.harbour ≡ h = x.4 ∙ sym (ap (λ (w : CrewSeen). w.harbour) view) in
     (x.0.histories, x.1, x.2, x.3, to_start (λ c. IsFeeding c x.1 x.2 x.3 f out) h x.0 e x.5)
@@ -39,7 +35,7 @@ pub record WasOut (h : HarbourSeen) (f : Feeding) (w : Worked) : Type 0 where
   pub began : Began h f.underway out
   pub does : DoesRound h f.underway out w
 
-pub closed : (h : HarbourSeen) (crew : CrewSeen) (gs : List (List Event)) (f : Feeding) (out : List StreamSeen) (w : Worked) → at_start h gs ≡ crew → Feeds crew f out → Closes h f out w → WasOut h f w
+pub closed : (h : HarbourSeen) (crew : CrewSeen) (gs : List (List Event)) (f : Feeding) (out : List StreamSeen) (w : Worked) → at_start h gs ≡ crew → MayClose crew.harbour f out → Closes h f out w → WasOut h f w
 closed h crew gs f out w view x closes =
     let m = may_close h crew gs f out view x in
     let k = closes m.0 m.1 m.2 m.3 m.4 in

@@ -95,3 +95,11 @@ pub record Owes (h : HarbourSeen) (o : Owed) (text : List ℕ) (short : Bool) : 
 -- a round that a crew began which stood so is to be told, and this is the crew behind it: in each run it is that round, and its text
 pub record TellsOwed (c : CrewSeen) (lines : List Line) (first : ℕ) (packets : List Record) (o : Owed) (after : CrewSeen) : Type 0 where
   pub tells : (s : Setting) (hs : List (List Event)) → s.commands ≡ lines → IsAt s hs (crew_now c) → (text : List ℕ) × (short : Bool) × Owes c.harbour o text short × TellsRound s hs first packets (crew_now after) short [] text
+
+-- some crew of this harbour began the round whose shares are out
+abbrev pub MayTake : HarbourSeen → Underway → List ShareSeen → Type 0
+MayTake h u out = (c : CrewSeen) × (lines : List Line) × (first : ℕ) × (packets : List Record) × (c.harbour ≡ h) × IsOut c lines first packets u out
+
+-- whichever crew it is, its round is to be told, and this is the crew behind it
+abbrev pub TakesOwed : HarbourSeen → Underway → List ShareSeen → Owed → CrewSeen → Type 0
+TakesOwed h u out o after = (c : CrewSeen) (lines : List Line) (first : ℕ) (packets : List Record) → c.harbour ≡ h → IsOut c lines first packets u out → TellsOwed c lines first packets o after

@@ -6,9 +6,10 @@ use Rattle.vsw_actors.specs.declared.handed.Handed.{Handed}
 use Rattle.vsw_commandfile.specs.declared.line.Line.{Line}
 use Rattle.vsw_crew.specs.Crew.{CrewSeen, IsOfSome}
 use Rattle.vsw_crew.specs.Private.Round.{HasBegun, macs_in}
-use Rattle.vsw_crew.specs.Shift.{HasNoneBeside}
+use Rattle.vsw_crew.specs.Shift.{HasNoneBeside, TellsOwed}
 use Rattle.vsw_crew.specs.StreamShares.{StreamSeen}
 use Rattle.vsw_crew.specs.declared.feeding.Feeding.{Feeding}
+use Rattle.vsw_crew.specs.declared.owed.Owed.{Owed}
 use Rattle.vsw_crew.specs.declared.stream_share.Frames.{Frames}
 use Rattle.vsw_crew.specs.declared.underway.Underway.{Underway}
 use Rattle.vsw_harbour.specs.Harbour.{HarbourSeen, IsOfRun, MayAsk, callers, ports_in}
@@ -83,3 +84,11 @@ MayFeed h packets f = (c : CrewSeen) × (lines : List Line) × (first : ℕ) × 
 -- whichever crew it is, the last of these packets was handed over too
 abbrev pub FeedsLast : HarbourSeen → List Record → Feeding → Feeding → Type 0
 FeedsLast h packets old new = (c : CrewSeen) (lines : List Line) (first : ℕ) (before : List Record) (last : Record) (out : List StreamSeen) → c.harbour ≡ h → IsFeeding c lines first before old out → packets ≡ before ++ last ∷ [] → length before < old.most → IsFeeding c lines first packets new out
+
+-- some crew of this harbour has begun the round whose packets were handed over
+abbrev pub MayClose : HarbourSeen → Feeding → List StreamSeen → Type 0
+MayClose h f out = (c : CrewSeen) × (lines : List Line) × (first : ℕ) × (packets : List Record) × (c.harbour ≡ h) × IsFeeding c lines first packets f out
+
+-- whichever crew it is, its round is to be told, and this is the crew behind it
+abbrev pub ClosesOwed : HarbourSeen → Feeding → List StreamSeen → Owed → CrewSeen → Type 0
+ClosesOwed h f out o after = (c : CrewSeen) (lines : List Line) (first : ℕ) (packets : List Record) → c.harbour ≡ h → IsFeeding c lines first packets f out → TellsOwed c lines first packets o after

@@ -2,7 +2,7 @@
 
 ghost use Rattle.std.specs.Prelude.{◌≡◌, ◌≤◌, ◌++◌, List, IfOk, OnOk, drop, length, map, take};
 ghost use Rattle.vsw_crew.specs.Crew.{AreReady, IsOfSome};
-ghost use Rattle.vsw_crew.specs.Private.Round.{HasAsked, HasBegun, InEachRun};
+ghost use Rattle.vsw_crew.specs.Private.Round.{BeginsRound, HasAsked, InEachRun};
 ghost use Rattle.vsw_crew.specs.Private.Rows.{cleared, lines_of};
 ghost use Rattle.vsw_harbour.specs.HarbourOpening.{rows_in};
 ghost use Rattle.vsw_harbour.specs.Harbour.{MayAsk};
@@ -75,7 +75,7 @@ fn begin_rows<'g, J: Naming, G: Watch, R: Wait>(
     requires run { IsOfSome harbour.now }
     requires ready { (hs : List (List Event)) × AreReady harbour.now hs (rows_in rows.old) }
     requires lines { Each (MayAsk harbour.now) schedule.now }
-    ensures begun { IfOk result (λ firsts. InEachRun harbour.now schedule.now (rows_in rows.old) (λ s hs. HasBegun harbour.now s hs first firsts.items (rows_in rows.new))) }
+    ensures begun { IfOk result (λ firsts. BeginsRound harbour.now schedule.now first (rows_in rows.old) firsts.items (rows_in rows.new)) }
 {
     meet_and_ask(rt, harbour, rows, schedule, first)?;
     if !are_whole(rows) {
@@ -96,7 +96,7 @@ pub(crate) fn begin<'g, J: Naming, G: Watch, R: Wait>(
     requires run { IsOfSome harbour.now }
     requires ready { (hs : List (List Event)) × AreReady harbour.now hs (rows_in rows.old.items) }
     requires lines { Each (MayAsk harbour.now) schedule.now }
-    ensures begun { IfOk result (λ firsts. InEachRun harbour.now schedule.now (rows_in rows.old.items) (λ s hs. HasBegun harbour.now s hs first firsts.items (rows_in rows.new.items))) }
+    ensures begun { IfOk result (λ firsts. BeginsRound harbour.now schedule.now first (rows_in rows.old.items) firsts.items (rows_in rows.new.items)) }
 {
     let firsts = begin_rows(rt, harbour, rows.as_mut_slice(), schedule, first)?;
     Ok(firsts)

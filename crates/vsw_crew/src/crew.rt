@@ -3,9 +3,9 @@
 ghost use Rattle.std.specs.Arc.{arc_value};
 ghost use Rattle.std.specs.Prelude.{◌≡◌, ◌<◌, ◌+◌, ◌++◌, ◌^◌, [], ℕ, Bool, List, IfOk, OnOk, length};
 ghost use Rattle.vsw_commandfile.specs.declared.line.Line.{Line};
-ghost use Rattle.vsw_crew.specs.Shift.{HasNoneBeside, IsOut, IsPicked, Owes, TellsOwed};
+ghost use Rattle.vsw_crew.specs.Shift.{HasNoneBeside, IsOut, IsPicked, MayTake, Owes, TakesOwed};
 ghost use Rattle.vsw_crew.specs.Crew.{AreReady, AreRowsOf, CrewSeen, IsOfSome, RunsRound, crew_now, seen_by, switch_now};
-ghost use Rattle.vsw_crew.specs.Private.Round.{HasTold, InEachRun};
+ghost use Rattle.vsw_crew.specs.Private.Round.{RunsRows, SaysRound, StayServed};
 ghost use Rattle.vsw_harbour.specs.HarbourOpening.{rows_in};
 ghost use Rattle.vsw_harbour.specs.Harbour.{MayAsk};
 ghost use Rattle.vsw_port.specs.declared.event.Event.{Event};
@@ -160,8 +160,8 @@ impl<'c, 'g, J: Naming, G: Gate + Watch> Crew<'c, 'g, J, G> {
         pool: &mut Pool<'p, Share<'c, 'g, J, G>, Carried, Carrier<'g, G>, B>,
         underway: Underway,
     ) -> Result<Owed, NoMemory>
-        requires out { (c : CrewSeen) × (lines : List Line) × (first : ℕ) × (packets : List Record) × (c.harbour ≡ self.old.harbour) × IsOut c lines first packets underway pool.old }
-        ensures tells { IfOk result (λ owed. (c : CrewSeen) (lines : List Line) (first : ℕ) (packets : List Record) → c.harbour ≡ self.old.harbour → IsOut c lines first packets underway pool.old → TellsOwed c lines first packets owed self.new) }
+        requires out { MayTake self.old.harbour underway pool.old }
+        ensures tells { IfOk result (λ owed. TakesOwed self.old.harbour underway pool.old owed self.new) }
         ensures owes { IfOk result (λ owed. (text : List ℕ) × (short : Bool) × Owes self.old.harbour owed text short) }
         ensures served { (gs : List (List Event)) (lines : List Line) → AreServed (switch_now self.old.harbour gs) lines → AreServed (crew_now self.new) lines }
         ensures idle { OnOk result (pool.new ≡ []) }
@@ -192,7 +192,7 @@ fn run<'g, J: Naming + Send + Sync, G: Gate + Watch + Sync, R: Threads + Wait + 
     requires ready { (hs : List (List Event)) × AreReady harbour.now hs (rows_in rows.items) }
     requires lines { Each (MayAsk harbour.now) schedule.now }
     requires numbers { first + length packets.now < 2 ^ 32 }
-    ensures told { IfOk result (λ r. InEachRun harbour.now schedule.now (rows_in rows.items) (λ s hs. HasTold harbour.now s hs first packets.now r.0 (whole_text out.old) (whole_text out.new) (rows_in r.1.items))) }
+    ensures told { IfOk result (λ r. SaysRound harbour.now schedule.now first packets.now (rows_in rows.items) r.0 (whole_text out.old) (whole_text out.new) (rows_in r.1.items)) }
 {
     let worked = work_round(rt, harbour, round, rows, schedule, first, packets)?;
     let told = tell(harbour, first, worked, out)?;
@@ -214,8 +214,8 @@ fn run_crew<'g, J: Naming + Send + Sync, G: Gate + Watch + Sync, R: Threads + Wa
     requires served { AreServed (switch_now harbour.now (seen_by (rows_in rows.old.items))) schedule.now }
     requires numbers { first + length packets.now < 2 ^ 32 }
     ensures rows { AreRowsOf harbour.now (rows_in rows.new.items) }
-    ensures runs { IfOk result (λ short. RunsRound schedule.now first packets.now (switch_now harbour.now (seen_by (rows_in rows.old.items))) (switch_now harbour.now (seen_by (rows_in rows.new.items))) short (whole_text out.old) (whole_text out.new)) }
-    ensures served { (lines : List Line) → AreServed (switch_now harbour.now (seen_by (rows_in rows.old.items))) lines → AreServed (switch_now harbour.now (seen_by (rows_in rows.new.items))) lines }
+    ensures runs { RunsRows result harbour.now schedule.now first packets.now (rows_in rows.old.items) (rows_in rows.new.items) (whole_text out.old) (whole_text out.new) }
+    ensures served { StayServed harbour.now (rows_in rows.old.items) (rows_in rows.new.items) }
 {
     let taken = replace(rows, Vec::new(harbour.alloc));
     if taken.is_empty() {

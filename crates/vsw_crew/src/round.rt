@@ -2,7 +2,7 @@
 
 ghost use Rattle.std.specs.Prelude.{◌≡◌, ◌<◌, ◌+◌, ◌^◌, ◌++◌, List, IfOk, OnOk, length};
 ghost use Rattle.vsw_crew.specs.Crew.{AreReady, IsOfSome};
-ghost use Rattle.vsw_crew.specs.Private.Round.{HasWorked, InEachRun, jobs_here, macs_in};
+ghost use Rattle.vsw_crew.specs.Private.Round.{WorksRound, jobs_here, macs_in};
 ghost use Rattle.vsw_harbour.specs.Deal.{AreFew, AreWork, dealt, shared};
 ghost use Rattle.vsw_harbour.specs.HarbourOpening.{rows_in};
 ghost use Rattle.vsw_harbour.specs.Harbour.{MayAsk};
@@ -83,7 +83,7 @@ pub(crate) fn work_round<
     requires ready { (hs : List (List Event)) × AreReady harbour.now hs (rows_in rows.items) }
     requires lines { Each (MayAsk harbour.now) schedule.now }
     requires numbers { first + length packets.now < 2 ^ 32 }
-    ensures worked { IfOk result (λ w. InEachRun harbour.now schedule.now (rows_in rows.items) (λ s hs. HasWorked harbour.now s hs first packets.now w.befores.items w.firsts.items w.loose.items (rows_in w.rows.items))) }
+    ensures worked { IfOk result (λ w. WorksRound harbour.now schedule.now first packets.now (rows_in rows.items) w.befores.items w.firsts.items w.loose.items (rows_in w.rows.items)) }
 {
     let befores = count_first(harbour.alloc, &rows)?;
     let mut rows = rows;

@@ -5,12 +5,11 @@ ghost use Rattle.std.specs.Prelude.{◌≡◌, ◌≤◌, ◌<◌, ◌+◌, ◌+
 ghost use Rattle.vsw_actors.specs.Picks.{AtMost};
 ghost use Rattle.vsw_crew.specs.Crew.{AreReady, IsOfSome};
 ghost use Rattle.vsw_crew.specs.Private.Flowing.{DoesRound};
-ghost use Rattle.vsw_crew.specs.Private.Shifting.{ArePut, AreShares, GoesOut, needs_of, picks_many, shares_of};
+ghost use Rattle.vsw_crew.specs.Private.Shifting.{ArePut, AreShares, GoesOut, HasComeBack, HasGoneOut, needs_of, picks_many, shares_of};
 ghost use Rattle.vsw_crew.specs.Shares.{DoesShare, IsShare, ShareSeen, share_of};
 ghost use Rattle.vsw_hands.specs.Hands.{AllDone};
-ghost use Rattle.vsw_crew.specs.Shift.{HasNoneBeside, IsOut, IsPicked};
+ghost use Rattle.vsw_crew.specs.Shift.{HasNoneBeside, IsPicked};
 ghost use Rattle.vsw_harbour.specs.Harbour.{IsHarbour, MayAsk, callers};
-ghost use Rattle.vsw_commandfile.specs.declared.line.Line.{Line};
 ghost use Rattle.vsw_harbour.specs.HarbourOpening.{rows_in};
 ghost use Rattle.vsw_harbour.specs.Meeting.{AllMeet};
 ghost use Rattle.vsw_harbour.specs.Standing.{RowsStand, no_calls};
@@ -243,7 +242,7 @@ pub(crate) fn end_round<'c, 'g, J: Naming, G, R: Wait + Clock>(
     tolds: Vec<Carried>,
 ) -> Result<Worked, NoMemory>
     requires harbour { (numbers : List ℕ) × (macs : List ℕ) × (listed : List ℕ) × (asks : List ℕ) × IsHarbour harbour.now numbers macs listed asks }
-    requires out { (hs : List (List Event)) × (lines : List Line) × (first : ℕ) × (packets : List Record) × (out : List ShareSeen) × IsOut (record { harbour = harbour.now; histories = hs }) lines first packets underway out × AllDone DoesShare out tolds.items }
+    requires out { HasComeBack harbour.now underway tolds.items }
     ensures worked { IfOk result (λ w. (out : List ShareSeen) → AllDone DoesShare out tolds.items → DoesRound harbour.now underway out w) }
 {
     let Underway {
@@ -272,7 +271,7 @@ pub(crate) fn take<'p, 'c, 'g, J: Naming, G: Gate + Watch, R: Wait + Clock, B: R
     pool: &mut Pool<'p, Share<'c, 'g, J, G>, Carried, Carrier<'g, G>, B>,
     underway: Underway,
 ) -> Result<Worked, NoMemory>
-    requires out { (hs : List (List Event)) × (lines : List Line) × (first : ℕ) × (packets : List Record) × IsOut (record { harbour = harbour.now; histories = hs }) lines first packets underway pool.old }
+    requires out { HasGoneOut harbour.now underway pool.old }
     ensures worked { IfOk result (DoesRound harbour.now underway pool.old) }
     ensures idle { OnOk result (pool.new ≡ []) }
 {

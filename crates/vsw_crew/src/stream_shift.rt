@@ -1,19 +1,17 @@
 //! A round whose packets come by rings: its shares are given to a pool, its packets are handed over, and the shares are taken back.
 
-ghost use Rattle.std.specs.Prelude.{◌≡◌, ◌≤◌, ◌<◌, ◌+◌, ◌++◌, ◌∷◌, ◌^◌, [], ℕ, List, IfOk, IfSome, OnOk, Some, drop, length};
+ghost use Rattle.std.specs.Prelude.{◌≡◌, ◌≤◌, ◌<◌, ◌+◌, ◌++◌, ◌∷◌, ◌^◌, [], List, IfOk, IfSome, OnOk, Some, drop, length};
 ghost use Rattle.vsw_actors.specs.Handed.{HasFrame};
-ghost use Rattle.vsw_commandfile.specs.declared.line.Line.{Line};
 ghost use Rattle.vsw_crew.specs.Crew.{AreReady, IsOfSome};
-ghost use Rattle.vsw_crew.specs.Private.Flowing.{AreEnded, AreEnds, AreFresh, AreStreamed, AreStreams, Closes, ComeBack, IsPushed, MayEnd, MayPush, MayStream, needs_for, streams_of};
+ghost use Rattle.vsw_crew.specs.Private.Flowing.{AreEnded, AreEnds, AreFresh, AreStreamed, AreStreams, Closes, ComeBack, HasOpened, IsPushed, MayEnd, MayPush, MayStream, Opens, needs_for, streams_of};
 ghost use Rattle.vsw_crew.specs.Shift.{HasNoneBeside};
 ghost use Rattle.vsw_crew.specs.StreamShares.{DoesStreamShare, StreamSeen};
-ghost use Rattle.vsw_crew.specs.Streams.{FeedsLast, IsFeeding, MayFeed};
+ghost use Rattle.vsw_crew.specs.Streams.{FeedsLast, MayFeed};
 ghost use Rattle.vsw_hands.specs.Hands.{AllDone};
 ghost use Rattle.vsw_harbour.specs.Harbour.{MayAsk, callers};
 ghost use Rattle.vsw_harbour.specs.HarbourOpening.{rows_in};
 ghost use Rattle.vsw_harbour.specs.Meeting.{AllMeet};
 ghost use Rattle.vsw_harbour.specs.Standing.{RowsStand, no_calls};
-ghost use Rattle.vsw_pcap.specs.declared.capture.Record.{Record};
 ghost use Rattle.vsw_policy.specs.Sound.{Each};
 ghost use Rattle.vsw_port.specs.declared.event.Event.{Event};
 
@@ -222,7 +220,7 @@ pub(crate) fn open_round<'p, 'c, 'g, J: Naming, G: Gate + Watch, R: Wait + Clock
     requires lines { Each (MayAsk harbour.now) schedule.now }
     requires quiet { HasNoneBeside schedule.now first }
     requires numbers { first + most < 2 ^ 32 }
-    ensures feeding { IfOk result (λ f. (hs : List (List Event)) → AreReady harbour.now hs (rows_in rows.items) → IsFeeding (record { harbour = harbour.now; histories = hs }) schedule.now first [] f pool.new) }
+    ensures feeding { IfOk result (λ f. Opens harbour.now (rows_in rows.items) schedule.now first f pool.new) }
     ensures most { IfOk result (λ f. f.most ≡ most) }
 {
     let befores = count_first(harbour.alloc, &rows)?;
@@ -338,7 +336,7 @@ pub(crate) fn close_round<'p, 'c, 'g, J: Naming, G: Gate + Watch, R: Wait + Cloc
     pool: &mut Pool<'p, StreamShare<'c, 'g, J, G>, StreamCarried, StreamCarrier<'g, G>, B>,
     feeding: Feeding,
 ) -> Result<Worked, NoMemory>
-    requires feeding { (hs : List (List Event)) × (lines : List Line) × (first : ℕ) × (packets : List Record) × IsFeeding (record { harbour = harbour.now; histories = hs }) lines first packets feeding pool.old }
+    requires feeding { HasOpened harbour.now feeding pool.old }
     ensures closed { IfOk result (Closes harbour.now feeding pool.old) }
     ensures idle { OnOk result (pool.new ≡ []) }
 {

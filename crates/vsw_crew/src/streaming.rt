@@ -2,10 +2,9 @@
 
 ghost use Rattle.std.specs.Prelude.{◌≡◌, ◌≤◌, ◌<◌, ◌+◌, ◌^◌, [], ℕ, Bool, List, IfOk, OnOk};
 ghost use Rattle.vsw_commandfile.specs.declared.line.Line.{Line};
-ghost use Rattle.vsw_crew.specs.Crew.{CrewSeen, crew_now, switch_now};
-ghost use Rattle.vsw_crew.specs.Shift.{HasNoneBeside, Owes, TellsOwed};
-ghost use Rattle.vsw_crew.specs.Streams.{FeedsLast, IsFeeding, MayFeed};
-ghost use Rattle.vsw_pcap.specs.declared.capture.Record.{Record};
+ghost use Rattle.vsw_crew.specs.Crew.{crew_now, switch_now};
+ghost use Rattle.vsw_crew.specs.Shift.{HasNoneBeside, Owes};
+ghost use Rattle.vsw_crew.specs.Streams.{ClosesOwed, FeedsLast, IsFeeding, MayClose, MayFeed};
 ghost use Rattle.vsw_port.specs.declared.event.Event.{Event};
 ghost use Rattle.vsw_switch.specs.Switch.{AreServed};
 
@@ -92,8 +91,8 @@ impl<'c, 'g, J: Naming, G: Gate + Watch> Crew<'c, 'g, J, G> {
         pool: &mut Pool<'p, StreamShare<'c, 'g, J, G>, StreamCarried, StreamCarrier<'g, G>, B>,
         feeding: Feeding,
     ) -> Result<Owed, NoMemory>
-        requires feeding { (c : CrewSeen) × (lines : List Line) × (first : ℕ) × (packets : List Record) × (c.harbour ≡ self.old.harbour) × IsFeeding c lines first packets feeding pool.old }
-        ensures tells { IfOk result (λ owed. (c : CrewSeen) (lines : List Line) (first : ℕ) (packets : List Record) → c.harbour ≡ self.old.harbour → IsFeeding c lines first packets feeding pool.old → TellsOwed c lines first packets owed self.new) }
+        requires feeding { MayClose self.old.harbour feeding pool.old }
+        ensures tells { IfOk result (λ owed. ClosesOwed self.old.harbour feeding pool.old owed self.new) }
         ensures owes { IfOk result (λ owed. (text : List ℕ) × (short : Bool) × Owes self.old.harbour owed text short) }
         ensures served { (gs : List (List Event)) (lines : List Line) → AreServed (switch_now self.old.harbour gs) lines → AreServed (crew_now self.new) lines }
         ensures idle { OnOk result (pool.new ≡ []) }

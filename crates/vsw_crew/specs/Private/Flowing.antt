@@ -19,6 +19,7 @@ use Rattle.vsw_promise.specs.Jobs.{Setting}
 use Rattle.vsw_rings.specs.Rings.{IsRing, SameFeed, fed, has_ended, is_at_end, room, taken}
 use Rattle.vsw_rings.specs.declared.drain.Drain.{Drain}
 use Rattle.vsw_rings.specs.declared.feed.Feed.{Feed}
+use Rattle.vsw_crew.specs.Crew.{AreReady}
 use Rattle.vsw_crew.specs.Private.Round.{HasWorked}
 use Rattle.vsw_crew.specs.Shares.{DoesShare, ShareSeen}
 use Rattle.vsw_crew.specs.Shift.{IsOut}
@@ -136,6 +137,14 @@ pub record IsClosed (h : HarbourSeen) (hs : List (List Event)) (lines : List Lin
   pub out : List ShareSeen
   pub is_out : IsOut (record { harbour = h; histories = hs }) lines first packets u out
   pub does : DoesRound h u out w
+
+-- at whichever histories all were ready with these rows, the round that begins with this packet has its shares out, and none was handed over
+abbrev pub Opens : HarbourSeen → List (List (Lane StationSeen)) → List Line → ℕ → Feeding → List StreamSeen → Type 0
+Opens h rows lines first f out = (hs : List (List Event)) → AreReady h hs rows → IsFeeding (record { harbour = h; histories = hs }) lines first [] f out
+
+-- at some histories a round began whose packets were handed over
+abbrev pub HasOpened : HarbourSeen → Feeding → List StreamSeen → Type 0
+HasOpened h f out = (hs : List (List Event)) × (lines : List Line) × (first : ℕ) × (packets : List Record) × IsFeeding (record { harbour = h; histories = hs }) lines first packets f out
 
 -- whichever round it is whose packets were handed over, it began and is done so
 abbrev pub Closes : HarbourSeen → Feeding → List StreamSeen → Worked → Type 0

@@ -1,5 +1,5 @@
 -- A round of a crew, step by step.
-use Rattle.std.specs.Prelude.{◌≡◌, ◌++◌, ℕ, Bool, false, List, [], length, map, Vec}
+use Rattle.std.specs.Prelude.{◌≡◌, ◌++◌, ℕ, Bool, false, List, [], length, map, IfOk, Result, Vec}
 use Rattle.vsw_harbour.specs.Lane.{Lane}
 use Rattle.vsw_commandfile.specs.declared.line.Line.{Line}
 use Rattle.vsw_harbour.specs.Crew.{CrewDid, CrewTells, crew_text, is_short_crew}
@@ -21,8 +21,9 @@ use Rattle.vsw_harbour.specs.Harbour.{HarbourSeen, IsOfRun, callers, ports_in}
 use Rattle.vsw_harbour.specs.Placed as actor
 use Rattle.vsw_harbour.specs.Standing.{RowsStand, no_calls}
 use Rattle.vsw_harbour.specs.Steps.{Did}
-use Rattle.vsw_crew.specs.Crew.{AreReady}
+use Rattle.vsw_crew.specs.Crew.{AreReady, RunsRound, seen_by, switch_now}
 use Rattle.vsw_crew.specs.Told.{told_rows}
+use Rattle.vsw_switch.specs.Switch.{AreServed}
 
 -- the numbers and the addresses of the ports
 abbrev pub numbers_in : HarbourSeen → List ℕ
@@ -88,3 +89,23 @@ pub record HasTold (h : HarbourSeen) (s : Setting) (hs : List (List Event)) (fir
 -- in each run of a harbour that has these commands, at whichever histories all were ready with these rows, this is done
 abbrev pub InEachRun : HarbourSeen → List Line → List (List (Lane StationSeen)) → (Setting → List (List Event) → Type 0) → Type 0
 InEachRun h lines rows does = (s : Setting) (hs : List (List Event)) → IsOfRun h s → s.commands ≡ lines → AreReady h hs rows → does s hs
+
+-- in each the commands before the packets were asked, and their lines taken
+abbrev pub BeginsRound : HarbourSeen → List Line → ℕ → List (List (Lane StationSeen)) → List (List (List TextLine)) → List (List (Lane StationSeen)) → Type 0
+BeginsRound h lines first rows firsts after = InEachRun h lines rows (λ s hs. HasBegun h s hs first firsts after)
+
+-- in each all was done that the round of these packets is
+abbrev pub WorksRound : HarbourSeen → List Line → ℕ → List Record → List (List (Lane StationSeen)) → List ℕ → List (List (List TextLine)) → List Loose → List (List (Lane StationSeen)) → Type 0
+WorksRound h lines first packets rows befores firsts loose after = InEachRun h lines rows (λ s hs. HasWorked h s hs first packets befores firsts loose after)
+
+-- in each it was told
+abbrev pub SaysRound : HarbourSeen → List Line → ℕ → List Record → List (List (Lane StationSeen)) → Bool → (old new : List ℕ) → List (List (Lane StationSeen)) → Type 0
+SaysRound h lines first packets rows short old new after = InEachRun h lines rows (λ s hs. HasTold h s hs first packets short old new after)
+
+-- the round of these packets is run at ports as the first of these rows have seen them, and they are then as the others have
+abbrev pub RunsRows : {E : Type 0} → Result Bool E → HarbourSeen → List Line → ℕ → List Record → (rows after : List (List (Lane StationSeen))) → (old new : List ℕ) → Type 0
+RunsRows r h lines first packets rows after old new = IfOk r (λ short. RunsRound lines first packets (switch_now h (seen_by rows)) (switch_now h (seen_by after)) short old new)
+
+-- the lines that such ports can be asked can be asked of those that are then
+abbrev pub StayServed : HarbourSeen → (rows after : List (List (Lane StationSeen))) → Type 0
+StayServed h rows after = (lines : List Line) → AreServed (switch_now h (seen_by rows)) lines → AreServed (switch_now h (seen_by after)) lines

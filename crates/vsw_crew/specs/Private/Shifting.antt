@@ -3,13 +3,14 @@ use Rattle.std.specs.Prelude.{◌≡◌, ◌-◌, ℕ, suc, List, [], ◌∷◌,
 use Rattle.std.specs.declared.alloc.Global.{Global}
 use Rattle.vsw_actors.specs.declared.pick.Pick.{Pick}
 use Rattle.vsw_commandfile.specs.declared.line.Line.{Line}
+use Rattle.vsw_hands.specs.Hands.{AllDone}
 use Rattle.vsw_harbour.specs.Harbour.{HarbourSeen}
 use Rattle.vsw_harbour.specs.Lane.{Lane}
 use Rattle.vsw_harbour.specs.Seen.{DockSeen, StationSeen}
 use Rattle.vsw_pcap.specs.declared.capture.Record.{Record}
 use Rattle.vsw_port.specs.declared.event.Event.{Event}
 use Rattle.vsw_crew.specs.Crew.{AreReady}
-use Rattle.vsw_crew.specs.Shares.{IsShare, ShareSeen, share_of}
+use Rattle.vsw_crew.specs.Shares.{DoesShare, IsShare, ShareSeen, share_of}
 use Rattle.vsw_crew.specs.Shift.{IsOut, IsPicked}
 use Rattle.vsw_crew.specs.declared.picked.Picked.{Picked}
 use Rattle.vsw_crew.specs.declared.share.Carried.{Carried}
@@ -43,3 +44,12 @@ ArePut _ _ _ = ⊥
 -- at whichever histories all were ready with these rows, and of whichever packets this is picked, the shares of their round are out
 abbrev pub GoesOut : HarbourSeen → List (List (Lane StationSeen)) → List Line → Picked → Underway → List ShareSeen → Type 0
 GoesOut h rows lines p u out = (hs : List (List Event)) (packets : List Record) → AreReady h hs rows → IsPicked h p.first packets p → IsOut (record { harbour = h; histories = hs }) lines p.first packets u out
+
+-- at some histories a round began whose shares are out
+abbrev pub HasGoneOut : HarbourSeen → Underway → List ShareSeen → Type 0
+HasGoneOut h u out = (hs : List (List Event)) × (lines : List Line) × (first : ℕ) × (packets : List Record) × IsOut (record { harbour = h; histories = hs }) lines first packets u out
+
+-- and they came back so
+abbrev pub HasComeBack : HarbourSeen → Underway → List Carried → Type 0
+HasComeBack h u tolds =
+    (hs : List (List Event)) × (lines : List Line) × (first : ℕ) × (packets : List Record) × (out : List ShareSeen) × IsOut (record { harbour = h; histories = hs }) lines first packets u out × AllDone DoesShare out tolds

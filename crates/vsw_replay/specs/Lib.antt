@@ -1,5 +1,6 @@
 pub mod Endings
 pub mod Runs
+pub mod Fresh
 pub mod Exports
 pub mod Private
 pub mod Draws

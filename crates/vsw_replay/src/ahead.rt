@@ -5,14 +5,13 @@ ghost use Rattle.std.specs.Arc.{arc_value};
 ghost use Rattle.vsw_crew.specs.Crew.{crew_now};
 ghost use Rattle.vsw_crew.specs.Shift.{HasNoneBeside, IsPicked, Owes};
 ghost use Rattle.vsw_crew.specs.Switch.{AreServed};
-ghost use Rattle.vsw_host.specs.Outside.{Outside, SameInputs};
-ghost use Rattle.vsw_promise.specs.Jobs.{Setting};
+ghost use Rattle.vsw_host.specs.Outside.{SameInputs};
 ghost use Rattle.vsw_reading.specs.Reads.{IsOpen};
 ghost use Rattle.vsw_reading.specs.declared.reading.Stop.TheVariants.{Full};
 ghost use Rattle.vsw_report.specs.Whole.{whole_text};
 ghost use Rattle.vsw_replay.specs.Private.Ahead.{with_batch};
-ghost use Rattle.vsw_replay.specs.Private.Going.{GoesOn, IsFilled, IsNear};
-ghost use Rattle.vsw_replay.specs.Private.Leading.{GoesMeanwhile, IsFit, IsLeading, IsPickedFor, KeepsCrew, LeadsTo, Led, MayLead, MayOwe, OwesAt, Paid, ReadsMeanwhile, Settles, StaysBeside, StepsTo, with_round};
+ghost use Rattle.vsw_replay.specs.Private.Going.{GoesFurther, IsNear};
+ghost use Rattle.vsw_replay.specs.Private.Leading.{DoesRound, DoesRounds, GoesMeanwhile, IsFit, IsLeading, IsPickedFor, KeepsCrew, LeadsAll, LeadsTo, MayLead, MayOwe, Paid, ReadsMeanwhile, Settles, StaysBeside, with_round};
 ghost use Rattle.vsw_replay.specs.declared.ending.TraceEnd.TheVariants.{Memory};
 ghost use Rattle.vsw_replay.specs.Private.Next.{in_batch};
 
@@ -320,7 +319,7 @@ impl<'a, 'c, 'g, J: Naming, G: Gate + Watch> Ahead<'a, 'c, 'g, J, G> {
     ) -> Result<(), TraceEnd>
         requires leading { IsLeading self.old (Some round) (H.outside host.old) }
         requires idle { pool.old ≡ [] }
-        ensures goes { (s : Setting) (start : Outside) (name : List ℕ) → s.commands ≡ self.old.schedule.now → OwesAt s start (H.outside host.old) name self.old (Some round) → StepsTo s start (H.outside host.new) name self.new result }
+        ensures goes { DoesRound (H.outside host.old) self.old (Some round) (H.outside host.new) self.new result }
         ensures leading { OnOk result (IsLeading self.new self.new.picked (H.outside host.new)) }
         ensures idle { OnOk result (pool.new ≡ []) }
         ensures rises { OnOk result (self.old.stretch.first < self.new.stretch.first) }
@@ -353,7 +352,7 @@ impl<'a, 'c, 'g, J: Naming, G: Gate + Watch> Ahead<'a, 'c, 'g, J, G> {
     ) -> Result<(), TraceEnd>
         requires leading { IsLeading self.old self.old.picked (H.outside host.old) }
         requires idle { pool.old ≡ [] }
-        ensures goes { (s : Setting) (start : Outside) (name : List ℕ) → s.commands ≡ self.old.schedule.now → OwesAt s start (H.outside host.old) name self.old self.old.picked → Led s start (H.outside host.new) name self.new result }
+        ensures goes { DoesRounds (H.outside host.old) self.old (H.outside host.new) self.new result }
         ensures near { OnOk result (IsNear (H.outside host.new) self.new.run self.new.stretch) }
         ensures served { OnOk result (AreServed (crew_now self.new.crew) self.old.schedule.now) }
         ensures rises { OnOk result (self.old.stretch.first ≤ self.new.stretch.first) }
@@ -383,7 +382,7 @@ impl<'a, 'c, 'g, J: Naming, G: Gate + Watch> Ahead<'a, 'c, 'g, J, G> {
     ) -> Result<(), TraceEnd>
         requires may { MayLead self.old (H.outside host.old) }
         requires idle { pool.old ≡ [] }
-        ensures goes { (s : Setting) (start : Outside) (name : List ℕ) → s.commands ≡ self.old.schedule.now → IsFilled s start (H.outside host.old) name self.old.run (crew_now self.old.crew) self.old.stretch → Led s start (H.outside host.new) name self.new result }
+        ensures goes { LeadsAll (H.outside host.old) self.old (H.outside host.new) self.new result }
         ensures near { OnOk result (IsNear (H.outside host.new) self.new.run self.new.stretch) }
         ensures served { OnOk result (AreServed (crew_now self.new.crew) self.old.schedule.now) }
         ensures rises { OnOk result (self.old.stretch.first ≤ self.new.stretch.first) }
@@ -462,7 +461,7 @@ pub(crate) fn run_ahead<
 ) -> (Crew<'c, 'g, J, G>, Run, Result<Stretch, TraceEnd>)
     requires served { AreServed (crew_now crew) schedule.now }
     requires near { IsNear (H.outside host.old) run stretch }
-    ensures goes { (s : Setting) (start : Outside) (name : List ℕ) → s.commands ≡ schedule.now → IsFilled s start (H.outside host.old) name run (crew_now crew.entry) stretch → GoesOn s start (H.outside host.new) name result.1 (crew_now result.0) result.2 }
+    ensures goes { GoesFurther schedule.now (H.outside host.old) run (crew_now crew.entry) stretch (H.outside host.new) result.1 (crew_now result.0) result.2 }
     ensures near { IfOk result.2 (λ t. IsNear (H.outside host.new) result.1 t) }
     ensures served { OnOk result.2 (AreServed (crew_now result.0) schedule.now) }
     ensures rises { IfOk result.2 (λ t. stretch.first ≤ t.first) }

@@ -1,13 +1,10 @@
 //! Rounds whose records are read one by one: one of which the first record was read, and what is done after a round.
 
-ghost use Rattle.std.specs.Prelude.{◌≡◌, ◌≤◌, ◌<◌, ◌+◌, ℕ, [], List, length, false, true, IfOk};
-ghost use Rattle.vsw_host.specs.Outside.{Outside, SameOutputs};
-ghost use Rattle.vsw_promise.specs.Jobs.{Setting};
-ghost use Rattle.vsw_crew.specs.Switch.{SwitchNow};
+ghost use Rattle.std.specs.Prelude.{◌≡◌, ◌≤◌, ◌<◌, ◌+◌, [], length, false, true, IfOk};
 ghost use Rattle.vsw_reading.specs.Reads.{IsOpen};
 ghost use Rattle.vsw_reading.specs.declared.reading.Stop.TheVariants.{Full};
-ghost use Rattle.vsw_replay.specs.Private.Begun.{AddsTo, BeginsSo, IsBegun, IsNearBegun, IsPart, NearTurn, PartNear, PartSo, TurnsTo, why_not_of};
-ghost use Rattle.vsw_replay.specs.Private.Going.{AfterPut, GoesOn, IsBetween, IsNear, IsOpened};
+ghost use Rattle.vsw_replay.specs.Private.Begun.{AddsTo, BeginsRound, Follows, IsNearBegun, NearTurn, PartNear, ReadsOne, ReadsRest, why_not_of};
+ghost use Rattle.vsw_replay.specs.Private.Going.{IsBetween, IsNear, IsOpened};
 
 use crate::cut::next_cut;
 use crate::ending::TraceEnd;
@@ -35,7 +32,7 @@ pub(crate) fn begin_first<H: Host>(
 ) -> Result<Stretch, TraceEnd>
     requires near { IsOpen (H.outside host.old) run.old.reading }
     requires empty { run.old.reading.batch ≡ [] }
-    ensures goes { (s : Setting) (start : Outside) (name : List ℕ) (switch : SwitchNow) → s.commands ≡ schedule.now → IsOpened s start (H.outside host.old) name run.old switch → BeginsSo s start (H.outside host.new) name run.new switch result }
+    ensures goes { BeginsRound schedule.now (λ s start name switch. IsOpened s start (H.outside host.old) name run.old switch) (H.outside host.new) run.new result }
     ensures near { IfOk result (λ next. IsNearBegun (H.outside host.new) run.new next) }
 {
     let next = next_cut(schedule, 0);
@@ -62,7 +59,7 @@ fn begin_on<H: Host>(
 ) -> Result<Stretch, TraceEnd>
     requires near { IsOpen (H.outside host.old) run.old.reading }
     requires few { first < 1048576 }
-    ensures goes { (s : Setting) (start : Outside) (name : List ℕ) (switch : SwitchNow) → s.commands ≡ schedule.now → IsBetween s start (H.outside host.old) name run.old switch first → BeginsSo s start (H.outside host.new) name run.new switch result }
+    ensures goes { BeginsRound schedule.now (λ s start name switch. IsBetween s start (H.outside host.old) name run.old switch first) (H.outside host.new) run.new result }
     ensures near { IfOk result (λ next. IsNearBegun (H.outside host.new) run.new next) }
 {
     run.reading.batch.clear();
@@ -82,7 +79,7 @@ fn begin_next<H: Host>(
 ) -> Result<Stretch, TraceEnd>
     requires near { IsOpen (H.outside host.old) run.old.reading }
     requires few { first ≤ 1048576 }
-    ensures goes { (s : Setting) (start : Outside) (name : List ℕ) (switch : SwitchNow) → s.commands ≡ schedule.now → IsBetween s start (H.outside host.old) name run.old switch first → BeginsSo s start (H.outside host.new) name run.new switch result }
+    ensures goes { BeginsRound schedule.now (λ s start name switch. IsBetween s start (H.outside host.old) name run.old switch first) (H.outside host.new) run.new result }
     ensures near { IfOk result (λ next. IsNearBegun (H.outside host.new) run.new next) }
 {
     if first == RECORDS_MOST {
@@ -118,7 +115,7 @@ pub(crate) fn read_one<H: Host>(
     requires near { IsNear (H.outside host.old) run.old begun }
     requires full { begun.stop ≡ Full }
     requires room { begun.first + length run.old.reading.batch ≤ begun.next }
-    ensures goes { (s : Setting) (start : Outside) (name : List ℕ) (switch : SwitchNow) → IsPart s start (H.outside host.old) name run.old switch begun.first begun.next → PartSo s start (H.outside host.new) name run.new switch begun result }
+    ensures goes { ReadsOne begun (H.outside host.old) run.old (H.outside host.new) run.new result }
     ensures near { IfOk result (λ stop. PartNear (H.outside host.new) run.new begun stop) }
     ensures adds { IfOk result (λ stop. AddsTo run.old.reading.batch run.new.reading.batch stop) }
 {
@@ -148,7 +145,7 @@ pub(crate) fn read_rest<H: Host>(
     begun: Stretch,
 ) -> Result<Stretch, TraceEnd>
     requires near { IsNearBegun (H.outside host.old) run.old begun }
-    ensures goes { (s : Setting) (start : Outside) (name : List ℕ) (switch : SwitchNow) → IsBegun s start (H.outside host.old) name run.old switch begun → GoesOn s start (H.outside host.new) name run.new switch result }
+    ensures goes { ReadsRest begun (H.outside host.old) run.old (H.outside host.new) run.new result }
     ensures near { IfOk result (λ next. IsNear (H.outside host.new) run.new next) }
 {
     if !may_go_on(begun) {
@@ -172,7 +169,7 @@ pub(crate) fn follow<H: Host>(
     stretch: Stretch,
 ) -> Result<Turn, TraceEnd>
     requires near { IsNear (H.outside host.old) run.old stretch }
-    ensures goes { (s : Setting) (start : Outside) (name : List ℕ) (switch : SwitchNow) → s.commands ≡ schedule.now → AfterPut s start (H.outside host.old) name run.old switch stretch stretch.stop → TurnsTo s start (H.outside host.new) name run.new switch result }
+    ensures goes { Follows schedule.now stretch (H.outside host.old) run.old (H.outside host.new) run.new result }
     ensures near { IfOk result (λ turn. NearTurn (H.outside host.new) run.new turn) }
 {
     match stretch.stop {

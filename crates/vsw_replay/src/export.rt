@@ -4,11 +4,10 @@ ghost use Rattle.std.specs.Prelude.{◌≡◌, ◌<◌, ◌+◌, ℕ, List, All,
 ghost use Rattle.vsw_commandfile.specs.Good.{CanAsk};
 ghost use Rattle.vsw_config.specs.Good.{IsGoodPolicy};
 ghost use Rattle.vsw_crew.specs.Switch.{IsAt};
-ghost use Rattle.vsw_host.specs.Outside.{Outside, SameOutputs};
 ghost use Rattle.vsw_port.specs.declared.event.Event.{Event};
 ghost use Rattle.vsw_promise.specs.Jobs.{Setting};
 ghost use Rattle.vsw_replay.specs.Exports.{ExportsTrace};
-ghost use Rattle.vsw_replay.specs.Private.Exporting.{IsFile, IsThrough, IsWritten, unput};
+ghost use Rattle.vsw_replay.specs.Private.Exporting.{IsFile, IsWritten, PutsRows};
 
 use crate::ending::TraceEnd;
 use crate::quiet::run_quietly;
@@ -49,7 +48,7 @@ fn rows_file(alloc: Global, switch: &mut Switch) -> Result<Vec<u8>, NoMemory>
 
 /// Puts the rows file, at once, after a run that put nothing.
 fn put_rows<H: Host>(alloc: Global, host: &mut H, switch: &mut Switch) -> TraceEnd
-    ensures { (s : Setting) (start : Outside) (name : List ℕ) → SameOutputs start (H.outside host.old) → IsThrough s (unput start) (H.outside host.old) name switch.old → ExportsTrace s start (H.outside host.new) name result }
+    ensures { PutsRows switch.old (H.outside host.old) (H.outside host.new) result }
 {
     match rows_file(alloc, switch) {
         Ok(file) => match host.put(file.as_slice()) {

@@ -1,15 +1,15 @@
 //! Running a trace of which nothing is told, in one thread.
 
-ghost use Rattle.std.specs.Prelude.{◌≡◌, ◌≤◌, ◌<◌, ◌+◌, ◌^◌, ℕ, [], List, map, length, IfOk, IfSome, OnOk};
+ghost use Rattle.std.specs.Prelude.{◌≡◌, ◌≤◌, ◌<◌, ◌+◌, ◌^◌, [], List, length, IfOk, IfSome, OnOk};
 ghost use Rattle.vsw_commandfile.specs.declared.line.Line.{Line};
 ghost use Rattle.vsw_port.specs.declared.event.Event.{Event};
 ghost use Rattle.vsw_host.specs.Outside.{Outside, SameOutputs};
 ghost use Rattle.vsw_promise.specs.Jobs.{Setting};
-ghost use Rattle.vsw_promise.specs.Ports.{ports_of};
 ghost use Rattle.vsw_reading.specs.Reads.{IsOpen};
-ghost use Rattle.vsw_replay.specs.Private.Exporting.{Leaves, Stays, RunsNext, RunsRead, unput};
-ghost use Rattle.vsw_replay.specs.Private.Going.{IsFilled, IsPast, IsOpened, IsNear, IsTurn};
-ghost use Rattle.vsw_crew.specs.Switch.{AreServed, IsAt, SwitchNow};
+ghost use Rattle.vsw_replay.specs.Private.Exporting.{Leaves, LeavesFrom, LeavesPast, RunsBehind, RunsFilled, StaysFirst, StaysFurther};
+ghost use Rattle.vsw_replay.specs.Private.Going.{IsFilled, IsOpened, IsNear, IsTurn};
+ghost use Rattle.vsw_crew.specs.Switch.{AreServed, IsAt};
+ghost use Rattle.vsw_replay.specs.Fresh.{IsFresh};
 
 use crate::cut::next_cut;
 use crate::ending::TraceEnd;
@@ -64,7 +64,7 @@ fn run_read(
     requires served { AreServed switch.old schedule.now }
     requires low { stretch.first ≤ 1048576 }
     requires size { length run.old.reading.batch ≤ 1048576 }
-    ensures runs { (s : Setting) (start now : Outside) (name : List ℕ) → s.commands ≡ schedule.now → IsFilled s (unput start) now name run.old switch.old stretch → RunsRead s start now name run.new switch.new stretch result }
+    ensures runs { RunsFilled schedule.now run.old switch.old stretch run.new switch.new result }
     ensures near { (now : Outside) → IsNear now run.old stretch → IsNear now run.new stretch }
     ensures served { (lines : List Line) → AreServed switch.old lines → AreServed switch.new lines }
 {
@@ -85,7 +85,7 @@ fn run_next(
 ) -> Result<Option<u32>, NoMemory>
     requires served { AreServed switch.old schedule.now }
     requires empty { run.old.reading.batch ≡ [] }
-    ensures runs { (s : Setting) (start now : Outside) (name : List ℕ) → s.commands ≡ schedule.now → IsPast s (unput start) now name run.old.short switch.old first → RunsNext s start now name run.new.short switch.new result }
+    ensures runs { RunsBehind schedule.now run.old switch.old first run.new switch.new result }
     ensures rises { IfOk result (λ next. IfSome next (λ n. (first < n) × (n < 2 ^ 32))) }
     ensures reading { run.new.reading ≡ run.old.reading }
     ensures served { (lines : List Line) → AreServed switch.old lines → AreServed switch.new lines }
@@ -102,7 +102,7 @@ fn run_next(
 /// Runs the rounds of commands alone that follow, once the trace ended.
 fn run_past(switch: &mut Switch, schedule: &Schedule, run: &mut Run, first: u32) -> TraceEnd
     requires served { AreServed switch.old schedule.now }
-    ensures runs { (s : Setting) (start now : Outside) (name : List ℕ) → s.commands ≡ schedule.now → IsPast s (unput start) now name run.old.short switch.old first → Leaves s start now name switch.new result }
+    ensures runs { LeavesPast schedule.now run.old switch.old first switch.new result }
 {
     run.reading.batch.clear();
     let mut first = first;
@@ -125,7 +125,7 @@ fn run_stretch<H: Host>(
 ) -> Result<Stretch, TraceEnd>
     requires served { AreServed switch.old schedule.now }
     requires near { IsNear (H.outside host.old) run.old stretch }
-    ensures goes { (s : Setting) (start : Outside) (name : List ℕ) → s.commands ≡ schedule.now → IsFilled s (unput start) (H.outside host.old) name run.old switch.old stretch → Stays s start (H.outside host.new) name run.new switch.new result }
+    ensures goes { StaysFurther schedule.now (H.outside host.old) run.old switch.old stretch (H.outside host.new) run.new switch.new result }
     ensures near { IfOk result (λ next. IsNear (H.outside host.new) run.new next) }
     ensures rises { IfOk result (λ next. stretch.first < next.first) }
     ensures outputs { SameOutputs (H.outside host.old) (H.outside host.new) }
@@ -152,7 +152,7 @@ fn run_stretches<H: Host>(
 ) -> TraceEnd
     requires served { AreServed switch.old schedule.now }
     requires near { IsNear (H.outside host.old) run.old first }
-    ensures runs { (s : Setting) (start : Outside) (name : List ℕ) → s.commands ≡ schedule.now → IsFilled s (unput start) (H.outside host.old) name run.old switch.old first → Leaves s start (H.outside host.new) name switch.new result }
+    ensures runs { LeavesFrom schedule.now (λ s start name. IsFilled s start (H.outside host.old) name run.old switch.old first) (H.outside host.new) switch.new result }
     ensures outputs { SameOutputs (H.outside host.old) (H.outside host.new) }
 {
     let mut stretch = first;
@@ -168,7 +168,7 @@ fn run_stretches<H: Host>(
 fn begin<H: Host>(host: &mut H, schedule: &Schedule, run: &mut Run) -> Result<Stretch, TraceEnd>
     requires near { IsOpen (H.outside host.old) run.old.reading }
     requires empty { run.old.reading.batch ≡ [] }
-    ensures goes { (s : Setting) (start : Outside) (name : List ℕ) (switch : SwitchNow) → s.commands ≡ schedule.now → IsOpened s (unput start) (H.outside host.old) name run.old switch → Stays s start (H.outside host.new) name run.new switch result }
+    ensures goes { StaysFirst schedule.now (H.outside host.old) run.old (H.outside host.new) run.new result }
     ensures near { IfOk result (λ next. IsNear (H.outside host.new) run.new next) }
     ensures outputs { SameOutputs (H.outside host.old) (H.outside host.new) }
 {
@@ -196,7 +196,7 @@ fn run_opened<H: Host>(
     requires served { AreServed switch.old schedule.now }
     requires near { IsOpen (H.outside host.old) run.old.reading }
     requires empty { run.old.reading.batch ≡ [] }
-    ensures runs { (s : Setting) (start : Outside) (name : List ℕ) → s.commands ≡ schedule.now → IsOpened s (unput start) (H.outside host.old) name run.old switch.old → Leaves s start (H.outside host.new) name switch.new result }
+    ensures runs { LeavesFrom schedule.now (λ s start name. IsOpened s start (H.outside host.old) name run.old switch.old) (H.outside host.new) switch.new result }
     ensures outputs { SameOutputs (H.outside host.old) (H.outside host.new) }
 {
     match begin(host, schedule, run) {
@@ -215,7 +215,7 @@ pub(crate) fn run_quietly<H: Host>(
     name: &str,
 ) -> TraceEnd
     requires served { AreServed switch.old schedule.now }
-    ensures runs { (s : Setting) → s.commands ≡ schedule.now → IsAt s (map (λ p. []) (ports_of s.policy)) switch.old → Leaves s (H.outside host.old) (H.outside host.new) name.now switch.new result }
+    ensures runs { (s : Setting) → s.commands ≡ schedule.now → IsFresh s switch.old → Leaves s (H.outside host.old) (H.outside host.new) name.now switch.new result }
     ensures outputs { SameOutputs (H.outside host.old) (H.outside host.new) }
 {
     match Source::open(alloc, host, name) {

@@ -1,18 +1,15 @@
 //! Running a workload.
 
-ghost use Rattle.std.specs.Prelude.{◌≡◌, ◌≤◌, ◌<◌, ◌+◌, ◌^◌, ℕ, [], List, Ok, map, length, IfOk, OnOk};
+ghost use Rattle.std.specs.Prelude.{◌≡◌, ◌≤◌, ◌<◌, ◌+◌, ◌^◌, ℕ, [], List, length, IfOk, OnOk};
 ghost use Rattle.vsw_commandfile.specs.declared.line.Line.{Line};
-ghost use Rattle.vsw_generate.specs.Policy.{policy_text};
 ghost use Rattle.vsw_port.specs.declared.event.Event.{Event};
 ghost use Rattle.vsw_pcap.specs.declared.capture.Record.{Record};
-ghost use Rattle.vsw_config.specs.Policy.{policy_file_of};
-ghost use Rattle.vsw_config.specs.declared.file.PolicyFile.{PolicyFile};
-ghost use Rattle.vsw_promise.specs.Ports.{ports_of};
-ghost use Rattle.vsw_run.specs.Generated.{Summarizes, alone_under};
+ghost use Rattle.vsw_run.specs.Generated.{Summarizes};
 ghost use Rattle.vsw_promise.specs.Jobs.{Setting};
 ghost use Rattle.vsw_replay.specs.Switch.{AreServed, IsAt};
 ghost use Rattle.vsw_replay.specs.Going.{Goes, IsTurn, end_of};
 ghost use Rattle.vsw_replay.specs.WorkloadRuns.{RunsWorkload};
+ghost use Rattle.vsw_replay.specs.Fresh.{IfFreshForWorkload};
 
 use crate::draw::draw;
 use crate::summary::five_lines;
@@ -137,7 +134,7 @@ fn summarize(
     requires some { 1 ≤ packets }
     requires few { packets ≤ 1048576 }
     requires empty { out.old.items ≡ [] }
-    ensures { IfOk result (λ short. (policy : PolicyFile) → policy_file_of policy_text ≡ Ok policy → IsAt (alone_under policy) (map (λ p. []) (ports_of policy)) switch.old → Summarizes start packets short out.new.items) }
+    ensures { IfOk result (λ short. IfFreshForWorkload switch.old (Summarizes start packets short out.new.items)) }
 {
     let schedule = Schedule::new(alloc, Items::new(alloc))?;
     let mut run = Run {
@@ -176,7 +173,7 @@ pub fn run_workload<H: Host>(
     requires start { start < 2 ^ 31 }
     requires some { 1 ≤ packets }
     requires few { packets ≤ 1048576 }
-    ensures runs { (policy : PolicyFile) → policy_file_of policy_text ≡ Ok policy → IsAt (alone_under policy) (map (λ p. []) (ports_of policy)) switch.old → RunsWorkload start packets (H.outside host.old) (H.outside host.new) result }
+    ensures runs { IfFreshForWorkload switch.old (RunsWorkload start packets (H.outside host.old) (H.outside host.new) result) }
 {
     let mut out = Vec::new(alloc);
     match summarize(alloc, switch, start, packets, &mut out) {

@@ -1,16 +1,12 @@
 //! What runs the rounds of a run.
 
-ghost use Rattle.std.specs.Prelude.{◌≡◌, ◌<◌, ◌≤◌, ◌+◌, ◌^◌, ℕ, List, length, Ok, IfOk, OnOk};
+ghost use Rattle.std.specs.Prelude.{◌≡◌, ◌<◌, ◌≤◌, ◌+◌, ◌^◌, List, length, Ok, IfOk, OnOk};
 ghost use Rattle.vsw_commandfile.specs.declared.line.Line.{Line};
-ghost use Rattle.vsw_crew.specs.Crew.{crew_now};
-ghost use Rattle.vsw_host.specs.Outside.{Outside};
-ghost use Rattle.vsw_port.specs.declared.event.Event.{Event};
-ghost use Rattle.vsw_promise.specs.Jobs.{Setting};
-ghost use Rattle.vsw_crew.specs.Round.{TellsRound};
+ghost use Rattle.vsw_crew.specs.Crew.{RunsRound, crew_now};
 ghost use Rattle.vsw_report.specs.Whole.{whole_text};
-ghost use Rattle.vsw_crew.specs.Switch.{AreServed, IsAt};
-ghost use Rattle.vsw_replay.specs.Private.Begun.{NearTurn, TurnsTo};
-ghost use Rattle.vsw_replay.specs.Private.Going.{GoesOn, IsFilled, IsNear};
+ghost use Rattle.vsw_crew.specs.Switch.{AreServed};
+ghost use Rattle.vsw_replay.specs.Private.Begun.{NearTurn, Turns};
+ghost use Rattle.vsw_replay.specs.Private.Going.{GoesFurther, IsNear};
 
 use crate::ahead::run_ahead;
 use crate::begun::Turn;
@@ -86,7 +82,7 @@ pub(crate) fn run_alone<G: Watch>(
 ) -> Result<bool, NoMemory>
     requires served { AreServed switch.old schedule.now }
     requires numbers { first + length packets.now < 2 ^ 32 }
-    ensures runs { IfOk result (λ short. (s : Setting) (hs : List (List Event)) → s.commands ≡ schedule.now → IsAt s hs switch.old → TellsRound s hs first packets.now switch.new short (whole_text out.old) (whole_text out.new)) }
+    ensures runs { IfOk result (λ short. RunsRound schedule.now first packets.now switch.old switch.new short (whole_text out.old) (whole_text out.new)) }
     ensures served { (lines : List Line) → AreServed switch.old lines → AreServed switch.new lines }
 {
     run_round(switch, watch, schedule, first, packets, out)
@@ -109,7 +105,7 @@ fn run_beside<
 ) -> Result<bool, NoMemory>
     requires served { AreServed (crew_now crew.old) schedule.now }
     requires numbers { first + length packets.now < 2 ^ 32 }
-    ensures runs { IfOk result (λ short. (s : Setting) (hs : List (List Event)) → s.commands ≡ schedule.now → IsAt s hs (crew_now crew.old) → TellsRound s hs first packets.now (crew_now crew.new) short (whole_text out.old) (whole_text out.new)) }
+    ensures runs { IfOk result (λ short. RunsRound schedule.now first packets.now (crew_now crew.old) (crew_now crew.new) short (whole_text out.old) (whole_text out.new)) }
     ensures served { (lines : List Line) → AreServed (crew_now crew.old) lines → AreServed (crew_now crew.new) lines }
 {
     crew.run_round(rt, schedule, first, packets, out)
@@ -129,7 +125,7 @@ impl<'c, 'g, J: Naming + Send + Sync, G: Gate + Watch + Sync> Runner<'c, 'g, J, 
     ) -> Result<bool, NoMemory>
         requires served { AreServed self.old schedule.now }
         requires numbers { first + length packets.now < 2 ^ 32 }
-        ensures runs { IfOk result (λ short. (s : Setting) (hs : List (List Event)) → s.commands ≡ schedule.now → IsAt s hs self.old → TellsRound s hs first packets.now self.new short (whole_text out.old) (whole_text out.new)) }
+        ensures runs { IfOk result (λ short. RunsRound schedule.now first packets.now self.old self.new short (whole_text out.old) (whole_text out.new)) }
         ensures served { (lines : List Line) → AreServed self.old lines → AreServed self.new lines }
     {
         match &mut self.work {
@@ -159,7 +155,7 @@ pub(crate) fn go_ahead<
 ) -> (Runner<'c, 'g, J, G>, Run, Result<Stretch, TraceEnd>)
     requires served { AreServed runner schedule.now }
     requires near { IsNear (H.outside host.old) run stretch }
-    ensures goes { (s : Setting) (start : Outside) (name : List ℕ) → s.commands ≡ schedule.now → IsFilled s start (H.outside host.old) name run runner.entry stretch → GoesOn s start (H.outside host.new) name result.1 result.0 result.2 }
+    ensures goes { GoesFurther schedule.now (H.outside host.old) run runner.entry stretch (H.outside host.new) result.1 result.0 result.2 }
     ensures near { IfOk result.2 (λ t. IsNear (H.outside host.new) result.1 t) }
     ensures served { OnOk result.2 (AreServed result.0 schedule.now) }
     ensures rises { IfOk result.2 (λ t. stretch.first ≤ t.first) }
@@ -193,7 +189,7 @@ pub(crate) fn go_streaming<
 ) -> (Runner<'c, 'g, J, G>, Run, Result<Turn, TraceEnd>)
     requires served { AreServed runner schedule.now }
     requires near { NearTurn (H.outside host.old) run turn }
-    ensures goes { (s : Setting) (start : Outside) (name : List ℕ) → s.commands ≡ schedule.now → TurnsTo s start (H.outside host.old) name run runner.entry (Ok turn) → TurnsTo s start (H.outside host.new) name result.1 result.0 result.2 }
+    ensures goes { Turns schedule.now (H.outside host.old) run runner.entry (Ok turn) (H.outside host.new) result.1 result.0 result.2 }
     ensures near { IfOk result.2 (λ t. NearTurn (H.outside host.new) result.1 t) }
     ensures served { OnOk result.2 (AreServed result.0 schedule.now) }
 {

@@ -1,15 +1,13 @@
 //! Running a trace whose packets are handed over to the workers one by one, as they are read.
 
-ghost use Rattle.std.specs.Prelude.{◌≡◌, ℕ, [], List, map, Ok, IfOk, OnOk};
+ghost use Rattle.std.specs.Prelude.{◌≡◌, [], Ok, IfOk, OnOk};
 ghost use Rattle.vsw_crew.specs.Crew.{crew_now};
-ghost use Rattle.vsw_crew.specs.Switch.{AreServed, IsAt};
-ghost use Rattle.vsw_host.specs.Outside.{Outside};
-ghost use Rattle.vsw_promise.specs.Jobs.{Setting};
-ghost use Rattle.vsw_promise.specs.Ports.{ports_of};
+ghost use Rattle.vsw_crew.specs.Switch.{AreServed};
 ghost use Rattle.vsw_reading.specs.Reads.{IsOpen};
-ghost use Rattle.vsw_replay.specs.Private.Begun.{IsBegun, IsNearBegun, NearTurn, TurnsTo};
-ghost use Rattle.vsw_replay.specs.Private.Going.{IsOpened};
-ghost use Rattle.vsw_replay.specs.Runs.{RunsTrace};
+ghost use Rattle.vsw_replay.specs.Private.Begun.{IsBegun, IsNearBegun, NearTurn, Turns};
+ghost use Rattle.vsw_replay.specs.Private.Going.{IsOpened, RunsOut};
+ghost use Rattle.vsw_replay.specs.Fresh.{RunsFresh};
+ghost use Rattle.vsw_replay.specs.declared.begun.Turn.TheVariants.{Begun};
 
 use crate::begun::{Turn, begin_first, follow, read_rest};
 use crate::ending::TraceEnd;
@@ -44,7 +42,7 @@ fn run_whole<
 ) -> Result<Turn, TraceEnd>
     requires served { AreServed runner.old schedule.now }
     requires near { IsNearBegun (H.outside host.old) run.old begun }
-    ensures goes { (s : Setting) (start : Outside) (name : List ℕ) → s.commands ≡ schedule.now → IsBegun s start (H.outside host.old) name run.old runner.old begun → TurnsTo s start (H.outside host.new) name run.new runner.new result }
+    ensures goes { Turns schedule.now (H.outside host.old) run.old runner.old (Ok (Begun begun)) (H.outside host.new) run.new runner.new result }
     ensures near { IfOk result (λ turn. NearTurn (H.outside host.new) run.new turn) }
     ensures served { OnOk result (AreServed runner.new schedule.now) }
 {
@@ -79,7 +77,7 @@ fn stream_step<
 ) -> (Runner<'c, 'g, J, G>, Run, Result<Turn, TraceEnd>)
     requires served { AreServed runner schedule.now }
     requires near { NearTurn (H.outside host.old) run turn }
-    ensures goes { (s : Setting) (start : Outside) (name : List ℕ) → s.commands ≡ schedule.now → TurnsTo s start (H.outside host.old) name run runner.entry (Ok turn) → TurnsTo s start (H.outside host.new) name result.1 result.0 result.2 }
+    ensures goes { Turns schedule.now (H.outside host.old) run runner.entry (Ok turn) (H.outside host.new) result.1 result.0 result.2 }
     ensures near { IfOk result.2 (λ t. NearTurn (H.outside host.new) result.1 t) }
     ensures served { OnOk result.2 (AreServed result.0 schedule.now) }
 {
@@ -117,7 +115,7 @@ fn stream_rounds<
 ) -> TraceEnd
     requires served { AreServed runner schedule.now }
     requires near { IsNearBegun (H.outside host.old) run first }
-    ensures runs { (s : Setting) (start : Outside) (name : List ℕ) → s.commands ≡ schedule.now → IsBegun s start (H.outside host.old) name run runner.entry first → RunsTrace s start (H.outside host.new) name result }
+    ensures runs { RunsOut schedule.now (λ s start name. IsBegun s start (H.outside host.old) name run runner.entry first) (H.outside host.new) result }
 {
     let mut runner = runner;
     let mut run = run;
@@ -158,7 +156,7 @@ fn stream_opened<
     requires served { AreServed runner schedule.now }
     requires near { IsOpen (H.outside host.old) run.reading }
     requires empty { run.reading.batch ≡ [] }
-    ensures runs { (s : Setting) (start : Outside) (name : List ℕ) → s.commands ≡ schedule.now → IsOpened s start (H.outside host.old) name run runner.entry → RunsTrace s start (H.outside host.new) name result }
+    ensures runs { RunsOut schedule.now (λ s start name. IsOpened s start (H.outside host.old) name run runner.entry) (H.outside host.new) result }
 {
     let mut run = run;
     match begin_first(host, schedule, &mut run) {
@@ -185,7 +183,7 @@ pub fn stream_trace<
     name: &str,
 ) -> TraceEnd
     requires served { AreServed (crew_now crew) schedule.now }
-    ensures runs { (s : Setting) → s.commands ≡ schedule.now → IsAt s (map (λ p. []) (ports_of s.policy)) (crew_now crew.entry) → RunsTrace s (H.outside host.old) (H.outside host.new) name.now result }
+    ensures runs { RunsFresh schedule.now (crew_now crew.entry) (H.outside host.old) (H.outside host.new) name.now result }
 {
     match Source::open(alloc, host, name) {
         Ok(source) => {

@@ -1,15 +1,13 @@
 //! The thread that leads where packets are handed over as they are read: it reads them, and the workers carry them in threads that stay.
 
-ghost use Rattle.std.specs.Prelude.{◌≡◌, ◌<◌, ◌≤◌, ◌+◌, ℕ, [], List, length, Ok, IfOk, IfSome, OnOk};
+ghost use Rattle.std.specs.Prelude.{◌≡◌, ◌<◌, ◌≤◌, ◌+◌, [], length, Ok, IfOk, IfSome, OnOk};
 ghost use Rattle.vsw_crew.specs.Crew.{crew_now};
 ghost use Rattle.vsw_crew.specs.Shift.{HasNoneBeside};
-ghost use Rattle.vsw_crew.specs.Switch.{AreServed, SwitchNow};
-ghost use Rattle.vsw_host.specs.Outside.{Outside};
-ghost use Rattle.vsw_promise.specs.Jobs.{Setting};
+ghost use Rattle.vsw_crew.specs.Switch.{AreServed};
 ghost use Rattle.vsw_reading.specs.declared.reading.Stop.TheVariants.{Full};
-ghost use Rattle.vsw_replay.specs.Private.Begun.{AddsTo, FilledSo, IsNearBegun, IsPart, NearTurn, PartNear, PartSo};
+ghost use Rattle.vsw_replay.specs.Private.Begun.{AddsTo, FillsRound, IsNearBegun, NearTurn, PartNear, ReadsOne, Turns};
 ghost use Rattle.vsw_replay.specs.Private.Going.{IsNear};
-ghost use Rattle.vsw_replay.specs.Private.Streaming.{Carries, FeedsAll, FeedsOne, HasToFeed, IsToStream, KeepsLead, LeadTurns, MayStream, Streams, StreamsTo, Turns};
+ghost use Rattle.vsw_replay.specs.Private.Streaming.{Carries, FeedsAll, FeedsOne, HasToFeed, IsToStream, KeepsLead, LeadTurns, MayStream, Streams, StreamsTo};
 
 use crate::ahead::{is_quiet, pay};
 use crate::begun::{Turn, follow, held, read_one};
@@ -68,7 +66,7 @@ fn feed_next<'c, 'g, J: Naming, G: Gate + Watch, H: Host>(
     requires full { begun.stop ≡ Full }
     requires room { begun.first + length run.old.reading.batch ≤ begun.next }
     ensures feeds { IfOk result (λ stop. FeedsOne crew.now.harbour run.old.reading.batch feeding.old run.new.reading.batch feeding.new stop) }
-    ensures goes { (s : Setting) (start : Outside) (name : List ℕ) (switch : SwitchNow) → IsPart s start (H.outside host.old) name run.old switch begun.first begun.next → PartSo s start (H.outside host.new) name run.new switch begun result }
+    ensures goes { ReadsOne begun (H.outside host.old) run.old (H.outside host.new) run.new result }
     ensures near { IfOk result (λ stop. PartNear (H.outside host.new) run.new begun stop) }
     ensures adds { IfOk result (λ stop. AddsTo run.old.reading.batch run.new.reading.batch stop) }
     ensures most { feeding.new.most ≡ feeding.old.most }
@@ -102,7 +100,7 @@ fn feed_round<'c, 'g, J: Naming, G: Gate + Watch, H: Host>(
     requires full { begun.stop ≡ Full }
     requires room { begun.first + length run.old.reading.batch ≤ begun.next }
     ensures feeds { IfOk result (λ t. FeedsAll crew.now.harbour run.old.reading.batch feeding.old run.new.reading.batch feeding.new) }
-    ensures goes { (s : Setting) (start : Outside) (name : List ℕ) (switch : SwitchNow) → IsPart s start (H.outside host.old) name run.old switch begun.first begun.next → FilledSo s start (H.outside host.new) name run.new switch result }
+    ensures goes { FillsRound begun (H.outside host.old) run.old (H.outside host.new) run.new result }
     ensures near { IfOk result (λ t. IsNear (H.outside host.new) run.new t) }
     ensures first { IfOk result (λ t. t.first ≡ begun.first) }
     ensures some { IfOk result (λ t. 0 < length run.new.reading.batch) }

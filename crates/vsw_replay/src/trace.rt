@@ -1,18 +1,17 @@
 //! Running a trace.
 
-ghost use Rattle.std.specs.Prelude.{◌≡◌, ◌≤◌, ◌<◌, ◌+◌, ◌^◌, ℕ, [], List, map, length, IfErr, IfOk, IfSome, OnOk};
+ghost use Rattle.std.specs.Prelude.{◌≡◌, ◌≤◌, ◌<◌, ◌+◌, ◌^◌, [], List, length, IfErr, IfOk, IfSome, OnOk};
 ghost use Rattle.vsw_commandfile.specs.declared.line.Line.{Line};
 ghost use Rattle.vsw_port.specs.declared.event.Event.{Event};
-ghost use Rattle.vsw_host.specs.Outside.{Outside, SameInputs, SameOutputs};
+ghost use Rattle.vsw_host.specs.Outside.{SameInputs, SameOutputs};
 ghost use Rattle.vsw_promise.specs.Jobs.{Setting};
-ghost use Rattle.vsw_promise.specs.Ports.{ports_of};
-ghost use Rattle.vsw_replay.specs.Private.Begun.{BeginsSo};
+ghost use Rattle.vsw_replay.specs.Private.Begun.{PutsHeadBegun};
 ghost use Rattle.vsw_replay.specs.Private.Exporting.{IsEarly};
-ghost use Rattle.vsw_replay.specs.Private.Going.{IsFilled, IsBetween, IsPast, IsOpened, IsFirst, IsNear, IsTurn, PutsRound, PutsStretch, PutsNext, GoesOn, is_run_of, unheaded_of, clean_of};
+ghost use Rattle.vsw_replay.specs.Private.Going.{IsFilled, IsBetween, IsPast, IsOpened, IsNear, IsTurn, PutsRound, is_run_of, unheaded_of, clean_of, GoesFurther, PutsBehind, PutsFilled, PutsHead, ReadsRound, RunsOut};
 ghost use Rattle.vsw_replay.specs.Private.Next.{ReadsFrom, in_batch};
 ghost use Rattle.vsw_reading.specs.Reads.{IsOpen};
-ghost use Rattle.vsw_replay.specs.Runs.{RunsTrace};
-ghost use Rattle.vsw_crew.specs.Switch.{AreServed, IsAt, SwitchNow};
+ghost use Rattle.vsw_crew.specs.Switch.{AreServed, IsAt};
+ghost use Rattle.vsw_replay.specs.Fresh.{RunsFresh};
 
 use crate::cut::{is_named, next_cut};
 use crate::ending::TraceEnd;
@@ -142,7 +141,7 @@ pub(crate) fn put_stretch<
 ) -> Result<(), TraceEnd>
     requires served { AreServed runner.old schedule.now }
     requires near { IsNear (H.outside host.old) run.old stretch }
-    ensures puts { (s : Setting) (start : Outside) (name : List ℕ) → s.commands ≡ schedule.now → IsFilled s start (H.outside host.old) name run.old runner.old stretch → PutsStretch s start (H.outside host.new) name run.new runner.new stretch result }
+    ensures puts { PutsFilled schedule.now (H.outside host.old) run.old runner.old stretch (H.outside host.new) run.new runner.new result }
     ensures near { IsNear (H.outside host.new) run.new stretch }
     ensures served { (lines : List Line) → AreServed runner.old lines → AreServed runner.new lines }
 {
@@ -172,7 +171,7 @@ fn put_next<
 ) -> Result<Option<u32>, TraceEnd>
     requires served { AreServed runner.old schedule.now }
     requires empty { run.old.reading.batch ≡ [] }
-    ensures puts { (s : Setting) (start : Outside) (name : List ℕ) → s.commands ≡ schedule.now → IsPast s start (H.outside host.old) name run.old.short runner.old first → PutsNext s start (H.outside host.new) name run.new.short runner.new result }
+    ensures puts { PutsBehind schedule.now (H.outside host.old) run.old runner.old first (H.outside host.new) run.new runner.new result }
     ensures rises { IfOk result (λ next. IfSome next (λ n. (first < n) × (n < 2 ^ 32))) }
     ensures reading { run.new.reading ≡ run.old.reading }
     ensures served { (lines : List Line) → AreServed runner.old lines → AreServed runner.new lines }
@@ -214,7 +213,7 @@ pub(crate) fn run_past<
     first: u32,
 ) -> TraceEnd
     requires served { AreServed runner.old schedule.now }
-    ensures runs { (s : Setting) (start : Outside) (name : List ℕ) → s.commands ≡ schedule.now → IsPast s start (H.outside host.old) name run.old.short runner.old first → RunsTrace s start (H.outside host.new) name result }
+    ensures runs { RunsOut schedule.now (λ s start name. IsPast s start (H.outside host.old) name run.old.short runner.old first) (H.outside host.new) result }
 {
     run.reading.batch.clear();
     let mut first = first;
@@ -260,7 +259,7 @@ pub(crate) fn read_past<H: Host>(
 ) -> Result<Stretch, TraceEnd>
     requires near { IsOpen (H.outside host.old) run.old.reading }
     requires full { first ≡ 1048576 }
-    ensures goes { (s : Setting) (start : Outside) (name : List ℕ) (switch : SwitchNow) → s.commands ≡ schedule.now → IsBetween s start (H.outside host.old) name run.old switch first → GoesOn s start (H.outside host.new) name run.new switch result }
+    ensures goes { ReadsRound schedule.now (λ s start name switch. IsBetween s start (H.outside host.old) name run.old switch first) (H.outside host.new) run.new result }
     ensures near { IfOk result (λ next. IsNear (H.outside host.new) run.new next) }
     ensures first { IfOk result (λ next. next.first ≡ first) }
     ensures early { IfErr result IsEarly }
@@ -283,7 +282,7 @@ pub(crate) fn read_next<H: Host>(
 ) -> Result<Stretch, TraceEnd>
     requires near { IsOpen (H.outside host.old) run.old.reading }
     requires few { first ≤ 1048576 }
-    ensures goes { (s : Setting) (start : Outside) (name : List ℕ) (switch : SwitchNow) → s.commands ≡ schedule.now → IsBetween s start (H.outside host.old) name run.old switch first → GoesOn s start (H.outside host.new) name run.new switch result }
+    ensures goes { ReadsRound schedule.now (λ s start name switch. IsBetween s start (H.outside host.old) name run.old switch first) (H.outside host.new) run.new result }
     ensures near { IfOk result (λ next. IsNear (H.outside host.new) run.new next) }
     ensures first { IfOk result (λ next. next.first ≡ first) }
     ensures early { IfErr result IsEarly }
@@ -316,7 +315,7 @@ fn run_stretch<
 ) -> Result<Stretch, TraceEnd>
     requires served { AreServed runner.old schedule.now }
     requires near { IsNear (H.outside host.old) run.old stretch }
-    ensures goes { (s : Setting) (start : Outside) (name : List ℕ) → s.commands ≡ schedule.now → IsFilled s start (H.outside host.old) name run.old runner.old stretch → GoesOn s start (H.outside host.new) name run.new runner.new result }
+    ensures goes { GoesFurther schedule.now (H.outside host.old) run.old runner.old stretch (H.outside host.new) run.new runner.new result }
     ensures near { IfOk result (λ next. IsNear (H.outside host.new) run.new next) }
     ensures rises { IfOk result (λ next. stretch.first < next.first) }
     ensures served { OnOk result ((lines : List Line) → AreServed runner.old lines → AreServed runner.new lines) }
@@ -351,7 +350,7 @@ fn go_step<
 ) -> (Runner<'c, 'g, J, G>, Run, Result<Stretch, TraceEnd>)
     requires served { AreServed runner schedule.now }
     requires near { IsNear (H.outside host.old) run stretch }
-    ensures goes { (s : Setting) (start : Outside) (name : List ℕ) → s.commands ≡ schedule.now → IsFilled s start (H.outside host.old) name run runner.entry stretch → GoesOn s start (H.outside host.new) name result.1 result.0 result.2 }
+    ensures goes { GoesFurther schedule.now (H.outside host.old) run runner.entry stretch (H.outside host.new) result.1 result.0 result.2 }
     ensures near { IfOk result.2 (λ t. IsNear (H.outside host.new) result.1 t) }
     ensures served { OnOk result.2 (AreServed result.0 schedule.now) }
     ensures rises { IfOk result.2 (λ t. stretch.first < t.first) }
@@ -387,7 +386,7 @@ fn run_stretches<
 ) -> TraceEnd
     requires served { AreServed runner schedule.now }
     requires near { IsNear (H.outside host.old) run first }
-    ensures runs { (s : Setting) (start : Outside) (name : List ℕ) → s.commands ≡ schedule.now → IsFilled s start (H.outside host.old) name run runner.entry first → RunsTrace s start (H.outside host.new) name result }
+    ensures runs { RunsOut schedule.now (λ s start name. IsFilled s start (H.outside host.old) name run runner.entry first) (H.outside host.new) result }
 {
     let mut runner = runner;
     let mut run = run;
@@ -423,8 +422,8 @@ pub(crate) fn put_head<H: Host>(
     first: Stretch,
 ) -> Result<Stretch, TraceEnd>
     requires near { IsNear (H.outside host.old) run.now first }
-    ensures goes { (s : Setting) (start : Outside) (name : List ℕ) (switch : SwitchNow) → IsFirst s start (H.outside host.old) name run.now switch first first.next → GoesOn s start (H.outside host.new) name run.now switch result }
-    ensures begins { (s : Setting) (start : Outside) (name : List ℕ) (switch : SwitchNow) → IsFirst s start (H.outside host.old) name run.now switch first 1 → BeginsSo s start (H.outside host.new) name run.now switch result }
+    ensures goes { PutsHead (H.outside host.old) run.now first (H.outside host.new) result }
+    ensures begins { PutsHeadBegun (H.outside host.old) run.now first (H.outside host.new) result }
     ensures near { IfOk result (λ next. IsNear (H.outside host.new) run.now next) }
     ensures same { IfOk result (λ next. next ≡ first) }
 {
@@ -441,7 +440,7 @@ pub(crate) fn put_head<H: Host>(
 fn begin<H: Host>(host: &mut H, schedule: &Schedule, run: &mut Run) -> Result<Stretch, TraceEnd>
     requires near { IsOpen (H.outside host.old) run.old.reading }
     requires empty { run.old.reading.batch ≡ [] }
-    ensures goes { (s : Setting) (start : Outside) (name : List ℕ) (switch : SwitchNow) → s.commands ≡ schedule.now → IsOpened s start (H.outside host.old) name run.old switch → GoesOn s start (H.outside host.new) name run.new switch result }
+    ensures goes { ReadsRound schedule.now (λ s start name switch. IsOpened s start (H.outside host.old) name run.old switch) (H.outside host.new) run.new result }
     ensures near { IfOk result (λ next. IsNear (H.outside host.new) run.new next) }
 {
     let next = next_cut(schedule, 0);
@@ -478,7 +477,7 @@ fn run_opened<
     requires served { AreServed runner schedule.now }
     requires near { IsOpen (H.outside host.old) run.reading }
     requires empty { run.reading.batch ≡ [] }
-    ensures runs { (s : Setting) (start : Outside) (name : List ℕ) → s.commands ≡ schedule.now → IsOpened s start (H.outside host.old) name run runner.entry → RunsTrace s start (H.outside host.new) name result }
+    ensures runs { RunsOut schedule.now (λ s start name. IsOpened s start (H.outside host.old) name run runner.entry) (H.outside host.new) result }
 {
     let mut run = run;
     match begin(host, schedule, &mut run) {
@@ -506,7 +505,7 @@ pub fn run_trace<
     name: &str,
 ) -> TraceEnd
     requires served { AreServed runner schedule.now }
-    ensures runs { (s : Setting) → s.commands ≡ schedule.now → IsAt s (map (λ p. []) (ports_of s.policy)) runner.entry → RunsTrace s (H.outside host.old) (H.outside host.new) name.now result }
+    ensures runs { RunsFresh schedule.now runner.entry (H.outside host.old) (H.outside host.new) name.now result }
 {
     match Source::open(alloc, host, name) {
         Ok(source) => {

@@ -1,6 +1,7 @@
 -- Rounds whose records are read one by one, and what is done after a round.
 use Rattle.std.specs.Prelude.{◌≡◌, ◌<◌, ◌≤◌, ◌+◌, ℕ, List, [], ◌∷◌, ◌++◌, length, Option, Some, None, Result, Ok, Err}
 use Rattle.vsw_base.specs.declared.fault.NoMemory.{NoMemory}
+use Rattle.vsw_commandfile.specs.declared.line.Line.{Line}
 use Rattle.vsw_host.specs.Outside.{Outside, Grows}
 use Rattle.vsw_pcap.specs.declared.capture.Record.{Record}
 use Rattle.vsw_port.specs.declared.event.Event.{Event}
@@ -20,7 +21,7 @@ use Rattle.vsw_replay.specs.declared.ending.TraceEnd.TheVariants as end
 use Rattle.vsw_replay.specs.declared.trace.Run.{Run}
 use Rattle.vsw_replay.specs.declared.trace.Stretch.{Stretch}
 use Rattle.vsw_replay.specs.Private.Cut.{IsCut, IsNextCut}
-use Rattle.vsw_replay.specs.Private.Going.{IsFilled, IsNear, IsPast, Since}
+use Rattle.vsw_replay.specs.Private.Going.{AfterPut, GoesOn, IsFilled, IsFirst, IsNear, IsPast, Since}
 use Rattle.vsw_replay.specs.Private.SoFar.{AreSoFar}
 use Rattle.vsw_replay.specs.Runs.{RunsTrace}
 
@@ -59,6 +60,16 @@ IsBegun s start now name run switch t = BegunBy s start now name run switch t t.
 abbrev pub BeginsSo : Setting → Outside → Outside → List ℕ → Run → SwitchNow → Result Stretch TraceEnd → Type 0
 BeginsSo s start now name run switch (Ok t) = IsBegun s start now name run switch t
 BeginsSo s start now name run switch (Err e) = RunsTrace s start now name e
+
+-- the head line is put, if a header was accepted where the first record was read, or the run ends
+abbrev pub PutsHeadBegun : Outside → Run → Stretch → Outside → Result Stretch TraceEnd → Type 0
+PutsHeadBegun before run t after r = (s : Setting) (start : Outside) (name : List ℕ) (switch : SwitchNow)
+    → IsFirst s start before name run switch t 1 → BeginsSo s start after name run switch r
+
+-- the next round is begun of a run that stood so, with whichever switch, or the run ends
+abbrev pub BeginsRound : List Line → (Setting → Outside → List ℕ → SwitchNow → Type 0) → Outside → Run → Result Stretch TraceEnd → Type 0
+BeginsRound lines stood after new r = (s : Setting) (start : Outside) (name : List ℕ) (switch : SwitchNow) → s.commands ≡ lines → stood s start name switch
+    → BeginsSo s start after name new switch r
 
 -- one record was read if any
 abbrev pub IsOneRead : Stop → ℕ → Type 0
@@ -105,12 +116,36 @@ abbrev pub FilledSo : Setting → Outside → Outside → List ℕ → Run → S
 FilledSo s start now name run switch (Ok t) = IsFilled s start now name run switch t
 FilledSo s start now name run switch (Err e) = RunsTrace s start now name end.Memory
 
+-- one record more is read of the round that was begun, if there is one
+abbrev pub ReadsOne : Stretch → Outside → Run → Outside → Run → Result (Option Stop) NoMemory → Type 0
+ReadsOne begun before old after new r = (s : Setting) (start : Outside) (name : List ℕ) (switch : SwitchNow) → IsPart s start before name old switch begun.first begun.next
+    → PartSo s start after name new switch begun r
+
+-- all further records of it are read, where it has one
+abbrev pub FillsRound : Stretch → Outside → Run → Outside → Run → Result Stretch NoMemory → Type 0
+FillsRound begun before old after new r = (s : Setting) (start : Outside) (name : List ℕ) (switch : SwitchNow) → IsPart s start before name old switch begun.first begun.next
+    → FilledSo s start after name new switch r
+
+-- the same, where it has one or none
+abbrev pub ReadsRest : Stretch → Outside → Run → Outside → Run → Result Stretch TraceEnd → Type 0
+ReadsRest begun before old after new r = (s : Setting) (start : Outside) (name : List ℕ) (switch : SwitchNow) → IsBegun s start before name old switch begun
+    → GoesOn s start after name new switch r
+
 -- ---- what is done next
 
 abbrev pub TurnsTo : Setting → Outside → Outside → List ℕ → Run → SwitchNow → Result Turn TraceEnd → Type 0
 TurnsTo s start now name run switch (Ok (turn.Begun t)) = IsBegun s start now name run switch t
 TurnsTo s start now name run switch (Ok (turn.Past first)) = IsPast s start now name run.short switch first
 TurnsTo s start now name run switch (Err e) = RunsTrace s start now name e
+
+-- behind a round that was put, it is found what is done next, or the run ends
+abbrev pub Follows : List Line → Stretch → Outside → Run → Outside → Run → Result Turn TraceEnd → Type 0
+Follows lines t before old after new r = (s : Setting) (start : Outside) (name : List ℕ) (switch : SwitchNow) → s.commands ≡ lines → AfterPut s start before name old switch t t.stop
+    → TurnsTo s start after name new switch r
+
+-- a run goes from one turn to another, or ends
+abbrev pub Turns : List Line → Outside → Run → SwitchNow → Result Turn TraceEnd → Outside → Run → SwitchNow → Result Turn TraceEnd → Type 0
+Turns lines before old was from after new is r = (s : Setting) (start : Outside) (name : List ℕ) → s.commands ≡ lines → TurnsTo s start before name old was from → TurnsTo s start after name new is r
 
 abbrev pub NearTurn : Outside → Run → Turn → Type 0
 NearTurn now run (turn.Begun t) = IsNearBegun now run t

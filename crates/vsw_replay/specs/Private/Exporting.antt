@@ -2,7 +2,8 @@
 use Rattle.std.specs.Prelude.{◌≡◌, ◌≤◌, ◌++◌, ℕ, Bool, false, Option, Some, None, List, length, take, Result, Ok, Err, ⊤}
 use Rattle.std.specs.List.{flat_map}
 use Rattle.vsw_base.specs.declared.fault.NoMemory.{NoMemory}
-use Rattle.vsw_host.specs.Outside.{Outside}
+use Rattle.vsw_commandfile.specs.declared.line.Line.{Line}
+use Rattle.vsw_host.specs.Outside.{Outside, SameOutputs}
 use Rattle.vsw_host.specs.Told.{ReadsAll}
 use Rattle.vsw_offload.specs.Rows.{port_bytes, rows_bytes}
 use Rattle.vsw_offload.specs.declared.port_rows.PortRows.{PortRows}
@@ -16,7 +17,8 @@ use Rattle.vsw_report.specs.declared.round.Round.{Round}
 use Rattle.vsw_run.specs.Export.{AreExported}
 use Rattle.vsw_run.specs.Trace.{most_records}
 use Rattle.vsw_crew.specs.Switch.{SwitchNow, IsAt}
-use Rattle.vsw_replay.specs.Private.Going.{IsFilled, IsPast, AfterPut, Since, clean_of}
+use Rattle.vsw_replay.specs.Exports.{ExportsTrace}
+use Rattle.vsw_replay.specs.Private.Going.{IsFilled, IsOpened, IsPast, AfterPut, Since, clean_of}
 use Rattle.vsw_replay.specs.Private.SoFar.{AreSoFar}
 use Rattle.vsw_replay.specs.Runs.{RunsTrace}
 use Rattle.vsw_replay.specs.declared.ending.TraceEnd.{TraceEnd}
@@ -77,6 +79,39 @@ RunsNext s start now name short switch (Ok (Some next)) = IsPast s (unput start)
 RunsNext s start now name short switch (Ok None) = Leaves s start now name switch (clean_of short)
 RunsNext s start now name short switch (Err e) = RunsTrace s (unput start) now name end.Memory
 
+-- ---- what is done, in whichever run it is that puts nothing
+
+-- the first round is read of a trace that was opened, or the run ends
+abbrev pub StaysFirst : List Line → Outside → Run → Outside → Run → Result Stretch TraceEnd → Type 0
+StaysFirst lines before old after new r = (s : Setting) (start : Outside) (name : List ℕ) (switch : SwitchNow) → s.commands ≡ lines → IsOpened s (unput start) before name old switch
+    → Stays s start after name new switch r
+
+-- the round that was read is run, and the next one is read, or the run ends
+abbrev pub StaysFurther : List Line → Outside → Run → SwitchNow → Stretch → Outside → Run → SwitchNow → Result Stretch TraceEnd → Type 0
+StaysFurther lines before old was t after new is r = (s : Setting) (start : Outside) (name : List ℕ) → s.commands ≡ lines → IsFilled s (unput start) before name old was t
+    → Stays s start after name new is r
+
+-- the round that was read is run, if it is one
+abbrev pub RunsFilled : List Line → Run → SwitchNow → Stretch → Run → SwitchNow → Result ⊤ NoMemory → Type 0
+RunsFilled lines old was t new is r = (s : Setting) (start now : Outside) (name : List ℕ) → s.commands ≡ lines → IsFilled s (unput start) now name old was t
+    → RunsRead s start now name new is t r
+
+-- the next round behind the trace is run, if there is one
+abbrev pub RunsBehind : List Line → Run → SwitchNow → ℕ → Run → SwitchNow → Result (Option ℕ) NoMemory → Type 0
+RunsBehind lines old was first new is r = (s : Setting) (start now : Outside) (name : List ℕ) → s.commands ≡ lines → IsPast s (unput start) now name old.short was first
+    → RunsNext s start now name new.short is r
+
+-- all of them are, and the run ends
+abbrev pub LeavesPast : List Line → Run → SwitchNow → ℕ → SwitchNow → TraceEnd → Type 0
+LeavesPast lines run was first is e = (s : Setting) (start now : Outside) (name : List ℕ) → s.commands ≡ lines → IsPast s (unput start) now name run.short was first
+    → Leaves s start now name is e
+
+-- a run that stood so, where nothing is told of what was put, goes to its end
+abbrev pub LeavesFrom : List Line → (Setting → Outside → List ℕ → Type 0) → Outside → SwitchNow → TraceEnd → Type 0
+LeavesFrom lines stood after switch e = (s : Setting) (start : Outside) (name : List ℕ) → s.commands ≡ lines → stood s (unput start) name → Leaves s start after name switch e
+
+-- ---- the rows file
+
 -- rows of the first ports were written, so many, behind the front of a file
 pub record IsWritten (s : Setting) (hs : List (List Event)) (place : ℕ) (before now : List ℕ) : Type 0 where
   pub rows : List PortRows
@@ -88,3 +123,8 @@ pub record IsFile (s : Setting) (hs : List (List Event)) (text : List ℕ) : Typ
   pub rows : List PortRows
   pub exported : AreExported (ports_of s.policy) hs rows
   pub text_is : text ≡ rows_bytes rows
+
+-- the rows file is put behind a run that put nothing
+abbrev pub PutsRows : SwitchNow → Outside → Outside → TraceEnd → Type 0
+PutsRows switch before after e = (s : Setting) (start : Outside) (name : List ℕ) → SameOutputs start before → IsThrough s (unput start) before name switch
+    → ExportsTrace s start after name e

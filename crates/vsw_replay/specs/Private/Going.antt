@@ -204,3 +204,34 @@ pub record IsNear (now : Outside) (run : Run) (t : Stretch) : Type 0 where
   pub rises : t.first < t.next
   pub size : length run.reading.batch ≤ most_records
   pub goes : CanRead now run t.next t.stop
+
+-- ---- what is done, in whichever run it is
+
+-- the head line is put, if a header was accepted where the first round was read, or the run ends
+abbrev pub PutsHead : Outside → Run → Stretch → Outside → Result Stretch TraceEnd → Type 0
+PutsHead before run t after r = (s : Setting) (start : Outside) (name : List ℕ) (switch : SwitchNow)
+    → IsFirst s start before name run switch t t.next → GoesOn s start after name run switch r
+
+-- the next round is read of one that stood so, with whichever switch, or the run ends
+abbrev pub ReadsRound : List Line → (Setting → Outside → List ℕ → SwitchNow → Type 0) → Outside → Run → Result Stretch TraceEnd → Type 0
+ReadsRound lines stood after new r = (s : Setting) (start : Outside) (name : List ℕ) (switch : SwitchNow) → s.commands ≡ lines → stood s start name switch
+    → GoesOn s start after name new switch r
+
+-- the round that was read is put, if it is one
+abbrev pub PutsFilled : List Line → Outside → Run → SwitchNow → Stretch → Outside → Run → SwitchNow → Result ⊤ TraceEnd → Type 0
+PutsFilled lines before old was t after new is r = (s : Setting) (start : Outside) (name : List ℕ) → s.commands ≡ lines → IsFilled s start before name old was t
+    → PutsStretch s start after name new is t r
+
+-- rounds are put, from the one that was read to another that is then read, or the run ends
+abbrev pub GoesFurther : List Line → Outside → Run → SwitchNow → Stretch → Outside → Run → SwitchNow → Result Stretch TraceEnd → Type 0
+GoesFurther lines before old was t after new is r = (s : Setting) (start : Outside) (name : List ℕ) → s.commands ≡ lines → IsFilled s start before name old was t
+    → GoesOn s start after name new is r
+
+-- the next round behind the trace is put, if there is one
+abbrev pub PutsBehind : List Line → Outside → Run → SwitchNow → ℕ → Outside → Run → SwitchNow → Result (Option ℕ) TraceEnd → Type 0
+PutsBehind lines before old was first after new is r = (s : Setting) (start : Outside) (name : List ℕ) → s.commands ≡ lines → IsPast s start before name old.short was first
+    → PutsNext s start after name new.short is r
+
+-- a run that stood so goes to its end
+abbrev pub RunsOut : List Line → (Setting → Outside → List ℕ → Type 0) → Outside → TraceEnd → Type 0
+RunsOut lines stood after e = (s : Setting) (start : Outside) (name : List ℕ) → s.commands ≡ lines → stood s start name → RunsTrace s start after name e

@@ -102,6 +102,11 @@ abbrev pub StepsTo : {J G : Type 0} → Setting → Outside → Outside → List
 StepsTo s start now name a (Ok u) = OwesAt s start now name a a.picked
 StepsTo s start now name a (Err e) = RunsTrace s start now name e
 
+-- in whichever run with its commands, the lead does this round, beside which it reads the next one
+abbrev pub DoesRound : {J G : Type 0} → Outside → Ahead J G → Option InHand → Outside → Ahead J G → Result ⊤ TraceEnd → Type 0
+DoesRound before old round after new r = (s : Setting) (start : Outside) (name : List ℕ) → s.commands ≡ old.schedule.now → OwesAt s start before name old round
+    → StepsTo s start after name new r
+
 -- nothing is owed, and a round was read that is run otherwise, or the run ended
 abbrev pub LedSo : Setting → Outside → Outside → List ℕ → Run → SwitchNow → Stretch → Result ⊤ TraceEnd → Type 0
 LedSo s start now name run switch t (Ok u) = IsFilled s start now name run switch t
@@ -109,6 +114,16 @@ LedSo s start now name run switch t (Err e) = RunsTrace s start now name e
 
 abbrev pub Led : {J G : Type 0} → Setting → Outside → Outside → List ℕ → Ahead J G → Result ⊤ TraceEnd → Type 0
 Led s start now name a r = LedSo s start now name a.run (crew_now a.crew) a.stretch r
+
+-- the lead does rounds as long as the next one goes out, from the one that it picked
+abbrev pub DoesRounds : {J G : Type 0} → Outside → Ahead J G → Outside → Ahead J G → Result ⊤ TraceEnd → Type 0
+DoesRounds before old after new r = (s : Setting) (start : Outside) (name : List ℕ) → s.commands ≡ old.schedule.now → OwesAt s start before name old old.picked
+    → Led s start after name new r
+
+-- and from the one that was read first
+abbrev pub LeadsAll : {J G : Type 0} → Outside → Ahead J G → Outside → Ahead J G → Result ⊤ TraceEnd → Type 0
+LeadsAll before old after new r = (s : Setting) (start : Outside) (name : List ℕ) → s.commands ≡ old.schedule.now → IsFilled s start before name old.run (crew_now old.crew) old.stretch
+    → Led s start after name new r
 
 -- what picking a round leaves as it was
 pub record StaysBeside {J G : Type 0} (old new : Ahead J G) : Type 0 where

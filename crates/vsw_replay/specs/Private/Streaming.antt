@@ -19,7 +19,7 @@ use Rattle.vsw_replay.specs.declared.ending.TraceEnd.{TraceEnd}
 use Rattle.vsw_replay.specs.declared.streaming.Streaming.{Streaming}
 use Rattle.vsw_replay.specs.declared.trace.Run.{Run}
 use Rattle.vsw_replay.specs.declared.trace.Stretch.{Stretch}
-use Rattle.vsw_replay.specs.Private.Begun.{IsPart, NearTurn, TurnsTo}
+use Rattle.vsw_replay.specs.Private.Begun.{IsPart, NearTurn, Turns, TurnsTo}
 use Rattle.vsw_replay.specs.Private.Going.{AfterPut}
 use Rattle.vsw_replay.specs.Runs.{RunsTrace}
 
@@ -83,11 +83,7 @@ abbrev pub Streams : {J G : Type 0} → Stretch → Outside → Streaming J G �
 Streams begun before old after new r = (s : Setting) (start : Outside) (name : List ℕ) → s.commands ≡ old.schedule.now → IsPart s start before name old.run (crew_now old.crew) begun.first begun.next
     → TurnsTo s start after name new.run (crew_now new.crew) r
 
--- a run goes from one turn to another, or ends
-abbrev pub Turns : List Line → Outside → Run → SwitchNow → Result Turn TraceEnd → Outside → Run → SwitchNow → Result Turn TraceEnd → Type 0
-Turns lines before old was from after new is r = (s : Setting) (start : Outside) (name : List ℕ) → s.commands ≡ lines → TurnsTo s start before name old was from → TurnsTo s start after name new is r
-
--- the lead's run does
+-- the lead's run goes from one turn to another, or ends
 abbrev pub LeadTurns : {J G : Type 0} → Turn → Outside → Streaming J G → Outside → Streaming J G → Result Turn TraceEnd → Type 0
 LeadTurns first before old after new r = Turns old.schedule.now before old.run (crew_now old.crew) (Ok first) after new.run (crew_now new.crew) r
 

@@ -1,16 +1,15 @@
 //! The trace, run through the ports of a policy.
 
-ghost use Rattle.std.specs.Prelude.{◌≡◌, ◌<◌, ◌≤◌, [], All, length, map};
+ghost use Rattle.std.specs.Prelude.{◌≡◌, ◌<◌, ◌≤◌, All, length};
 ghost use Rattle.vsw_commandfile.specs.Good.{CanAsk};
 ghost use Rattle.vsw_harbour.specs.Ports as live;
 ghost use Rattle.vsw_harbour.specs.Opening.{IsOpenFor};
 ghost use Rattle.vsw_config.specs.Good.{IsGoodPolicy};
-ghost use Rattle.vsw_promise.specs.Jobs.{Setting};
-ghost use Rattle.vsw_promise.specs.Ports.{ports_of};
 ghost use Rattle.vsw_replay.specs.Crew.{crew_now};
+ghost use Rattle.vsw_replay.specs.Fresh.{RunsFresh};
 ghost use Rattle.vsw_replay.specs.Runs.{RunsTrace};
-ghost use Rattle.vsw_replay.specs.Switch.{AreServed, IsAt};
-ghost use Rattle.vsw_app.specs.Way.{is_local};
+ghost use Rattle.vsw_replay.specs.Switch.{AreServed};
+ghost use Rattle.vsw_app.specs.Way.{is_local, setting_with};
 
 use crate::way::Way;
 use std::alloc::Global;
@@ -44,7 +43,7 @@ fn run_alone<R: Threads + Wait + Clock + Sync, H: Host, G: Gate + Watch + Sync>(
     requires few { workers ≤ 16 }
     requires good { IsGoodPolicy policy.now }
     requires asked { All (CanAsk policy.now) schedule.now }
-    ensures { RunsTrace (record { workers = workers; policy = policy.now; commands = schedule.now; local = local }) (H.outside host.old) (H.outside host.new) trace.now result }
+    ensures { RunsTrace (setting_with workers policy.now schedule.now local) (H.outside host.old) (H.outside host.new) trace.now result }
 {
     let Ok(switch) = Switch::open(alloc, workers, policy, local) else {
         return TraceEnd::Memory;
@@ -77,7 +76,7 @@ fn run_crew<
     trace: &str,
 ) -> TraceEnd
     requires served { AreServed (crew_now crew) schedule.now }
-    ensures runs { (s : Setting) → s.commands ≡ schedule.now → IsAt s (map (λ p. []) (ports_of s.policy)) (crew_now crew.entry) → RunsTrace s (H.outside host.old) (H.outside host.new) trace.now result }
+    ensures runs { RunsFresh schedule.now (crew_now crew.entry) (H.outside host.old) (H.outside host.new) trace.now result }
 {
     match way {
         Way::Stream => stream_trace(rt, alloc, host, crew, schedule, trace),
@@ -109,7 +108,7 @@ fn run_named<
     requires named { J.ports ≡ live.ports_of opened.ports }
     requires opened { IsOpenFor workers policy.now (is_local way) opened }
     requires asked { All (CanAsk policy.now) schedule.now }
-    ensures { RunsTrace (record { workers = workers; policy = policy.now; commands = schedule.now; local = is_local way }) (H.outside host.old) (H.outside host.new) name.now.trace.now result }
+    ensures { RunsTrace (setting_with workers policy.now schedule.now (is_local way)) (H.outside host.old) (H.outside host.new) name.now.trace.now result }
 {
     let Ok((harbour, rows)) = opened.named::<J, G>(alloc, gate) else {
         return TraceEnd::Memory;
@@ -135,7 +134,7 @@ fn run_beside<R: Threads + Wait + Clock + Sync, H: Host, G: Gate + Watch + Sync>
     requires good { IsGoodPolicy policy.now }
     requires some { 0 < length policy.now.ports }
     requires asked { All (CanAsk policy.now) schedule.now }
-    ensures { RunsTrace (record { workers = workers; policy = policy.now; commands = schedule.now; local = is_local way }) (H.outside host.old) (H.outside host.new) trace.now result }
+    ensures { RunsTrace (setting_with workers policy.now schedule.now (is_local way)) (H.outside host.old) (H.outside host.new) trace.now result }
 {
     let Ok(opened) = OpenHarbour::open(alloc, workers, policy, way.is_local()) else {
         return TraceEnd::Memory;
@@ -163,7 +162,7 @@ fn run_scheduled<R: Threads + Wait + Clock + Sync, H: Host, G: Gate + Watch + Sy
     requires few { workers ≤ 16 }
     requires good { IsGoodPolicy policy.now }
     requires asked { All (CanAsk policy.now) schedule.now }
-    ensures { RunsTrace (record { workers = workers; policy = policy.now; commands = schedule.now; local = is_local way }) (H.outside host.old) (H.outside host.new) trace.now result }
+    ensures { RunsTrace (setting_with workers policy.now schedule.now (is_local way)) (H.outside host.old) (H.outside host.new) trace.now result }
 {
     if workers == 1 || policy.ports.is_empty() {
         let local = way.is_local();
@@ -191,7 +190,7 @@ pub(crate) fn run_through<R: Threads + Wait + Clock + Sync, H: Host, G: Gate + W
     requires few { workers ≤ 16 }
     requires good { IsGoodPolicy policy.now }
     requires asked { All (CanAsk policy.now) lines }
-    ensures { RunsTrace (record { workers = workers; policy = policy.now; commands = lines; local = is_local way }) (H.outside host.old) (H.outside host.new) trace.now result }
+    ensures { RunsTrace (setting_with workers policy.now lines (is_local way)) (H.outside host.old) (H.outside host.new) trace.now result }
 {
     let Ok(schedule) = Schedule::new(alloc, lines) else {
         return TraceEnd::Memory;

@@ -1,10 +1,9 @@
 //! The lines of packets, as rows answer them.
 
 ghost use Rattle.std.specs.Prelude.{◌≡◌, ◌<◌, ◌+◌, ◌++◌, ◌^◌, IfSome, OnOk, Some, get_or, length};
-ghost use Rattle.vsw_base.specs.declared.flow.Crossing.{Crossing};
 ghost use Rattle.vsw_engine.specs.Private.Lines.{AddsAnswer, AddsLine, HasRoom, line_text};
 ghost use Rattle.vsw_frame.specs.Frame.{parts};
-ghost use Rattle.vsw_offload.specs.Answered.{Answered, IsPacketOf, bytes_given, bytes_told, fate_given, rows_at};
+ghost use Rattle.vsw_offload.specs.Answered.{AnswersFrame, bytes_given, bytes_told, fate_given};
 ghost use Rattle.vsw_pcap.specs.Batch.{lent_record};
 ghost use Rattle.vsw_offload.specs.Rows.{macs_of, numbers_of};
 ghost use Rattle.vsw_promise.specs.Jobs.{aim_of};
@@ -30,7 +29,7 @@ fn answer(
     out: &mut Vec<u8>,
 ) -> Option<Given>
     requires room { length out.old.items ≡ 65700 }
-    ensures answered { (x : Crossing) → IsPacketOf x place (parts frame.now) moment → Answered (rows_at rows.now place.port) x (parts frame.now) (fate_given result) (bytes_given (parts frame.now) result out.new.items) }
+    ensures answered { AnswersFrame rows.now place (parts frame.now) moment (fate_given result) (bytes_given (parts frame.now) result out.new.items) }
     ensures room { length out.new.items ≡ 65700 }
     ensures len { IfSome result (λ given. HasRoom given) }
 {

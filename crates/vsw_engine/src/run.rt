@@ -1,10 +1,9 @@
 //! The run: a trace is read in batches, and the lines of each batch are put before the next is read.
 
-ghost use Rattle.std.specs.Prelude.{◌≡◌, ◌≤◌, ◌<◌, ◌+◌, ◌*◌, ℕ, [], List, IfOk, length};
-ghost use Rattle.vsw_engine.specs.Private.Going.{GoesOn, IsBetween, IsFilled, IsNear, IsFirst, IsOpened, PutsBatch, unheaded_of};
+ghost use Rattle.std.specs.Prelude.{◌≡◌, ◌≤◌, ◌<◌, ◌+◌, ◌*◌, ℕ, [], IfOk, length};
+ghost use Rattle.vsw_engine.specs.Private.Going.{AnswersFrom, GoesFurther, IsFilled, IsFirst, IsNear, IsOpened, PutsFilled, ReadsNext, unheaded_of};
 ghost use Rattle.vsw_engine.specs.Runs.{AnswersTrace};
-ghost use Rattle.vsw_host.specs.Outside.{DoesPut, Outside, SameInputs};
-ghost use Rattle.vsw_offload.specs.declared.port_rows.PortRows.{PortRows};
+ghost use Rattle.vsw_host.specs.Outside.{DoesPut, SameInputs};
 ghost use Rattle.vsw_reading.specs.Reads.{IsOpen};
 
 use crate::desk::Desk;
@@ -44,7 +43,7 @@ fn put_batch<H: Host>(
 ) -> Result<(), Ending>
     requires near { IsNear (H.outside host.old) reading.now first stop }
     requires room { length desk.old.out.items ≡ 65700 }
-    ensures puts { (start : Outside) (name : List ℕ) → IsFilled rows.now start (H.outside host.old) name reading.now first stop → PutsBatch rows.now start (H.outside host.new) name reading.now first stop result }
+    ensures puts { PutsFilled rows.now (H.outside host.old) reading.now first stop (H.outside host.new) result }
     ensures inputs { SameInputs (H.outside host.old) (H.outside host.new) }
     ensures room { length desk.new.out.items ≡ 65700 }
 {
@@ -62,7 +61,7 @@ fn read_next<H: Host>(host: &mut H, reading: &mut Reading, first: u32) -> Result
     requires near { IsOpen (H.outside host.old) reading.old }
     requires few { first ≤ 1048576 }
     requires whole { (k : ℕ) × (first ≡ 64 * k) }
-    ensures goes { (ports : List PortRows) (start : Outside) (name : List ℕ) → IsBetween ports start (H.outside host.old) name reading.old first → GoesOn ports start (H.outside host.new) name reading.new first result }
+    ensures goes { ReadsNext (H.outside host.old) reading.old first (H.outside host.new) reading.new result }
     ensures near { IfOk result (λ stop. IsNear (H.outside host.new) reading.new first stop) }
 {
     reading.batch.clear();
@@ -89,7 +88,7 @@ fn run_batch<H: Host>(
 ) -> Result<Stop, Ending>
     requires near { IsNear (H.outside host.old) reading.old first stop }
     requires room { length desk.old.out.items ≡ 65700 }
-    ensures goes { (start : Outside) (name : List ℕ) → IsFilled rows.now start (H.outside host.old) name reading.old first stop → GoesOn rows.now start (H.outside host.new) name reading.new (first + 64) result }
+    ensures goes { GoesFurther rows.now (H.outside host.old) reading.old first stop (H.outside host.new) reading.new result }
     ensures near { IfOk result (λ next. IsNear (H.outside host.new) reading.new (first + 64) next) }
     ensures room { length desk.new.out.items ≡ 65700 }
 {
@@ -114,7 +113,7 @@ fn run_batches<H: Host>(
 ) -> Ending
     requires near { IsNear (H.outside host.old) reading.old 0 stop }
     requires room { length desk.old.out.items ≡ 65700 }
-    ensures answers { (start : Outside) (name : List ℕ) → IsFilled rows.now start (H.outside host.old) name reading.old 0 stop → AnswersTrace rows.now start (H.outside host.new) name result }
+    ensures answers { AnswersFrom rows.now (λ start name. IsFilled rows.now start (H.outside host.old) name reading.old 0 stop) (H.outside host.new) result }
 {
     let mut first = 0;
     let mut stop = stop;
@@ -152,7 +151,7 @@ fn run_headed<H: Host>(
 ) -> Ending
     requires near { IsNear (H.outside host.old) reading.old 0 stop }
     requires room { length desk.old.out.items ≡ 65700 }
-    ensures answers { (start : Outside) (name : List ℕ) → IsFirst start (H.outside host.old) name reading.old stop → AnswersTrace rows.now start (H.outside host.new) name result }
+    ensures answers { AnswersFrom rows.now (λ start name. IsFirst start (H.outside host.old) name reading.old stop) (H.outside host.new) result }
 {
     match unheaded(stop, reading.seen) {
         None => match host.put(HEAD_LINE) {
@@ -168,7 +167,7 @@ fn run_opened<H: Host>(host: &mut H, rows: &Rows, reading: &mut Reading, desk: &
     requires near { IsOpen (H.outside host.old) reading.old }
     requires empty { reading.old.batch ≡ [] }
     requires room { length desk.old.out.items ≡ 65700 }
-    ensures answers { (start : Outside) (name : List ℕ) → IsOpened start (H.outside host.old) name reading.old → AnswersTrace rows.now start (H.outside host.new) name result }
+    ensures answers { AnswersFrom rows.now (λ start name. IsOpened start (H.outside host.old) name reading.old) (H.outside host.new) result }
 {
     match fill(host, reading, BATCH) {
         Ok(stop) => run_headed(host, rows, reading, desk, stop),

@@ -118,3 +118,21 @@ pub record IsNear (now : Outside) (r : Reading) (first : ℕ) (st : Stop) : Type
   pub whole : (k : ℕ) × (first ≡ 64 * k)
   pub size : length r.batch ≤ 64
   pub goes : CanRead now r first st
+
+-- ---- what is done, in whichever run it is
+
+-- the lines of the batch that was read are put
+abbrev pub PutsFilled : List PortRows → Outside → Reading → ℕ → Stop → Outside → Result ⊤ Ending → Type 0
+PutsFilled ports before r first st after end = (start : Outside) (name : List ℕ) → IsFilled ports start before name r first st → PutsBatch ports start after name r first st end
+
+-- the batch that begins with this packet is read, whichever rows answer it, or the run ends
+abbrev pub ReadsNext : Outside → Reading → ℕ → Outside → Reading → Result Stop Ending → Type 0
+ReadsNext before old first after new end = (ports : List PortRows) (start : Outside) (name : List ℕ) → IsBetween ports start before name old first → GoesOn ports start after name new first end
+
+-- the lines of a batch are put, and the next one is read, or the run ends
+abbrev pub GoesFurther : List PortRows → Outside → Reading → ℕ → Stop → Outside → Reading → Result Stop Ending → Type 0
+GoesFurther ports before old first st after new end = (start : Outside) (name : List ℕ) → IsFilled ports start before name old first st → GoesOn ports start after name new (first + 64) end
+
+-- a run that stood so goes to its end
+abbrev pub AnswersFrom : List PortRows → (Outside → List ℕ → Type 0) → Outside → Ending → Type 0
+AnswersFrom ports stood after end = (start : Outside) (name : List ℕ) → stood start name → AnswersTrace ports start after name end

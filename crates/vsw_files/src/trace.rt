@@ -1,11 +1,10 @@
 //! Reading a trace as a whole, of a run that checks.
 
-ghost use Rattle.std.specs.Prelude.{◌≡◌, ◌≤◌, List, ℕ, [], Ok};
+ghost use Rattle.std.specs.Prelude.{◌≡◌, ◌≤◌, [], Ok};
 ghost use Rattle.vsw_files.specs.Claimed.{ReadsTraceNext};
-ghost use Rattle.vsw_files.specs.Private.Whole.{EndsSo, OpensTrace, ReadsWhole};
-ghost use Rattle.vsw_host.specs.Outside.{Outside, SameOutputs};
-ghost use Rattle.vsw_reading.specs.Reads.{IsOpen, IsRead, StopsSo};
-ghost use Rattle.vsw_run.specs.Trace.{most_records};
+ghost use Rattle.vsw_files.specs.Private.Whole.{EndsSo, IfStopped, IfUnread, OpensTrace, ReadsWhole};
+ghost use Rattle.vsw_host.specs.Outside.{SameOutputs};
+ghost use Rattle.vsw_reading.specs.Reads.{IsOpen};
 
 use std::alloc::Global;
 use vsw_base::NoMemory;
@@ -19,8 +18,8 @@ const RECORDS_MOST: u32 = 1_048_576;
 /// Looks at what follows, where as many records were read as a trace may have. `Full` is answered where a byte does.
 fn look_past<H: Host>(host: &mut H, reading: &mut Reading, stop: Stop) -> Stop
     requires near { IsOpen (H.outside host.old) reading.old }
-    ensures ends { (start : Outside) (name : List ℕ) → StopsSo start (H.outside host.old) name reading.old [] most_records stop → EndsSo start (H.outside host.new) name reading.new.batch (Ok result) }
-    ensures later { (start : Outside) (name : List ℕ) → StopsSo start (H.outside host.old) name reading.old [] most_records stop → start.input_faults ≤ (H.outside host.new).input_faults }
+    ensures ends { IfStopped (H.outside host.old) reading.old stop (λ start name. EndsSo start (H.outside host.new) name reading.new.batch (Ok result)) }
+    ensures later { IfStopped (H.outside host.old) reading.old stop (λ start name. start.input_faults ≤ (H.outside host.new).input_faults) }
     ensures outputs { SameOutputs (H.outside host.old) (H.outside host.new) }
 {
     match stop {
@@ -33,8 +32,8 @@ fn look_past<H: Host>(host: &mut H, reading: &mut Reading, stop: Stop) -> Stop
 fn read_records<H: Host>(host: &mut H, reading: &mut Reading) -> Result<Stop, NoMemory>
     requires near { IsOpen (H.outside host.old) reading.old }
     requires empty { reading.old.batch ≡ [] }
-    ensures ends { (start : Outside) (name : List ℕ) → IsRead start (H.outside host.old) name reading.old [] [] → EndsSo start (H.outside host.new) name reading.new.batch result }
-    ensures later { (start : Outside) (name : List ℕ) → IsRead start (H.outside host.old) name reading.old [] [] → start.input_faults ≤ (H.outside host.new).input_faults }
+    ensures ends { IfUnread (H.outside host.old) reading.old (λ start name. EndsSo start (H.outside host.new) name reading.new.batch result) }
+    ensures later { IfUnread (H.outside host.old) reading.old (λ start name. start.input_faults ≤ (H.outside host.new).input_faults) }
     ensures outputs { SameOutputs (H.outside host.old) (H.outside host.new) }
 {
     match fill(host, reading, RECORDS_MOST) {
@@ -47,8 +46,8 @@ fn read_records<H: Host>(host: &mut H, reading: &mut Reading) -> Result<Stop, No
 fn read_whole<H: Host>(host: &mut H, reading: &mut Reading) -> Result<(), Ending>
     requires near { IsOpen (H.outside host.old) reading.old }
     requires empty { reading.old.batch ≡ [] }
-    ensures whole { (start : Outside) (name : List ℕ) → IsRead start (H.outside host.old) name reading.old [] [] → ReadsWhole start (H.outside host.new) name reading.new.batch result }
-    ensures later { (start : Outside) (name : List ℕ) → IsRead start (H.outside host.old) name reading.old [] [] → start.input_faults ≤ (H.outside host.new).input_faults }
+    ensures whole { IfUnread (H.outside host.old) reading.old (λ start name. ReadsWhole start (H.outside host.new) name reading.new.batch result) }
+    ensures later { IfUnread (H.outside host.old) reading.old (λ start name. start.input_faults ≤ (H.outside host.new).input_faults) }
     ensures outputs { SameOutputs (H.outside host.old) (H.outside host.new) }
 {
     match read_records(host, reading) {

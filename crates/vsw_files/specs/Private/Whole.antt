@@ -1,5 +1,5 @@
 -- What is found in a trace that is read as a whole.
-use Rattle.std.specs.Prelude.{◌≡◌, ◌<◌, ◌≤◌, ℕ, List, length, Some, Result, Ok, Err}
+use Rattle.std.specs.Prelude.{◌≡◌, ◌<◌, ◌≤◌, ℕ, List, [], length, Some, Result, Ok, Err}
 use Rattle.std.specs.Bool.{⊤}
 use Rattle.vsw_base.specs.declared.fault.NoMemory.{NoMemory}
 use Rattle.vsw_files.specs.Opened.{OpensFew, OpensOne}
@@ -7,6 +7,7 @@ use Rattle.vsw_host.specs.Outside.{Opened, Outside, Rose, SameOutputs}
 use Rattle.vsw_pcap.specs.Capture.{IsCapture, Stops}
 use Rattle.vsw_pcap.specs.declared.capture.Front.{Front}
 use Rattle.vsw_pcap.specs.declared.capture.Record.{Record}
+use Rattle.vsw_reading.specs.Reads.{IsRead, StopsSo}
 use Rattle.vsw_reading.specs.declared.reading.Reading.{Reading}
 use Rattle.vsw_reading.specs.declared.reading.Stop.{Stop}
 use Rattle.vsw_reading.specs.declared.reading.Stop.TheVariants as stop
@@ -14,6 +15,14 @@ use Rattle.vsw_run.specs.Checks.{IsTrace}
 use Rattle.vsw_run.specs.Trace.{most_records}
 use Rattle.vsw_run.specs.declared.ending.Ending.{Ending}
 use Rattle.vsw_run.specs.declared.ending.Ending.TheVariants as ending
+
+-- this is so of the trace, whenever it was opened, if nothing was read of it
+abbrev pub IfUnread : Outside → Reading → (Outside → List ℕ → Type 0) → Type 0
+IfUnread now r says = (start : Outside) (name : List ℕ) → IsRead start now name r [] [] → says start name
+
+-- or if it was read up to as many records as a trace may have, and the reading stopped so
+abbrev pub IfStopped : Outside → Reading → Stop → (Outside → List ℕ → Type 0) → Type 0
+IfStopped now r st says = (start : Outside) (name : List ℕ) → StopsSo start now name r [] most_records st → says start name
 
 -- a byte stands behind as many records as a trace may have
 pub record IsOver (f : Opened) (records : List Record) : Type 0 where

@@ -18,3 +18,4 @@ pub mod Cut
 pub mod Exact
 pub mod Alone
 pub mod Tables
+pub mod Own

@@ -45,7 +45,7 @@ pub record HasCommands (q : Request) (old new : Outside) (policy : PolicyFile) (
   pub policy_is : IsPolicy q.policy policy_file policy
   pub are : AreCommands q.commands file policy lines
 
--- the run ended before it opened its trace, and nothing was put or complained
+-- the run ended so early, and nothing was put or complained
 pub record EndsEarly (q : Request) (old new : Outside) (end : Ending) : Type 0 where
   pub files : List Opened
   pub opens : Opens old new q files

@@ -15,6 +15,7 @@ use Rattle.vsw_stamps.specs.declared.step.Load.TheVariants.{Stamp, Word, Count}
 use Rattle.vsw_stamps.specs.declared.step.Loaded.{Loaded}
 use Rattle.vsw_stamps.specs.Machine.{State, Lookup, no_record, record_of, finished_by, finished, stamp_at, row_at, actor_at}
 use Rattle.vsw_stamps.specs.declared.shown.Seen.{Seen}
+use Rattle.vsw_stamps.specs.Order.{word_at}
 
 -- the words that were loaded are those of the row
 abbrev pub AreOf : List ℕ → List (ℕ × ℕ) → Type 0
@@ -68,9 +69,13 @@ abbrev pub Has : ℕ → ℕ → List (ℕ × ℕ) → Type 0
 Has k value [] = ⊥
 Has k value (w ∷ ws) = ((w.0 ≡ k) × (w.1 ≡ value)) ⊎ Has k value ws
 
--- a lookup holds all words in use of a row that is 0 beyond them; how many are in use is told by the first 19
+-- a row is told by the words that are loaded of it first: all that are in use, as the first seven say, and beyond them the row is 0
+abbrev pub Fills : (List ℕ → ℕ) → List ℕ → List ℕ → Type 0
+Fills used words row = (7 ≤ length words) × (length words ≤ 73) × (used (take 7 words) ≤ length words) × (length row ≡ 73) × ((turn : ℕ) → turn < 73 → slice_index_or row (word_at turn) 0 ≡ slice_index_or words turn 0)
+
+-- a lookup holds these words of a row
 abbrev pub Tells : (List ℕ → ℕ) → Lookup → List ℕ → Type 0
-Tells used l row = (words : List ℕ) × (19 ≤ length words) × (length words ≤ 73) × (length words ≡ used (take 19 words)) × (row ≡ words ++ replicate (73 - length words) 0) × ((k : ℕ) → k < length words → Has k (slice_index_or words k 0) l.words)
+Tells used l row = (words : List ℕ) × Fills used words row × ((turn : ℕ) → turn < length words → Has (word_at turn) (slice_index_or words turn 0) l.words)
 
 -- the rows that lookups hold are good after as many entries as they counted
 abbrev pub AllGood : {E : Type 0} → (List E → List ℕ → Type 0) → (List ℕ → ℕ) → List E → List Lookup → Type 0

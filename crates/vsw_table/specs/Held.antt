@@ -3,6 +3,8 @@ use Rattle.std.specs.Prelude.{ℕ, ◌≡◌, ◌≢◌, ◌⊎◌, ◌+◌, ◌
 use mathlib.Core.List.{IsPrefix}
 use Rattle.atomic_table.specs.Seated.{TableId}
 use Rattle.vsw_stamps.specs.declared.shown.Seen.{Seen}
+use Rattle.vsw_stamps.specs.Order.{word_at}
+use Rattle.vsw_stamps.specs.Sound.{Fills}
 use Rattle.vsw_table.specs.declared.view.View.{View}
 use Rattle.vsw_table.specs.declared.view.Tried.{Tried}
 use Rattle.vsw_table.specs.Rules.{by_caller, AllBelow, permits_of, spent, counted_record}
@@ -59,9 +61,9 @@ HasTop [] ys row n = ⊥
 HasTop (x ∷ xs) [] row n = ⊥
 HasTop (x ∷ xs) (y ∷ ys) row n = (y.row ≡ row) × (length y.words ≡ n)
 
--- a word that was read of a row differs from the key's
+-- a word that was read of a row's key differs from this key's
 abbrev pub Differs : List ℕ → List ℕ → Type 0
-Differs words key = (k : ℕ) × (k < length words) × (slice_index_or words k 0 ≢ slice_index_or key k 0)
+Differs words key = (turn : ℕ) × (turn < length words) × (word_at turn < 16) × (slice_index_or words turn 0 ≢ slice_index_or key (word_at turn) 0)
 
 abbrev pub HasChanged : ℕ → Option ℕ → Type 0
 HasChanged stamp None = ⊥
@@ -75,11 +77,7 @@ abbrev pub Missed : List ℕ → ℕ → List Tried → Type 0
 Missed key row [] = ⊥
 Missed key row (x ∷ xs) = IsMissed key row x ⊎ Missed key row xs
 
--- a whole row that is told by the words that were read: as many as are in use, and 0 beyond them
-abbrev pub Fills : (List ℕ → ℕ) → List ℕ → List ℕ → Type 0
-Fills used words whole = (19 ≤ length words) × (length words ≤ 73) × (length words ≡ used (take 19 words)) × (whole ≡ words ++ replicate (73 - length words) 0)
-
--- the row was tried, its stamp wasn't 0 and was the same afterwards, and the words that were read are all that are in use of this whole row
+-- the row was tried, its stamp wasn't 0 and was the same afterwards, and the words that were read tell this whole row
 abbrev pub Found : (List ℕ → ℕ) → List ℕ → ℕ → List Tried → Type 0
 Found used whole row [] = ⊥
 Found used whole row (x ∷ xs) = ((x.row ≡ row) × (x.stamp ≢ 0) × (x.again ≡ Some x.stamp) × Fills used x.words whole) ⊎ Found used whole row xs

@@ -6,6 +6,7 @@ use Rattle.atomic_table.specs.Table.{Me, Step}
 use Rattle.vsw_stamps.specs.declared.step.Load.TheVariants.{Stamp, Count, Again}
 use Rattle.vsw_stamps.specs.declared.shown.Seen.{Seen}
 use Rattle.vsw_stamps.specs.Machine.{recorded, finished_by, has_row, is_closed, longer}
+use Rattle.vsw_stamps.specs.Order.{word_at}
 use Rattle.vsw_stamps.specs.Sound.{AreRight}
 use Rattle.vsw_table.specs.declared.view.View.{View}
 use Rattle.vsw_table.specs.declared.view.Tried.{Tried}
@@ -17,10 +18,10 @@ abbrev pub appended : List Tried → List ℕ → List Tried
 appended [] ns = []
 appended (x ∷ xs) ns = record x { words = x.words ++ ns } ∷ xs
 
--- further words of a row, each with its place
+-- further words of a row, each with its place in it; so many were loaded before
 abbrev pub numbered : List ℕ → List (ℕ × ℕ) → List (ℕ × ℕ)
 numbered [] ws = ws
-numbered (n ∷ ns) ws = numbered ns ((length ws, n) ∷ ws)
+numbered (n ∷ ns) ws = numbered ns ((word_at (length ws), n) ∷ ws)
 
 -- the row that was recorded last has more words
 abbrev pub grown : List Seen → List ℕ → List Seen

@@ -1,14 +1,16 @@
 //! A look: what it loads, in which order, and what it makes of it.
-ghost use Rattle.std.specs.Prelude.{◌≡◌, ◌≢◌, ◌+◌, ◌<◌, ◌≤◌, ◌%◌, ◌++◌, ◌∷◌, ℕ, List, [], true, false, length, Some, Option, MatchBool, MatchOption, IfSome, slice_index, replicate};
+ghost use Rattle.std.specs.Prelude.{◌≡◌, ◌+◌, ◌-◌, ◌<◌, ◌≤◌, ◌%◌, ◌++◌, ◌∷◌, ℕ, List, [], true, false, length, Some, Option, MatchBool, MatchOption, IfSome, slice_index_or, replicate};
 ghost use Rattle.vsw_stamps.specs.declared.step.Load.TheVariants.{Again};
 ghost use Rattle.vsw_stamps.specs.Machine.{finished_by, is_closed, longer};
-ghost use Rattle.vsw_stamps.specs.Sound.{AreRight};
+ghost use Rattle.vsw_stamps.specs.Order.{word_at};
+ghost use Rattle.vsw_stamps.specs.Sound.{AreRight, Fills};
 ghost use Rattle.vsw_table.specs.declared.view.Tried.{Tried};
 ghost use Rattle.vsw_table.specs.Places.{table_size};
+ghost use Rattle.vsw_table.specs.Private.Parts.{Apart, AreFar, AreOther};
 ghost use Rattle.vsw_table.specs.Steps.{stamped, worded, compared, ended, Counted};
-ghost use Rattle.vsw_table.specs.Held.{HasTop, IsRead, Fills, Found, FoundNear, IsMissed, MissedNear};
+ghost use Rattle.vsw_table.specs.Held.{HasTop, IsRead, Differs, Found, FoundNear, IsMissed, MissedNear};
 
-use crate::place::{stamp_place, word_place};
+use crate::place::{stamp_place, turn_place};
 use crate::rule::{Compare, Count, End, Kept, Key, ReadStamp, ReadWord};
 use crate::view::View;
 use atomic_table::{Seat, Shared};
@@ -28,23 +30,23 @@ pub(crate) fn read_stamp<S: Story>(
     shared.load::<ReadStamp>(seat, stamp_place(rows, row))
 }
 
-/// Loads the next word of the row whose stamp was loaded last.
+/// Loads the next word of the row whose stamp was loaded last, which is that of this turn.
 pub(crate) fn read_word<S: Story>(
     shared: &Shared<S::Entry, View<S::Opening, S::Entry>, Key<S::Opening>, Kept<S>>,
     seat: &mut Seat<S::Entry, View<S::Opening, S::Entry>>,
     rows: usize,
     row: usize,
-    word: usize,
+    turn: usize,
 ) -> u64
     requires table { (seat.old.table_id ≡ shared.now.table_id) × (shared.now.table_id.words ≡ table_size rows) × (rows ≡ shared.now.key.rows) × (row < rows) × (rows ≤ 16384) }
     requires pass { (seat.old.me.0.live ≡ true) × (seat.old.me.0.writes ≡ false) × (seat.old.me.1 ≡ []) }
-    requires top { HasTop seat.old.me.0.tried seat.old.me.0.shown.rows row word × (word < 73) × (is_closed seat.old.me.0.shown ≡ false) }
+    requires top { HasTop seat.old.me.0.tried seat.old.me.0.shown.rows row turn × (turn < 73) × (is_closed seat.old.me.0.shown ≡ false) }
     ensures { (seat.new.table_id ≡ seat.old.table_id) × (seat.new.me ≡ (worded seat.old.me.0 (result ∷ []), [])) }
 {
-    shared.load::<ReadWord>(seat, word_place(rows, row, word))
+    shared.load::<ReadWord>(seat, turn_place(rows, row, turn))
 }
 
-/// Loads words of a row, from word `from` on.
+/// Loads words of a row, from the turn `from` on.
 pub(crate) fn read_words<S: Story>(
     shared: &Shared<S::Entry, View<S::Opening, S::Entry>, Key<S::Opening>, Kept<S>>,
     seat: &mut Seat<S::Entry, View<S::Opening, S::Entry>>,
@@ -64,15 +66,47 @@ pub(crate) fn read_words<S: Story>(
     }
 }
 
-/// The first 19 words of a row: the key, and three more.
-fn head_of(key: &[u64; 16], three: &[u64]) -> [u64; 19]
-    requires three { length three.now ≡ 3 }
-    ensures { result ≡ key.now ++ three.now }
+/// The words of a key that are loaded first.
+#[inline(always)]
+fn plain_words(key: &[u64; 16]) -> [u64; 4]
+    ensures { (turn : ℕ) → turn < 4 → slice_index_or result turn 0 ≡ slice_index_or key.now (word_at turn) 0 }
 {
-    let mut head = [0; 19];
-    head[..16].copy_from_slice(key);
-    head[16..].copy_from_slice(three);
-    head
+    [key[0], key[2], key[3], key[8]]
+}
+
+/// The other words of a key, in the order in which they are loaded.
+#[inline(always)]
+fn other_words(key: &[u64; 16]) -> [u64; 12]
+    ensures { (turn : ℕ) → turn < 12 → slice_index_or result turn 0 ≡ slice_index_or key.now (word_at (31 + turn)) 0 }
+{
+    [
+        key[1], key[4], key[5], key[6], key[7], key[9], key[10], key[11], key[12], key[13],
+        key[14], key[15],
+    ]
+}
+
+/// The seven words of a row that are loaded first: of the key, and of the body.
+#[inline(always)]
+fn front_of(plain: &[u64; 4], three: &[u64]) -> [u64; 7]
+    requires three { length three.now ≡ 3 }
+    ensures { result ≡ plain.now ++ three.now }
+{
+    [
+        plain[0], plain[1], plain[2], plain[3], three[0], three[1], three[2],
+    ]
+}
+
+/// Whether all are 0.
+#[inline(always)]
+fn are_zero(words: &[u64]) -> bool
+    ensures { result ≡ true → words.now ≡ replicate (length words.now) 0 }
+{
+    for i in 0..words.len() {
+        if words[i] != 0 {
+            return false;
+        }
+    }
+    true
 }
 
 /// Makes all words 0.
@@ -84,27 +118,109 @@ fn clear(words: &mut [u64])
     }
 }
 
-/// Loads the words of a row that are in use behind its key, and clears the rest of the body.
-fn read_rest<S: Story>(
+/// Loads words of a row, from the turn `from` on, as long as they are the wanted ones. Says whether all were.
+#[inline(always)]
+fn has_words<S: Story>(
+    shared: &Shared<S::Entry, View<S::Opening, S::Entry>, Key<S::Opening>, Kept<S>>,
+    seat: &mut Seat<S::Entry, View<S::Opening, S::Entry>>,
+    rows: usize,
+    row: usize,
+    from: usize,
+    wanted: &[u64],
+) -> bool
+    requires table { (seat.old.table_id ≡ shared.now.table_id) × (shared.now.table_id.words ≡ table_size rows) × (rows ≡ shared.now.key.rows) × (row < rows) × (rows ≤ 16384) }
+    requires pass { (seat.old.me.0.live ≡ true) × (seat.old.me.0.writes ≡ false) × (seat.old.me.1 ≡ []) }
+    requires top { HasTop seat.old.me.0.tried seat.old.me.0.shown.rows row from × (from + length wanted.now ≤ 73) × (is_closed seat.old.me.0.shown ≡ false) }
+    ensures { (seat.new.table_id ≡ seat.old.table_id) × ((words : List ℕ) × (seat.new.me ≡ (worded seat.old.me.0 words, [])) × MatchBool result (words ≡ wanted.now) (Apart words wanted.now)) }
+{
+    for i in 0..wanted.len() {
+        let word = read_word(shared, seat, rows, row, from + i);
+        if word != wanted[i] {
+            return false;
+        }
+    }
+    true
+}
+
+/// Loads the words that are in use of a row whose words of the far part aren't, behind the seven that are loaded first. The rest of the body is 0.
+fn read_near<S: Story>(
+    shared: &Shared<S::Entry, View<S::Opening, S::Entry>, Key<S::Opening>, Kept<S>>,
+    seat: &mut Seat<S::Entry, View<S::Opening, S::Entry>>,
+    rows: usize,
+    row: usize,
+    used: usize,
+    rest: &mut [u64],
+)
+    requires table { (seat.old.table_id ≡ shared.now.table_id) × (shared.now.table_id.words ≡ table_size rows) × (rows ≡ shared.now.key.rows) × (row < rows) × (rows ≤ 16384) }
+    requires pass { (seat.old.me.0.live ≡ true) × (seat.old.me.0.writes ≡ false) × (seat.old.me.1 ≡ []) }
+    requires top { HasTop seat.old.me.0.tried seat.old.me.0.shown.rows row 7 × (length rest.old ≡ 54) × (is_closed seat.old.me.0.shown ≡ false) }
+    requires used { (7 ≤ used) × (used ≤ 31) }
+    ensures table { seat.new.table_id ≡ seat.old.table_id }
+    ensures seat { (words : List ℕ) × (seat.new.me ≡ (worded seat.old.me.0 words, [])) × (length words ≡ used - 7) × (rest.new ≡ words ++ replicate (54 - length words) 0) }
+{
+    let (read, beyond) = rest.split_at_mut(used - 7);
+    read_words(shared, seat, rows, row, 7, read);
+    clear(beyond);
+}
+
+/// Loads the words that are in use of a row behind the seven that are loaded first: those of the near part, the key's other words, and those left of the body. The rest
+/// of the body is 0. Says whether the key's words were the wanted ones.
+#[inline(never)]
+fn read_far<S: Story>(
+    shared: &Shared<S::Entry, View<S::Opening, S::Entry>, Key<S::Opening>, Kept<S>>,
+    seat: &mut Seat<S::Entry, View<S::Opening, S::Entry>>,
+    rows: usize,
+    row: usize,
+    used: usize,
+    others: &[u64; 12],
+    rest: &mut [u64],
+) -> bool
+    requires table { (seat.old.table_id ≡ shared.now.table_id) × (shared.now.table_id.words ≡ table_size rows) × (rows ≡ shared.now.key.rows) × (row < rows) × (rows ≤ 16384) }
+    requires pass { (seat.old.me.0.live ≡ true) × (seat.old.me.0.writes ≡ false) × (seat.old.me.1 ≡ []) }
+    requires top { HasTop seat.old.me.0.tried seat.old.me.0.shown.rows row 7 × (length rest.old ≡ 54) × (is_closed seat.old.me.0.shown ≡ false) }
+    requires used { used ≤ 73 }
+    ensures table { seat.new.table_id ≡ seat.old.table_id }
+    ensures seat { (words : List ℕ) × (seat.new.me ≡ (worded seat.old.me.0 words, [])) × MatchBool result (AreFar used others.now words rest.new) (AreOther others.now words) }
+{
+    let (near, far) = rest.split_at_mut(24);
+    read_words(shared, seat, rows, row, 7, near);
+    if !has_words(shared, seat, rows, row, 31, others) {
+        return false;
+    }
+    let (read, beyond) = far.split_at_mut(used.max(43) - 43);
+    read_words(shared, seat, rows, row, 43, read);
+    clear(beyond);
+    true
+}
+
+/// Loads the words of a row that are in use, as long as those of its key are this key's, and clears the rest of the body. Says whether its key is this one.
+pub(crate) fn read_row<S: Story>(
     shared: &Shared<S::Entry, View<S::Opening, S::Entry>, Key<S::Opening>, Kept<S>>,
     seat: &mut Seat<S::Entry, View<S::Opening, S::Entry>>,
     rows: usize,
     row: usize,
     key: &[u64; 16],
-    body: &mut [u64],
-)
+    body: &mut [u64; 57],
+) -> bool
     requires table { (seat.old.table_id ≡ shared.now.table_id) × (shared.now.table_id.words ≡ table_size rows) × (rows ≡ shared.now.key.rows) × (row < rows) × (rows ≤ 16384) }
     requires pass { (seat.old.me.0.live ≡ true) × (seat.old.me.0.writes ≡ false) × (seat.old.me.1 ≡ []) }
-    requires top { HasTop seat.old.me.0.tried seat.old.me.0.shown.rows row 16 × (length body.old ≡ 57) × (is_closed seat.old.me.0.shown ≡ false) }
+    requires top { HasTop seat.old.me.0.tried seat.old.me.0.shown.rows row 0 × (is_closed seat.old.me.0.shown ≡ false) }
     ensures table { seat.new.table_id ≡ seat.old.table_id }
-    ensures seat { (words : List ℕ) × (seat.new.me ≡ (worded seat.old.me.0 words, [])) × Fills S.used (key.now ++ words) (key.now ++ body.new) }
+    ensures seat { (words : List ℕ) × (seat.new.me ≡ (worded seat.old.me.0 words, [])) × MatchBool result (Fills S.used words (key.now ++ body.new)) (Differs words key.now) }
 {
-    let (three, tail) = body.split_at_mut(3);
-    read_words(shared, seat, rows, row, 16, three);
-    let used = S::words_used(&head_of(key, three));
-    let (rest, beyond) = tail.split_at_mut(used - 19);
-    read_words(shared, seat, rows, row, 19, rest);
-    clear(beyond);
+    let plain = plain_words(key);
+    if !has_words(shared, seat, rows, row, 0, &plain) {
+        return false;
+    }
+    let (three, rest) = body.split_at_mut(3);
+    read_words(shared, seat, rows, row, 4, three);
+    let used = S::words_used(&front_of(&plain, three));
+    let others = other_words(key);
+    if used <= 31 && are_zero(&others) {
+        read_near(shared, seat, rows, row, used, rest);
+        return true;
+    }
+    read_far(shared, seat, rows, row, used, &others, rest)
 }
 
 /// Loads word 0, which counts the entries: the moment at which the row that is being read was good, if it still has its
@@ -149,29 +265,7 @@ fn read_again<S: Story>(
     shared.load::<Compare<S>>(seat, stamp_place(rows, row))
 }
 
-/// Loads the key of a row up to the first word that differs. Says whether none did.
-pub(crate) fn has_key<S: Story>(
-    shared: &Shared<S::Entry, View<S::Opening, S::Entry>, Key<S::Opening>, Kept<S>>,
-    seat: &mut Seat<S::Entry, View<S::Opening, S::Entry>>,
-    rows: usize,
-    row: usize,
-    key: &[u64; 16],
-) -> bool
-    requires table { (seat.old.table_id ≡ shared.now.table_id) × (shared.now.table_id.words ≡ table_size rows) × (rows ≡ shared.now.key.rows) × (row < rows) × (rows ≤ 16384) }
-    requires pass { (seat.old.me.0.live ≡ true) × (seat.old.me.0.writes ≡ false) × (seat.old.me.1 ≡ []) }
-    requires top { HasTop seat.old.me.0.tried seat.old.me.0.shown.rows row 0 × (is_closed seat.old.me.0.shown ≡ false) }
-    ensures { (seat.new.table_id ≡ seat.old.table_id) × ((words : List ℕ) × (seat.new.me ≡ (worded seat.old.me.0 words, [])) × MatchBool result (words ≡ key.now) ((k : ℕ) × (k < length words) × (slice_index words k ≢ slice_index key.now k))) }
-{
-    for i in 0..16 {
-        let word = read_word(shared, seat, rows, row, i);
-        if word != key[i] {
-            return false;
-        }
-    }
-    true
-}
-
-/// Tries one row: its stamp, its key, its words in use, word 0, and its stamp again. Some is the count of a hit.
+/// Tries one row: its stamp, its words in use, word 0, and its stamp again. Some is the count of a hit.
 pub(crate) fn try_row<S: Story>(
     shared: &Shared<S::Entry, View<S::Opening, S::Entry>, Key<S::Opening>, Kept<S>>,
     seat: &mut Seat<S::Entry, View<S::Opening, S::Entry>>,
@@ -191,10 +285,9 @@ pub(crate) fn try_row<S: Story>(
     if stamp == 0 {
         return None;
     }
-    if !has_key(shared, seat, rows, row, key) {
+    if !read_row(shared, seat, rows, row, key, body) {
         return None;
     }
-    read_rest(shared, seat, rows, row, key, body);
     let word = count(shared, seat);
     if read_again(shared, seat, rows, row) != stamp {
         return None;

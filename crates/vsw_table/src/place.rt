@@ -1,5 +1,6 @@
 //! Where stamps and words stand in the table.
 ghost use Rattle.std.specs.Prelude.{◌≡◌, ◌<◌, ◌≤◌};
+ghost use Rattle.vsw_stamps.specs.Order as order;
 ghost use Rattle.vsw_table.specs.Places as spec;
 ghost use Rattle.vsw_table.specs.Places.{table_size};
 
@@ -31,17 +32,45 @@ pub(crate) fn stamp_place(rows: usize, row: usize) -> usize
     FIRST + NEAR * row
 }
 
+/// The turns at which the words of a key are loaded.
+const KEY_TURNS: [usize; 16] = [0, 31, 1, 2, 32, 33, 34, 35, 3, 36, 37, 38, 39, 40, 41, 42];
+
+/// The turn at which a word is loaded.
+#[inline(always)]
+fn turn_of(word: usize) -> usize
+    requires { word < 73 }
+    ensures { result ≡ order.turn_of word }
+{
+    if word >= 43 {
+        word
+    } else if word >= 16 {
+        word - 12
+    } else {
+        KEY_TURNS[word]
+    }
+}
+
+/// Where the word of a row stands that is loaded at a turn.
+#[inline(always)]
+#[tactic(auto, unfolding(crate::specs::Places::turn_place))]
+pub(crate) fn turn_place(rows: usize, row: usize, turn: usize) -> usize
+    requires { (row < rows) × (turn < 73) × (rows ≤ 16384) }
+    ensures place { result ≡ spec.turn_place rows row turn }
+    ensures inside { result < table_size rows }
+{
+    if turn < NEAR - 1 {
+        FIRST + NEAR * row + 1 + turn
+    } else {
+        FIRST + NEAR * rows + FAR * row + (turn - (NEAR - 1))
+    }
+}
+
 /// Where a row's word stands.
 #[inline(always)]
-#[tactic(auto, unfolding(crate::specs::Places::word_place))]
 pub(crate) fn word_place(rows: usize, row: usize, word: usize) -> usize
     requires { (row < rows) × (word < 73) × (rows ≤ 16384) }
     ensures place { result ≡ spec.word_place rows row word }
     ensures inside { result < table_size rows }
 {
-    if word < NEAR - 1 {
-        FIRST + NEAR * row + 1 + word
-    } else {
-        FIRST + NEAR * rows + FAR * row + (word - (NEAR - 1))
-    }
+    turn_place(rows, row, turn_of(word))
 }

@@ -86,3 +86,20 @@ unfolding word_at
 front_is row words long same =
     let at : (turn : ℕ) → turn < 7 → get_or row (word_at turn) 0 ≡ get_or words turn 0 = same in
     (λ i. at 0 (omega arith) i ∷ at 1 (omega arith) i ∷ at 2 (omega arith) i ∷ at 3 (omega arith) i ∷ at 4 (omega arith) i ∷ at 5 (omega arith) i ∷ at 6 (omega arith) i ∷ []) ∙ sym (seven words long)
+
+-- the words of a key, by their turns
+pub turn_key : (word : ℕ) → word < 16 → get_or (0 ∷ 31 ∷ 1 ∷ 2 ∷ 32 ∷ 33 ∷ 34 ∷ 35 ∷ 3 ∷ 36 ∷ 37 ∷ 38 ∷ 39 ∷ 40 ∷ 41 ∷ 42 ∷ []) word 0 ≡ turn_of word
+unfolding word_at turn_of
+turn_key word lt =
+    is_equal (get_or (0 ∷ 31 ∷ 1 ∷ 2 ∷ 32 ∷ 33 ∷ 34 ∷ 35 ∷ 3 ∷ 36 ∷ 37 ∷ 38 ∷ 39 ∷ 40 ∷ 41 ∷ 42 ∷ []) word 0) (turn_of word)
+    (each_at (λ n. get_or (0 ∷ 31 ∷ 1 ∷ 2 ∷ 32 ∷ 33 ∷ 34 ∷ 35 ∷ 3 ∷ 36 ∷ 37 ∷ 38 ∷ 39 ∷ 40 ∷ 41 ∷ 42 ∷ []) n 0 == turn_of n) 0 16 word refl (omega arith) lt)
+
+pub plain_at : (turn : ℕ) → turn < 4 → get_or (0 ∷ 2 ∷ 3 ∷ 8 ∷ []) turn 0 ≡ word_at turn
+unfolding word_at turn_of
+plain_at turn lt = is_equal (get_or (0 ∷ 2 ∷ 3 ∷ 8 ∷ []) turn 0) (word_at turn) (each_at (λ n. get_or (0 ∷ 2 ∷ 3 ∷ 8 ∷ []) n 0 == word_at n) 0 4 turn refl (omega arith) lt)
+
+pub other_at : (turn : ℕ) → turn < 12 → get_or (1 ∷ 4 ∷ 5 ∷ 6 ∷ 7 ∷ 9 ∷ 10 ∷ 11 ∷ 12 ∷ 13 ∷ 14 ∷ 15 ∷ []) turn 0 ≡ word_at (31 + turn)
+unfolding word_at turn_of
+other_at turn lt =
+    is_equal (get_or (1 ∷ 4 ∷ 5 ∷ 6 ∷ 7 ∷ 9 ∷ 10 ∷ 11 ∷ 12 ∷ 13 ∷ 14 ∷ 15 ∷ []) turn 0) (word_at (31 + turn))
+    (each_at (λ n. get_or (1 ∷ 4 ∷ 5 ∷ 6 ∷ 7 ∷ 9 ∷ 10 ∷ 11 ∷ 12 ∷ 13 ∷ 14 ∷ 15 ∷ []) n 0 == word_at (31 + n)) 0 12 turn refl (omega arith) lt)

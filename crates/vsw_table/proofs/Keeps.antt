@@ -12,11 +12,13 @@ use Rattle.vsw_stamps.specs.Machine.{has_row, with_word, is_closed, recorded, fi
 use Rattle.vsw_stamps.specs.Sound.{AreRight}
 use Rattle.vsw_table.specs.declared.view.View.{View}
 use Rattle.vsw_table.specs.declared.view.Tried.{Tried}
-use Rattle.vsw_table.specs.Places.{stamp_place, word_place}
+use Rattle.vsw_stamps.specs.Order.{word_at}
+use Rattle.vsw_stamps.proofs.Turns.{word_inside}
+use Rattle.vsw_table.specs.Places.{stamp_place, turn_place, word_place}
 use Rattle.vsw_table.specs.Rules.{IsKept, IsShown, IsManned, IsOf, IsLaid, first_view, spent, noted, informed, moved, lent, writer_of, pass_of, granted, advanced, one_more, newcomer, stamp_at, row_at}
 use Rattle.vsw_table.specs.Steps as steps
 use Rattle.vsw_table.specs.Held.{HasTop}
-use Rattle.vsw_table.proofs.Words.{word_apart, laid_first}
+use Rattle.vsw_table.proofs.Words.{at_turn, word_apart, laid_first}
 use Rattle.vsw_table.proofs.Shows as shows
 use Rattle.vsw_table.proofs.Manned as mans
 
@@ -27,10 +29,10 @@ has_top (x ∷ xs) [] row n h = absurd h
 has_top (x ∷ xs) (y ∷ ys) row n h = rw (eq-eqb y.row row h.0) refl
 
 -- its next word goes to it
-word_on : (xs : List Tried) (ys : List Seen) (row n x : ℕ) → HasTop xs ys row n → with_word row n x ys ≡ steps.grown ys (x ∷ [])
+word_on : (xs : List Tried) (ys : List Seen) (row n x : ℕ) → HasTop xs ys row n → with_word row (word_at n) x ys ≡ steps.grown ys (x ∷ [])
 word_on [] ys row n x h = absurd h
 word_on (a ∷ xs) [] row n x h = absurd h
-word_on (a ∷ xs) (y ∷ ys) row n x h = rw (eq-eqb y.row row h.0) (ap (λ (k : ℕ). record y { words = (k, x) ∷ y.words } ∷ ys) (sym h.1))
+word_on (a ∷ xs) (y ∷ ys) row n x h = rw (eq-eqb y.row row h.0) (ap (λ (k : ℕ). record y { words = (word_at k, x) ∷ y.words } ∷ ys) (sym h.1))
 
 module _ {O E : Type 0} (who : O → E → ℕ) (good : O → List E → List ℕ → Type 0) (o : O) (size : ℕ) where
   abbrev V : Type 0
@@ -72,13 +74,13 @@ module _ {O E : Type 0} (who : O → E → ℕ) (good : O → List E → List �
       let shown = shows.reads_stamp (good o) size k.seat s k.shown id v w r i at live idle there is refl refl refl refl refl in
       (w, keeps, tt, by_pass s k id v w (slice_set s.words i x) at idle refl refl refl refl refl shown, λ q is'. ap (λ (a : ℕ). (steps.stamped v a x, [])) (one_stamp r q i is is'))
 
-  pub reads_word : (slots id : ℕ) (v : V) (row j i : ℕ) → v.live ≡ true → v.writes ≡ false → HasTop v.tried v.shown.rows row j → row < size → j < 73 → is_closed v.shown ≡ false → i ≡ word_place size row j
+  pub reads_word : (slots id : ℕ) (v : V) (row turn i : ℕ) → v.live ≡ true → v.writes ≡ false → HasTop v.tried v.shown.rows row turn → row < size → turn < 73 → is_closed v.shown ≡ false → i ≡ turn_place size row turn
       → Allows (λ s. Kept s) slots id (v, []) i (λ n. n) (steps.Reads (step slots i 0 0 none) (v, []))
-  reads_word slots id v row j i live idle top there few is_open is s k wide at small =
+  reads_word slots id v row turn i live idle top there few is_open is s k wide at small =
       let x = slice_index s.words i in
       let w = steps.worded v (x ∷ []) in
-      let more : w.shown ≡ recorded (Word row j x) v.shown = ap (λ (ys : List Seen). record v.shown { rows = ys }) (sym (word_on v.tried v.shown.rows row j x top)) in
-      let shown = shows.reads_word (good o) size k.seat s k.shown id v w row j i at live idle there few is_open (has_top v.tried v.shown.rows row j top) is refl refl refl refl more in
+      let more : w.shown ≡ recorded (Word row (word_at turn) x) v.shown = ap (λ (ys : List Seen). record v.shown { rows = ys }) (sym (word_on v.tried v.shown.rows row turn x top)) in
+      let shown = shows.reads_word (good o) size k.seat s k.shown id v w row (word_at turn) i at live idle there (word_inside turn few) is_open (has_top v.tried v.shown.rows row turn top) (at_turn size row turn i few is) refl refl refl refl more in
       (w, keeps, tt, by_pass s k id v w (slice_set s.words i x) at idle refl refl refl refl refl shown, refl)
 
   -- a load of word 0, after which the view may be that of a look which ended

@@ -6,3 +6,4 @@ pub mod Manned
 pub mod Keeps
 pub mod Tries
 pub mod Puts
+pub mod Parts

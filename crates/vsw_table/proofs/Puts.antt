@@ -2,13 +2,12 @@
 use Rattle.std.proofs.Common.{◌≡◌, ℕ, zero, suc, ◌+◌, ◌*◌, ◌-◌, ◌<◌, ◌≤◌, Bool, true, false, if◌then◌else◌, List, [], ◌∷◌, ◌++◌, length, take, drop, replicate, refl, ap, sym, ◌∙◌, subst, arith, set, get_or, length-set, get_or-set_same, length-append, length-drop, append_assoc}
 use Rattle.std.proofs.lemmas.List.{set-get_or, append-nil, drop_all, length-take-le, length-replicate}
 use Rattle.std.proofs.Math.Seq.{take-append_seam, drop-append_seam, take-suc-set}
-use borrow.Rule.Slice.PartMut.{put_mid}
 use Rattle.atomic_table.specs.Table.{Me}
 use Rattle.vsw_table.specs.declared.view.View.{View}
 use Rattle.vsw_table.specs.Places.{table_size, stamp_place, word_place}
 use Rattle.vsw_table.specs.Rules.{stamp_at, row_at, HasRows, first_view, spent, lent, granted, advanced, writer_of, pass_of, counted_record}
 use Rattle.vsw_table.specs.Steps.{with_word, shaken, restamped, StandsAt}
-use Rattle.vsw_table.specs.Held.{Fills, IsWriter, IsPass, after_entry, renewed, has_stamps, put_in}
+use Rattle.vsw_table.specs.Held.{IsWriter, IsPass, after_entry, renewed, has_stamps, put_in}
 use Rattle.vsw_table.proofs.Words.{wide_at, wide_set, wide_of, set_twice}
 
 -- a row of which the first k words are written
@@ -136,29 +135,6 @@ module _ {O E : Type 0} where
       let a : pass_of (advanced (granted (lent t p) 0) e) ≡ record spent { live = true; crosses = true; number = p.number; receipts = p.receipts ++ e ∷ []; permits = p.permits - 1; front = h; opening = p.opening; shown = counted_record h; last = p.last; looks = p.looks } =
       λ i. record spent { live = true; crosses = ap (λ (u : View O E). u.crosses) is i; number = p.number; receipts = p.receipts ++ e ∷ []; permits = n i; front = h; opening = o i; shown = counted_record h; last = p.last; looks = p.looks } in
       a ∙ sym (ap (λ (u : View O E). record u { front = h; receipts = p.receipts ++ e ∷ []; permits = p.permits - 1; shown = counted_record h }) is)
-
--- the first 19 words, put together
-pub head_is : (a b key three : List ℕ) → a ≡ key → length key ≡ 16 → b ≡ three → put_mid 16 3 (a ++ 0 ∷ 0 ∷ 0 ∷ []) b ≡ key ++ three
-head_is a b key three is long is' =
-    let n : length a ≡ 16 = ap length is ∙ long in
-    let zs : List ℕ = 0 ∷ 0 ∷ 0 ∷ [] in
-    let front : take 16 (a ++ zs) ≡ a = ap (λ (m : ℕ). take m (a ++ zs)) (sym n) ∙ take-append_seam a zs in
-    let behind : drop 16 (a ++ zs) ≡ zs = ap (λ (m : ℕ). drop m (a ++ zs)) (sym n) ∙ drop-append_seam a zs in
-    (λ i. front i ++ (b ++ drop 3 (behind i))) ∙ ((λ i. is i ++ (is' i ++ [])) ∙ ap (λ (l : List ℕ). key ++ l) (append-nil three))
-
--- the parts of a row that was read as far as it is in use
-pub rest_told : (used : List ℕ → ℕ) (key three rest beyond : List ℕ) (n : ℕ) → length key ≡ 16 → length three ≡ 3 → n ≡ used (key ++ three) → 19 ≤ n → n ≤ 73 → length rest ≡ n - 19 → beyond ≡ replicate (73 - n) 0
-    → Fills used (key ++ (three ++ rest)) (key ++ (three ++ (rest ++ beyond)))
-rest_told used key three rest beyond n k t is low high r b =
-    let words = key ++ (three ++ rest) in
-    let head = key ++ three in
-    let long : length words ≡ n = omega (arith, length-append key (three ++ rest), length-append three rest, k, t, r, low) in
-    let nineteen : length head ≡ 19 = omega (arith, length-append key three, k, t) in
-    let joins : words ≡ head ++ rest = sym (append_assoc key three rest) in
-    let front : take 19 words ≡ head = ap (λ (l : List ℕ). take 19 l) joins ∙ (ap (λ (m : ℕ). take m (head ++ rest)) (sym nineteen) ∙ take-append_seam head rest) in
-    let whole : key ++ (three ++ (rest ++ beyond)) ≡ words ++ replicate (73 - length words) 0 =
-    ap (λ (l : List ℕ). key ++ l) (sym (append_assoc three rest beyond)) ∙ (sym (append_assoc key (three ++ rest) beyond) ∙ (λ i. words ++ (b ∙ ap (λ (m : ℕ). replicate (73 - m) 0) (sym long)) i)) in
-    (omega (arith, long, low), omega (arith, long, high), long ∙ (is ∙ ap used (sym front)), whole)
 
 pub cleared_next : (words : List ℕ) (i : ℕ) → i < length words → take i words ≡ replicate i 0 → take (i + 1) (set words i 0) ≡ replicate (i + 1) 0
 cleared_next words i lt is =

@@ -8,37 +8,38 @@ use Rattle.atomic_table.specs.Table.{Me}
 use Rattle.vsw_stamps.specs.declared.step.Load.TheVariants.{Again}
 use Rattle.vsw_stamps.specs.declared.shown.Seen.{Seen}
 use Rattle.vsw_stamps.specs.Machine.{Lookup, held, finished_by, is_closed, longer}
-use Rattle.vsw_stamps.specs.Sound.{AreRight, IsRight, Has}
+use Rattle.vsw_stamps.specs.Order.{front, word_at}
+use Rattle.vsw_stamps.specs.Sound.{AreRight, Fills, IsRight, Has}
 use Rattle.vsw_stamps.proofs.Whole.{all_good}
 use Rattle.vsw_table.specs.declared.view.View.{View}
 use Rattle.vsw_table.specs.declared.view.Tried.{Tried}
 use Rattle.vsw_table.specs.Steps.{appended, numbered, grown, marked, stamped, worded, counted, ended, compared, Counted}
-use Rattle.vsw_table.specs.Held.{HasTop, Differs, Fills, Found, IsMissed, Missed, IsRead}
+use Rattle.vsw_table.specs.Held.{HasTop, Differs, Found, IsMissed, Missed, IsRead}
 use Rattle.vsw_table.proofs.Fronts.{prefix_trans}
 use Rattle.vsw_table.proofs.Shows.{longer_nothing}
 
 -- words with their places
 numbered_long : (ns : List ℕ) (ws : List (ℕ × ℕ)) → length (numbered ns ws) ≡ length ws + length ns
 numbered_long [] ws = omega arith
-numbered_long (n ∷ ns) ws = let ih = numbered_long ns ((length ws, n) ∷ ws) in omega (arith, ih)
+numbered_long (n ∷ ns) ws = let ih = numbered_long ns ((word_at (length ws), n) ∷ ws) in omega (arith, ih)
 
 numbered_twice : (a b : List ℕ) (ws : List (ℕ × ℕ)) → numbered b (numbered a ws) ≡ numbered (a ++ b) ws
 numbered_twice [] b ws = refl
-numbered_twice (n ∷ a) b ws = numbered_twice a b ((length ws, n) ∷ ws)
+numbered_twice (n ∷ a) b ws = numbered_twice a b ((word_at (length ws), n) ∷ ws)
 
 stays_in : (ns : List ℕ) (ws : List (ℕ × ℕ)) (k value : ℕ) → Has k value ws → Has k value (numbered ns ws)
 stays_in [] ws k value h = h
-stays_in (n ∷ ns) ws k value h = stays_in ns ((length ws, n) ∷ ws) k value (inr h)
+stays_in (n ∷ ns) ws k value h = stays_in ns ((word_at (length ws), n) ∷ ws) k value (inr h)
 
-has_numbered : (ns : List ℕ) (ws : List (ℕ × ℕ)) (k : ℕ) → k < length ns → Has (length ws + k) (get_or ns k 0) (numbered ns ws)
+has_numbered : (ns : List ℕ) (ws : List (ℕ × ℕ)) (k : ℕ) → k < length ns → Has (word_at (length ws + k)) (get_or ns k 0) (numbered ns ws)
 has_numbered [] ws k lt = absurd (omega (arith, lt))
-has_numbered (n ∷ ns) ws zero lt = stays_in ns ((length ws, n) ∷ ws) (length ws + zero) n (inl (omega arith, refl))
+has_numbered (n ∷ ns) ws zero lt = let at : length ws ≡ length ws + zero = omega arith in stays_in ns ((word_at (length ws), n) ∷ ws) (word_at (length ws + zero)) n (inl (ap word_at at, refl))
 has_numbered (n ∷ ns) ws (suc k) lt =
     let at : suc (length ws) + k ≡ length ws + suc k = omega arith in
-    subst (λ (j : ℕ). Has j (get_or ns k 0) (numbered ns ((length ws, n) ∷ ws))) at (has_numbered ns ((length ws, n) ∷ ws) k (omega (arith, lt)))
+    subst (λ (j : ℕ). Has (word_at j) (get_or ns k 0) (numbered ns ((word_at (length ws), n) ∷ ws))) at (has_numbered ns ((word_at (length ws), n) ∷ ws) k (omega (arith, lt)))
 
-pub numbered_has : (ns : List ℕ) (k : ℕ) → k < length ns → Has k (get_or ns k 0) (numbered ns [])
-numbered_has ns k lt = let at : 0 + k ≡ k = omega arith in subst (λ (j : ℕ). Has j (get_or ns k 0) (numbered ns [])) at (has_numbered ns [] k lt)
+pub numbered_has : (ns : List ℕ) (k : ℕ) → k < length ns → Has (word_at k) (get_or ns k 0) (numbered ns [])
+numbered_has ns k lt = let at : 0 + k ≡ k = omega arith in subst (λ (j : ℕ). Has (word_at j) (get_or ns k 0) (numbered ns [])) at (has_numbered ns [] k lt)
 
 appended_twice : (xs : List Tried) (a b : List ℕ) → appended (appended xs a) b ≡ appended xs (a ++ b)
 appended_twice [] a b = refl
@@ -182,7 +183,7 @@ module _ {O E : Type 0} (v : View O E) (row stamp : ℕ) where
     hit_found used whole again m next same live fills =
         subst (λ (x : Me E (View O E)). (v.looks < x.0.looks) × Found used whole row x.0.last) (sym (hit_is again m next same)) (omega arith, inl (refl, live, ap Some same, fills))
 
-    pub hit_good : (good : List E → List ℕ → Type 0) (used : List ℕ → ℕ) → ((h : List E) (r : List ℕ) → length r ≡ 73 → good h r → r ≡ take (used (take 19 r)) r ++ replicate (73 - used (take 19 r)) 0)
+    pub hit_good : (good : List E → List ℕ → Type 0) (used : List ℕ → ℕ) → ((h : List E) (r : List ℕ) → length r ≡ 73 → good h r → (turn : ℕ) → used (front r) ≤ turn → turn < 73 → get_or r (word_at turn) 0 ≡ 0)
         → (whole : List ℕ) (again : ℕ) (m : Me E (View O E)) → m ≡ (compared w again, []) → again ≡ stamp → stamp ≢ 0 → Fills used ws whole
         → AreRight good (longer w.front w.told) (finished_by (Again row again) w.shown.count w.shown.rows) → good m.0.front whole
     hit_good good used zeros whole again m next same live fills right =
@@ -193,7 +194,7 @@ module _ {O E : Type 0} (v : View O E) (row stamp : ℕ) where
         let seen : AreRight good w.front (finished_by (Again row again) (Some c) y.shown.rows) = subst (λ (h : List E). AreRight good h (finished_by (Again row again) (Some c) y.shown.rows)) (longer_nothing good w.front) there in
         let one : IsRight good w.front l = first_right good w.front row stamp again c (numbered ws []) _ (sym same) (λ e. live (sym same ∙ e)) seen in
         let all = all_good good used zeros w.front (l ∷ []) (one, tt) in
-        let now_good : good (take c w.front) whole = all.0 whole (ws, fills.0, fills.1, fills.2, fills.3, numbered_has ws) in
+        let now_good : good (take c w.front) whole = all.0 whole (ws, fills, numbered_has ws) in
         let front : take c w.front ≡ w.front = ap (λ (k : ℕ). take k w.front) (sym looks.count) ∙ take-length w.front in
         let m_front : m.0.front ≡ w.front = ap (λ (x : Me E (View O E)). x.0.front) (hit_is again m next same) in
         subst (λ (h : List E). good h whole) (sym m_front) (subst (λ (h : List E). good h whole) front now_good)

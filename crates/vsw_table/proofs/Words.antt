@@ -7,7 +7,9 @@ use mathlib.Core.Logic.{dite}
 use native.Mathlib.Decide.{ℕ_discrete}
 use mathlib.Core.Option.{some, some-injective, some-ne-none}
 use lib.ListN.{get_elem?}
-use Rattle.vsw_table.specs.Places.{table_size, stamp_place, word_place}
+use Rattle.vsw_stamps.specs.Order.{turn_of, word_at}
+use Rattle.vsw_stamps.proofs.Turns.{turn_inside, turns_apart, word_of_turn}
+use Rattle.vsw_table.specs.Places.{table_size, stamp_place, turn_place, word_place}
 use Rattle.vsw_table.specs.Rules.{AreWide, row_at, IsLaid}
 
 pub all_wide : (rows : List (List ℕ)) → ((r : ℕ) → r < length rows → length (get_or rows r []) ≡ 73) → AreWide rows
@@ -34,12 +36,12 @@ wide_of zero row is = tt
 wide_of (suc n) row is = (is, wide_of n row is)
 
 -- a word stands in the near part of its row or in the far one
-near : (n r k : ℕ) → k < 31 → word_place n r k ≡ 15 + 32 * r + k
-unfolding word_place
+near : (n r k : ℕ) → k < 31 → turn_place n r k ≡ 15 + 32 * r + k
+unfolding turn_place
 near n r k lt = ap (λ (b : Bool). if b then 15 + 32 * r + k else 14 + 32 * n + 42 * r + (k - 31)) (lt-ltb k 31 lt)
 
-far : (n r k : ℕ) → 31 ≤ k → word_place n r k ≡ 14 + 32 * n + 42 * r + (k - 31)
-unfolding word_place
+far : (n r k : ℕ) → 31 ≤ k → turn_place n r k ≡ 14 + 32 * n + 42 * r + (k - 31)
+unfolding turn_place
 far n r k le = ap (λ (b : Bool). if b then 15 + 32 * r + k else 14 + 32 * n + 42 * r + (k - 31)) (le-ltb k 31 le)
 
 parted_if : {P : Type 0} (k : ℕ) (b : Bool) → nat_lt k 31 ≡ b → (k < 31 → P) → (31 ≤ k → P) → P
@@ -49,20 +51,32 @@ parted_if k false is here there = there (grind (arith, common_steps))
 parted : {P : Type 0} (k : ℕ) → (k < 31 → P) → (31 ≤ k → P) → P
 parted k here there = parted_if k (nat_lt k 31) refl here there
 
--- behind word 0, and within the table
-pub word_inside : (n r k : ℕ) → r < n → k < 73 → (0 < word_place n r k) × (word_place n r k < table_size n)
-word_inside n r k lt few = parted k (λ h. let e = near n r k h in (omega (arith, e), omega (arith, e, h, lt))) (λ h. let e = far n r k h in (omega (arith, e), omega (arith, e, h, lt, few)))
+turn_there : (n r k : ℕ) → r < n → k < 73 → (0 < turn_place n r k) × (turn_place n r k < table_size n)
+turn_there n r k lt few = parted k (λ h. let e = near n r k h in (omega (arith, e), omega (arith, e, h, lt))) (λ h. let e = far n r k h in (omega (arith, e), omega (arith, e, h, lt, few)))
 
--- no two words stand in one place
-pub word_apart : (n r q j k : ℕ) → r < n → q < n → j < 73 → k < 73 → word_place n r j ≡ word_place n q k → (r ≡ q) × (j ≡ k)
-word_apart n r q j k lr lq lj lk is =
+turns_of : (n r q j k : ℕ) → r < n → q < n → j < 73 → k < 73 → turn_place n r j ≡ turn_place n q k → (r ≡ q) × (j ≡ k)
+turns_of n r q j k lr lq lj lk is =
     parted j
     (λ h. let a = near n r j h in parted k (λ h'. let b = near n q k h' in (omega (arith, a, b, is, h, h'), omega (arith, a, b, is, h, h'))) (λ h'. let b = far n q k h' in absurd (omega (arith, a, b, is, h, h', lr))))
     (λ h. let a = far n r j h in parted k (λ h'. let b = near n q k h' in absurd (omega (arith, a, b, is, h, h', lq))) (λ h'. let b = far n q k h' in (omega (arith, a, b, is, h, h', lj, lk), omega (arith, a, b, is, h, h', lj, lk))))
 
+-- behind word 0, and within the table
+pub word_inside : (n r k : ℕ) → r < n → k < 73 → (0 < word_place n r k) × (word_place n r k < table_size n)
+word_inside n r k lt few = turn_there n r (turn_of k) lt (turn_inside k few)
+
+-- no two words stand in one place
+pub word_apart : (n r q j k : ℕ) → r < n → q < n → j < 73 → k < 73 → word_place n r j ≡ word_place n q k → (r ≡ q) × (j ≡ k)
+word_apart n r q j k lr lq lj lk is =
+    let both = turns_of n r q (turn_of j) (turn_of k) lr lq (turn_inside j lj) (turn_inside k lk) is in
+    (both.0, turns_apart j k lj lk both.1)
+
 -- nor a word and a stamp
 pub stamp_apart : (n r q k : ℕ) → r < n → q < n → k < 73 → stamp_place r ≡ word_place n q k → ⊥
-stamp_apart n r q k lr lq lk is = parted k (λ h. let b = near n q k h in omega (arith, b, is, h)) (λ h. let b = far n q k h in omega (arith, b, is, h, lr))
+stamp_apart n r q k lr lq lk is = parted (turn_of k) (λ h. let b = near n q (turn_of k) h in omega (arith, b, is, h)) (λ h. let b = far n q (turn_of k) h in omega (arith, b, is, h, lr))
+
+-- where the word stands that is loaded at a turn
+pub at_turn : (n r turn i : ℕ) → turn < 73 → i ≡ turn_place n r turn → i ≡ word_place n r (word_at turn)
+at_turn n r turn i lt is = is ∙ ap (turn_place n r) (sym (word_of_turn turn lt))
 
 -- a store of a word leaves the rest where it was
 module _ (n : ℕ) (ws : List ℕ) (c : ℕ) (ss : List ℕ) (rs : List (List ℕ)) (l : IsLaid n ws c ss rs) where

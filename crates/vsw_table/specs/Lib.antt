@@ -1,3 +1,4 @@
+pub mod Private
 pub mod Places
 pub mod Rules
 pub mod Steps

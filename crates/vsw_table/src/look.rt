@@ -69,7 +69,8 @@ pub(crate) fn read_words<S: Story>(
 /// The words of a key that are loaded first.
 #[inline(always)]
 fn plain_words(key: &[u64; 16]) -> [u64; 4]
-    ensures { (turn : ℕ) → turn < 4 → slice_index_or result turn 0 ≡ slice_index_or key.now (word_at turn) 0 }
+    ensures long { length result ≡ 4 }
+    ensures words { (turn : ℕ) → turn < 4 → slice_index_or result turn 0 ≡ slice_index_or key.now (word_at turn) 0 }
 {
     [key[0], key[2], key[3], key[8]]
 }
@@ -77,7 +78,8 @@ fn plain_words(key: &[u64; 16]) -> [u64; 4]
 /// The other words of a key, in the order in which they are loaded.
 #[inline(always)]
 fn other_words(key: &[u64; 16]) -> [u64; 12]
-    ensures { (turn : ℕ) → turn < 12 → slice_index_or result turn 0 ≡ slice_index_or key.now (word_at (31 + turn)) 0 }
+    ensures long { length result ≡ 12 }
+    ensures words { (turn : ℕ) → turn < 12 → slice_index_or result turn 0 ≡ slice_index_or key.now (word_at (31 + turn)) 0 }
 {
     [
         key[1], key[4], key[5], key[6], key[7], key[9], key[10], key[11], key[12], key[13],

@@ -26,8 +26,8 @@ impl Story for PortStory {
 
     ghost used = { in_use };
 
-    fn words_used(head: &[u64; 19]) -> usize {
-        words_in_use(head)
+    fn words_used(front: &[u64; 7]) -> usize {
+        words_in_use(front)
     }
 
     ghost zeros_beyond = { λ p h row is good. ends_in_zero (opening_of p) h row is good };

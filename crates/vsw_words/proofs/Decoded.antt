@@ -80,7 +80,7 @@ twice_bounded d s a b v e g h i w = plain_cases (λ hs. Bounded (encapped d s a 
     (λ d' s' k a' b' p t dir f. grind (arith, side_small dir))
     (λ d' s' k a' b' p x y t dir f. grind (arith, side_small dir))
 
-bounded : (hs : List Header) → is_stack hs ≡ true → Bounded hs
+pub bounded : (hs : List Header) → is_stack hs ≡ true → Bounded hs
 bounded = stack_cases Bounded plain_bounded
     (λ hs t d s a b v n. once_bounded d s a b v hs t)
     (λ hs t e g h i w m d s a b v n. twice_bounded d s a b v e g h i w hs t)

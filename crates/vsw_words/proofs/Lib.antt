@@ -6,6 +6,7 @@ pub mod Written
 pub mod Acts
 pub mod Passes
 pub mod Products
+pub mod Turns
 pub mod Used
 pub mod Formed
 pub mod Loosely

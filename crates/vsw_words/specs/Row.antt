@@ -1,5 +1,5 @@
 -- The 73 words of a row: sixteen of an identity, then 57 of what is done with its packets, the body. docs/FORMATS.md has them as a table.
-use Rattle.std.specs.Prelude.{◌≡◌, ℕ, ◌+◌, ◌*◌, ◌/◌, ◌%◌, ◌-◌, ◌^◌, ◌==◌, List, [], ◌∷◌, ◌++◌, Bool, true, false, Option, Some, None, is_some, not, flat_map, min, length, replicate, get_or, if◌then◌else◌}
+use Rattle.std.specs.Prelude.{◌≡◌, ℕ, ◌+◌, ◌*◌, ◌/◌, ◌%◌, ◌-◌, ◌^◌, ◌==◌, List, [], ◌∷◌, ◌++◌, Bool, true, false, Option, Some, None, is_some, not, nat_le, ◌&&◌, flat_map, min, max, length, replicate, get_or, if◌then◌else◌}
 use Rattle.vsw_base.specs.declared.header.Header.TheVariants.{Ether, Ip, Vxlan, Ports, Six}
 use Rattle.vsw_base.specs.declared.packet.Dir.TheVariants.{Out, In}
 use Rattle.vsw_base.specs.declared.fate.Verdict.{Verdict}
@@ -116,6 +116,20 @@ abbrev pub IsBare : Verdict → List Act → Type 0
 IsBare Pass by = Unit {0}
 IsBare verdict by = by ≡ []
 
--- the number of words, from the first on, beyond which a row is 0, as its first nineteen tell it
+-- a key's first word says that there are no encapsulations (bits 2 and 3) and no IPv6 (bit 7)
+abbrev pub is_plain_head : ℕ → Bool
+is_plain_head head = (head / 4 % 4 == 0) && (head / 128 % 2 == 0)
+
+-- the number of words beyond which a body is 0, by its verdict's word and its number of acts: three, and three for each act of a pass; or who drops
+abbrev pub body_in_use : ℕ → ℕ → ℕ
+body_in_use verdict count = if verdict == 0 then 3 + 3 * min count 18 else 4
+
+-- the number of words beyond which a row is 0, in the order in which a look loads them, by its first word and by so many words of its body. Of a plain
+-- key the four that are loaded first are in use, and 27 of the body are loaded behind them. Where that isn't enough, the key's other twelve are loaded, too
+-- (43 in all), and then what is left of the body.
+abbrev pub row_in_use : ℕ → ℕ → ℕ
+row_in_use head body = if is_plain_head head && nat_le body 27 then 4 + body else max 43 (16 + body)
+
+-- the same, as the seven words tell it that are loaded first: words 0, 2, 3 and 8 of the key, and the first three of the body
 abbrev pub in_use : List ℕ → ℕ
-in_use words = if get_or words 16 0 == 0 then 19 + 3 * min (get_or words 18 0) 18 else 20
+in_use words = row_in_use (get_or words 0 0) (body_in_use (get_or words 4 0) (get_or words 6 0))

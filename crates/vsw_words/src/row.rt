@@ -50,18 +50,37 @@ pub fn row_of(id: &Ufid, verdict: &Verdict, by: &Transposition, until: Moment, o
     write_row(id, verdict, by.acts(), until, out);
 }
 
-/// The number of words, from the first on, beyond which a row is 0, told by its first nineteen. Of words
-/// that aren't a row's it is some number from 19 to 73.
-pub fn words_in_use(front: &[u64]) -> usize
-    requires { 19 ≤ length front.now }
+/// The number of words beyond which a row is 0, in the order in which a look loads them, told by the first seven of these: words 0, 2, 3, 8, 16, 17
+/// and 18. Of words that aren't a row's it is some number from 7 to 73.
+pub fn words_in_use(front: &[u64; 7]) -> usize
     ensures value { result ≡ spec.in_use front.now }
     ensures few { result ≤ 73 }
-    ensures front { 19 ≤ result }
+    ensures front { 7 ≤ result }
 {
-    if front[16] == 0 {
-        19 + 3 * front[18].min(18) as usize
+    let body = body_in_use(front[4], front[6]);
+    if is_plain_head(front[0]) && body <= 27 {
+        4 + body
     } else {
-        20
+        (16 + body).max(43)
+    }
+}
+
+/// Whether a key's first word says that there are no encapsulations and no IPv6.
+fn is_plain_head(head: u64) -> bool
+    ensures { result ≡ spec.is_plain_head head }
+{
+    head / 4 % 4 == 0 && head / 128 % 2 == 0
+}
+
+/// The number of words beyond which a body is 0.
+fn body_in_use(verdict: u64, count: u64) -> usize
+    ensures value { result ≡ spec.body_in_use verdict count }
+    ensures range { (3 ≤ result) × (result ≤ 57) }
+{
+    if verdict == 0 {
+        3 + 3 * count.min(18) as usize
+    } else {
+        4
     }
 }
 

@@ -213,10 +213,15 @@ fn has_row(of: &Keyed, verdict: &Verdict, acts: &[Act], body: &[u64; 57], used: 
             row_of(&id, verdict, &by, Moment::of(240_000_000), &mut out);
             &out[..16] == of.key.as_slice()
                 && &out[16..] == body.as_slice()
-                && words_in_use(&out) == used
+                && words_in_use(&front_of(&out)) == used
         }
         _ => false,
     }
+}
+
+/// The seven words of a row that a look loads first.
+fn front_of(row: &[u64; 73]) -> [u64; 7] {
+    [row[0], row[2], row[3], row[8], row[16], row[17], row[18]]
 }
 
 /// Whether the words are read as this body, in a room and without one.
@@ -265,17 +270,17 @@ const IN: Verdict = Verdict::Default {
 #[test]
 fn rows_are_those_of_the_table(rt: HostRuntime) {
     let found = [
-        has_row(&plain(), &Verdict::Pass, &edit(), &edit_words(), 37),
-        has_row(&plain(), &RULE, &[], &by_rule(), 20),
-        has_row(&plain(), &OUT, &[], &by_out(), 20),
-        has_row(&plain(), &IN, &[], &by_in(), 20),
+        has_row(&plain(), &Verdict::Pass, &edit(), &edit_words(), 25),
+        has_row(&plain(), &RULE, &[], &by_rule(), 8),
+        has_row(&plain(), &OUT, &[], &by_out(), 8),
+        has_row(&plain(), &IN, &[], &by_in(), 8),
     ];
     assert!(&rt; found == [true; 4]);
     let over_ipv6 = [
-        has_row(&plain6(), &Verdict::Pass, &hide(), &hide_words(), 28),
-        has_row(&plain6(), &Verdict::Pass, &move_both(), &both_words(), 31),
-        has_row(&plain6(), &Verdict::Pass, &send_on(), &on_words(), 28),
-        has_row(&plain6(), &OUT, &[], &by_out(), 20),
+        has_row(&plain6(), &Verdict::Pass, &hide(), &hide_words(), 43),
+        has_row(&plain6(), &Verdict::Pass, &move_both(), &both_words(), 43),
+        has_row(&plain6(), &Verdict::Pass, &send_on(), &on_words(), 43),
+        has_row(&plain6(), &OUT, &[], &by_out(), 43),
     ];
     assert!(&rt; over_ipv6 == [true; 4]);
 }

@@ -1,5 +1,5 @@
 -- What acts are counted to.
-use Rattle.std.proofs.Common.{◌≡◌, ℕ, ◌+◌, ◌-◌, ◌*◌, ◌/◌, ◌%◌, ◌<◌, ◌||◌, List, [], ◌∷◌, ◌++◌, refl, sym, ◌∙◌, ap, subst, arith, length, Bool, true, false, Some, None, nat_lt}
+use Rattle.std.proofs.Common.{◌≡◌, ℕ, ◌+◌, ◌-◌, ◌*◌, ◌/◌, ◌%◌, ◌<◌, ◌≤◌, ◌||◌, List, [], ◌∷◌, ◌++◌, refl, sym, ◌∙◌, ap, subst, arith, length, drop, get_or, is_some, Bool, true, false, Some, None, nat_lt}
 use Rattle.std.proofs.lemmas.Grind.{common_steps}
 use Rattle.vsw_base.specs.declared.header.Header.{Header}
 use Rattle.vsw_base.specs.Shape.{encaps, is_stack}
@@ -132,6 +132,10 @@ moves xs hs doing is f s t =
       same = λ e. same_stack (outer hs) 0 xs hs e may;
       all = λ e. omega (arith, rest, none_popped xs e);
     })
+
+-- where a first word alone is read
+pub words_at : (count : ℕ) (ws rest : List ℕ) (h : ℕ) → 0 < count → 3 ≤ length ws → h ≡ get_or ws 0 0 → rest ≡ drop 3 ws → is_some (read_acts count ws) ≡ true → Words count ws rest (h, get_or ws 1 0, get_or ws 2 0)
+words_at count ws rest h some long e cut told = (some, long, ap (λ (n : ℕ). (n, get_or ws 1 0, get_or ws 2 0)) e, cut, told)
 
 -- one act is counted
 pub pop_counted : (count : ℕ) (ws rest : List ℕ) (w : ℕ × ℕ × ℕ) (p q : ℕ) → Words count ws rest w → w.0 % 16 ≡ 4 → tallied (p + 1) q (or_none (read_acts (count - 1) rest)) ≡ tallied p q (or_none (read_acts count ws))

@@ -1,11 +1,11 @@
 //! The words of an act.
 
-ghost use Rattle.std.specs.Prelude.{◌≡◌, ◌<◌, ◌^◌, None, Some, is_some, true};
+ghost use Rattle.std.specs.Prelude.{◌≡◌, ◌<◌, ◌^◌, ◌==◌, ◌&&◌, None, Some, is_some, true};
 ghost use Rattle.vsw_base.specs.Fits.{IsFit};
-ghost use Rattle.vsw_words.specs.Private.Acts.{pair_of};
 ghost use Rattle.vsw_words.specs.Reading as reading;
 ghost use Rattle.vsw_words.specs.Reading.{IsBelow, IsActFit, IsRanged};
 ghost use Rattle.vsw_words.specs.Row as spec;
+ghost use Rattle.vsw_transpose.specs.Apply.{or_old};
 ghost use Rattle.vsw_transpose.specs.declared.act.Act.TheVariants.{Push, Modify};
 ghost use Rattle.vsw_transpose.specs.declared.act.Change.TheVariants as of;
 
@@ -215,7 +215,7 @@ fn port_word(port: &Option<u16>) -> u64
     }
 }
 
-/// The source and the destination whose words these are, as one act: see `pair`.
+/// The source and the destination whose words these are, as one act: see `is_pair`.
 #[inline(always)]
 pub(crate) fn joined_act(
     head: u64,
@@ -226,33 +226,36 @@ pub(crate) fn joined_act(
 ) -> Option<Act>
     ensures { result ≡ reading.both_of (reading.src_of head first second) (reading.dst_ahead count behind.now) }
 {
-    match pair(head, first, second, count, behind) {
-        None => None,
-        Some(change) => Some(Act::Modify(change)),
+    if is_pair(head % 16, count, behind) {
+        Some(Act::Modify(both(first, second, count, behind)))
+    } else {
+        None
     }
 }
 
-/// The change of both addresses of IPv6, where the first three words are of a lone source and the first of so many acts
-/// behind them is a lone destination.
+/// Whether words of this kind are of a lone source of IPv6, and those of the first of so many acts behind them of a lone
+/// destination.
 #[inline(always)]
-pub(crate) fn pair(head: u64, first: u64, second: u64, count: u64, behind: &[u64]) -> Option<Change>
-    ensures { result ≡ pair_of (reading.src_of head first second) (reading.dst_ahead count behind.now) }
+pub(crate) fn is_pair(kind: u64, count: u64, behind: &[u64]) -> bool
+    ensures { result ≡ ((kind == 9) && is_some (reading.dst_ahead count behind.now)) }
 {
-    if head % 16 != 9 {
-        return None;
-    }
-    match dst_ahead(count, behind) {
-        None => None,
-        Some(dst) => Some(Change::Six {
-            src: Some(ip6(first, second)),
-            dst: Some(dst),
-        }),
+    kind == 9 && dst_ahead(count, behind).is_some()
+}
+
+/// Both as one change.
+#[inline(always)]
+pub(crate) fn both(first: u64, second: u64, count: u64, behind: &[u64]) -> Change
+    ensures { result ≡ of.Six (Some (reading.ip6 first second)) (reading.dst_ahead count behind.now) }
+{
+    Change::Six {
+        src: Some(ip6(first, second)),
+        dst: dst_ahead(count, behind),
     }
 }
 
 /// The destination, where the first of so many acts is a lone one.
 #[inline(always)]
-pub(crate) fn dst_ahead(count: u64, words: &[u64]) -> Option<Ip6>
+fn dst_ahead(count: u64, words: &[u64]) -> Option<Ip6>
     ensures { result ≡ reading.dst_ahead count words.now }
 {
     if count == 0 {
@@ -438,17 +441,39 @@ pub(crate) fn ports_change(head: u64, first: u64, second: u64) -> Change
 }
 
 #[inline(always)]
-fn has_first(head: u64) -> bool
+pub(crate) fn has_first(head: u64) -> bool
     ensures { result ≡ reading.has_first head }
 {
     head / 16 % 2 == 1
 }
 
 #[inline(always)]
-fn has_second(head: u64) -> bool
+pub(crate) fn has_second(head: u64) -> bool
     ensures { result ≡ reading.has_second head }
 {
     head / 32 % 2 == 1
+}
+
+/// The address in place of an old one, if it is there.
+#[inline(always)]
+pub(crate) fn mac_over(there: bool, word: u64, old: Mac) -> Mac
+    ensures { result ≡ or_old (reading.field there (reading.mac word)) old }
+{
+    if there { mac(word) } else { old }
+}
+
+#[inline(always)]
+pub(crate) fn ip4_over(there: bool, word: u64, old: Ip4) -> Ip4
+    ensures { result ≡ or_old (reading.field there (reading.ip4 word)) old }
+{
+    if there { ip4(word) } else { old }
+}
+
+#[inline(always)]
+pub(crate) fn port_over(there: bool, word: u64, old: u16) -> u16
+    ensures { result ≡ or_old (reading.field there (reading.port word)) old }
+{
+    if there { port(word) } else { old }
 }
 
 #[inline(always)]

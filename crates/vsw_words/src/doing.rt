@@ -10,7 +10,7 @@ ghost use Rattle.vsw_transpose.specs.declared.act.Act.{Act};
 ghost use Rattle.vsw_transpose.specs.Fits.{fits};
 ghost use Rattle.vsw_words.specs.Reading.{or_none, read_acts};
 
-use crate::reading::{behind, first_three, word};
+use crate::reading::{behind, word};
 
 /// What acts come to.
 #[derive(Clone, Copy, Debug, PartialEq, Eq)]
@@ -30,34 +30,40 @@ pub fn doing_of(words: &[u64; 57]) -> Doing
     ensures value { (by : List Act) (until : ℕ) → AreOf words.now Pass by until → result ≡ doing_by by }
     ensures moves { (by : List Act) (until : ℕ) (hs : List Header) → AreOf words.now Pass by until → is_stack hs ≡ true → fits by hs ≡ true → Moves by hs result }
 {
-    tally(word(&words[..], 2), behind(&words[..]), 0, 0)
+    let mut doing = counted(0, 0, false);
+    tally(word(&words[..], 2), behind(&words[..]), 0, 0, &mut doing);
+    doing
 }
 
-/// Counts on from so many pops and pushes. Behind an act at a header that stays there are none.
-fn tally(count: u64, words: &[u64], pops: u8, pushes: u8) -> Doing
+/// Counts on from so many pops and pushes. Behind an act at a header that stays there are none. It leaves what it counted
+/// in a room, since a recursion that answers a struct is compiled to no loop.
+fn tally(count: u64, words: &[u64], pops: u8, pushes: u8, out: &mut Doing)
     requires few { pops + pushes + count ≤ 18 }
     requires told { is_some (read_acts count words.now) ≡ true }
-    ensures { result ≡ spec.tallied pops pushes (or_none (read_acts count words.now)) }
+    ensures { out.new ≡ spec.tallied pops pushes (or_none (read_acts count words.now)) }
 {
     if count == 0 {
-        return counted(pops, pushes, false);
+        *out = counted(pops, pushes, false);
+        return;
     }
     if words.len() < 3 {
-        return counted(pops, pushes, false);
+        *out = counted(pops, pushes, false);
+        return;
     }
-    let (head, _, _) = first_three(words);
-    let rest = behind(words);
-    let kind = head % 16;
-    if kind == 4 {
-        return tally(count - 1, rest, pops + 1, pushes);
-    }
+    let kind = word(words, 0) % 16;
     if kind < 4 {
-        return tally(count - 1, rest, pops, pushes + 1);
+        tally(count - 1, behind(words), pops, pushes + 1, out);
+        return;
+    }
+    if kind == 4 {
+        tally(count - 1, behind(words), pops + 1, pushes, out);
+        return;
     }
     if pops + pushes > 0 {
-        return counted(pops, pushes, true);
+        *out = counted(pops, pushes, true);
+        return;
     }
-    counted(pops, pushes, are_edits(count, words))
+    *out = counted(pops, pushes, are_edits(count, words));
 }
 
 /// So many pops and pushes, of three headers each.
@@ -84,8 +90,7 @@ fn are_edits(count: u64, words: &[u64]) -> bool
     if words.len() < 3 {
         return false;
     }
-    let (head, _, _) = first_three(words);
-    if head % 16 == 8 {
+    if word(words, 0) % 16 == 8 {
         are_edits(count - 1, behind(words))
     } else {
         true

@@ -8,11 +8,10 @@ ghost use Rattle.vsw_transpose.specs.Apply as spec;
 ghost use Rattle.vsw_transpose.specs.Fits.{fits};
 ghost use Rattle.vsw_words.specs.Reading.{or_none, read_acts, read_joined};
 
-use crate::act::pair;
-use crate::kind::{pushed, stayed};
+use crate::act::is_pair;
+use crate::kind::{push_both, push_new, push_old};
 use crate::reading::{behind, first_three, word};
 use vsw_base::{Header, Headers, Stack, Writes};
-use vsw_transpose::changed;
 
 /// Does the acts of the words of a pass at a stack that they fit. It takes no room for them.
 #[inline(always)]
@@ -64,7 +63,7 @@ fn do_acts(count: u64, words: &[u64], headers: &[Header], out: &mut Headers)
     let rest = behind(words);
     let kind = head % 16;
     if kind < 4 {
-        out.push(pushed(kind, head, first, second));
+        push_new(kind, head, first, second, out);
         do_acts(count - 1, rest, headers, out);
         return;
     }
@@ -75,16 +74,13 @@ fn do_acts(count: u64, words: &[u64], headers: &[Header], out: &mut Headers)
         do_acts(count - 1, rest, others, out);
         return;
     }
-    match pair(head, first, second, count - 1, rest) {
-        None => {
-            out.push(stayed(kind, head, first, second, header));
-            do_acts(count - 1, rest, others, out);
-        }
-        Some(change) => {
-            out.push(changed(&change, header));
-            do_acts(count - 2, behind(rest), others, out);
-        }
+    if is_pair(kind, count - 1, rest) {
+        push_both(first, second, count - 1, rest, header, out);
+        do_acts(count - 2, behind(rest), others, out);
+        return;
     }
+    push_old(kind, head, first, second, header, out);
+    do_acts(count - 1, rest, others, out);
 }
 
 /// Appends headers behind the last act.

@@ -1,9 +1,8 @@
 -- What three words of an act do, by their kind, and what acts are counted to.
-use Rattle.std.specs.Prelude.{ℕ, ◌+◌, ◌/◌, ◌==◌, ◌||◌, List, [], ◌∷◌, Bool, true, false, Option, Some, None, nat_lt, if◌then◌else◌}
+use Rattle.std.specs.Prelude.{ℕ, ◌+◌, ◌/◌, ◌==◌, ◌||◌, List, [], ◌∷◌, Bool, true, false, Some, None, nat_lt, if◌then◌else◌}
 use Rattle.vsw_base.specs.declared.header.Header.{Header}
 use Rattle.vsw_words.specs.Doing.{edits}
 use Rattle.vsw_words.specs.declared.doing.Doing.{Doing}
-use Rattle.vsw_transpose.specs.declared.act.Change.{Change}
 use Rattle.vsw_transpose.specs.declared.act.Change.TheVariants as of
 use Rattle.vsw_transpose.specs.declared.act.Act.{Act}
 use Rattle.vsw_transpose.specs.declared.act.Act.TheVariants.{Push, Pop, Modify, Ignore}
@@ -14,21 +13,20 @@ use Rattle.vsw_words.specs.Reading.{ether_by, ether_change, ip6, ip_by, ip_chang
 abbrev pub push_at : ℕ → ℕ → ℕ → ℕ → Header
 push_at kind head first second = if kind == 1 then ether_by head first second else if kind == 2 then ip_by head first second else vxlan_by head
 
+-- what words of a lone source or a lone destination of IPv6 make of a header
+abbrev pub six_at : ℕ → ℕ → ℕ → Header → Header
+six_at kind first second h =
+    if kind == 9 then changed (of.Six (Some (ip6 first second)) None) h
+    else if kind == 10 then changed (of.Six None (Some (ip6 first second))) h
+    else h
+
 -- what words of a kind above 4 make of a header
 abbrev pub stay_at : ℕ → ℕ → ℕ → ℕ → Header → Header
 stay_at kind head first second h =
     if kind == 5 then changed (ether_change head first second) h
     else if kind == 6 then changed (ip_change head first second) h
     else if kind == 7 then changed (ports_change head first second) h
-    else if kind == 9 then changed (of.Six (Some (ip6 first second)) None) h
-    else if kind == 10 then changed (of.Six None (Some (ip6 first second))) h
-    else h
-
--- both addresses of IPv6, as one change
-abbrev pub pair_of : Option ℕ → Option ℕ → Option Change
-pair_of None dst = None
-pair_of (Some src) None = None
-pair_of (Some src) (Some dst) = Some (of.Six (Some src) (Some dst))
+    else six_at kind first second h
 
 -- so many pops and pushes, and what is said of the acts behind them
 abbrev pub counted : ℕ → ℕ → Bool → Doing

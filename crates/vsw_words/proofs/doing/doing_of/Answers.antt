@@ -20,4 +20,4 @@ returns-clause-value c by u is =
     ∙ ap (λ (o : Option (List Act)). tallied 0 0 (or_none o)) (pass_read c.args.words.now by u is).1 ∙ tallied_is by is.0.form
 
 pub returns-clause-moves : goal.returns-clause-moves
-returns-clause-moves c by u hs is s f = moves by hs c.tally.result (returns-clause-value c by u is) is.0.form s f
+returns-clause-moves c by u hs is s f = moves by hs c.tally.new.out (returns-clause-value c by u is) is.0.form s f

@@ -10,7 +10,7 @@ use Rattle.vsw_transpose.specs.declared.act.Act.TheVariants.{Push, Pop, Modify, 
 use Rattle.vsw_transpose.specs.Apply.{apply}
 use Rattle.vsw_words.specs.Reading.{ether_by, ether_change, ip6, ip_by, ip_change, or_none, ports_change, read_act, read_acts, vxlan_by, with_act}
 use Rattle.vsw_words.proofs.Acts.{told_at}
-use Rattle.vsw_words.proofs.Taken.{parted}
+use Rattle.vsw_words.proofs.Taken.{parted, told_long}
 
 some_is : (y x : Act) → ◌≡◌ {A = Option Act} (Some y) (Some x) → y ≡ x
 some_is y x e = grind (arith, common_steps)
@@ -152,6 +152,9 @@ parts (Some x) (Some xs) t = (x, refl, refl, refl)
 -- the words of one act and the others, of so many acts in all
 abbrev pub Words : ℕ → List ℕ → List ℕ → ℕ × ℕ × ℕ → Type 0
 Words count ws rest w = (0 < count) × (3 ≤ length ws) × (w ≡ (get_or ws 0 0, get_or ws 1 0, get_or ws 2 0)) × (rest ≡ drop 3 ws) × (is_some (read_acts count ws) ≡ true)
+
+pub words_of : (count : ℕ) (ws rest : List ℕ) (w : ℕ × ℕ × ℕ) → 0 < count → w ≡ (get_or ws 0 0, get_or ws 1 0, get_or ws 2 0) → rest ≡ drop 3 ws → is_some (read_acts count ws) ≡ true → Words count ws rest w
+words_of count ws rest w some e cut told = (some, told_long count ws some told, e, cut, told)
 
 pub taken : (count : ℕ) (ws rest : List ℕ) (w : ℕ × ℕ × ℕ) → Words count ws rest w → Takes count (count - 1) ws rest w
 taken zero ws rest w k = absurd (omega (arith, k.0))

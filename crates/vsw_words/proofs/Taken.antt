@@ -10,6 +10,23 @@ use Rattle.vsw_words.specs.Reading.{both_of, dst_ahead, dst_of, joined_acts, joi
 use Rattle.vsw_words.specs.Row.{act_words}
 use Rattle.vsw_words.proofs.Acts.{head_is, kind_back, told_at, read_single, with_told, zeros_read}
 
+-- acts that are told have their words
+pub told_long : (count : ℕ) (ws : List ℕ) → 0 < count → is_some (read_acts count ws) ≡ true → 3 ≤ length ws
+told_long zero ws p t = absurd (omega (arith, p))
+told_long (suc n) [] p t = absurd (grind (arith, common_steps))
+told_long (suc n) (a ∷ []) p t = absurd (grind (arith, common_steps))
+told_long (suc n) (a ∷ b ∷ []) p t = absurd (grind (arith, common_steps))
+told_long (suc n) (a ∷ b ∷ c ∷ ws) p t = omega arith
+
+-- and so has the second of two that are one change
+pub pair_long : (s : Option ℕ) (count : ℕ) (ws : List ℕ) (z : Act) → both_of s (dst_ahead count ws) ≡ Some z → 3 ≤ length ws
+pair_long None count ws z e = absurd (grind (arith, common_steps))
+pair_long (Some s) zero ws z e = absurd (grind (arith, common_steps))
+pair_long (Some s) (suc n) [] z e = absurd (grind (arith, common_steps))
+pair_long (Some s) (suc n) (a ∷ []) z e = absurd (grind (arith, common_steps))
+pair_long (Some s) (suc n) (a ∷ b ∷ []) z e = absurd (grind (arith, common_steps))
+pair_long (Some s) (suc n) (a ∷ b ∷ c ∷ ws) z e = omega arith
+
 -- the kind that the first word of an act tells
 kind_at : (h a b : ℕ) (x : Act) (kind : ℕ) → read_act h a b ≡ Some x → get_or (act_words x) 0 0 % 16 ≡ kind → h % 16 ≡ kind
 kind_at h a b x kind r e = ap (λ (n : ℕ). n % 16) (head_is h a b x r) ∙ e

@@ -1,5 +1,5 @@
 -- What acts are counted to.
-use Rattle.std.proofs.Common.{◌≡◌, ℕ, ◌+◌, ◌-◌, ◌*◌, ◌/◌, ◌%◌, ◌<◌, ◌≤◌, ◌||◌, List, [], ◌∷◌, ◌++◌, refl, sym, ◌∙◌, ap, subst, arith, length, drop, get_or, is_some, Bool, true, false, Some, None, nat_lt}
+use Rattle.std.proofs.Common.{◌≡◌, ℕ, ◌+◌, ◌-◌, ◌*◌, ◌/◌, ◌%◌, ◌<◌, ◌||◌, List, [], ◌∷◌, ◌++◌, refl, sym, ◌∙◌, ap, subst, arith, length, drop, get_or, is_some, Bool, true, false, Some, None, nat_lt}
 use Rattle.std.proofs.lemmas.Grind.{common_steps}
 use Rattle.vsw_base.specs.declared.header.Header.{Header}
 use Rattle.vsw_base.specs.Shape.{encaps, is_stack}
@@ -7,7 +7,7 @@ use Rattle.vsw_base.proofs.Truths.{both}
 use Rattle.vsw_words.specs.Doing.{Moves, doing_by, edits}
 use Rattle.vsw_words.specs.declared.doing.Doing.{Doing}
 use Rattle.vsw_words.specs.Private.Acts.{counted, tallied}
-use Rattle.vsw_words.proofs.OfKind.{Words, by_kind, ignores_at, pops_at, pushes_at, taken}
+use Rattle.vsw_words.proofs.OfKind.{Words, by_kind, ignores_at, pops_at, pushes_at, taken, words_of}
 use Rattle.vsw_transpose.specs.declared.act.Change.{Change}
 use Rattle.vsw_transpose.specs.declared.act.Change.TheVariants as of
 use Rattle.vsw_transpose.specs.declared.act.Act.{Act}
@@ -134,8 +134,8 @@ moves xs hs doing is f s t =
     })
 
 -- where a first word alone is read
-pub words_at : (count : ℕ) (ws rest : List ℕ) (h : ℕ) → 0 < count → 3 ≤ length ws → h ≡ get_or ws 0 0 → rest ≡ drop 3 ws → is_some (read_acts count ws) ≡ true → Words count ws rest (h, get_or ws 1 0, get_or ws 2 0)
-words_at count ws rest h some long e cut told = (some, long, ap (λ (n : ℕ). (n, get_or ws 1 0, get_or ws 2 0)) e, cut, told)
+pub words_at : (count : ℕ) (ws rest : List ℕ) (h : ℕ) → 0 < count → h ≡ get_or ws 0 0 → rest ≡ drop 3 ws → is_some (read_acts count ws) ≡ true → Words count ws rest (h, get_or ws 1 0, get_or ws 2 0)
+words_at count ws rest h some e cut told = words_of count ws rest (h, get_or ws 1 0, get_or ws 2 0) some (ap (λ (n : ℕ). (n, get_or ws 1 0, get_or ws 2 0)) e) cut told
 
 -- one act is counted
 pub pop_counted : (count : ℕ) (ws rest : List ℕ) (w : ℕ × ℕ × ℕ) (p q : ℕ) → Words count ws rest w → w.0 % 16 ≡ 4 → tallied (p + 1) q (or_none (read_acts (count - 1) rest)) ≡ tallied p q (or_none (read_acts count ws))

@@ -46,10 +46,6 @@ fn tally(count: u64, words: &[u64], pops: u8, pushes: u8, out: &mut Doing)
         *out = counted(pops, pushes, false);
         return;
     }
-    if words.len() < 3 {
-        *out = counted(pops, pushes, false);
-        return;
-    }
     let kind = word(words, 0) % 16;
     if kind < 4 {
         tally(count - 1, behind(words), pops, pushes + 1, out);
@@ -85,9 +81,6 @@ fn are_edits(count: u64, words: &[u64]) -> bool
     ensures { result ≡ edits (or_none (read_acts count words.now)) }
 {
     if count == 0 {
-        return false;
-    }
-    if words.len() < 3 {
         return false;
     }
     if word(words, 0) % 16 == 8 {

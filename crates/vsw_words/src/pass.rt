@@ -56,9 +56,6 @@ fn do_acts(count: u64, words: &[u64], headers: &[Header], out: &mut Headers)
         append(headers, out);
         return;
     }
-    if words.len() < 3 {
-        return;
-    }
     let (head, first, second) = first_three(words);
     let rest = behind(words);
     let kind = head % 16;

@@ -253,9 +253,6 @@ fn write_acts(count: u64, words: &[u64], out: &mut Acts)
     if count == 0 {
         return;
     }
-    if words.len() < 3 {
-        return;
-    }
     let (head, first, second) = first_three(words);
     let rest = behind(words);
     match joined_act(head, first, second, count - 1, rest) {
@@ -282,9 +279,10 @@ pub(crate) fn first_three(words: &[u64]) -> (u64, u64, u64)
 /// The words behind those of an act.
 #[inline(always)]
 pub(crate) fn behind(words: &[u64]) -> &[u64]
+    requires { 3 ≤ length words.now }
     ensures { result.now ≡ drop 3 words.now }
 {
-    if words.len() < 3 { &[] } else { &words[3..] }
+    &words[3..]
 }
 
 /// All are read, in no order: that is quicker than to stop at the first one that isn't 0.

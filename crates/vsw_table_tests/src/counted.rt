@@ -18,13 +18,13 @@ impl Story for Counted {
 
     ghost good = { λ o h row. slice_index row 0 ≡ length h };
 
-    ghost used = { λ head. 73 };
+    ghost used = { λ front. 73 };
 
-    fn words_used(_head: &[u64; 19]) -> usize {
+    fn words_used(_front: &[u64; 7]) -> usize {
         73
     }
 
-    ghost zeros_beyond = { λ o h row is good. whole_row row is };
+    ghost zeros_beyond = { λ o h row is good. whole_row row };
 }
 
 impl TestStory for Counted {

@@ -19,13 +19,13 @@ impl Story for Flows {
 
     ghost good = { λ o h row. IsGoodFlow h row };
 
-    ghost used = { λ head. 73 };
+    ghost used = { λ front. 73 };
 
-    fn words_used(_head: &[u64; 19]) -> usize {
+    fn words_used(_front: &[u64; 7]) -> usize {
         73
     }
 
-    ghost zeros_beyond = { λ o h row is good. whole_row row is };
+    ghost zeros_beyond = { λ o h row is good. whole_row row };
 }
 
 /// A pseudo-random number for each place of a list.

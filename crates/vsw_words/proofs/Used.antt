@@ -23,7 +23,8 @@ use Rattle.vsw_words.specs.Law.{IsId}
 use Rattle.vsw_words.specs.Row.{act_words, acts_words, all_halves, body_words, row_words, is_plain_head, body_in_use, row_in_use, in_use}
 use Rattle.vsw_words.proofs.Decoded.{padded_length, bounded}
 use Rattle.vsw_words.proofs.Fields.{split_joined}
-use Rattle.vsw_words.proofs.Turns.{Each, others, first_body, rest_of_key, rest_of_body}
+use Rattle.vsw_stamps.proofs.Turns.{front_word, last_word}
+use Rattle.vsw_words.proofs.Turns.{Each, others, rest_of_key}
 
 act_length : (x : Act) → length (act_words x) ≡ 3
 act_length (Push (Ether d s k)) = refl
@@ -146,7 +147,7 @@ others_zero key body is =
 
 -- a row that is 0 beyond so many words of its body is 0 in the words that are loaded last
 late : (row : List ℕ) (used : ℕ) → ((n : ℕ) → 16 + used ≤ n → n < 73 → get_or row n 0 ≡ 0) → (turn : ℕ) → 43 ≤ turn → 16 + used ≤ turn → turn < 73 → get_or row (word_at turn) 0 ≡ 0
-late row used beyond turn from behind high = subst (λ n. get_or row n 0 ≡ 0) (sym (rest_of_body turn from high)) (beyond turn behind high)
+late row used beyond turn from behind high = subst (λ n. get_or row n 0 ≡ 0) (sym (last_word turn from high)) (beyond turn behind high)
 
 -- one with a plain key is 0 behind four words of this key and so many of its body
 plain_ends : (row : List ℕ) (used : ℕ) → ((n : ℕ) → 16 + used ≤ n → n < 73 → get_or row n 0 ≡ 0) → Each (λ n. get_or row n 0 ≡ 0) others → used ≤ 27
@@ -156,7 +157,7 @@ plain_ends row used beyond rest few turn low high = by_turn (nat_lt turn 31) (na
     by_turn : (c d : Bool) → nat_lt turn 31 ≡ c → nat_lt turn 43 ≡ d → get_or row (word_at turn) 0 ≡ 0
     by_turn true d f g =
         let before : turn < 31 = grind (arith, common_steps) in
-        subst (λ n. get_or row n 0 ≡ 0) (sym (first_body turn (omega (arith, low)) before)) (beyond (turn + 12) (omega (arith, low)) (omega (arith, before)))
+        subst (λ n. get_or row n 0 ≡ 0) (sym (front_word turn (omega (arith, low)) before)) (beyond (turn + 12) (omega (arith, low)) (omega (arith, before)))
     by_turn false true f g =
         let from : 31 ≤ turn = grind (arith, common_steps) in
         let before : turn < 43 = grind (arith, common_steps) in

@@ -1,10 +1,11 @@
 -- The parts of a row that a look loads, put together.
-use Rattle.std.proofs.Common.{◌≡◌, ◌≢◌, ℕ, zero, suc, ◌+◌, ◌-◌, ◌<◌, ◌≤◌, max, nat_lt, MatchBool, Bool, true, false, List, [], ◌∷◌, ◌++◌, length, map, take, drop, replicate, get_or, refl, ap, sym, ◌∙◌, subst, arith, length-append, append_assoc}
+use Rattle.std.proofs.Common.{◌≡◌, ◌≢◌, ℕ, zero, suc, ◌+◌, ◌-◌, ◌<◌, ◌≤◌, max, nat_lt, MatchBool, Bool, true, false, List, [], ◌∷◌, ◌++◌, length, map, take, drop, replicate, get_or, bit_or, refl, ap, sym, ◌∙◌, subst, arith, length-append, append_assoc}
 use Rattle.std.proofs.lemmas.Grind.{common_steps}
 use Rattle.std.proofs.lemmas.List.{length-replicate}
+use Rattle.std.proofs.lemmas.Nat.{le_or_l, le_or_r}
 use Rattle.vsw_stamps.specs.Order.{word_at}
 use Rattle.vsw_stamps.specs.Sound.{Fills}
-use Rattle.vsw_stamps.proofs.Turns.{front_word, last_word, other_word, plain_word}
+use Rattle.vsw_stamps.proofs.Turns.{front_word, last_word, other_at, other_word, plain_word}
 use Rattle.vsw_table.specs.Held.{Differs}
 use Rattle.vsw_table.specs.Private.Parts.{Apart, AreFar, AreOther}
 
@@ -42,18 +43,28 @@ mapped_at key [] turn lt = absurd (omega (arith, lt))
 mapped_at key (k ∷ ks) zero lt = refl
 mapped_at key (k ∷ ks) (suc turn) lt = mapped_at key ks turn (omega (arith, lt))
 
-zeros_on : (words : List ℕ) (i : ℕ) → i < length words → take i words ≡ replicate i 0 → get_or words i 0 ≡ 0 → take (suc i) words ≡ replicate (suc i) 0
-zeros_on [] i lt so e = absurd (omega (arith, lt))
-zeros_on (w ∷ ws) zero lt so e = λ j. e j ∷ []
-zeros_on (w ∷ ws) (suc i) lt so e = λ j. ap (λ (l : List ℕ). get_or l 0 w) so j ∷ zeros_on ws i (omega (arith, lt)) (ap (λ (l : List ℕ). drop 1 l) so) e j
+-- the or of numbers is 0 where all are
+or_all : ℕ → List ℕ → ℕ
+or_all a [] = a
+or_all a (x ∷ xs) = or_all (bit_or a x) xs
 
-pub zeros_next : (words : List ℕ) (i : ℕ) → i < length words → take i words ≡ replicate i 0 → get_or words i 0 ≡ 0 → take (i + 1) words ≡ replicate (i + 1) 0
-zeros_next words i lt so e = let n : suc i ≡ i + 1 = omega arith in subst (λ (k : ℕ). take k words ≡ replicate k 0) n (zeros_on words i lt so e)
+zeros_of : (a : ℕ) (xs : List ℕ) → or_all a xs ≡ 0 → (k : ℕ) → get_or (a ∷ xs) k 0 ≡ 0
+unfolding or_all
+zeros_of a [] e zero = e
+zeros_of a [] e (suc k) = refl
+zeros_of a (x ∷ xs) e zero = let both = zeros_of (bit_or a x) xs e 0 in omega (arith, both, le_or_l a x)
+zeros_of a (x ∷ xs) e (suc zero) = let both = zeros_of (bit_or a x) xs e 0 in omega (arith, both, le_or_r a x)
+zeros_of a (x ∷ xs) e (suc (suc k)) = zeros_of (bit_or a x) xs e (suc k)
 
-pub zeros_whole : (words : List ℕ) (n : ℕ) → length words ≤ n → take n words ≡ replicate n 0 → words ≡ replicate (length words) 0
-zeros_whole [] n le so = refl
-zeros_whole (w ∷ ws) zero le so = absurd (omega (arith, le))
-zeros_whole (w ∷ ws) (suc n) le so = λ j. ap (λ (l : List ℕ). get_or l 0 w) so j ∷ zeros_whole ws n (omega (arith, le)) (ap (λ (l : List ℕ). drop 1 l) so) j
+-- a key whose other words have 0 as their or
+pub plain_key : (key : List ℕ) → let at = get_or key in
+    bit_or (bit_or (bit_or (bit_or (bit_or (bit_or (bit_or (bit_or (bit_or (bit_or (bit_or (at 1 0) (at 4 0)) (at 5 0)) (at 6 0)) (at 7 0)) (at 9 0)) (at 10 0)) (at 11 0)) (at 12 0)) (at 13 0)) (at 14 0)) (at 15 0) ≡ 0
+    → (turn : ℕ) → turn < 12 → get_or key (word_at (31 + turn)) 0 ≡ 0
+unfolding or_all
+plain_key key e turn lt =
+    let at = get_or key in
+    sym (mapped_at key (1 ∷ 4 ∷ 5 ∷ 6 ∷ 7 ∷ 9 ∷ 10 ∷ 11 ∷ 12 ∷ 13 ∷ 14 ∷ 15 ∷ []) turn lt ∙ ap (λ (k : ℕ). get_or key k 0) (other_at turn lt))
+    ∙ zeros_of (at 1 0) (at 4 0 ∷ at 5 0 ∷ at 6 0 ∷ at 7 0 ∷ at 9 0 ∷ at 10 0 ∷ at 11 0 ∷ at 12 0 ∷ at 13 0 ∷ at 14 0 ∷ at 15 0 ∷ []) e turn
 
 by_less : {P : Type 0} (k n : ℕ) → (k < n → P) → (n ≤ k → P) → P
 by_less {P} k n here there = by_if (nat_lt k n) refl
@@ -194,3 +205,9 @@ told_or_differs used key plain three others n k p t o pw ow is low high words re
 -- words that were loaded in three steps
 pub in_steps : (plain words three rest : List ℕ) → words ≡ plain → (words ++ three) ++ rest ≡ plain ++ (three ++ rest)
 in_steps plain words three rest is = append_assoc words three rest ∙ ap (λ (l : List ℕ). l ++ (three ++ rest)) is
+
+-- a key without other words, whose row is told by its near part
+pub plain_told : (used : List ℕ → ℕ) (key plain three : List ℕ) (n : ℕ) → length key ≡ 16 → length plain ≡ 4 → length three ≡ 3 → ((turn : ℕ) → turn < 4 → get_or plain turn 0 ≡ get_or key (word_at turn) 0) → ((turn : ℕ) → turn < 12 → get_or key (word_at (31 + turn)) 0 ≡ 0)
+    → n ≡ used (plain ++ three) → 7 ≤ n → n ≤ 31 → (near rest : List ℕ) → length near ≡ n - 7 → rest ≡ near ++ replicate (54 - length near) 0 → Fills used (plain ++ (three ++ near)) (key ++ (three ++ rest))
+plain_told used key plain three n k p t pw none is low small near rest long told =
+    near_told used key plain three (replicate 12 0) n k p t refl pw (λ turn lt. none_at 12 turn ∙ sym (none turn lt)) is low (omega (arith, small)) near (three ++ rest) small refl long (ap (λ (l : List ℕ). three ++ l) told)

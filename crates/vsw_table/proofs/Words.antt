@@ -60,6 +60,15 @@ turns_of n r q j k lr lq lj lk is =
     (λ h. let a = near n r j h in parted k (λ h'. let b = near n q k h' in (omega (arith, a, b, is, h, h'), omega (arith, a, b, is, h, h'))) (λ h'. let b = far n q k h' in absurd (omega (arith, a, b, is, h, h', lr))))
     (λ h. let a = far n r j h in parted k (λ h'. let b = near n q k h' in absurd (omega (arith, a, b, is, h, h', lq))) (λ h'. let b = far n q k h' in (omega (arith, a, b, is, h, h', lj, lk), omega (arith, a, b, is, h, h', lj, lk))))
 
+-- words of one part stand in a row, and within the table
+pub in_part : (n r from k : ℕ) → r < n → from + k < 73 → (from + k < 31) ⊎ (31 ≤ from) → (turn_place n r from + k ≡ turn_place n r (from + k)) × (turn_place n r (from + k) < table_size n)
+in_part n r from k lt few part =
+    let there = turn_there n r (from + k) lt few in
+    ⊎_elim
+    (λ (h : from + k < 31). let a = near n r from (omega (arith, h)) in let b = near n r (from + k) h in (omega (arith, a, b), there.1))
+    (λ (h : 31 ≤ from). let a = far n r from h in let b = far n r (from + k) (omega (arith, h)) in (omega (arith, a, b, h), there.1))
+    part
+
 -- behind word 0, and within the table
 pub word_inside : (n r k : ℕ) → r < n → k < 73 → (0 < word_place n r k) × (word_place n r k < table_size n)
 word_inside n r k lt few = turn_there n r (turn_of k) lt (turn_inside k few)

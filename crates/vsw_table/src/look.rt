@@ -1,5 +1,5 @@
 //! A look: what it loads, in which order, and what it makes of it.
-ghost use Rattle.std.specs.Prelude.{◌≡◌, ◌+◌, ◌-◌, ◌<◌, ◌≤◌, ◌%◌, ◌++◌, ◌∷◌, ℕ, List, [], true, false, length, Some, Option, MatchBool, MatchOption, IfSome, slice_index_or, replicate};
+ghost use Rattle.std.specs.Prelude.{◌≡◌, ◌⊎◌, ◌+◌, ◌-◌, ◌<◌, ◌≤◌, ◌%◌, ◌++◌, ◌∷◌, ℕ, List, [], true, false, length, Some, Option, MatchBool, MatchOption, IfSome, slice_index_or, replicate};
 ghost use Rattle.vsw_stamps.specs.declared.step.Load.TheVariants.{Again};
 ghost use Rattle.vsw_stamps.specs.Machine.{finished_by, is_closed, longer};
 ghost use Rattle.vsw_stamps.specs.Order.{word_at};
@@ -10,7 +10,7 @@ ghost use Rattle.vsw_table.specs.Private.Parts.{Apart, AreFar, AreOther};
 ghost use Rattle.vsw_table.specs.Steps.{stamped, worded, compared, ended, Counted};
 ghost use Rattle.vsw_table.specs.Held.{HasTop, IsRead, Differs, Found, FoundNear, IsMissed, MissedNear};
 
-use crate::place::{stamp_place, turn_place};
+use crate::place::{place_behind, stamp_place};
 use crate::rule::{Compare, Count, End, Kept, Key, ReadStamp, ReadWord};
 use crate::view::View;
 use atomic_table::{Seat, Shared};
@@ -30,23 +30,26 @@ pub(crate) fn read_stamp<S: Story>(
     shared.load::<ReadStamp>(seat, stamp_place(rows, row))
 }
 
-/// Loads the next word of the row whose stamp was loaded last, which is that of this turn.
+/// Loads the next word of the row whose stamp was loaded last: that of the turn which comes so many behind `from`, in the same part of the row.
+#[inline(always)]
 pub(crate) fn read_word<S: Story>(
     shared: &Shared<S::Entry, View<S::Opening, S::Entry>, Key<S::Opening>, Kept<S>>,
     seat: &mut Seat<S::Entry, View<S::Opening, S::Entry>>,
     rows: usize,
     row: usize,
-    turn: usize,
+    from: usize,
+    behind: usize,
 ) -> u64
     requires table { (seat.old.table_id ≡ shared.now.table_id) × (shared.now.table_id.words ≡ table_size rows) × (rows ≡ shared.now.key.rows) × (row < rows) × (rows ≤ 16384) }
     requires pass { (seat.old.me.0.live ≡ true) × (seat.old.me.0.writes ≡ false) × (seat.old.me.1 ≡ []) }
-    requires top { HasTop seat.old.me.0.tried seat.old.me.0.shown.rows row turn × (turn < 73) × (is_closed seat.old.me.0.shown ≡ false) }
+    requires top { HasTop seat.old.me.0.tried seat.old.me.0.shown.rows row (from + behind) × (from + behind < 73) × (is_closed seat.old.me.0.shown ≡ false) }
+    requires part { (from + behind < 31) ⊎ (31 ≤ from) }
     ensures { (seat.new.table_id ≡ seat.old.table_id) × (seat.new.me ≡ (worded seat.old.me.0 (result ∷ []), [])) }
 {
-    shared.load::<ReadWord>(seat, turn_place(rows, row, turn))
+    shared.load::<ReadWord>(seat, place_behind(rows, row, from, behind))
 }
 
-/// Loads words of a row, from the turn `from` on.
+/// Loads words of a row, from the turn `from` on, which lie in one part of it.
 pub(crate) fn read_words<S: Story>(
     shared: &Shared<S::Entry, View<S::Opening, S::Entry>, Key<S::Opening>, Kept<S>>,
     seat: &mut Seat<S::Entry, View<S::Opening, S::Entry>>,
@@ -58,11 +61,12 @@ pub(crate) fn read_words<S: Story>(
     requires table { (seat.old.table_id ≡ shared.now.table_id) × (shared.now.table_id.words ≡ table_size rows) × (rows ≡ shared.now.key.rows) × (row < rows) × (rows ≤ 16384) }
     requires pass { (seat.old.me.0.live ≡ true) × (seat.old.me.0.writes ≡ false) × (seat.old.me.1 ≡ []) }
     requires top { HasTop seat.old.me.0.tried seat.old.me.0.shown.rows row from × (from + length words.old ≤ 73) × (is_closed seat.old.me.0.shown ≡ false) }
+    requires part { (from + length words.old ≤ 31) ⊎ (31 ≤ from) }
     ensures length { length words.new ≡ length words.old }
     ensures seat { (seat.new.table_id ≡ seat.old.table_id) × (seat.new.me ≡ (worded seat.old.me.0 words.new, [])) }
 {
     for i in 0..words.len() {
-        words[i] = read_word(shared, seat, rows, row, from + i);
+        words[i] = read_word(shared, seat, rows, row, from, i);
     }
 }
 
@@ -98,17 +102,13 @@ fn front_of(plain: &[u64; 4], three: &[u64]) -> [u64; 7]
     ]
 }
 
-/// Whether all are 0.
+/// Whether a key has no words but those that are loaded first.
 #[inline(always)]
-fn are_zero(words: &[u64]) -> bool
-    ensures { result ≡ true → words.now ≡ replicate (length words.now) 0 }
+fn is_plain(key: &[u64; 16]) -> bool
+    ensures { result ≡ true → (turn : ℕ) → turn < 12 → slice_index_or key.now (word_at (31 + turn)) 0 ≡ 0 }
 {
-    for i in 0..words.len() {
-        if words[i] != 0 {
-            return false;
-        }
-    }
-    true
+    let front = key[1] | key[4] | key[5] | key[6] | key[7] | key[9];
+    (front | key[10] | key[11] | key[12] | key[13] | key[14] | key[15]) == 0
 }
 
 /// Makes all words 0.
@@ -120,7 +120,7 @@ fn clear(words: &mut [u64])
     }
 }
 
-/// Loads words of a row, from the turn `from` on, as long as they are the wanted ones. Says whether all were.
+/// Loads words of a row, from the turn `from` on, which lie in one part of it, as long as they are the wanted ones. Says whether all were.
 #[inline(always)]
 fn has_words<S: Story>(
     shared: &Shared<S::Entry, View<S::Opening, S::Entry>, Key<S::Opening>, Kept<S>>,
@@ -133,10 +133,11 @@ fn has_words<S: Story>(
     requires table { (seat.old.table_id ≡ shared.now.table_id) × (shared.now.table_id.words ≡ table_size rows) × (rows ≡ shared.now.key.rows) × (row < rows) × (rows ≤ 16384) }
     requires pass { (seat.old.me.0.live ≡ true) × (seat.old.me.0.writes ≡ false) × (seat.old.me.1 ≡ []) }
     requires top { HasTop seat.old.me.0.tried seat.old.me.0.shown.rows row from × (from + length wanted.now ≤ 73) × (is_closed seat.old.me.0.shown ≡ false) }
+    requires part { (from + length wanted.now ≤ 31) ⊎ (31 ≤ from) }
     ensures { (seat.new.table_id ≡ seat.old.table_id) × ((words : List ℕ) × (seat.new.me ≡ (worded seat.old.me.0 words, [])) × MatchBool result (words ≡ wanted.now) (Apart words wanted.now)) }
 {
     for i in 0..wanted.len() {
-        let word = read_word(shared, seat, rows, row, from + i);
+        let word = read_word(shared, seat, rows, row, from, i);
         if word != wanted[i] {
             return false;
         }
@@ -217,12 +218,11 @@ pub(crate) fn read_row<S: Story>(
     let (three, rest) = body.split_at_mut(3);
     read_words(shared, seat, rows, row, 4, three);
     let used = S::words_used(&front_of(&plain, three));
-    let others = other_words(key);
-    if used <= 31 && are_zero(&others) {
+    if used <= 31 && is_plain(key) {
         read_near(shared, seat, rows, row, used, rest);
         return true;
     }
-    read_far(shared, seat, rows, row, used, &others, rest)
+    read_far(shared, seat, rows, row, used, &other_words(key), rest)
 }
 
 /// Loads word 0, which counts the entries: the moment at which the row that is being read was good, if it still has its
@@ -297,6 +297,17 @@ pub(crate) fn try_row<S: Story>(
     Some(word % (1 << 32))
 }
 
+/// The row so many behind a slot; behind the last one comes the first.
+#[inline(always)]
+fn row_behind(rows: usize, slot: usize, behind: usize) -> usize
+    requires { (slot < rows) × (rows ≤ 16384) × (behind < 8) }
+    ensures row { result ≡ (slot + behind) % rows }
+    ensures inside { result < rows }
+{
+    let row = slot + behind;
+    if row < rows { row } else { row % rows }
+}
+
 /// Tries each of the eight rows from `slot` on by itself. Says whether one was found, and how many entries there were.
 pub(crate) fn look_from<S: Story>(
     shared: &Shared<S::Entry, View<S::Opening, S::Entry>, Key<S::Opening>, Kept<S>>,
@@ -316,7 +327,8 @@ pub(crate) fn look_from<S: Story>(
         (MissedNear key.now rows slot seat.new.me.0.last) }
 {
     for i in 0..8 {
-        if let Some(count) = try_row(shared, seat, rows, (slot + i) % rows, key, body) {
+        let row = row_behind(rows, slot, i);
+        if let Some(count) = try_row(shared, seat, rows, row, key, body) {
             return (true, count);
         }
     }

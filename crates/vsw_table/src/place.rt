@@ -1,5 +1,5 @@
 //! Where stamps and words stand in the table.
-ghost use Rattle.std.specs.Prelude.{◌≡◌, ◌<◌, ◌≤◌};
+ghost use Rattle.std.specs.Prelude.{◌≡◌, ◌<◌, ◌≤◌, ◌+◌, ◌⊎◌};
 ghost use Rattle.vsw_stamps.specs.Order as order;
 ghost use Rattle.vsw_table.specs.Places as spec;
 ghost use Rattle.vsw_table.specs.Places.{table_size};
@@ -53,7 +53,7 @@ fn turn_of(word: usize) -> usize
 /// Where the word of a row stands that is loaded at a turn.
 #[inline(always)]
 #[tactic(auto, unfolding(crate::specs::Places::turn_place))]
-pub(crate) fn turn_place(rows: usize, row: usize, turn: usize) -> usize
+fn turn_place(rows: usize, row: usize, turn: usize) -> usize
     requires { (row < rows) × (turn < 73) × (rows ≤ 16384) }
     ensures place { result ≡ spec.turn_place rows row turn }
     ensures inside { result < table_size rows }
@@ -63,6 +63,17 @@ pub(crate) fn turn_place(rows: usize, row: usize, turn: usize) -> usize
     } else {
         FIRST + NEAR * rows + FAR * row + (turn - (NEAR - 1))
     }
+}
+
+/// Where the word of a row stands that is loaded so many turns behind `from`, in the same part of the row.
+#[inline(always)]
+pub(crate) fn place_behind(rows: usize, row: usize, from: usize, behind: usize) -> usize
+    requires inside { (row < rows) × (from + behind < 73) × (rows ≤ 16384) }
+    requires part { (from + behind < 31) ⊎ (31 ≤ from) }
+    ensures place { result ≡ spec.turn_place rows row (from + behind) }
+    ensures inside { result < table_size rows }
+{
+    turn_place(rows, row, from) + behind
 }
 
 /// Where a row's word stands.

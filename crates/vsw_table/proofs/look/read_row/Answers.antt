@@ -1,5 +1,5 @@
-use Rattle.std.proofs.Common.{arith, subst, refl, ap, ◌∙◌, ◌≡◌, ◌+◌, ◌++◌, [], length, length-append, replicate}
-use Rattle.vsw_table.proofs.Parts.{in_steps, near_told, plain_differs, told_or_differs}
+use Rattle.std.proofs.Common.{arith, subst, refl, ap, ◌∙◌, ◌≡◌, ◌+◌, ◌++◌, [], length, length-append}
+use Rattle.vsw_table.proofs.Parts.{in_steps, plain_differs, plain_told, told_or_differs}
 use Rattle.vsw_table.proofs.Tries.{read_more, top_more}
 use Rattle.vsw_table.specs.Held.{HasTop}
 use Rattle.vsw_table.specs.Steps.{appended, grown, worded}
@@ -35,12 +35,11 @@ read_near-requires-clause-top g c =
       c.requires.top.1,
     )
 
-pub returns-then-are_zero-clause-seat : goal.returns-then-are_zero-clause-seat
-returns-then-are_zero-clause-seat g c =
+pub returns-then-is_plain-clause-seat : goal.returns-then-is_plain-clause-seat
+returns-then-is_plain-clause-seat g c =
     let v = c.args.seat.now.me.0 in
     let m = c.if-not-has_words.ensures in
     let p = c.plain_words-plain in
-    let o = c.other_words-others in
     let u = c.words_used-used in
     let three = c.read_words.new.words in
     let near = c.read_near.ensures.seat.0 in
@@ -48,8 +47,8 @@ returns-then-are_zero-clause-seat g c =
     let three_long : length three ≡ 3 = c.read_words.ensures.length ∙ c.split_at_mut-three.ensures.front_len in (
       p.result ++ (three ++ near),
       read_more v (m.1.0 ++ three) near c.read_words.new.seat.me c.read_near.new.seat.me read c.read_near.ensures.seat.1 ∙ ap (λ ws. (worded v ws, [])) (in_steps p.result m.1.0 three near m.1.2),
-      near_told g.S.Story.used c.args.key.now p.result three o.result u.result c.told-key p.ensures.long three_long o.ensures.long p.ensures.words o.ensures.words (u.ensures.used ∙ ap g.S.Story.used c.front_of.ensures) u.ensures.range.0 u.ensures.range.1 near (three ++ c.read_near.new.rest)
-          c.if-used-le31.true (c.if-are_zero.ensures refl ∙ ap (λ n. replicate n 0) o.ensures.long) c.read_near.ensures.seat.2 (ap (λ ws. three ++ ws) c.read_near.ensures.seat.3),
+      plain_told g.S.Story.used c.args.key.now p.result three u.result c.told-key p.ensures.long three_long p.ensures.words (c.if-is_plain.ensures refl) (u.ensures.used ∙ ap g.S.Story.used c.front_of.ensures) u.ensures.range.0 c.if-used-le31.true near c.read_near.new.rest
+          c.read_near.ensures.seat.2 c.read_near.ensures.seat.3,
     )
 
 pub read_far-requires-clause-top : goal.read_far-requires-clause-top
@@ -70,7 +69,7 @@ returns-clause-seat g c =
     let v = c.args.seat.now.me.0 in
     let m = c.if-not-has_words.ensures in
     let p = c.plain_words-plain in
-    let o = c.other_words-others in
+    let o = c.other_words in
     let u = c.words_used-used in
     let three = c.read_words.new.words in
     let far = c.read_far.ensures.seat in

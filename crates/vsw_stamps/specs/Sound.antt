@@ -9,7 +9,7 @@
 --    as many entries; and it stays so while it has this stamp, as its words stay.
 -- 4. Who loads the stamp again and finds the same, not 0, has by 1 and 3 the words of a row that is good after the
 --    entries counted. Where it isn't the same, nothing is said: words of two rows may stand in the record.
-use Rattle.std.specs.Prelude.{ℕ, ◌≡◌, ◌≢◌, ◌<◌, ◌≤◌, ◌-◌, ◌⊎◌, Bool, replicate, List, [], ◌∷◌, ◌++◌, length, take, slice_index_or, Option, None, Some}
+use Rattle.std.specs.Prelude.{ℕ, ◌≡◌, ◌≢◌, ◌<◌, ◌≤◌, ◌⊎◌, Bool, List, [], ◌∷◌, ◌++◌, length, take, slice_index_or, Option, None, Some}
 use mathlib.Core.List.{IsPrefix}
 use Rattle.vsw_stamps.specs.declared.step.Load.TheVariants.{Stamp, Word, Count}
 use Rattle.vsw_stamps.specs.declared.step.Loaded.{Loaded}

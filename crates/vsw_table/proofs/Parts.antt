@@ -1,5 +1,5 @@
 -- The parts of a row that a look loads, put together.
-use Rattle.std.proofs.Common.{◌≡◌, ◌≢◌, ℕ, zero, suc, ◌+◌, ◌-◌, ◌<◌, ◌≤◌, max, nat_lt, MatchBool, Bool, true, false, List, [], ◌∷◌, ◌++◌, length, map, take, drop, replicate, get_or, bit_or, refl, ap, sym, ◌∙◌, subst, arith, length-append, append_assoc}
+use Rattle.std.proofs.Common.{◌≡◌, ℕ, zero, suc, ◌+◌, ◌-◌, ◌<◌, ◌≤◌, max, nat_lt, MatchBool, Bool, true, false, List, [], ◌∷◌, ◌++◌, length, map, take, replicate, get_or, bit_or, refl, ap, sym, ◌∙◌, arith, length-append, append_assoc}
 use Rattle.std.proofs.lemmas.Grind.{common_steps}
 use Rattle.std.proofs.lemmas.List.{length-replicate}
 use Rattle.std.proofs.lemmas.Nat.{le_or_l, le_or_r}
@@ -124,11 +124,11 @@ module _ (used : List ℕ → ℕ) (key plain three others : List ℕ) (n : ℕ)
         omega (arith, words_long, n_is, ap used (front_taken plain three near four three_long)),
         omega (arith, length-append key body, sixteen, body_long),
         λ turn lt. by_turn turn
-        (λ a. at_plain tail body turn a)
-        (λ a b. let e : (turn + 12) - 16 ≡ turn - 4 = omega (arith, a) in
+            (λ a. at_plain tail body turn a)
+            (λ a b. let e : (turn + 12) - 16 ≡ turn - 4 = omega (arith, a) in
             ap (λ (w : ℕ). get_or (key ++ body) w 0) (front_word turn a b) ∙ (in_body body (turn + 12) (omega (arith, a)) ∙ (ap (λ (k : ℕ). get_or body k 0) e ∙ (body_at (turn - 4) ∙ sym (behind_plain tail turn a)))))
-        (λ a b. in_key body turn (other_word turn a b) ∙ (other_is turn a b ∙ (ap (λ (l : List ℕ). get_or l (turn - 31) 0) bare ∙ (none_at 12 (turn - 31) ∙ sym (beyond words turn (omega (arith, words_long, small, a)))))))
-        (λ a. ap (λ (w : ℕ). get_or (key ++ body) w 0) (last_word turn a lt) ∙ (in_body body turn (omega (arith, a)) ∙ (body_at (turn - 16) ∙ (beyond tail (turn - 16) (omega (arith, tail_long, small, a)) ∙ sym (beyond words turn (omega (arith, words_long, small, a))))))),
+            (λ a b. in_key body turn (other_word turn a b) ∙ (other_is turn a b ∙ (ap (λ (l : List ℕ). get_or l (turn - 31) 0) bare ∙ (none_at 12 (turn - 31) ∙ sym (beyond words turn (omega (arith, words_long, small, a)))))))
+            (λ a. ap (λ (w : ℕ). get_or (key ++ body) w 0) (last_word turn a lt) ∙ (in_body body turn (omega (arith, a)) ∙ (body_at (turn - 16) ∙ (beyond tail (turn - 16) (omega (arith, tail_long, small, a)) ∙ sym (beyond words turn (omega (arith, words_long, small, a))))))),
       )
 
   -- a row that is told by its words in both parts
@@ -153,13 +153,13 @@ module _ (used : List ℕ → ℕ) (key plain three others : List ℕ) (n : ℕ)
         omega (arith, all_long, last_long, n_is, ap used (front_taken plain three words four three_long)),
         omega (arith, length-append key body, sixteen, body_long),
         λ turn lt. by_turn turn
-        (λ a. at_plain (three ++ words) body turn a)
-        (λ a b. let e : (turn + 12) - 16 ≡ turn - 4 = omega (arith, a) in
+            (λ a. at_plain (three ++ words) body turn a)
+            (λ a b. let e : (turn + 12) - 16 ≡ turn - 4 = omega (arith, a) in
             ap (λ (w : ℕ). get_or (key ++ body) w 0) (front_word turn a b) ∙ (in_body body (turn + 12) (omega (arith, a)) ∙ (ap (λ (k : ℕ). get_or body k 0) e
             ∙ (body_at (turn - 4) ∙ (at_left front (last ++ zeros) (turn - 4) (omega (arith, front_long, a, b)) ∙ sym (all_at turn a ∙ at_left front (others ++ last) (turn - 4) (omega (arith, front_long, a, b))))))))
-        (λ a b. let e : (turn - 4) - length front ≡ turn - 31 = omega (arith, front_long, a) in
+            (λ a b. let e : (turn - 4) - length front ≡ turn - 31 = omega (arith, front_long, a) in
             in_key body turn (other_word turn a b) ∙ (other_is turn a b ∙ sym (all_at turn (omega (arith, a)) ∙ (at_right front (others ++ last) (turn - 4) (omega (arith, front_long, a)) ∙ (ap (λ (k : ℕ). get_or (others ++ last) k 0) e ∙ at_left others last (turn - 31) (omega (arith, twelve, a, b)))))))
-        (λ a. let e : (turn - 4) - length front ≡ turn - 31 = omega (arith, front_long, a) in
+            (λ a. let e : (turn - 4) - length front ≡ turn - 31 = omega (arith, front_long, a) in
             let e' : (turn - 31) - length others ≡ turn - 43 = omega (arith, twelve, a) in
             let f : (turn - 16) - length front ≡ turn - 43 = omega (arith, front_long, a) in
             ap (λ (w : ℕ). get_or (key ++ body) w 0) (last_word turn a lt) ∙ (in_body body turn (omega (arith, a)) ∙ (body_at (turn - 16) ∙ (at_right front (last ++ zeros) (turn - 16) (omega (arith, front_long, a)) ∙ (ap (λ (k : ℕ). get_or (last ++ zeros) k 0) f ∙ (padded last (30 - length last) (turn - 43)

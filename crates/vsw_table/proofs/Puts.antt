@@ -1,7 +1,7 @@
 -- The words of a row, one after another.
-use Rattle.std.proofs.Common.{◌≡◌, ℕ, zero, suc, ◌+◌, ◌*◌, ◌-◌, ◌<◌, ◌≤◌, Bool, true, false, if◌then◌else◌, List, [], ◌∷◌, ◌++◌, length, take, drop, replicate, refl, ap, sym, ◌∙◌, subst, arith, set, get_or, length-set, get_or-set_same, length-append, length-drop, append_assoc}
+use Rattle.std.proofs.Common.{◌≡◌, ℕ, zero, suc, ◌+◌, ◌*◌, ◌-◌, ◌<◌, ◌≤◌, Bool, true, false, if◌then◌else◌, List, [], ◌∷◌, ◌++◌, length, take, drop, replicate, refl, ap, sym, ◌∙◌, subst, arith, set, get_or, length-set, get_or-set_same, length-append, length-drop}
 use Rattle.std.proofs.lemmas.List.{set-get_or, append-nil, drop_all, length-take-le, length-replicate}
-use Rattle.std.proofs.Math.Seq.{take-append_seam, drop-append_seam, take-suc-set}
+use Rattle.std.proofs.Math.Seq.{take-suc-set}
 use Rattle.atomic_table.specs.Table.{Me}
 use Rattle.vsw_table.specs.declared.view.View.{View}
 use Rattle.vsw_table.specs.Places.{table_size, stamp_place, word_place}

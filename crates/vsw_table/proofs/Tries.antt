@@ -1,5 +1,5 @@
 -- Words that are read one after another, and what one row that was tried tells.
-use Rattle.std.proofs.Common.{◌≡◌, ◌≢◌, ℕ, zero, suc, ◌+◌, ◌-◌, ◌%◌, ◌<◌, ◌≤◌, ◌==◌, ◌&&◌, Bool, true, false, if◌then◌else◌, Some, None, List, [], ◌∷◌, ◌++◌, length, take, get_or, set, ap, refl, sym, ◌∙◌, subst, arith, inl, inr, eq-eqb, ne_eqb, append_assoc, length-append, replicate, MatchBool}
+use Rattle.std.proofs.Common.{◌≡◌, ◌≢◌, ℕ, zero, suc, ◌+◌, ◌%◌, ◌<◌, ◌≤◌, ◌==◌, ◌&&◌, Bool, true, false, if◌then◌else◌, Some, None, List, [], ◌∷◌, ◌++◌, length, take, get_or, set, ap, refl, sym, ◌∙◌, subst, arith, inl, inr, eq-eqb, ne_eqb, append_assoc, length-append, MatchBool}
 use Rattle.std.proofs.lemmas.List.{append-nil}
 use Rattle.std.proofs.Math.Seq.{take-length, take-suc-set}
 use mathlib.Core.Logic.{dite}

@@ -1,4 +1,4 @@
-use Rattle.std.proofs.Common.{arith, subst, sym, refl, ap, ◌∙◌, ◌≡◌, ◌+◌, ◌-◌, ◌++◌, length, max, length-append, replicate}
+use Rattle.std.proofs.Common.{arith, subst, refl, ap, ◌∙◌, ◌≡◌, ◌+◌, ◌-◌, ◌++◌, length, max, length-append, replicate}
 use Rattle.vsw_table.proofs.Parts.{far_is, other_behind}
 use Rattle.vsw_table.proofs.Tries.{read_more, top_more}
 use Rattle.vsw_table.specs.Held.{HasTop}

@@ -37,13 +37,6 @@ use vsw_table::{Lookup, Pass};
 use vsw_walk::{Scratch, Walked, walk};
 use vsw_words::key_words;
 
-/// A packet's walk, and what became of the packet.
-#[derive(Drop)]
-struct Entered {
-    walked: Walked,
-    outcome: Outcome,
-}
-
 /// The packet walks over the layers of now.
 pub fn walk_now(ledger: &Ledger, crossing: &Crossing, scratch: &mut Scratch) -> Walked
     ensures walk { IsWholeWalk (layers_in ledger.now) crossing.now result scratch.new }
@@ -53,6 +46,7 @@ pub fn walk_now(ledger: &Ledger, crossing: &Crossing, scratch: &mut Scratch) -> 
 
 /// The rows fall that the packet's entry shakes, where it is to be one: the walk lets the packet pass, wants something changed,
 /// and isn't stopped. Where memory for a pair is wanting then, these rows cost a walk each.
+#[inline(never)]
 fn shake(
     lookup: &Lookup<PortStory>,
     crossing: &Crossing,
@@ -75,7 +69,9 @@ fn shake(
     rows.shake(lookup, policy.layers(), scratch.changes());
 }
 
-/// The same before the packet is settled, where its changes move a pair: which rows that shakes the layers before tell.
+/// The same before the packet is settled, where its changes move a pair: which rows that shakes the layers before tell. Of most
+/// packets no change does: the walk isn't read then, right behind its writing.
+#[inline(always)]
 fn shake_before(
     lookup: &Lookup<PortStory>,
     crossing: &Crossing,
@@ -165,29 +161,31 @@ fn spend(permits: &mut u64, entry: bool)
     }
 }
 
-/// The packet crosses the layers, and its entry, where it is one, follows the history.
+/// The packet of a walk over the layers of now crosses them, and its entry, where it is one, follows the history.
 #[inline(always)]
 fn enter(
     lookup: &Lookup<PortStory>,
     pass: &mut Pass<PortStory>,
     crossing: &Crossing,
+    walked: &Walked,
     permits: &mut u64,
     ledger: &mut Ledger,
     rows: &mut Rows,
-    scratch: &mut Scratch,
-) -> Entered
+    scratch: &Scratch,
+) -> Outcome
     requires owned { IsOwned ledger.old rows.old permits.old }
     requires core { IsOf lookup.now rows.old }
     requires pass { IsOf lookup.now pass.old }
     requires opening { ledger.old.opening ≡ opening_of lookup.now.1 }
     requires caller { crossing.now.caller ≡ pass.old.view.number }
     requires permit { 0 < pass.old.view.permits }
-    ensures done { (p : Parts) (bytes : List ℕ) → IsDone (opening_of lookup.now.1) rows.old.view.history (Carried crossing.now p result.outcome.fate bytes) result.outcome.entry }
-    ensures memory { MayBeShort (is_short result.outcome.fate) (layers_after lookup.now.1 rows.old.view.history) crossing.now }
-    ensures edits { EditsPass (layers_after lookup.now.1 rows.old.view.history) crossing.now scratch.new.stack result.outcome.kept result.outcome.fate }
-    ensures own { result.outcome.own ≡ true → IsOwn crossing.now scratch.new.stack result.outcome.kept }
-    ensures steps { Steps (layers_after lookup.now.1 rows.old.view.history) (event.Crossing crossing.now result.outcome.fate) (entered result.outcome.entry (event.Crossing crossing.now result.outcome.fate)) rows.old rows.new pass.old pass.new }
-    ensures walk { result.outcome.entry ≡ false → IsWholeWalk (layers_after lookup.now.1 rows.new.view.history) crossing.now result.walked scratch.new }
+    requires walk { IsWholeWalk (layers_in ledger.old) crossing.now walked.now scratch.now }
+    ensures done { (p : Parts) (bytes : List ℕ) → IsDone (opening_of lookup.now.1) rows.old.view.history (Carried crossing.now p result.fate bytes) result.entry }
+    ensures memory { MayBeShort (is_short result.fate) (layers_after lookup.now.1 rows.old.view.history) crossing.now }
+    ensures edits { EditsPass (layers_after lookup.now.1 rows.old.view.history) crossing.now scratch.now.stack result.kept result.fate }
+    ensures own { result.own ≡ true → IsOwn crossing.now scratch.now.stack result.kept }
+    ensures steps { Steps (layers_after lookup.now.1 rows.old.view.history) (event.Crossing crossing.now result.fate) (entered result.entry (event.Crossing crossing.now result.fate)) rows.old rows.new pass.old pass.new }
+    ensures walk { result.entry ≡ false → IsWholeWalk (layers_after lookup.now.1 rows.new.view.history) crossing.now walked.now scratch.now }
     ensures held { pass.old.view.permits ≡ permits_of rows.old.view pass.old.view.number }
     ensures short { length rows.old.view.history < 4294967295 }
     ensures opening { ledger.new.opening ≡ ledger.old.opening }
@@ -195,13 +193,12 @@ fn enter(
 {
     pass.bound();
     rows.meet(lookup, pass, 0);
-    let walked = walk_now(ledger, crossing, scratch);
-    shake_before(lookup, crossing, &walked, scratch, ledger, rows);
-    let outcome = ledger.settle(crossing, &walked, scratch);
+    shake_before(lookup, crossing, walked, scratch, ledger, rows);
+    let outcome = ledger.settle(crossing, walked, scratch);
     shake_behind(lookup, scratch, outcome, rows);
     follow(lookup, pass, crossing, outcome, ledger, rows);
     spend(permits, outcome.entry);
-    Entered { walked, outcome }
+    outcome
 }
 
 /// Whether the packet of the walk would change something.
@@ -263,7 +260,8 @@ fn leave(
 fn publish(
     lookup: &Lookup<PortStory>,
     crossing: &Crossing,
-    entered: &Entered,
+    walked: &Walked,
+    entry: bool,
     ledger: &Ledger,
     scratch: &Scratch,
     rows: &mut Rows,
@@ -273,17 +271,17 @@ fn publish(
     requires core { IsOf lookup.now rows.old }
     requires opening { ledger.now.opening ≡ opening_of lookup.now.1 }
     requires journal { ledger.now.journal ≡ rows.old.view.history }
-    requires walk { entered.now.outcome.entry ≡ false → IsWholeWalk (layers_after lookup.now.1 rows.old.view.history) crossing.now entered.now.walked scratch.now }
+    requires walk { entry ≡ false → IsWholeWalk (layers_after lookup.now.1 rows.old.view.history) crossing.now walked.now scratch.now }
     ensures { Publishes lookup.now.2 (layers_after lookup.now.1 rows.old.view.history) crossing.now rows.old rows.new result }
 {
     let Control::None = crossing.control else {
         return false;
     };
-    if entered.outcome.entry {
+    if entry {
         let walked = walk_now(ledger, crossing, again);
         leave(lookup, crossing, &walked, again, rows, rooms)
     } else {
-        leave(lookup, crossing, &entered.walked, scratch, rows, rooms)
+        leave(lookup, crossing, walked, scratch, rows, rooms)
     }
 }
 
@@ -320,13 +318,24 @@ pub fn cross(
     ensures stands { left.new ≡ true → StandsUntil lookup.now.2 (layers_after lookup.now.1 rows.new.view.history) rows.new crossing.now.id crossing.now.moment }
     ensures wanting { crossing.now.control ≡ control.None → IsSettled (layers_after lookup.now.1 rows.new.view.history) crossing.now → left.new ≡ false → NoneStands lookup.now.2 rows.new crossing.now.id }
 {
-    let entered = enter(lookup, pass, crossing, permits, ledger, rows, scratch);
+    let walked = walk_now(ledger, crossing, scratch);
+    let outcome = enter(
+        lookup, pass, crossing, &walked, permits, ledger, rows, scratch,
+    );
     *left = publish(
-        lookup, crossing, &entered, ledger, scratch, rows, again, rooms,
+        lookup,
+        crossing,
+        &walked,
+        outcome.entry,
+        ledger,
+        scratch,
+        rows,
+        again,
+        rooms,
     );
     // It tells the proof that the history is right.
     let _ = ledger.policy();
-    entered.outcome
+    outcome
 }
 
 /// The packet crosses the layers, and leaves no row.
@@ -357,8 +366,18 @@ pub fn cross_only(
     ensures seen { IsPrefix pass.old.view.front rows.old.view.history }
     ensures falls { FallsBy (layers_after lookup.now.1 rows.old.view.history) (event.Crossing crossing.now result.fate) rows.old rows.new }
 {
-    let entered = enter(lookup, pass, crossing, permits, ledger, rows, scratch);
+    // The walk isn't named, so that it is read where it was written.
+    let outcome = enter(
+        lookup,
+        pass,
+        crossing,
+        &walk_now(ledger, crossing, scratch),
+        permits,
+        ledger,
+        rows,
+        scratch,
+    );
     // It tells the proof that the history is right.
     let _ = ledger.policy();
-    entered.outcome
+    outcome
 }

@@ -186,6 +186,43 @@ fn by_walk(
     outcome
 }
 
+/// The caller's packet is answered by a row, or crosses the layers and leaves one. `why` tells why no row answered. It stands apart
+/// from `carry`, so that a packet that only walks doesn't clear and merge what rows answer.
+#[inline(never)]
+fn by_rows(
+    core: &mut Core,
+    lookup: &Lookup<PortStory>,
+    caller: &mut Caller,
+    crossing: &Crossing,
+    desk: &mut Desk,
+    why: &mut Option<Why>,
+) -> Outcome
+    requires core { IsOf lookup.now core.old.writer }
+    requires told { IsTold lookup.now caller.old }
+    requires front { IsPrefix caller.old.pass.view.front core.old.writer.view.history }
+    requires number { crossing.now.caller ≡ caller.old.pass.view.number }
+    requires permit { 0 < caller.old.permits }
+    ensures done { (p : Parts) (bytes : List ℕ) → IsDone (opening_of lookup.now.1) core.old.writer.view.history (Carried crossing.now p result.fate bytes) result.entry }
+    ensures edits { EditsPass (layers_of lookup.now.1 core.old) crossing.now (edited_by why.new desk.new core.new.edited) result.kept result.fate }
+    ensures own { result.own ≡ true → IsOwn crossing.now (edited_by why.new desk.new core.new.edited) result.kept }
+    ensures why { IsWhy crossing.now result.entry why.new }
+    ensures core { IsOf lookup.now core.new.writer }
+    ensures history { core.new.writer.view.history ≡ core.old.writer.view.history ++ entered result.entry (event.Crossing crossing.now result.fate) }
+    ensures caller { HasCalled lookup.now core.new.writer.view.history result.entry caller.old caller.new }
+{
+    catch_up(core, lookup, caller);
+    match by_row(lookup, caller, crossing, desk) {
+        Ok(outcome) => {
+            *why = None;
+            outcome
+        }
+        Err(cause) => {
+            *why = Some(cause);
+            by_layers(core, lookup, caller, crossing)
+        }
+    }
+}
+
 /// The caller's packet is answered by a row, or crosses the layers. Where these are light, a walk over them costs less than
 /// a row's answer, and no row is looked for or left. `why` tells why no row answered. Where one did, its headers are on the
 /// desk.
@@ -215,17 +252,7 @@ pub(crate) fn carry(
         *why = Some(Why::Light);
         return by_walk(core, lookup, caller, crossing);
     }
-    catch_up(core, lookup, caller);
-    match by_row(lookup, caller, crossing, desk) {
-        Ok(outcome) => {
-            *why = None;
-            outcome
-        }
-        Err(cause) => {
-            *why = Some(cause);
-            by_layers(core, lookup, caller, crossing)
-        }
-    }
+    by_rows(core, lookup, caller, crossing, desk, why)
 }
 
 /// Whether an answer is an entry of the history.

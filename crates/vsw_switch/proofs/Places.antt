@@ -1,11 +1,10 @@
 -- The element at a place: a caller that tells a line, a port that does a job.
-use Rattle.std.proofs.Common.{◌≡◌, ◌<◌, ℕ, zero, suc, ◌==◌, ◌||◌, Bool, true, false, nat_lt, if◌then◌else◌, List, [], ◌∷◌, ◌++◌, length, map, get_or, Result, Ok, Err, IfOk, OnOk, refl, ap, sym, ◌∙◌, subst, arith, ne_eqb}
+use Rattle.std.proofs.Common.{◌≡◌, ◌<◌, ℕ, zero, suc, ◌==◌, ◌||◌, Bool, true, false, nat_lt, if◌then◌else◌, List, [], ◌∷◌, ◌++◌, length, map, get_or, Result, Ok, Err, OnOk, refl, ap, sym, ◌∙◌, subst, arith, ne_eqb}
 use Rattle.std.specs.Prelude.{⊤}
 use Rattle.std.specs.List.{slice_set}
 use native.Mathlib.Decide.{ℕ_discrete}
 use Rattle.vsw_base.specs.declared.fault.NoMemory.{NoMemory}
 use Rattle.vsw_port.specs.Calls.{Call, Job}
-use Rattle.vsw_port.specs.declared.crossing.Outcome.{Outcome}
 use Rattle.vsw_port.specs.Order.{ascending, put_in}
 use Rattle.vsw_report.specs.Line.{TextLine}
 use Rattle.vsw_policy.specs.Layers.{place_of}
@@ -35,10 +34,10 @@ pub does_ok : (xs : List PortNow) (i : ℕ) (x y : PortNow) (j : Job) (r : Resul
 does_ok xs i x y j (Ok u) lt here d = record { calls = (i, d.call) ∷ []; jobs_are = ap (λ k. (i, k) ∷ []) d.job; make = (slice_set xs i y, make_set xs i x y d.call lt here d.makes, refl) }
 does_ok xs i x y j (Err f) lt here d = tt
 
--- of a call that hangs on the outcome
-pub makes_ok : (xs : List PortNow) (i : ℕ) (x y : PortNow) (call : Outcome → ℕ → Call) (r : Result Outcome NoMemory) → i < length xs → x ≡ get_or xs i x → IfOk r (λ o. Makes x (call o (length x.journal)) y)
-    → IfOk r (λ o. (count : ℕ) × MakesAt i (call o count) xs (slice_set xs i y))
-makes_ok xs i x y call (Ok o) lt here m = (length x.journal, make_set xs i x y (call o (length x.journal)) lt here m)
+-- of a call whose count is that of the history
+pub makes_ok : (xs : List PortNow) (i : ℕ) (x y : PortNow) (call : ℕ → Call) (r : Result ⊤ NoMemory) → i < length xs → x ≡ get_or xs i x → OnOk r (Makes x (call (length x.journal)) y)
+    → OnOk r ((count : ℕ) × MakesAt i (call count) xs (slice_set xs i y))
+makes_ok xs i x y call (Ok u) lt here m = (length x.journal, make_set xs i x y (call (length x.journal)) lt here m)
 makes_ok xs i x y call (Err f) lt here m = tt
 
 -- an element that stays as it was

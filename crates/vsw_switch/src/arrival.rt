@@ -32,17 +32,23 @@ fn carry_at<G: Watch>(
     moment: Moment,
     frame: &Frame<'_>,
     rooms: &mut Worker,
-) -> Result<Outcome, NoMemory>
+) -> Result<(), NoMemory>
     requires callers { Each (λ p. caller < length p.workers) ports.old.items }
     requires within { place.port < length ports.old.items }
-    ensures makes { IfOk result (λ o. CarriesAt place.port rooms.new.crossing (parts frame.now) o rooms.new.room ports.old.items ports.new.items) }
+    ensures makes { OnOk result (CarriesAt place.port rooms.new.crossing (parts frame.now) rooms.new.outcome rooms.new.room ports.old.items ports.new.items) }
     ensures crossing { rooms.new.crossing ≡ crossing_by caller packet place moment (parts frame.now) }
-    ensures len { IfOk result (λ o. len_of o.fate ≤ 65700) }
+    ensures len { OnOk result (len_of rooms.new.outcome.fate ≤ 65700) }
     ensures stays { map standing ports.new.items ≡ map standing ports.old.items }
 {
     rooms.bring(caller, packet, place, moment, frame);
     let port = &mut ports[place.port as usize];
-    port.carry(watch, &rooms.crossing, frame, &mut rooms.room)
+    port.carry(
+        watch,
+        &rooms.crossing,
+        frame,
+        &mut rooms.room,
+        &mut rooms.outcome,
+    )
 }
 
 /// What became of a packet at the port at a place, and the bytes with which it left: if it is for another of the ports at these addresses, it is carried
@@ -140,12 +146,13 @@ fn carry_on<G: Watch>(
 {
     let caller = worker_for(workers, frame.stack());
     let own = &mut rooms.own;
-    let outcome = carry_at(ports, watch, caller, packet, place, moment, frame, own)?;
+    carry_at(ports, watch, caller, packet, place, moment, frame, own)?;
     if locals.is_empty() {
         return Ok(());
     }
     let first = &rooms.own.crossing;
     let room = &rooms.own.room;
+    let outcome = rooms.own.outcome;
     let handed = &mut rooms.handed;
     hand(
         ports, watch, locals, first, place.port, outcome, frame, room, handed,
@@ -175,15 +182,14 @@ pub(crate) fn arrive<G: Watch>(
     if captured.bytes.len() < captured.original as usize {
         return Ok(Some(LooseCause::Snapped));
     }
-    let read = read_frame(captured.bytes, headers);
-    match &read {
-        Err(fault) => Ok(Some(LooseCause::Malformed(*fault))),
+    match read_frame(captured.bytes, headers) {
+        Err(fault) => Ok(Some(LooseCause::Malformed(fault))),
         Ok(frame) => match choose_port(macs, frame.stack()) {
             None => Ok(Some(LooseCause::NoPort)),
             Some(place) => {
                 let moment = captured.moment;
                 carry_on(
-                    ports, watch, locals, workers, packet, place, moment, frame, rooms,
+                    ports, watch, locals, workers, packet, place, moment, &frame, rooms,
                 )?;
                 Ok(None)
             }

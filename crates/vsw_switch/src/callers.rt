@@ -35,13 +35,13 @@ pub(crate) fn tell_packet(
     workers: &mut Vec<Caller>,
     crossing: &Crossing,
     count: u32,
-    outcome: Outcome,
+    outcome: &Outcome,
     frame: &Frame<'_>,
     room: &Room,
 ) -> Result<(), NoMemory>
     requires worker { crossing.now.caller < length workers.old.items }
-    requires len { len_of outcome.fate ≤ 65700 }
-    ensures told { OnOk result (workers.new.items ≡ told_at crossing.now.caller (text_of (packet_line crossing.now (parts frame.now) outcome room.now count)) workers.old.items) }
+    requires len { len_of outcome.now.fate ≤ 65700 }
+    ensures told { OnOk result (workers.new.items ≡ told_at crossing.now.caller (text_of (packet_line crossing.now (parts frame.now) outcome.now room.now count)) workers.old.items) }
     ensures stays { length workers.new.items ≡ length workers.old.items }
 {
     let bytes = bytes_of(outcome.fate, outcome.own, frame, room);

@@ -139,27 +139,28 @@ impl Live {
     }
 
     /// Carries a packet, and tells what became of it, the watch first. A pass has left with its frame's own bytes or those at the front of the
-    /// room. After `NoMemory` nothing is said of the history.
+    /// room. The outcome is written where it stays. After `NoMemory` nothing is said of the history.
     pub(crate) fn carry<G: Watch>(
         &mut self,
         watch: &G,
         crossing: &Crossing,
         frame: &Frame<'_>,
         room: &mut Room,
-    ) -> Result<Outcome, NoMemory>
+        outcome: &mut Outcome,
+    ) -> Result<(), NoMemory>
         requires worker { crossing.now.caller < length self.old.workers }
         requires of { IsOfFrame crossing.now (parts frame.now) }
-        ensures makes { IfOk result (λ o. Makes self.old (packet_call crossing.now (parts frame.now) o room.new (length self.old.journal)) self.new) }
-        ensures len { IfOk result (λ o. len_of o.fate ≤ 65700) }
+        ensures makes { OnOk result (Makes self.old (packet_call crossing.now (parts frame.now) outcome.new room.new (length self.old.journal)) self.new) }
+        ensures len { OnOk result (len_of outcome.new.fate ≤ 65700) }
         ensures stays { standing self.new ≡ standing self.old }
     {
         let count = reserve(&mut self.port)?;
-        let outcome = transit(&mut self.port, crossing, frame, room);
-        tell_watch(watch, crossing, count, outcome, self.port.why());
+        *outcome = transit(&mut self.port, crossing, frame, room);
+        tell_watch(watch, crossing, count, *outcome, self.port.why());
         let tally = self.tally.and(Tally::of(outcome.fate))?;
         self.tally = tally;
         tell_packet(&mut self.workers, crossing, count, outcome, frame, room)?;
-        Ok(outcome)
+        Ok(())
     }
 
     /// Does or refuses what a controller asks, and tells the reply. After `NoMemory` nothing is said of the history.

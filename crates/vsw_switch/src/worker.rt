@@ -7,15 +7,17 @@ ghost use Rattle.vsw_promise.specs.Jobs.{crossing_by};
 
 use std::alloc::Global;
 use vsw_answer::Room;
-use vsw_base::{Control, Crossing, Dir, Moment, NoMemory, Place, Sizes, Stack, Ufid};
+use vsw_base::{Control, Crossing, Dir, Fate, Moment, NoMemory, Place, Sizes, Stack, Ufid};
 use vsw_frame::{Frame, FrameRoom};
 use vsw_header::spread;
+use vsw_port::Outcome;
 
-/// A packet on its way, and room for its outgoing bytes. Both are written over by the next packet.
+/// A packet on its way, room for its outgoing bytes, and what became of it. All are written over by the next packet.
 #[derive(Drop)]
 pub(crate) struct Worker {
     pub crossing: Crossing,
     pub room: Room,
+    pub outcome: Outcome,
 }
 
 /// Rooms of a packet that is handed on: its way, and the headers of its frame.
@@ -77,7 +79,17 @@ impl Worker {
                 two: 0,
             },
         };
-        Ok(Worker { crossing, room })
+        let outcome = Outcome {
+            fate: Fate::Pass { len: 0 },
+            entry: false,
+            kept: 0,
+            own: false,
+        };
+        Ok(Worker {
+            crossing,
+            room,
+            outcome,
+        })
     }
 
     /// Packet `packet`, which came at this moment, is brought to the port at a place by this caller.

@@ -22,8 +22,8 @@ follow-requires-clause-spares c =
       journal = c.requires.owned.journal;
       opens = c.requires.core.opens;
       meets = c.meet.ensures.writer;
-      shakes = shakes_around c.args.ledger.now (layers_in c.settle-outcome.new.self) c.args.crossing.now c.walk_now-walked.result c.walk_now-walked.new.scratch c.settle-outcome.result c.meet.new.self c.shake_before.new.rows c.shake_behind.new.rows
-          c.walk_now-walked.ensures.walk c.settle-outcome.ensures.exact c.settle-outcome.ensures.memory c.shake_before.ensures.moves c.shake_before.ensures.none c.shake_behind.ensures.falls c.shake_behind.ensures.moves c.shake_behind.ensures.none;
+      shakes = shakes_around c.args.ledger.now (layers_in c.settle-outcome.new.self) c.args.crossing.now c.args.walked.now c.args.scratch.now c.settle-outcome.result c.meet.new.self c.shake_before.new.rows c.shake_behind.new.rows
+          c.requires.walk c.settle-outcome.ensures.exact c.settle-outcome.ensures.memory c.shake_before.ensures.moves c.shake_before.ensures.none c.shake_behind.ensures.falls c.shake_behind.ensures.moves c.shake_behind.ensures.none;
     })
 
 pub spend-requires : goal.spend-requires
@@ -42,8 +42,8 @@ returns-clause-steps c =
       journal = c.requires.owned.journal;
       opens = c.requires.core.opens;
       meets = c.meet.ensures.writer;
-      shakes = shakes_around c.args.ledger.now (layers_in c.settle-outcome.new.self) c.args.crossing.now c.walk_now-walked.result c.walk_now-walked.new.scratch c.settle-outcome.result c.meet.new.self c.shake_before.new.rows c.shake_behind.new.rows
-          c.walk_now-walked.ensures.walk c.settle-outcome.ensures.exact c.settle-outcome.ensures.memory c.shake_before.ensures.moves c.shake_before.ensures.none c.shake_behind.ensures.falls c.shake_behind.ensures.moves c.shake_behind.ensures.none;
+      shakes = shakes_around c.args.ledger.now (layers_in c.settle-outcome.new.self) c.args.crossing.now c.args.walked.now c.args.scratch.now c.settle-outcome.result c.meet.new.self c.shake_before.new.rows c.shake_behind.new.rows
+          c.requires.walk c.settle-outcome.ensures.exact c.settle-outcome.ensures.memory c.shake_before.ensures.moves c.shake_before.ensures.none c.shake_behind.ensures.falls c.shake_behind.ensures.moves c.shake_behind.ensures.none;
     }
     in
     steps c.args.lookup.now.1 c.args.crossing.now c.settle-outcome.result.fate c.settle-outcome.result.entry c.args.rows.now c.meet.new.self c.shake_behind.new.rows c.follow.new.rows c.args.pass.now c.meet.new.pass c.follow.new.pass
@@ -64,5 +64,5 @@ returns-clause-owned c =
 
 pub returns-clause-walk : goal.returns-clause-walk
 returns-clause-walk c none =
-    walked_still c.args.lookup.now.1 c.args.ledger.now c.args.crossing.now c.walk_now-walked.result c.walk_now-walked.new.scratch c.settle-outcome.result.entry (event.Crossing c.args.crossing.now c.settle-outcome.result.fate) c.args.rows.now c.follow.new.rows
-    c.requires.opening c.requires.owned.journal c.walk_now-walked.ensures.walk (ap (λ (u : Writing). u.view.history) (returns-clause-steps c).writer) none
+    walked_still c.args.lookup.now.1 c.args.ledger.now c.args.crossing.now c.args.walked.now c.args.scratch.now c.settle-outcome.result.entry (event.Crossing c.args.crossing.now c.settle-outcome.result.fate) c.args.rows.now c.follow.new.rows
+    c.requires.opening c.requires.owned.journal c.requires.walk (ap (λ (u : Writing). u.view.history) (returns-clause-steps c).writer) none

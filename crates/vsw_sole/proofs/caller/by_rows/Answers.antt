@@ -3,7 +3,7 @@ use Rattle.vsw_port.specs.Calls.{Carried}
 use Rattle.vsw_port.specs.Next.{IsDone}
 use Rattle.vsw_rows.specs.GoodRows.{opening_of}
 use Rattle.vsw_answer.proofs.Answered.{answered_done}
-use Rattle.vsw_sole.proofs.caller.carry.Goals as goal
+use Rattle.vsw_sole.proofs.caller.by_rows.Goals as goal
 
 pub returns-in-Ok-clause-done : goal.returns-in-Ok-clause-done
 returns-in-Ok-clause-done c =

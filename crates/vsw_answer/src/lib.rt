@@ -3,6 +3,7 @@
 
 mod answer;
 mod desk;
+mod guess;
 mod law;
 mod outcome;
 mod passing;
@@ -11,6 +12,7 @@ mod told;
 
 pub use answer::{RowAnswer, answer_by_row};
 pub use desk::Desk;
+pub use guess::touch_row;
 pub use law::laws;
 pub use passing::{bytes_of, leave};
 pub use room::Room;

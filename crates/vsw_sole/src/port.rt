@@ -23,8 +23,8 @@ use crate::keeping::{Keeping, is_light};
 use crate::open::{callers, copied};
 use std::alloc::Global;
 use std::marker::Model;
-use vsw_answer::{Desk, Why};
-use vsw_base::{Crossing, NoMemory, Stack};
+use vsw_answer::{Desk, Why, touch_row};
+use vsw_base::{Crossing, Mac, NoMemory, Stack};
 use vsw_core::{Core, Exported};
 use vsw_flows::PortStory;
 use vsw_policy::{Command, Policy, Refusal};
@@ -257,6 +257,12 @@ impl SolePort {
         ensures { result ≡ self.now.why }
     {
         self.why
+    }
+
+    /// Touches the row that may answer the packet of a frame at this port, whose address this is, so that its words are at hand when the packet comes.
+    /// Nothing is changed and nothing is told.
+    pub fn touch(&self, mac: Mac, frame: &[u8]) {
+        touch_row(&self.lookup, mac, frame);
     }
 
     /// A packet crosses the layers, or a row answers it as they do. It is an entry exactly where it changes them. Where

@@ -18,11 +18,12 @@ use crate::numbers::place_of;
 use crate::tally::Tally;
 use std::alloc::Global;
 use std::marker::Model;
-use vsw_answer::{Room, Watch};
+use vsw_answer::{Room, Watch, Why};
 use vsw_base::{Crossing, Mac, NoMemory};
 use vsw_commandfile::Line;
 use vsw_frame::Frame;
 use vsw_offload::PortRows;
+use vsw_pcap::Batch;
 use vsw_port::{Outcome, ascending};
 use vsw_promise::Port;
 use vsw_report::{Caller, RoundText, merge_text, port_line};
@@ -136,6 +137,19 @@ impl Live {
             tally: Tally::none(),
             last: Tally::none(),
         })
+    }
+
+    /// Touches the rows that may answer the packets from one place up to another, if rows were looked for last.
+    pub(crate) fn touch(&self, packets: &Batch, from: usize, end: usize)
+        requires { end ≤ length packets.now }
+    {
+        if matches!(self.port.why(), Some(Why::Light)) {
+            return;
+        }
+        for place in from..end {
+            let captured = packets.at(place);
+            self.port.touch(self.mac, captured.bytes);
+        }
     }
 
     /// Carries a packet, and tells what became of it, the watch first. A pass has left with its frame's own bytes or those at the front of the

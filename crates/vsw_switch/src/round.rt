@@ -1,6 +1,6 @@
 //! Running a round.
 
-ghost use Rattle.std.specs.Prelude.{◌≡◌, ◌<◌, ◌+◌, ◌^◌, List, length, IfOk, OnOk};
+ghost use Rattle.std.specs.Prelude.{◌≡◌, ◌<◌, ◌≤◌, ◌+◌, ◌^◌, List, length, IfOk, OnOk};
 ghost use Rattle.vsw_commandfile.specs.declared.line.Line.{Line};
 ghost use Rattle.vsw_port.specs.Order.{numbered};
 ghost use Rattle.vsw_policy.specs.Sound.{Each};
@@ -45,6 +45,21 @@ fn ask_all(
     Ok(())
 }
 
+/// For how many packets rows are touched at once: their loads overlap, and what they bring still is at hand when the packets come.
+const AHEAD: usize = 32;
+
+/// Up to which place rows are touched from this one on.
+fn end_from(place: usize, len: usize) -> usize
+    requires { place < len }
+    ensures { result ≤ len }
+{
+    if len - place < AHEAD {
+        len
+    } else {
+        place + AHEAD
+    }
+}
+
 /// Forwards these packets, of which the first has this number.
 fn forward_all<G: Watch>(
     switch: &mut Switch,
@@ -57,6 +72,9 @@ fn forward_all<G: Watch>(
     ensures served { (lines : List Line) → AreServed switch.old lines → AreServed switch.new lines }
 {
     for place in 0..packets.len() {
+        if place % AHEAD == 0 {
+            switch.touch(packets, place, end_from(place, packets.len()));
+        }
         let captured = packets.at(place);
         switch.forward(watch, first + place as u32, &captured)?;
     }

@@ -31,7 +31,7 @@ use vsw_commandfile::Line;
 use vsw_config::PolicyFile;
 use vsw_frame::FrameRoom;
 use vsw_offload::PortRows;
-use vsw_pcap::Captured;
+use vsw_pcap::{Batch, Captured};
 use vsw_promise::{Port, macs, ports_of};
 use vsw_report::{Loose, RoundText, loose_part, round_line};
 use vsw_sole::Keeping;
@@ -283,6 +283,15 @@ impl Switch {
         )? {
             None => Ok(()),
             Some(cause) => push(&mut self.loose, Loose { packet, cause }),
+        }
+    }
+
+    /// Touches the rows that may answer the packets from one place up to another. Nothing is seen of it.
+    pub(crate) fn touch(&self, packets: &Batch, from: usize, end: usize)
+        requires { end ≤ length packets.now }
+    {
+        for port in &self.ports {
+            port.touch(packets, from, end);
         }
     }
 

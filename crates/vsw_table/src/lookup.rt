@@ -8,7 +8,7 @@ ghost use Rattle.vsw_table.specs.Held.{Meets, after_entry, passed, renewed, put_
 ghost use Rattle.vsw_table.specs.Answers.{IfHit, IfMiss};
 
 use crate::look::{count, look_from};
-use crate::place::{size, stamp_place};
+use crate::place::{LINE, NEAR_LINES, size, stamp_place};
 use crate::put::{put_row, renew_row, shake_row, stamp_of, word_of};
 use crate::rule::{Kept, Key, More, Tell};
 use crate::steps::{add, grant, lend, part};
@@ -187,14 +187,14 @@ impl<S: Story> Lookup<S> {
         }
     }
 
-    /// Loads the stamp of the row at `slot`, so that the front of the row is near when a look comes to it. It changes nothing and tells nothing, so
-    /// the slot may be guessed; one that is no row's is passed over.
+    /// Loads a word of each line of the near part of the row at `slot`, so that they are at hand when a look comes to it. It changes nothing and tells
+    /// nothing, so the slot may be guessed; one that is no row's is passed over.
     pub fn touch(&self, slot: u32) {
         if slot < self.rows {
-            let _ = self
-                .table
-                .shared
-                .peek(stamp_place(self.rows as usize, slot as usize));
+            let first = stamp_place(self.rows as usize, slot as usize);
+            for line in 0..NEAR_LINES {
+                let _ = self.table.shared.peek(first + LINE * line);
+            }
         }
     }
 

@@ -11,6 +11,12 @@ const FIRST: usize = 14;
 /// Words of a row's near part.
 const NEAR: usize = 32;
 
+/// Words of a cache line.
+pub(crate) const LINE: usize = 8;
+
+/// Cache lines of a row's near part.
+pub(crate) const NEAR_LINES: usize = NEAR / LINE;
+
 /// Words of a row's far part.
 const FAR: usize = 42;
 

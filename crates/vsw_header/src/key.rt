@@ -1,9 +1,8 @@
 //! The keys by which a layer finds its pairs.
 
-ghost use Rattle.std.specs.Prelude.{◌≡◌, get_or};
+ghost use Rattle.std.specs.Prelude.{◌≡◌, [], get_or};
 ghost use Rattle.vsw_base.specs.Shape.{vnis};
-ghost use Rattle.vsw_header.specs.Key as key;
-ghost use Rattle.vsw_header.specs.Key.{packet_of, ports_of, key_from, mirror_of};
+ghost use Rattle.vsw_header.specs.Key.{packet_of, ports_of, key_behind, key_from, mirror_of};
 
 use vsw_base::{Addr, Header, LayerKey, Stack};
 
@@ -27,10 +26,10 @@ fn vni_at(headers: &[Header], place: usize) -> u32
     }
 }
 
-/// Source, destination, protocol and fragment mark of inner headers.
+/// Writes source, destination, protocol and fragment mark of inner headers.
 #[inline(always)]
-fn packet(headers: &[Header]) -> (Addr, Addr, u8, bool)
-    ensures { result ≡ packet_of headers.now }
+fn write_packet(headers: &[Header], key: &mut LayerKey)
+    ensures { key.new ≡ record key.old { src = (packet_of headers.now).0; dst = (packet_of headers.now).1; proto = (packet_of headers.now).2; part = (packet_of headers.now).3 } }
 {
     match headers {
         [
@@ -42,9 +41,17 @@ fn packet(headers: &[Header]) -> (Addr, Addr, u8, bool)
                 part,
             },
             ..
-        ] => (Addr::Four(*src), Addr::Four(*dst), *proto, *part),
+        ] => {
+            key.src = Addr::Four(*src);
+            key.dst = Addr::Four(*dst);
+            key.proto = *proto;
+            key.part = *part;
+        }
         [_, Header::Six { src, dst, proto }, ..] => {
-            (Addr::Six(*src), Addr::Six(*dst), *proto, false)
+            key.src = Addr::Six(*src);
+            key.dst = Addr::Six(*dst);
+            key.proto = *proto;
+            key.part = false;
         }
         []
         | [_]
@@ -52,7 +59,12 @@ fn packet(headers: &[Header]) -> (Addr, Addr, u8, bool)
             _,
             Header::Ether { .. } | Header::Vxlan { .. } | Header::Ports { .. },
             ..
-        ] => (Addr::Absent, Addr::Absent, 0, false),
+        ] => {
+            key.src = Addr::Absent;
+            key.dst = Addr::Absent;
+            key.proto = 0;
+            key.part = false;
+        }
     }
 }
 
@@ -75,38 +87,71 @@ fn ports(headers: &[Header]) -> (u16, u16)
     }
 }
 
-/// The key of inner headers behind encapsulations, so many and of these networks.
+/// Writes the key of inner headers behind encapsulations, so many and of these networks.
 #[inline(always)]
-fn key_behind(headers: &[Header], encaps: u8, vni_outer: u32, vni_second: u32) -> LayerKey
-    ensures { result ≡ key.key_behind headers.now encaps vni_outer vni_second }
+fn write_behind(headers: &[Header], encaps: u8, vni_outer: u32, vni_second: u32, key: &mut LayerKey)
+    ensures { key.new ≡ key_behind headers.now encaps vni_outer vni_second }
 {
-    let (src, dst, proto, part) = packet(headers);
-    let (src_port, dst_port) = ports(headers);
-    LayerKey {
-        encaps,
-        vni_outer,
-        vni_second,
-        src,
-        dst,
-        proto,
-        part,
-        src_port,
-        dst_port,
+    key.encaps = encaps;
+    key.vni_outer = vni_outer;
+    key.vni_second = vni_second;
+    write_packet(headers, key);
+    (key.src_port, key.dst_port) = ports(headers);
+}
+
+/// Writes the key of a stack with encapsulations. It stands apart, so that the plain case is short where it is inlined.
+#[inline(never)]
+fn write_within(stack: &Stack, key: &mut LayerKey)
+    ensures { key.new ≡ key_from stack.now }
+{
+    let all = stack.headers();
+    write_behind(
+        stack.inner(),
+        stack.encaps(),
+        vni_at(all, 0),
+        vni_at(all, 1),
+        key,
+    );
+}
+
+/// Writes the key of a stack: its VNIs, and the inner addresses, protocol, fragment mark and ports. It is written where it stays: a copy
+/// right behind the writing waits for each of its parts.
+#[inline(always)]
+#[tactic(auto, using(crate::proofs::Keys::plain_key))]
+pub fn write_key(stack: &Stack, key: &mut LayerKey)
+    ensures { key.new ≡ key_from stack.now }
+{
+    if stack.encaps() == 0 {
+        write_behind(stack.headers(), 0, 0, 0, key);
+    } else {
+        write_within(stack, key);
     }
 }
 
-/// The key of a stack: its VNIs, and the inner addresses, protocol, fragment mark and ports.
-#[tactic(auto, using(crate::proofs::Keys::plain_key))]
+/// The key of no headers, to write others into.
+pub fn blank_key() -> LayerKey
+    ensures { result ≡ key_behind [] 0 0 0 }
+{
+    LayerKey {
+        encaps: 0,
+        vni_outer: 0,
+        vni_second: 0,
+        src: Addr::Absent,
+        dst: Addr::Absent,
+        proto: 0,
+        part: false,
+        src_port: 0,
+        dst_port: 0,
+    }
+}
+
+/// The key of a stack.
 pub fn key_of(stack: &Stack) -> LayerKey
     ensures { result ≡ key_from stack.now }
 {
-    let all = stack.headers();
-    let encaps = stack.encaps();
-    if encaps == 0 {
-        return key_behind(all, 0, 0, 0);
-    }
-    let headers = stack.inner();
-    key_behind(headers, encaps, vni_at(all, 0), vni_at(all, 1))
+    let mut key = blank_key();
+    write_key(stack, &mut key);
+    key
 }
 
 /// The key of the replies: source and destination exchanged.

@@ -35,7 +35,7 @@ pub use ip_examples::ip_vectors;
 pub use ip_law::ip_laws;
 pub use ip6::{Ip6Part, read_ip6};
 pub use ip6_change::change_ip6;
-pub use key::{key_of, mirror};
+pub use key::{blank_key, key_of, mirror, write_key};
 pub use l4_change::{Addresses, Endpoints, change_tcp, change_udp, uncheck_udp};
 pub use l4_examples::l4_vectors;
 pub use l4_law::l4_laws;

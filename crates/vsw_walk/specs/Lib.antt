@@ -8,3 +8,4 @@ pub mod Met
 pub mod Made
 pub mod Going
 pub mod Law
+pub mod Private

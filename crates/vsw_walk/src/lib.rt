@@ -7,6 +7,7 @@ mod known;
 mod law;
 mod outcome;
 mod scratch;
+mod slots;
 mod turns;
 mod visit_law;
 mod visiting;

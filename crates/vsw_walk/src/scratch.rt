@@ -15,12 +15,14 @@ ghost use Rattle.vsw_walk.specs.Walk as spec;
 ghost use Rattle.vsw_walk.specs.Walk.{due_of, leaving};
 ghost use Rattle.vsw_walk.specs.declared.scratch.Wanted.TheVariants.{Make, Touch};
 
+use crate::slots::{slots, tell};
 use crate::turns::Turns;
 use crate::wanted::{edits, plain_pair};
 use crate::{reverse_set, set_of, wanted_pair};
 use std::alloc::Global;
 use std::marker::Model;
 use vsw_base::{Addr, Control, Dir, LayerKey, Mac, Moment, NoMemory, Outer, Set, Stack, Track};
+use vsw_header::key_of;
 use vsw_layerflow::{Pair, due};
 use vsw_policy::{Layer, LayerSpec};
 use vsw_rule::{Action, Rule};
@@ -70,19 +72,25 @@ pub struct Scratch {
     stack: Turns,
     edits: Vec<Action>,
     wanted: Vec<Wanted>,
+    /// A slot for each layer. The first of them are told.
     looked: Vec<Looked>,
+    /// How many looks are told.
+    looks: usize,
+    /// The look told last has the key of the stack.
+    known: bool,
     due: Option<Moment>,
 }
 
 impl Model for Scratch {
-    ghost use Rattle.std.specs.Prelude.{◌≤◌, length, vec_capacity};
+    ghost use Rattle.std.specs.Prelude.{◌≡◌, ◌<◌, ◌≤◌, ◌-◌, IsTrue, length, take, vec_capacity};
+    ghost use Rattle.vsw_walk.specs.Private.Slots.{HasKey};
     ghost use Rattle.vsw_walk.specs.Walk.{Told};
 
     ghost Value = { Told };
 
-    ghost view = { λ s. record { stack = s.stack; edits = s.edits.items; changes = s.wanted.items; looked = s.looked.items; due = s.due } };
+    ghost view = { λ s. record { stack = s.stack; edits = s.edits.items; changes = s.wanted.items; looked = take s.looks s.looked.items; due = s.due } };
 
-    ghost invariant = { λ s. (256 ≤ vec_capacity s.wanted) × (128 ≤ vec_capacity s.looked) × (128 ≤ vec_capacity s.edits) × (length s.edits.items ≤ length s.looked.items) };
+    ghost invariant = { λ s. (256 ≤ vec_capacity s.wanted) × (128 ≤ vec_capacity s.edits) × (length s.looked.items ≡ 128) × (s.looks ≤ 128) × (length s.edits.items ≤ s.looks) × (IsTrue s.known → (0 < s.looks) × HasKey (s.looks - 1) s.stack s.looked.items) };
 }
 
 impl Scratch {
@@ -95,7 +103,7 @@ impl Scratch {
         let Ok(wanted) = Vec::with_capacity(alloc, ROOM) else {
             return Err(NoMemory);
         };
-        let Ok(looked) = Vec::with_capacity(alloc, LAYERS) else {
+        let Ok(looked) = slots(alloc, LAYERS) else {
             return Err(NoMemory);
         };
         match Vec::with_capacity(alloc, LAYERS) {
@@ -104,6 +112,8 @@ impl Scratch {
                 edits,
                 wanted,
                 looked,
+                looks: 0,
+                known: false,
                 due: None,
             }),
             Err(_) => Err(NoMemory),
@@ -132,7 +142,7 @@ impl Scratch {
     pub fn looked(&self) -> &[Looked]
         ensures { result.now ≡ self.now.looked }
     {
-        &self.looked
+        &self.looked[..self.looks]
     }
 
     /// The actions that made the stack of the one with which the last packet came, in their order.
@@ -157,7 +167,8 @@ impl Scratch {
         self.stack.copy_from(first);
         self.edits.clear();
         self.wanted.clear();
-        self.looked.clear();
+        self.looks = 0;
+        self.known = false;
         self.due = None;
     }
 
@@ -169,7 +180,18 @@ impl Scratch {
         ensures looks { Looks place (seen layer.now) dir self.old self.new }
         ensures room { length self.new.edits < length self.new.looked }
     {
-        let found = self.stack.look(&layer.flows, place, dir, &mut self.looked);
+        let stack = self.stack.stack();
+        let found = tell(
+            &layer.flows,
+            place,
+            dir,
+            stack,
+            self.known,
+            &mut self.looked,
+            self.looks,
+        );
+        self.looks += 1;
+        self.known = true;
         if let Some(pair) = found {
             self.due = sooner(self.due, due_in(pair, &layer.spec));
         }
@@ -246,6 +268,7 @@ impl Scratch {
         });
         let left = left_of(kept, decap, self.stack.stack());
         self.stack.edit(decap, set, encap);
+        self.known = false;
         left
     }
 
@@ -271,7 +294,7 @@ impl Scratch {
         if edits(&rule.action) {
             return self.make_edited(layer, number, group, rule, dir, control, moment, kept);
         }
-        let met = self.stack.key();
+        let met = key_of(self.stack.stack());
         let left = self.go_on(&rule.action, kept);
         self.wanted.push_reserved(Wanted::Make {
             layer,
@@ -299,10 +322,10 @@ impl Scratch {
         requires changes { length self.old.changes + 1 ≤ 256 }
         ensures { GoesOn rule.now.action (Make layer (wanted_pair number dir control moment self.old.stack group rule.now) ∷ []) self.old self.new kept result }
     {
-        let met = self.stack.key();
+        let met = key_of(self.stack.stack());
         let back = reverse_set(&set_of(&rule.action), self.stack.stack());
         let left = self.go_on(&rule.action, kept);
-        let after = self.stack.key();
+        let after = key_of(self.stack.stack());
         self.wanted.push_reserved(Wanted::Make {
             layer,
             pair: wanted_pair(

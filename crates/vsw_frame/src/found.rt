@@ -101,6 +101,8 @@ fn encapsulated<'a>(bytes: &'a [u8], opened: &Opened<'a>, inner: &Found<'a>) -> 
 }
 
 /// What a frame says in which so many encapsulations are looked for. Its headers are pushed, outermost first.
+#[inline(always)]
+#[cycle(find)]
 pub fn find<'a>(depth: u8, bytes: &'a [u8], headers: &mut Headers) -> Result<Found<'a>, BadFrame>
     requires { length headers.old + 3 * depth ≤ 6 }
     ensures parts { found_seen (added headers.old headers.new) result ≡ frame_in depth bytes.now }
@@ -118,8 +120,21 @@ pub fn find<'a>(depth: u8, bytes: &'a [u8], headers: &mut Headers) -> Result<Fou
         return Ok(plain(bytes, &opened, headers));
     };
     headers.push(Header::Vxlan { vni: inner.vni });
-    match find(depth - 1, inner.frame, headers) {
+    match find_inner(depth - 1, inner.frame, headers) {
         Ok(found) => Ok(encapsulated(bytes, &opened, &found)),
         Err(fault) => Err(fault),
     }
+}
+
+/// The same, of what an encapsulation holds. It stands apart, so that the outermost level is inlined: of most frames nothing is handed on
+/// through memory.
+#[inline(never)]
+#[cycle(find)]
+fn find_inner<'a>(depth: u8, bytes: &'a [u8], headers: &mut Headers) -> Result<Found<'a>, BadFrame>
+    requires { length headers.old + 3 * depth ≤ 6 }
+    ensures parts { found_seen (added headers.old headers.new) result ≡ frame_in depth bytes.now }
+    ensures kept { OnOk result (Adds headers.old headers.new) }
+    ensures finds { IfOk result (Finds depth bytes.now (added headers.old headers.new)) }
+{
+    find(depth, bytes, headers)
 }

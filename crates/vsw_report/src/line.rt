@@ -1,6 +1,6 @@
 //! A line, written in place: `page` has room for it, `at` is where it begins, and the answer is where it ends.
 
-ghost use Rattle.std.specs.Prelude.{◌≡◌, ◌≤◌, ◌+◌, ◌-◌, ◌*◌, ◌++◌, decimal, codes, length, take, drop};
+ghost use Rattle.std.specs.Prelude.{◌≡◌, ◌≤◌, ◌+◌, ◌-◌, ◌*◌, ◌++◌, codes, length, take, drop};
 ghost use Rattle.hex.specs.Hex.{encode_lower};
 ghost use Rattle.vsw_base.specs.declared.fate.Fate.TheVariants as fate;
 ghost use Rattle.vsw_report.specs.Front.{front_text, fronted};
@@ -53,17 +53,38 @@ pub fn put_hex(page: &mut [u8], at: usize, bytes: &[u8]) -> usize
     end
 }
 
-/// Writes a line's front, with the length of a pass.
+/// Writes bytes over a part of a page. What stands before and behind it stays.
 #[inline(always)]
-#[tactic(auto, using(crate::proofs::Pieces::piece_is))]
-fn put_pass_front(page: &mut [u8], at: usize, front: &Front, len: u32) -> usize
-    requires { at + 64 ≤ length page.old }
-    ensures end { result ≤ at + 64 }
-    ensures written { take result page.new ≡ take at page.old ++ front_text front.now ++ codes "pass " ++ decimal len ++ codes " " }
+fn put_over(page: &mut [u8], at: usize, bytes: &[u8])
+    requires { at + length bytes.now ≤ length page.old }
+    ensures { page.new ≡ take at page.old ++ bytes.now ++ drop (at + length bytes.now) page.old }
 {
-    let mut room = [0u8; 128];
-    let start = pass_front_before(&mut room, 64, front, len);
-    put_piece(page, at, &room, start, 64)
+    page[at..at + bytes.len()].copy_from_slice(bytes);
+}
+
+/// Writes a packet's bytes and the end of its line.
+#[inline(always)]
+fn put_bytes(page: &mut [u8], at: usize, bytes: &[u8]) -> usize
+    requires { at + (2 * length bytes.now + 1) ≤ length page.old }
+    ensures end { result ≡ at + (2 * length bytes.now + 1) }
+    ensures written { take result page.new ≡ take at page.old ++ (encode_lower bytes.now ++ codes "\n") }
+{
+    let end = put_hex(page, at, bytes);
+    put(page, end, b"\n")
+}
+
+/// Writes a line by its front and a packet's bytes. The front comes last: a copy waits until the stores that it reads are done, and those of
+/// a front that was only just written are done by the time that the bytes stand.
+#[inline(always)]
+#[tactic(auto, using(crate::proofs::Pieces::overwritten))]
+fn put_line(page: &mut [u8], at: usize, front: &[u8], bytes: &[u8]) -> usize
+    requires { at + length front.now + (2 * length bytes.now + 1) ≤ length page.old }
+    ensures end { result ≡ at + length front.now + (2 * length bytes.now + 1) }
+    ensures written { take result page.new ≡ take at page.old ++ front.now ++ (encode_lower bytes.now ++ codes "\n") }
+{
+    let end = put_bytes(page, at + front.len(), bytes);
+    put_over(page, at, front);
+    end
 }
 
 /// Writes the line of a packet that passed.
@@ -72,9 +93,9 @@ fn put_pass(page: &mut [u8], at: usize, front: &Front, len: u32, bytes: &[u8]) -
     ensures end { result ≤ length page.old }
     ensures written { take result page.new ≡ take at page.old ++ front_text front.now ++ fate_text (fate.Pass len) bytes.now ++ codes "\n" }
 {
-    let at = put_pass_front(page, at, front, len);
-    let at = put_hex(page, at, bytes);
-    put(page, at, b"\n")
+    let mut room = [0u8; 64];
+    let start = pass_front_before(&mut room, 64, front, len);
+    put_line(page, at, &room[start..], bytes)
 }
 
 /// Writes the line of a packet that was dropped.

@@ -25,6 +25,7 @@ use std::alloc::Global;
 use std::marker::Model;
 use std::sync::atomic::{AtomicU64, Ordering};
 use std::sync::{Mutex, MutexGuard, Wait};
+use std::thread;
 use vsw_answer::{Answer, Desk, Room, RowAnswer, Why, answer_by_row};
 use vsw_base::{Crossing, NoMemory};
 use vsw_core::Exported;
@@ -59,14 +60,16 @@ impl<J: Naming> Model for LivePort<J> {
 
 /// How many times a lock is tried before its thread sleeps. A call under it takes a few microseconds, and sleeping and
 /// waking more.
-const TRIES: u32 = 100;
+const TRIES: u32 = 2_000;
 
-/// Takes a lock.
+/// Takes a lock. Between two tries other threads may run: who tries without a break takes the lock's cache line from the
+/// thread that works under it.
 fn take<'b, T, R: Wait>(lock: &'b Mutex<T>, rt: &R) -> MutexGuard<'b, T> {
     for _ in 0..TRIES {
         if let Some(guard) = lock.try_lock() {
             return guard;
         }
+        thread::yield_now();
     }
     lock.lock(rt)
 }
